@@ -1,0 +1,18 @@
+//! The one refusal that depends on the machine.
+use std::alloc::{AllocError, AllocFailed};
+
+/// No memory was left.
+#[derive(Clone, Copy, Debug, PartialEq, Eq)]
+pub struct OutOfMemory;
+
+impl From<AllocError> for OutOfMemory {
+    fn from(_: AllocError) -> OutOfMemory {
+        OutOfMemory
+    }
+}
+
+impl<T: Drop> From<AllocFailed<T>> for OutOfMemory {
+    fn from(_: AllocFailed<T>) -> OutOfMemory {
+        OutOfMemory
+    }
+}
