@@ -34,10 +34,34 @@ fn keys_are_compared_field_by_field(rt: HostRuntime) {
         src: 3,
         serial: 9,
     };
-    assert!(rt; key.is_before(&Key { stamp: 8, rank: 0, ..key }));
-    assert!(rt; key.is_before(&Key { rank: 2, dest: 0, ..key }));
-    assert!(rt; key.is_before(&Key { dest: 6, src: 0, ..key }));
-    assert!(rt; key.is_before(&Key { src: INITIAL, serial: 0, ..key }));
+    assert!(rt;
+        key.is_before(&Key {
+            stamp: 8,
+            rank: 0,
+            ..key
+        })
+    );
+    assert!(rt;
+        key.is_before(&Key {
+            rank: 2,
+            dest: 0,
+            ..key
+        })
+    );
+    assert!(rt;
+        key.is_before(&Key {
+            dest: 6,
+            src: 0,
+            ..key
+        })
+    );
+    assert!(rt;
+        key.is_before(&Key {
+            src: INITIAL,
+            serial: 0,
+            ..key
+        })
+    );
     assert!(rt; key.is_before(&Key { serial: 10, ..key }));
     assert!(rt; !key.is_before(&key));
     assert!(rt; key < Key { serial: 10, ..key });

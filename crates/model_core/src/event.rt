@@ -1,0 +1,38 @@
+//! What happens at objects.
+use event_key::Key;
+
+/// Something that happens at one object.
+#[derive(Clone, Copy, Debug, PartialEq, Eq)]
+pub struct Event {
+    pub key: Key,
+    /// What happens: the model says what a kind means.
+    pub kind: u32,
+    pub a: u64,
+    pub b: u64,
+}
+
+/// A message that an event sends: an event at its destination, later.
+#[derive(Clone, Copy, Debug, PartialEq, Eq)]
+pub struct Send {
+    pub dest: u32,
+    /// In ticks, at most 2^40. Without delay it comes at the next step of the tick.
+    pub delay: u64,
+    pub kind: u32,
+    pub a: u64,
+    pub b: u64,
+    /// At most 255.
+    pub rank: u32,
+}
+
+/// An event with which a simulation begins.
+#[derive(Clone, Copy, Debug, PartialEq, Eq)]
+pub struct Start {
+    /// In ticks, below 2^46.
+    pub time: u64,
+    pub dest: u32,
+    pub kind: u32,
+    pub a: u64,
+    pub b: u64,
+    /// At most 255.
+    pub rank: u32,
+}
