@@ -1,12 +1,13 @@
 -- The order of keys is total and strict, and the stamp comes first.
-use Rattle.std.proofs.Common.{◌≡◌, ℕ, ◌<◌, ◌≤◌, true, false, refl, ap, arith}
+use Rattle.std.proofs.Common.{◌≡◌, ◌∙◌, ℕ, ◌<◌, ◌≤◌, Bool, true, false, cond, ◌||◌, ◌&&◌, refl, ap, arith}
+use Rattle.std.specs.Prelude.{nat_lt, ◌==◌}
 use Rattle.std.specs.Cmp.{IsTotalOrder, tied_itself}
 use Rattle.std.proofs.lemmas.Cmp.{nat_cmp_total, on_total, then_total, ranked, by_ranked}
 use Rattle.std.specs.Ordering.{nat_cmp, ordering_then, ordering_reverse, is_lt}
 use Rattle.std.specs.declared.cmp.Ordering.{Ordering}
 use Rattle.std.specs.declared.cmp.Ordering.TheVariants.{Less, Equal, Greater}
 use Rattle.event_key.specs.declared.key.Key.{Key}
-use Rattle.event_key.specs.Keys.{key_cmp, key_lt}
+use Rattle.event_key.specs.Keys.{key_cmp, key_lt, lt_then}
 
 pub key_total : IsTotalOrder key_cmp
 unfolding key_cmp
@@ -87,3 +88,27 @@ unfolding key_lt key_cmp
 stamp-le a b h =
     by_ranked (a.stamp < b.stamp) (a.stamp ≡ b.stamp) (b.stamp < a.stamp) (nat_cmp a.stamp b.stamp) (ranked a.stamp b.stamp (nat_cmp a.stamp b.stamp) refl)
     (λ _ e. omega arith) (λ _ e. omega arith) (λ e _. absurd (not_greater _ _ h e))
+
+-- the order as tests of one field after another
+lt_cond : (p q : Bool) (o : Ordering) → is_lt (ordering_then (cond p Less (cond q Equal Greater)) o) ≡ (p || (q && is_lt o))
+lt_cond true q o = refl
+lt_cond false true o = refl
+lt_cond false false o = refl
+
+lt_last : (p q : Bool) → is_lt (cond p Less (cond q Equal Greater)) ≡ p
+lt_last true q = refl
+lt_last false true = refl
+lt_last false false = refl
+
+pub is_lt-then : (x y : ℕ) (o : Ordering) → is_lt (ordering_then (nat_cmp x y) o) ≡ lt_then x y (is_lt o)
+is_lt-then x y o = lt_cond (nat_lt x y) (x == y) o
+
+pub key_lt-tests : (a b : Key)
+    → key_lt a b ≡ lt_then a.stamp b.stamp (lt_then a.rank b.rank (lt_then a.dest b.dest (lt_then a.src b.src (nat_lt a.serial b.serial))))
+unfolding key_lt key_cmp
+key_lt-tests a b =
+    is_lt-then a.stamp b.stamp _
+    ∙ ap (lt_then a.stamp b.stamp) (is_lt-then a.rank b.rank _
+    ∙ ap (lt_then a.rank b.rank) (is_lt-then a.dest b.dest _
+    ∙ ap (lt_then a.dest b.dest) (is_lt-then a.src b.src _
+    ∙ ap (lt_then a.src b.src) (lt_last (nat_lt a.serial b.serial) (a.serial == b.serial)))))

@@ -1,5 +1,5 @@
 -- The order of keys.
-use Rattle.std.specs.Prelude.{Bool}
+use Rattle.std.specs.Prelude.{ℕ, Bool, nat_lt, ◌==◌, ◌||◌, ◌&&◌}
 use Rattle.std.specs.Ordering.{nat_cmp, on, then_cmp, is_lt}
 use Rattle.std.specs.declared.cmp.Ordering.{Ordering}
 use Rattle.event_key.specs.declared.key.Key.{Key}
@@ -15,3 +15,7 @@ key_cmp =
 -- the first key comes before the second
 unfoldable pub key_lt : Key → Key → Bool
 key_lt a b = is_lt (key_cmp a b)
+
+-- one number before another; where they are the same, what comes after them decides
+abbrev pub lt_then : ℕ → ℕ → Bool → Bool
+lt_then a b more = nat_lt a b || (a == b && more)

@@ -1,0 +1,158 @@
+-- A run by its first event, and by the events that lead to a state.
+use Rattle.std.proofs.Common.{◌≡◌, ℕ, zero, suc, ◌+◌, ◌-◌, ◌<◌, ◌≤◌, ◌≢◌, Bool, true, false, cond, List, [], ◌∷◌, ◌++◌, sym, refl, ap, ◌∙◌, subst, arith, eqb, ltb, eq-eqb, ne_eqb, lt-ltb, le-ltb, length}
+use Rattle.std.specs.Prelude.{slice_set}
+use Rattle.event_key.specs.declared.key.Key.{Key}
+use Rattle.event_key.specs.Stamps.{end_stamp}
+use Rattle.model_core.specs.declared.event.Event.{Event}
+use Rattle.model_core.specs.declared.note.Note.{Note}
+use Rattle.model_core.specs.Meaning.{Meaning}
+use Rattle.sim_spec.specs.declared.terms.Terms.{Terms}
+use Rattle.sim_spec.specs.declared.stop.Stop.{Stop}
+use Rattle.sim_spec.specs.declared.stop.Stop.TheVariants.{End, Limit, Fault}
+use Rattle.model_core.specs.declared.effect.Effect.{Effect}
+use Rattle.model_core.specs.declared.effect.Outcome.TheVariants.{Goes, Fails}
+use Rattle.delta_exchange.specs.Changes.{cells_after_all, inverses_of}
+use Rattle.sim_spec.specs.Pending.{enqueue_all}
+use Rattle.sim_spec.specs.Firing.{Fired, Firing, goes, fails, fire, fired_by, has_chain, emissions}
+use Rattle.sim_spec.specs.State.{State, object_at, Lawful, IsSound, AllSound}
+use Rattle.sim_spec.specs.Run.{Next, stops, does, next, next_of, next_fired, Run, run, run_for, run_on, after_records, Leads}
+
+-- an event raises the count by one, which was not the limit
+abbrev Counted : Terms → State → Next → Type 0
+Counted t s (stops stop) = Unit {0}
+Counted t s (does told after) = (after.count ≡ s.count + 1) × (s.count ≢ t.limit)
+
+counted_done : (t : Terms) (s : State) (e : Event) (rest : List Event) (f : Fired) → s.count ≢ t.limit → Counted t s (next_fired s e rest f)
+unfolding next_fired
+counted_done t s e rest (fails code) free = tt
+counted_done t s e rest (goes x) free = (refl, free)
+
+counted_limit : (t : Terms) (s : State) (e : Event) (rest : List Event) (f : Fired) (b : Bool) → eqb s.count t.limit ≡ b → Counted t s (cond b (stops Limit) (next_fired s e rest f))
+counted_limit t s e rest f true is_b = tt
+counted_limit t s e rest f false is_b = counted_done t s e rest f (λ same. let q = eq-eqb s.count t.limit same in cc)
+
+counted_due : (t : Terms) (s : State) (n : Next) (b : Bool) → Counted t s n → Counted t s (cond b n (stops End))
+counted_due t s n true h = h
+counted_due t s n false h = tt
+
+counted_of : (m : Meaning) (t : Terms) (s : State) (pending : List Event) → Counted t s (next_of m t s pending)
+unfolding next_of
+counted_of m t s [] = tt
+counted_of m t s (e ∷ rest) =
+    counted_due t s _ (ltb e.key.stamp (end_stamp t.end))
+    (counted_limit t s e rest (fire m e.key.dest (object_at s.objects e.key.dest) e) (eqb s.count t.limit) refl)
+
+pub next-count : (m : Meaning) (t : Terms) (s : State) (told : Key × Note) (after : State) → next m t s ≡ does told after → (after.count ≡ s.count + 1) × (s.count ≢ t.limit)
+unfolding next
+next-count m t s told after is_next = let P : Next → Type 0 = Counted t s in subst P is_next (counted_of m t s s.pending)
+
+-- a run by its first event
+pub run-does : (m : Meaning) (t : Terms) (s : State) (told : Key × Note) (after : State) → s.count ≤ t.limit → next m t s ≡ does told after → run m t s ≡ after_records (told ∷ []) (run m t after)
+unfolding run run_for run_on
+run-does m t s told after room is_next =
+    let counts = next-count m t s told after is_next in
+    let one : after.count ≡ s.count + 1 = counts.0 in
+    let free : s.count ≢ t.limit = counts.1 in
+    let fuel : t.limit - s.count ≡ suc (t.limit - after.count) = omega arith in
+    ap (run_on s (run_for (t.limit - s.count) m t)) is_next
+    ∙ ap (λ n. after_records (told ∷ []) (run_for n m t after)) fuel
+
+-- a run that has stopped
+pub run-stops : (m : Meaning) (t : Terms) (s : State) (stop : Stop) → next m t s ≡ stops stop → run m t s ≡ record { records = []; last = s; stop = stop }
+unfolding run run_for run_on
+run-stops m t s stop is_next = ap (run_on s (run_for (t.limit - s.count) m t)) is_next
+
+-- events that lead to a state come first in the run
+pub run-leads : (m : Meaning) (t : Terms) (records : List (Key × Note)) (s end : State) → s.count ≤ t.limit → Leads m t s records end → run m t s ≡ after_records records (run m t end)
+unfolding Leads
+run-leads m t [] s end room leads = ap (run m t) leads
+run-leads m t (told ∷ records) s end room leads =
+    let counts = next-count m t s told leads.0 leads.1 in
+    let one : leads.0.count ≡ s.count + 1 = counts.0 in
+    let free : s.count ≢ t.limit = counts.1 in
+    run-does m t s told leads.0 room leads.1
+    ∙ ap (after_records (told ∷ [])) (run-leads m t records leads.0 end (omega arith) leads.2)
+
+-- what comes next, by the first pending event
+pub next-none : (m : Meaning) (t : Terms) (s : State) → s.pending ≡ [] → next m t s ≡ stops End
+unfolding next next_of
+next-none m t s is_pending = ap (next_of m t s) is_pending
+
+pub next-late : (m : Meaning) (t : Terms) (s : State) (e : Event) (rest : List Event) → s.pending ≡ e ∷ rest → end_stamp t.end ≤ e.key.stamp → next m t s ≡ stops End
+unfolding next next_of
+next-late m t s e rest is_pending late =
+    let past : ltb e.key.stamp (end_stamp t.end) ≡ false = le-ltb _ _ late in
+    ap (next_of m t s) is_pending
+    ∙ ap (λ b. cond b (cond (eqb s.count t.limit) (stops Limit) (next_fired s e rest (fire m e.key.dest (object_at s.objects e.key.dest) e))) (stops End)) past
+
+next-due : (m : Meaning) (t : Terms) (s : State) (e : Event) (rest : List Event) (full : Bool) → s.pending ≡ e ∷ rest → e.key.stamp < end_stamp t.end → eqb s.count t.limit ≡ full
+    → next m t s ≡ cond full (stops Limit) (next_fired s e rest (fire m e.key.dest (object_at s.objects e.key.dest) e))
+unfolding next next_of
+next-due m t s e rest full is_pending due is_full =
+    let before : ltb e.key.stamp (end_stamp t.end) ≡ true = lt-ltb _ _ due in
+    ap (next_of m t s) is_pending
+    ∙ ap (λ b. cond b (cond (eqb s.count t.limit) (stops Limit) (next_fired s e rest (fire m e.key.dest (object_at s.objects e.key.dest) e))) (stops End)) before
+    ∙ ap (λ b. cond b (stops Limit) (next_fired s e rest (fire m e.key.dest (object_at s.objects e.key.dest) e))) is_full
+
+pub next-full : (m : Meaning) (t : Terms) (s : State) (e : Event) (rest : List Event) → s.pending ≡ e ∷ rest → e.key.stamp < end_stamp t.end → s.count ≡ t.limit → next m t s ≡ stops Limit
+next-full m t s e rest is_pending due full = next-due m t s e rest true is_pending due (eq-eqb s.count t.limit full)
+
+pub next-fires : (m : Meaning) (t : Terms) (s : State) (e : Event) (rest : List Event) → s.pending ≡ e ∷ rest → e.key.stamp < end_stamp t.end → s.count ≢ t.limit
+    → next m t s ≡ next_fired s e rest (fire m e.key.dest (object_at s.objects e.key.dest) e)
+next-fires m t s e rest is_pending due free = next-due m t s e rest false is_pending due (ne_eqb s.count t.limit free)
+
+-- an event that the model refuses, one that has no step left, and one that goes
+pub next-fails : (m : Meaning) (t : Terms) (s : State) (e : Event) (rest : List Event) (code : ℕ) → s.pending ≡ e ∷ rest → e.key.stamp < end_stamp t.end → s.count ≢ t.limit
+    → Fails code ≡ m.effect e.key.dest (object_at s.objects e.key.dest).cells e → next m t s ≡ stops (Fault e.key code)
+unfolding next_fired fire fired_by
+next-fails m t s e rest code is_pending due free is_outcome =
+    next-fires m t s e rest is_pending due free ∙ ap (λ o. next_fired s e rest (fired_by e.key.dest (object_at s.objects e.key.dest) e o)) (sym is_outcome)
+
+-- what an event leaves that changes the cells so and sends so
+abbrev pub state_after : State → Event → List Event → Effect → State
+state_after s e rest x =
+    let o = object_at s.objects e.key.dest in
+    record {
+      objects = slice_set s.objects e.key.dest (record { cells = cells_after_all x.changes o.cells; sent = o.sent + length x.sends });
+      pending = enqueue_all (emissions e.key.stamp e.key.dest o.sent x.sends) rest;
+      count = s.count + 1;
+    }
+
+next-goes : (m : Meaning) (t : Terms) (s : State) (e : Event) (rest : List Event) (x : Effect) (chain : Bool) → s.pending ≡ e ∷ rest → e.key.stamp < end_stamp t.end → s.count ≢ t.limit
+    → Goes x ≡ m.effect e.key.dest (object_at s.objects e.key.dest).cells e → has_chain e.key.stamp x.sends ≡ chain
+    → next m t s ≡ cond chain (stops (Fault e.key 1)) (does (e.key, x.note) (state_after s e rest x))
+unfolding fire fired_by next_fired
+next-goes m t s e rest x chain is_pending due free is_outcome is_chain =
+    next-fires m t s e rest is_pending due free
+    ∙ ap (λ o. next_fired s e rest (fired_by e.key.dest (object_at s.objects e.key.dest) e o)) (sym is_outcome)
+    ∙ by_chain (has_chain e.key.stamp x.sends) chain is_chain
+  where
+    firing : Firing
+    firing = let o = object_at s.objects e.key.dest in record {
+      state = record { cells = cells_after_all x.changes o.cells; sent = o.sent + length x.sends };
+      events = emissions e.key.stamp e.key.dest o.sent x.sends;
+      undo = inverses_of x.changes o.cells;
+      note = x.note;
+    }
+
+    by_chain : (b c : Bool) → b ≡ c → next_fired s e rest (cond b (fails 1) (goes firing)) ≡ cond c (stops (Fault e.key 1)) (does (e.key, x.note) (state_after s e rest x))
+    by_chain true true h = refl
+    by_chain false false h = refl
+    by_chain true false h = absurd (cc)
+    by_chain false true h = absurd (cc)
+
+pub next-chain : (m : Meaning) (t : Terms) (s : State) (e : Event) (rest : List Event) (x : Effect) → s.pending ≡ e ∷ rest → e.key.stamp < end_stamp t.end → s.count ≢ t.limit
+    → Goes x ≡ m.effect e.key.dest (object_at s.objects e.key.dest).cells e → has_chain e.key.stamp x.sends ≡ true → next m t s ≡ stops (Fault e.key 1)
+next-chain m t s e rest x = next-goes m t s e rest x true
+
+pub next-state_after : (m : Meaning) (t : Terms) (s : State) (e : Event) (rest : List Event) (x : Effect) → s.pending ≡ e ∷ rest → e.key.stamp < end_stamp t.end → s.count ≢ t.limit
+    → Goes x ≡ m.effect e.key.dest (object_at s.objects e.key.dest).cells e → has_chain e.key.stamp x.sends ≡ false → next m t s ≡ does (e.key, x.note) (state_after s e rest x)
+next-state_after m t s e rest x = next-goes m t s e rest x false
+
+-- what is known of the first event of a lawful state
+pub first_sound : (m : Meaning) (t : Terms) (s : State) (e : Event) (rest : List Event) → Lawful m t s → s.pending ≡ e ∷ rest → IsSound m s.objects e
+unfolding AllSound
+first_sound m t s e rest lawful is_pending =
+    let Q : List Event → Type 0 = AllSound m s.objects in
+    let sound : AllSound m s.objects (e ∷ rest) = subst Q is_pending lawful.sound in
+    sound.0

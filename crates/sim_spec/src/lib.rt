@@ -1,0 +1,16 @@
+//! What a simulation computes, as definitions, and the types that its engines share.
+//!
+//! The definitions stand in `specs/` and know nothing of an engine: one list of pending events in the order
+//! of their keys, and one state for each object.
+#![tactic(auto)]
+
+mod bucket;
+pub mod laws;
+mod placement;
+mod stop;
+mod terms;
+
+pub use bucket::Bucket;
+pub use placement::Placement;
+pub use stop::Stop;
+pub use terms::Terms;
