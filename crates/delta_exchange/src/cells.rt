@@ -1,8 +1,10 @@
 //! The state of an object: words, and lines of values.
-ghost use Rattle.std.specs.Prelude.{◌≡◌, ◌<◌, ◌^◌, length, slice_index, map, replicate, IfOk};
-ghost use Rattle.delta_exchange.specs.Changes.{line_of};
+ghost use Rattle.std.specs.Prelude.{◌≡◌, ◌<◌, ◌≤◌, ◌^◌, ℕ, length, slice_index, map, IfOk, OnOk};
+ghost use Rattle.delta_exchange.specs.Changes.{line_of, Fits, cells_after, inverse_of, AllFit, cells_after_all, inverses_of};
+ghost use Rattle.delta_exchange.specs.Spares.{FindsRoom, spare_after, AllFindRoom, spare_after_all, places_for, room_for, HaveRoom, NamesLine, NameLines, NoneFell};
 ghost use Rattle.delta_exchange.specs.Views.{unspared};
 
+use crate::change::Change;
 use crate::line::Line;
 use crate::memory::OutOfMemory;
 use std::alloc::{AllocError, Global};
@@ -82,6 +84,112 @@ impl Cells {
         let line = &self.lines[line as usize];
         line.at(place)
     }
+
+    /// Makes room for the values that the changes put in.
+    pub fn room(&mut self, changes: &[Change]) -> Result<(), OutOfMemory>
+        requires { NameLines changes.now self.old.contents }
+        ensures ok { OnOk result (HaveRoom changes.now self.new.spare) }
+        ensures same { self.new.contents ≡ self.old.contents }
+        ensures none_fell { NoneFell self.old.spare self.new.spare }
+    {
+        for change in changes {
+            self.room_at(change, changes)?;
+        }
+        Ok(())
+    }
+
+    /// Makes the room that the changes need at the line where one of them puts a value in.
+    fn room_at(&mut self, change: &Change, changes: &[Change]) -> Result<(), OutOfMemory>
+        requires { NamesLine change.now self.old.contents }
+        ensures ok { OnOk result ((line : ℕ) → 0 < places_for change.now line → room_for changes.now line ≤ slice_index self.new.spare line) }
+        ensures same { self.new.contents ≡ self.old.contents }
+        ensures none_fell { NoneFell self.old.spare self.new.spare }
+    {
+        match *change {
+            Change::Push { line, .. } | Change::Unpop { line, .. } => {
+                self.reserve(line, room_for(changes, line))
+            }
+            _ => Ok(()),
+        }
+    }
+
+    /// Makes the spare of a line at least this many.
+    fn reserve(&mut self, line: u32, places: usize) -> Result<(), OutOfMemory>
+        requires { line < length self.old.contents.lines }
+        ensures ok { OnOk result (places ≤ slice_index self.new.spare line) }
+        ensures same { self.new.contents ≡ self.old.contents }
+        ensures none_fell { NoneFell self.old.spare self.new.spare }
+    {
+        let line = &mut self.lines[line as usize];
+        line.reserve(places)?;
+        Ok(())
+    }
+
+    /// Does a change and turns it into its inverse.
+    pub fn exchange(&mut self, change: &mut Change)
+        requires fits { Fits change.old self.old.contents }
+        requires room { FindsRoom change.old self.old.spare }
+        ensures cells { self.new.contents ≡ cells_after change.old self.old.contents }
+        ensures spare { self.new.spare ≡ spare_after change.old self.old.spare }
+        ensures change { change.new ≡ inverse_of change.old self.old.contents }
+    {
+        match *change {
+            Change::Set { word, value } => {
+                let before = self.words[word as usize];
+                self.words[word as usize] = value;
+                *change = Change::Set {
+                    word,
+                    value: before,
+                };
+            }
+            Change::Push { line, value } => {
+                let queue = &mut self.lines[line as usize];
+                queue.push_back(value);
+                *change = Change::Unpush { line };
+            }
+            Change::Pop { line } => {
+                let queue = &mut self.lines[line as usize];
+                let value = queue.pop_front();
+                *change = Change::Unpop { line, value };
+            }
+            Change::Unpush { line } => {
+                let queue = &mut self.lines[line as usize];
+                let value = queue.pop_back();
+                *change = Change::Push { line, value };
+            }
+            Change::Unpop { line, value } => {
+                let queue = &mut self.lines[line as usize];
+                queue.push_front(value);
+                *change = Change::Pop { line };
+            }
+        }
+    }
+
+    /// Exchanges the changes from the first to the last.
+    pub fn apply(&mut self, changes: &mut [Change])
+        requires fit { AllFit changes.old self.old.contents }
+        requires room { HaveRoom changes.old self.old.spare }
+        ensures cells { self.new.contents ≡ cells_after_all changes.old self.old.contents }
+        ensures spare { self.new.spare ≡ spare_after_all changes.old self.old.spare }
+        ensures changes { changes.new ≡ inverses_of changes.old self.old.contents }
+    {
+        for change in changes.iter_mut() {
+            self.exchange(change);
+        }
+    }
+}
+
+/// How many values the changes put in at a line.
+fn room_for(changes: &[Change], line: u32) -> usize
+    ensures { result ≡ room_for changes.now line }
+{
+    let mut places = 0;
+    for change in changes {
+        if change.puts_in_at(line) {
+            places += 1;
+        }
+    }
+    places
 }
 
 /// Each list as a line with no spare.

@@ -1,4 +1,6 @@
 //! One change of an object's cells.
+ghost use Rattle.std.specs.Prelude.{◌≡◌, if◌then◌else◌};
+ghost use Rattle.delta_exchange.specs.Spares.{places_for};
 
 /// A change of a word, or of one end of a line.
 #[derive(Clone, Copy, Debug, PartialEq, Eq)]
@@ -13,4 +15,16 @@ pub enum Change {
     Unpush { line: u32 },
     /// The value goes in as the line's first.
     Unpop { line: u32, value: u64 },
+}
+
+impl Change {
+    /// Whether the change puts a value in at the line.
+    pub(crate) fn puts_in_at(&self, line: u32) -> bool
+        ensures { places_for self.now line ≡ (if result then 1 else 0) }
+    {
+        match *self {
+            Change::Push { line: at, .. } | Change::Unpop { line: at, .. } => at == line,
+            _ => false,
+        }
+    }
 }

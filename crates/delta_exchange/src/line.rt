@@ -1,6 +1,7 @@
 //! A line of values that are taken and given at both ends.
-ghost use Rattle.std.specs.Prelude.{◌≡◌, ◌<◌, length, slice_index};
+ghost use Rattle.std.specs.Prelude.{◌≡◌, ◌+◌, ◌-◌, ◌<◌, ◌≤◌, [], ◌∷◌, ◌++◌, length, take, drop, slice_index, OnOk};
 
+use std::alloc::AllocError;
 use std::collections::VecDeque;
 use std::marker::Model;
 
@@ -47,5 +48,58 @@ impl Line {
         ensures { result ≡ slice_index self.now.values place }
     {
         self.queue[place]
+    }
+
+    /// Makes the spare at least this many.
+    pub fn reserve(&mut self, places: usize) -> Result<(), AllocError>
+        ensures values { self.new.values ≡ self.old.values }
+        ensures spare { OnOk result (places ≤ self.new.spare) }
+        ensures never_less { self.old.spare ≤ self.new.spare }
+    {
+        if self.spare < places {
+            self.queue.reserve(places)?;
+            self.spare = places;
+        }
+        Ok(())
+    }
+
+    /// Puts a value in as the last.
+    pub fn push_back(&mut self, value: u64)
+        requires { 0 < self.old.spare }
+        ensures { self.new ≡ record { values = self.old.values ++ value ∷ []; spare = self.old.spare - 1 } }
+    {
+        self.queue.push_back_reserved(value);
+        self.spare -= 1;
+    }
+
+    /// Puts a value in as the first.
+    pub fn push_front(&mut self, value: u64)
+        requires { 0 < self.old.spare }
+        ensures { self.new ≡ record { values = value ∷ self.old.values; spare = self.old.spare - 1 } }
+    {
+        self.queue.push_front_reserved(value);
+        self.spare -= 1;
+    }
+
+    /// Takes the last value out.
+    pub fn pop_back(&mut self) -> u64
+        requires { 0 < length self.old.values }
+        ensures value { result ≡ slice_index self.old.values (length self.old.values - 1) }
+        ensures rest { self.new ≡ record { values = take (length self.old.values - 1) self.old.values; spare = self.old.spare + 1 } }
+    {
+        let value = self.queue.pop_back().unwrap();
+        self.spare += 1;
+        value
+    }
+
+    /// Takes the first value out.
+    pub fn pop_front(&mut self) -> u64
+        requires { 0 < length self.old.values }
+        ensures value { result ≡ slice_index self.old.values 0 }
+        ensures rest { self.new ≡ record { values = drop 1 self.old.values; spare = self.old.spare + 1 } }
+    {
+        let value = self.queue.pop_front().unwrap();
+        self.spare += 1;
+        value
     }
 }

@@ -1,5 +1,4 @@
 -- The parts of each line, seen through the line that was made of it.
-use Rattle.std.proofs.Common.{map}
 use Rattle.std.proofs.lemmas.Simd.{map-map}
 use Rattle.delta_exchange.proofs.cells.Cells.new.Goals as goal
 

@@ -1,0 +1,44 @@
+-- One line of a list changed, seen through a part of each line.
+use Rattle.std.proofs.Common.{◌≡◌, ℕ, ◌<◌, ◌≤◌, List, [], ◌∷◌, zero, suc, length, get_or, map, ap, sym, ◌∙◌, arith}
+use Rattle.std.proofs.Math.ListN.{set}
+use Rattle.std.proofs.Math.Seq.{map-set_same}
+use Rattle.std.proofs.lemmas.List.{map-set, get_or-map, get_or-set_same, length-map}
+use Rattle.delta_exchange.specs.Views.{LineView}
+use Rattle.delta_exchange.specs.Spares.{NoneFell}
+
+pub line_changed : {B : Type 0} (part : LineView → B) (lines : List LineView) (at : ℕ) (old new : LineView) (other : B) (change : B → B) → at < length lines → old ≡ get_or lines at old → part new ≡ change (part old)
+    → map part (set lines at new) ≡ set (map part lines) at (change (get_or (map part lines) at other))
+line_changed part lines at old new other change within is changed =
+    map-set part lines at new ∙ ap (set (map part lines) at) (changed ∙ ap change (ap part is ∙ sym (get_or-map part lines at old other within)))
+
+pub within : {A B : Type 0} (f : A → B) (xs : List A) (at : ℕ) → at < length (map f xs) → at < length xs
+within f xs at h = rw length-map at h
+
+-- a line that keeps its values
+pub same_values : (lines : List LineView) (at : ℕ) (old new : LineView) → old ≡ get_or lines at old → new.values ≡ old.values
+    → map (λ (line : LineView). line.values) (set lines at new) ≡ map (λ (line : LineView). line.values) lines
+same_values lines at old new is same = map-set_same (λ (line : LineView). line.values) lines at new old (same ∙ ap (λ (line : LineView). line.values) is)
+
+first : (x y : ℕ) (xs : List ℕ) → x ≤ y → NoneFell (x ∷ xs) (y ∷ xs)
+first x y xs le zero = le
+first x y xs le (suc line) = omega arith
+
+later : (x : ℕ) (xs ys : List ℕ) → NoneFell xs ys → NoneFell (x ∷ xs) (x ∷ ys)
+later x xs ys le zero = omega arith
+later x xs ys le (suc line) = le line
+
+grown : (spare : List ℕ) (at places : ℕ) → get_or spare at 0 ≤ places → NoneFell spare (set spare at places)
+grown [] at places le = λ line. omega arith
+grown (x ∷ xs) zero places le = first x places xs le
+grown (x ∷ xs) (suc at) places le = later x xs (set xs at places) (grown xs at places le)
+
+-- a line that loses no spare
+pub no_less_spare : (lines : List LineView) (at : ℕ) (old new : LineView) → at < length lines → old ≡ get_or lines at old → old.spare ≤ new.spare
+    → NoneFell (map (λ (line : LineView). line.spare) lines) (map (λ (line : LineView). line.spare) (set lines at new))
+no_less_spare lines at old new within is le =
+    let before : get_or (map (λ (line : LineView). line.spare) lines) at 0 ≡ old.spare = get_or-map (λ (line : LineView). line.spare) lines at old 0 within ∙ ap (λ (line : LineView). line.spare) (sym is) in
+    rw (map-set (λ (line : LineView). line.spare) lines at new) (grown (map (λ (line : LineView). line.spare) lines) at new.spare (omega (arith, before, le)))
+
+pub new_spare : (lines : List LineView) (at : ℕ) (new : LineView) → at < length lines → get_or (map (λ (line : LineView). line.spare) (set lines at new)) at 0 ≡ new.spare
+new_spare lines at new within =
+    rw (map-set (λ (line : LineView). line.spare) lines at new) (get_or-set_same _ at new.spare 0 (rw length-map within))

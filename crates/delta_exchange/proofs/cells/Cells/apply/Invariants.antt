@@ -1,0 +1,15 @@
+use Rattle.std.proofs.Common.{◌≡◌, ◌++◌, take, drop}
+use Rattle.delta_exchange.specs.Changes.{AllFit, cells_after_all, inverses_of}
+use Rattle.delta_exchange.specs.Spares.{HaveRoom, spare_after_all}
+use Rattle.delta_exchange.proofs.cells.Cells.apply.Given as goal
+
+abbrev pub invariant-loop-change : goal.invariant-loop-change
+invariant-loop-change l =
+    record {
+      rest : drop l.change-index l.changes ≡ drop l.change-index l.initial.changes;
+      fit : AllFit (drop l.change-index l.changes) l.self.contents;
+      room : HaveRoom (drop l.change-index l.changes) l.self.spare;
+      cells : cells_after_all (drop l.change-index l.changes) l.self.contents ≡ cells_after_all l.initial.changes l.initial.self.contents;
+      spare : spare_after_all (drop l.change-index l.changes) l.self.spare ≡ spare_after_all l.initial.changes l.initial.self.spare;
+      made : take l.change-index l.changes ++ inverses_of (drop l.change-index l.changes) l.self.contents ≡ inverses_of l.initial.changes l.initial.self.contents;
+    }

@@ -1,0 +1,65 @@
+-- The spares of an object's lines: for how many more values each has room for certain.
+use Rattle.std.specs.Prelude.{ℕ, ◌+◌, ◌-◌, ◌<◌, ◌≤◌, List, [], ◌∷◌, length, slice_set, slice_index, ◌==◌, if◌then◌else◌}
+use Rattle.delta_exchange.specs.Changes.{CellData}
+use Rattle.delta_exchange.specs.declared.change.Change.{Change}
+use Rattle.delta_exchange.specs.declared.change.Change.TheVariants.{Set, Push, Pop, Unpush, Unpop}
+
+-- a value that goes in takes one place of its line's spare
+abbrev pub FindsRoom : Change → List ℕ → Type 0
+FindsRoom (Set word value) spare = Unit {0}
+FindsRoom (Push line value) spare = 0 < slice_index spare line
+FindsRoom (Pop line) spare = Unit {0}
+FindsRoom (Unpush line) spare = Unit {0}
+FindsRoom (Unpop line value) spare = 0 < slice_index spare line
+
+-- the spares after a change: a value that goes out gives its place back
+abbrev pub spare_after : Change → List ℕ → List ℕ
+spare_after (Set word value) spare = spare
+spare_after (Push line value) spare = slice_set spare line (slice_index spare line - 1)
+spare_after (Pop line) spare = slice_set spare line (slice_index spare line + 1)
+spare_after (Unpush line) spare = slice_set spare line (slice_index spare line + 1)
+spare_after (Unpop line value) spare = slice_set spare line (slice_index spare line - 1)
+
+-- each change of a list finds room in the spares that those before it leave
+unfoldable pub AllFindRoom : List Change → List ℕ → Type 0
+AllFindRoom [] spare = Unit {0}
+AllFindRoom (change ∷ rest) spare = FindsRoom change spare × AllFindRoom rest (spare_after change spare)
+
+-- the spares after a list of changes, from the first to the last
+unfoldable pub spare_after_all : List Change → List ℕ → List ℕ
+spare_after_all [] spare = spare
+spare_after_all (change ∷ rest) spare = spare_after_all rest (spare_after change spare)
+
+-- how many values a change puts in at a line
+abbrev pub places_for : Change → ℕ → ℕ
+places_for (Set word value) line = 0
+places_for (Push at value) line = if at == line then 1 else 0
+places_for (Pop at) line = 0
+places_for (Unpush at) line = 0
+places_for (Unpop at value) line = if at == line then 1 else 0
+
+-- how many values a list of changes puts in at a line
+unfoldable pub room_for : List Change → ℕ → ℕ
+room_for [] line = 0
+room_for (change ∷ rest) line = places_for change line + room_for rest line
+
+-- the spare of each line is at least what the changes put in there
+abbrev pub HaveRoom : List Change → List ℕ → Type 0
+HaveRoom changes spare = (line : ℕ) → room_for changes line ≤ slice_index spare line
+
+-- the line that a change names is there
+abbrev pub NamesLine : Change → CellData → Type 0
+NamesLine (Set word value) cells = Unit {0}
+NamesLine (Push line value) cells = line < length cells.lines
+NamesLine (Pop line) cells = line < length cells.lines
+NamesLine (Unpush line) cells = line < length cells.lines
+NamesLine (Unpop line value) cells = line < length cells.lines
+
+-- each line that the changes name is there
+unfoldable pub NameLines : List Change → CellData → Type 0
+NameLines [] cells = Unit {0}
+NameLines (change ∷ rest) cells = NamesLine change cells × NameLines rest cells
+
+-- no line has less spare than it had
+abbrev pub NoneFell : List ℕ → List ℕ → Type 0
+NoneFell before after = (line : ℕ) → slice_index before line ≤ slice_index after line
