@@ -1,16 +1,17 @@
 -- A simulation begins in a lawful state.
-use Rattle.std.proofs.Common.{◌≡◌, ◌≢◌, ◌⊎◌, ℕ, zero, suc, ◌+◌, ◌*◌, ◌/◌, ◌^◌, ◌<◌, ◌≤◌, List, [], ◌∷◌, ◌++◌, length, map, sym, refl, ap, ◌∙◌, subst, inl, inr, arith}
+use Rattle.std.proofs.Common.{◌≡◌, ℕ, zero, suc, ◌+◌, ◌*◌, ◌^◌, ◌<◌, ◌≤◌, List, [], map, sym, refl, subst, inl, arith}
 use Rattle.std.specs.Prelude.{IsTrue}
 use Rattle.std.specs.List.{range_with_len}
 use Rattle.std.proofs.lemmas.List.FromFn.{length-map-range_with_len, get_or-map-range_with_len}
-use Rattle.event_key.specs.Stamps.{stamp_at, time_part}
 use Rattle.model_core.specs.declared.event.Event.{Event}
 use Rattle.model_core.specs.Meaning.{Meaning, MeaningLaws, StartLaws}
 use Rattle.sim_spec.specs.Firing.{ObjectState}
 use Rattle.sim_spec.specs.declared.terms.Terms.{Terms}
 use Rattle.sim_spec.specs.Pending.{enqueue, enqueue_all, IsAscending}
-use Rattle.sim_spec.specs.State.{State, Lawful, IsSound, AllSound, object_at, no_object, first_object, start_event, initial_state}
-use Rattle.sim_spec.proofs.LawfulLemmas.{NoneAt, SerialsBelow, IsAscending-enqueue, NoneAt-serial, SerialsBelow-enqueue, SerialsBelow-le, length-enqueue_all, AllSound-enqueue_all}
+use Rattle.sim_spec.specs.State.{Lawful, AllSound, object_at, no_object, first_object, start_event, initial_state}
+use Rattle.sim_spec.proofs.EnqueueLemmas.{IsAscending-enqueue, length-enqueue_all}
+use Rattle.sim_spec.proofs.SerialLemmas.{SerialsBelow, NoneAt-serial, SerialsBelow-enqueue, SerialsBelow-le}
+use Rattle.sim_spec.proofs.SoundLemmas.{AllSound-enqueue_all}
 
 starts_ascending : (m : Meaning) (a n : ℕ) (xs : List Event) → SerialsBelow 4294967295 a xs → IsAscending xs → IsAscending (enqueue_all (map (start_event m) (range_with_len a n)) xs)
 unfolding enqueue_all

@@ -1,140 +1,23 @@
 -- An event leaves a lawful state.
-use Rattle.std.proofs.Common.{◌≡◌, ◌≢◌, ◌⊎◌, ℕ, zero, suc, ◌+◌, ◌-◌, ◌*◌, ◌/◌, ◌^◌, ◌<◌, ◌≤◌, Bool, true, false, cond, ◌||◌, List, [], ◌∷◌, ◌++◌, length, sym, refl, ap, ◌∙◌, subst, inl, inr, arith, eqb, ltb, ltb-true, eqb-true, eq-eqb, get_or-set_other, get_or-set_same, length-set}
-use Rattle.std.specs.Prelude.{IsTrue, slice_set, slice_index_or}
+use Rattle.std.proofs.Common.{◌≡◌, ◌≢◌, ℕ, ◌+◌, ◌*◌, ◌^◌, ◌<◌, ◌≤◌, Bool, true, false, cond, List, [], ◌∷◌, length, sym, refl, ap, subst, arith, eqb, ltb, ltb-true, eq-eqb, get_or-set_same, length-set}
+use Rattle.std.specs.Prelude.{IsTrue, slice_set}
 use Rattle.event_key.specs.declared.key.Key.{Key}
-use Rattle.event_key.specs.Keys.{key_lt}
-use Rattle.event_key.specs.Stamps.{end_stamp, time_part, next_stamp}
-use Rattle.event_key.proofs.Order.{key_lt-trans, key_lt-apart}
+use Rattle.event_key.specs.Stamps.{end_stamp, time_part}
 use Rattle.model_core.specs.declared.event.Event.{Event}
-use Rattle.model_core.specs.declared.event.Send.{Send}
 use Rattle.model_core.specs.declared.note.Note.{Note}
 use Rattle.model_core.specs.declared.effect.Outcome.{Outcome}
 use Rattle.model_core.specs.declared.effect.Outcome.TheVariants.{Goes, Fails}
-use Rattle.delta_exchange.specs.Changes.{CellData, cells_after_all, inverses_of}
-use Rattle.model_core.specs.Meaning.{Meaning, MeaningLaws, OutcomeLaws, EffectLaws, SendsInRange}
+use Rattle.delta_exchange.specs.Changes.{cells_after_all, inverses_of}
+use Rattle.model_core.specs.Meaning.{Meaning, MeaningLaws, OutcomeLaws}
 use Rattle.sim_spec.specs.declared.terms.Terms.{Terms}
-use Rattle.sim_spec.specs.declared.stop.Stop.{Stop}
 use Rattle.sim_spec.specs.declared.stop.Stop.TheVariants.{End, Limit, Fault}
-use Rattle.sim_spec.specs.Firing.{ObjectState, Firing, Fired, goes, fails, fire, fired_by, emission, emissions, has_chain}
-use Rattle.sim_spec.specs.Pending.{enqueue, enqueue_all, AllAfter, IsAscending}
-use Rattle.sim_spec.specs.State.{State, Lawful, IsSound, AllSound, object_at, no_object}
+use Rattle.sim_spec.specs.Firing.{ObjectState, Firing, Fired, goes, fails, fire, fired_by, emissions, has_chain}
+use Rattle.sim_spec.specs.Pending.{enqueue_all, IsAscending}
+use Rattle.sim_spec.specs.State.{State, Lawful, AllSound, object_at, no_object}
 use Rattle.sim_spec.specs.Run.{Next, stops, does, next, next_of, next_fired, Leads}
-
--- no event has this key
-unfoldable pub NoneAt : Key → List Event → Type 0
-NoneAt k [] = Unit {0}
-NoneAt k (x ∷ xs) = (k ≢ x.key) × NoneAt k xs
-
--- what one object has sent has serials below n
-unfoldable pub SerialsBelow : ℕ → ℕ → List Event → Type 0
-SerialsBelow object n [] = Unit {0}
-SerialsBelow object n (x ∷ xs) = (x.key.src ≡ object → x.key.serial < n) × SerialsBelow object n xs
-
-AllAfter-trans : (j k : Key) (xs : List Event) → key_lt j k ≡ true → AllAfter k xs → AllAfter j xs
-unfolding AllAfter
-AllAfter-trans j k [] lt all = tt
-AllAfter-trans j k (x ∷ xs) lt all = (key_lt-trans j k x.key lt all.0, AllAfter-trans j k xs lt all.1)
-
-AllAfter-enqueue : (k : Key) (e : Event) (xs : List Event) → key_lt k e.key ≡ true → AllAfter k xs → AllAfter k (enqueue e xs)
-unfolding AllAfter enqueue
-AllAfter-enqueue k e [] lt all = (lt, tt)
-AllAfter-enqueue k e (x ∷ xs) lt all =
-    elim (key_lt e.key x.key) as (λ b. AllAfter k (cond b (e ∷ x ∷ xs) (x ∷ enqueue e xs)))
-    [ true ↦ (lt, all) | false ↦ (all.0, AllAfter-enqueue k e xs lt all.1) ]
-
-ascending_on : (e x : Event) (xs : List Event) (b : Bool) → key_lt e.key x.key ≡ b → e.key ≢ x.key → IsAscending (x ∷ xs) → IsAscending (enqueue e xs)
-    → IsAscending (cond b (e ∷ x ∷ xs) (x ∷ enqueue e xs))
-unfolding IsAscending AllAfter
-ascending_on e x xs true is_b apart up more = ((is_b, AllAfter-trans e.key x.key xs is_b up.0), up)
-ascending_on e x xs false is_b apart up more = (
-  elim (key_lt x.key e.key) as (λ b. key_lt x.key e.key ≡ b → AllAfter x.key (enqueue e xs)) [
-    | true ↦ (λ lt. AllAfter-enqueue x.key e xs lt up.0)
-    | false ↦ (λ ge. absurd (apart (key_lt-apart e.key x.key is_b ge)))
-  ] refl,
-  more,
-)
-
-pub IsAscending-enqueue : (e : Event) (xs : List Event) → NoneAt e.key xs → IsAscending xs → IsAscending (enqueue e xs)
-unfolding NoneAt IsAscending enqueue AllAfter
-IsAscending-enqueue e [] none up = (tt, tt)
-IsAscending-enqueue e (x ∷ xs) none up = ascending_on e x xs (key_lt e.key x.key) refl none.0 up (IsAscending-enqueue e xs none.1 up.1)
-
--- a property of each event, through the places
-module _ (P : Event → Type 0) where
-  unfoldable pub Each : List Event → Type 0
-  Each [] = Unit {0}
-  Each (x ∷ xs) = P x × Each xs
-
-pub length-enqueue : (e : Event) (xs : List Event) → length (enqueue e xs) ≡ suc (length xs)
-unfolding enqueue
-length-enqueue e [] = refl
-length-enqueue e (x ∷ xs) =
-    elim (key_lt e.key x.key) as (λ b. length (cond b (e ∷ x ∷ xs) (x ∷ enqueue e xs)) ≡ suc (suc (length xs)))
-    [ true ↦ refl | false ↦ ap suc (length-enqueue e xs) ]
-
-pub length-enqueue_all : (es xs : List Event) → length (enqueue_all es xs) ≡ length es + length xs
-unfolding enqueue_all
-length-enqueue_all [] xs = omega arith
-length-enqueue_all (e ∷ es) xs = let more = length-enqueue_all es (enqueue e xs) in let one = length-enqueue e xs in omega arith
-
-pub SerialsBelow-enqueue : (object n : ℕ) (e : Event) (xs : List Event) → (e.key.src ≡ object → e.key.serial < n) → SerialsBelow object n xs → SerialsBelow object n (enqueue e xs)
-unfolding SerialsBelow enqueue
-SerialsBelow-enqueue object n e [] one all = (one, tt)
-SerialsBelow-enqueue object n e (x ∷ xs) one all =
-    elim (key_lt e.key x.key) as (λ b. SerialsBelow object n (cond b (e ∷ x ∷ xs) (x ∷ enqueue e xs)))
-    [ true ↦ (one, all) | false ↦ (all.0, SerialsBelow-enqueue object n e xs one all.1) ]
-
-pub SerialsBelow-le : (object m n : ℕ) (xs : List Event) → m ≤ n → SerialsBelow object m xs → SerialsBelow object n xs
-unfolding SerialsBelow
-SerialsBelow-le object m n [] le all = tt
-SerialsBelow-le object m n (x ∷ xs) le all = (λ same. let lt = all.0 same in omega arith, SerialsBelow-le object m n xs le all.1)
-
-pub NoneAt-serial : (k : Key) (xs : List Event) → SerialsBelow k.src k.serial xs → NoneAt k xs
-unfolding NoneAt SerialsBelow
-NoneAt-serial k [] all = tt
-NoneAt-serial k (x ∷ xs) all =
-    (λ same. let lt = all.0 (sym (ap (λ (k : Key). k.src) same)) in let at = ap (λ (k : Key). k.serial) same in omega arith, NoneAt-serial k xs all.1)
-
--- what an object sends goes to its places
-emissions_ascending : (stamp object serial : ℕ) (ss : List Send) (xs : List Event) → SerialsBelow object serial xs → IsAscending xs
-    → IsAscending (enqueue_all (emissions stamp object serial ss) xs)
-unfolding emissions enqueue_all
-emissions_ascending stamp object serial [] xs below up = up
-emissions_ascending stamp object serial (s ∷ ss) xs below up =
-    let e : Event = emission stamp object serial s in
-    emissions_ascending stamp object (serial + 1) ss (enqueue e xs)
-    (SerialsBelow-enqueue object (serial + 1) e xs (λ _. omega arith) (SerialsBelow-le object serial (serial + 1) xs (omega arith) below))
-    (IsAscending-enqueue e xs (NoneAt-serial e.key xs below) up)
-
-AllSound-enqueue : (m : Meaning) (objects : List ObjectState) (e : Event) (xs : List Event) → IsSound m objects e → AllSound m objects xs → AllSound m objects (enqueue e xs)
-unfolding AllSound enqueue
-AllSound-enqueue m objects e [] one all = (one, tt)
-AllSound-enqueue m objects e (x ∷ xs) one all =
-    elim (key_lt e.key x.key) as (λ b. AllSound m objects (cond b (e ∷ x ∷ xs) (x ∷ enqueue e xs)))
-    [ true ↦ (one, all) | false ↦ (all.0, AllSound-enqueue m objects e xs one all.1) ]
-
-pub AllSound-enqueue_all : (m : Meaning) (objects : List ObjectState) (es xs : List Event) → AllSound m objects es → AllSound m objects xs → AllSound m objects (enqueue_all es xs)
-unfolding AllSound enqueue_all
-AllSound-enqueue_all m objects [] xs new all = all
-AllSound-enqueue_all m objects (e ∷ es) xs new all = AllSound-enqueue_all m objects es (enqueue e xs) new.1 (AllSound-enqueue m objects e xs new.0 all)
-
-serials_sound : (m : Meaning) (objects : List ObjectState) (object : ℕ) (xs : List Event) → m.objects ≤ 65536 → object < m.objects → AllSound m objects xs
-    → SerialsBelow object (object_at objects object).sent xs
-unfolding AllSound SerialsBelow
-serials_sound m objects object [] few below all = tt
-serials_sound m objects object (x ∷ xs) few below all = (
-  λ same. elim all.0.source [
-    | inl start ↦ absurd (omega arith)
-    | inr sent ↦ let P : ℕ → Type 0 = λ i. x.key.serial < (object_at objects i).sent in subst P same sent.1
-  ],
-  serials_sound m objects object xs few below all.1,
-)
-
-time_later : (stamp delay : ℕ) → time_part stamp < 2 ^ 46 → delay ≤ 2 ^ 40 → time_part (next_stamp stamp delay) < 2 ^ 47
-unfolding next_stamp
-time_later stamp delay early short =
-    elim (eqb delay 0) as (λ b. time_part (cond b (stamp + 1) ((time_part stamp + delay) * 65536)) < 2 ^ 47)
-    [ true ↦ omega arith | false ↦ omega arith ]
+use Rattle.sim_spec.proofs.EnqueueLemmas.{length-enqueue_all}
+use Rattle.sim_spec.proofs.SerialLemmas.{SerialsBelow, serials_sound, emissions_ascending, length-emissions}
+use Rattle.sim_spec.proofs.SoundLemmas.{AllSound-enqueue_all, emissions_sound, AllSound-more, at_object}
 
 -- what comes of a lawful object's event
 pub record IsLawfulFiring (m : Meaning) (s : State) (e : Event) (x : Firing) : Type 0 where
@@ -143,20 +26,6 @@ pub record IsLawfulFiring (m : Meaning) (s : State) (e : Event) (x : Firing) : T
   pub sent : x.state.sent ≡ (object_at s.objects e.key.dest).sent + length x.events
   pub ordered : (xs : List Event) → SerialsBelow e.key.dest (object_at s.objects e.key.dest).sent xs → IsAscending xs → IsAscending (enqueue_all x.events xs)
   pub sound : AllSound m (slice_set s.objects e.key.dest x.state) x.events
-
-length-emissions : (stamp object serial : ℕ) (ss : List Send) → length (emissions stamp object serial ss) ≡ length ss
-unfolding emissions
-length-emissions stamp object serial [] = refl
-length-emissions stamp object serial (s ∷ ss) = ap suc (length-emissions stamp object (serial + 1) ss)
-
-emissions_sound : (m : Meaning) (objects : List ObjectState) (stamp object serial : ℕ) (ss : List Send) → object < m.objects → time_part stamp < 2 ^ 46
-    → SendsInRange m.objects ss → serial + length ss ≤ (object_at objects object).sent → AllSound m objects (emissions stamp object serial ss)
-unfolding emissions AllSound
-emissions_sound m objects stamp object serial [] below early ranged room = tt
-emissions_sound m objects stamp object serial (s ∷ ss) below early ranged room = (
-  record { dest = ranged.0; time = time_later stamp s.delay early ranged.1; rank = ranged.2; source = inr (below, omega arith) },
-  emissions_sound m objects stamp object (serial + 1) ss below early ranged.3 (omega arith),
-)
 
 lawful_goes : (m : Meaning) (s : State) (e : Event) (x : Firing) (o : Outcome)
     → length s.objects ≡ m.objects → e.key.dest < m.objects → time_part e.key.stamp < 2 ^ 46
@@ -192,29 +61,6 @@ lawful_goes m s e x (Goes y) long below early laws is_x =
     chosen : (b : Bool) (x y : Firing) → cond b (fails 1) (goes x) ≡ goes y → x ≡ y
     chosen true x y h = absurd (cc)
     chosen false x y h = goes_is x y h
-
--- events of before, with more that their sources have sent
-AllSound-more : (m : Meaning) (old new : List ObjectState) (xs : List Event) → ((i : ℕ) → i < m.objects → (object_at old i).sent ≤ (object_at new i).sent) → AllSound m old xs → AllSound m new xs
-unfolding AllSound
-AllSound-more m old new [] grows all = tt
-AllSound-more m old new (x ∷ xs) grows all = (
-  record { dest = all.0.dest; time = all.0.time; rank = all.0.rank; source = elim all.0.source [ inl start ↦ inl start | inr sent ↦ inr (sent.0, let le = grows x.key.src sent.0 in let lt = sent.1 in omega arith) ] },
-  AllSound-more m old new xs grows all.1,
-)
-
--- one object at a time: this one, or another one
-at_object : (P : ObjectState → Type 0) (objects : List ObjectState) (dest i : ℕ) (new : ObjectState) → dest < length objects
-    → (i ≡ dest → P new) → P (object_at objects i) → P (object_at (slice_set objects dest new) i)
-at_object P objects dest i new inside here there = by_case (eqb i dest) refl
-  where
-    by_case : (b : Bool) → eqb i dest ≡ b → P (object_at (slice_set objects dest new) i)
-    by_case true h =
-        let same : i ≡ dest = eqb-true i dest h in
-        let at : object_at (slice_set objects dest new) i ≡ new = subst (λ j. object_at (slice_set objects dest new) j ≡ new) (sym same) (get_or-set_same objects dest new no_object inside) in
-        subst P (sym at) (here same)
-    by_case false h =
-        let apart : i ≢ dest = λ same. let q = eq-eqb i dest same in cc in
-        subst P (sym (get_or-set_other objects dest i new no_object apart)) there
 
 lawful_done : (m : Meaning) (t : Terms) (s : State) (e : Event) (rest : List Event) (x : Firing)
     → MeaningLaws m → Lawful m t s → s.pending ≡ e ∷ rest → s.count ≢ t.limit → IsLawfulFiring m s e x

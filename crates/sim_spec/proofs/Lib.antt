@@ -1,6 +1,9 @@
+pub mod EnqueueLemmas
 pub mod InitialLemmas
 pub mod LawfulLemmas
 pub mod OrderLemmas
 pub mod PendingLemmas
 pub mod RunEndsLemma
 pub mod RunLemmas
+pub mod SerialLemmas
+pub mod SoundLemmas

@@ -1,13 +1,12 @@
 -- A list in the order of its keys is known by its members, and the order of arrival doesn't matter.
-use Rattle.std.proofs.Common.{◌≡◌, ◌≢◌, ◌⊎◌, ℕ, zero, suc, ◌+◌, ◌<◌, ◌≤◌, Bool, true, false, cond, List, [], ◌∷◌, ◌++◌, length, sym, refl, ap, ◌∙◌, subst, inl, inr, arith}
+use Rattle.std.proofs.Common.{◌≡◌, ◌⊎◌, ℕ, zero, suc, ◌<◌, true, List, [], ◌∷◌, length, sym, refl, subst, inl, inr, arith}
 use Rattle.std.specs.Prelude.{Contains, slice_index_or, IsPermutation}
 use Rattle.std.proofs.lemmas.List.Sorted.{Contains-permutation, IsPermutation-sym}
 use Rattle.event_key.specs.declared.key.Key.{Key}
 use Rattle.event_key.specs.Keys.{key_lt}
-use Rattle.event_key.proofs.Order.{key_lt-irrefl, key_lt-trans, key_lt-apart}
+use Rattle.event_key.proofs.Order.{key_lt-irrefl, key_lt-trans}
 use Rattle.model_core.specs.declared.event.Event.{Event}
-use Rattle.sim_spec.specs.Pending.{enqueue, enqueue_all, AllAfter, IsAscending}
-use Rattle.sim_spec.proofs.PendingLemmas.{false_from}
+use Rattle.sim_spec.specs.Pending.{AllAfter, IsAscending}
 
 -- an element is the first one, or one behind it
 first_or_later : (x y : Event) (ys : List Event) → Contains (y ∷ ys) x → (y ≡ x) ⊎ Contains ys x

@@ -1,6 +1,5 @@
 -- Events at their places in the pending list.
-use Rattle.std.proofs.Common.{◌≡◌, ℕ, ◌+◌, ◌<◌, ◌≤◌, min, Bool, true, false, cond, List, [], ◌∷◌, ◌++◌, length, sym, refl, ap, ◌∙◌, subst, arith}
-use Rattle.event_key.specs.declared.key.Key.{Key}
+use Rattle.std.proofs.Common.{◌≡◌, ◌<◌, Bool, true, false, cond, List, [], ◌∷◌, ◌++◌, refl, ap, arith}
 use Rattle.event_key.specs.Keys.{key_lt}
 use Rattle.event_key.proofs.Order.{stamp-le}
 use Rattle.model_core.specs.declared.event.Event.{Event}

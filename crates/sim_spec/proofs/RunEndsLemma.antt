@@ -1,12 +1,9 @@
 -- A run stops of itself: its fuel is never used up.
-use Rattle.std.proofs.Common.{◌≡◌, ◌≢◌, ℕ, zero, suc, ◌+◌, ◌-◌, ◌≤◌, List, [], ◌∷◌, sym, refl, subst, arith}
-use Rattle.event_key.specs.declared.key.Key.{Key}
-use Rattle.model_core.specs.declared.note.Note.{Note}
+use Rattle.std.proofs.Common.{◌≡◌, ◌≢◌, ℕ, zero, suc, ◌+◌, ◌-◌, ◌≤◌, sym, refl, subst, arith}
 use Rattle.model_core.specs.Meaning.{Meaning}
 use Rattle.sim_spec.specs.declared.terms.Terms.{Terms}
-use Rattle.sim_spec.specs.declared.stop.Stop.{Stop}
 use Rattle.sim_spec.specs.State.{State}
-use Rattle.sim_spec.specs.Run.{Next, stops, does, next, Run, run, after_records, Leads}
+use Rattle.sim_spec.specs.Run.{Next, stops, does, next, Run, run, Leads}
 use Rattle.sim_spec.specs.Laws.{IsWholeRun}
 use Rattle.sim_spec.proofs.RunLemmas.{run-does, run-stops, next-count}
 

@@ -1,5 +1,5 @@
 -- A run by its first event, and by the events that lead to a state.
-use Rattle.std.proofs.Common.{◌≡◌, ℕ, zero, suc, ◌+◌, ◌-◌, ◌<◌, ◌≤◌, ◌≢◌, Bool, true, false, cond, List, [], ◌∷◌, ◌++◌, sym, refl, ap, ◌∙◌, subst, arith, eqb, ltb, eq-eqb, ne_eqb, lt-ltb, le-ltb, length}
+use Rattle.std.proofs.Common.{◌≡◌, ℕ, suc, ◌+◌, ◌-◌, ◌<◌, ◌≤◌, ◌≢◌, Bool, true, false, cond, List, [], ◌∷◌, sym, refl, ap, ◌∙◌, subst, arith, eqb, ltb, eq-eqb, ne_eqb, lt-ltb, le-ltb, length}
 use Rattle.std.specs.Prelude.{slice_set}
 use Rattle.event_key.specs.declared.key.Key.{Key}
 use Rattle.event_key.specs.Stamps.{end_stamp}
@@ -15,7 +15,7 @@ use Rattle.delta_exchange.specs.Changes.{cells_after_all, inverses_of}
 use Rattle.sim_spec.specs.Pending.{enqueue_all}
 use Rattle.sim_spec.specs.Firing.{Fired, Firing, goes, fails, fire, fired_by, has_chain, emissions}
 use Rattle.sim_spec.specs.State.{State, object_at, Lawful, IsSound, AllSound}
-use Rattle.sim_spec.specs.Run.{Next, stops, does, next, next_of, next_fired, Run, run, run_for, run_on, after_records, Leads}
+use Rattle.sim_spec.specs.Run.{Next, stops, does, next, next_of, next_fired, run, run_for, run_on, after_records, Leads}
 
 -- an event raises the count by one, which was not the limit
 abbrev Counted : Terms → State → Next → Type 0
@@ -145,9 +145,9 @@ pub next-chain : (m : Meaning) (t : Terms) (s : State) (e : Event) (rest : List 
     → Goes x ≡ m.effect e.key.dest (object_at s.objects e.key.dest).cells e → has_chain e.key.stamp x.sends ≡ true → next m t s ≡ stops (Fault e.key 1)
 next-chain m t s e rest x = next-goes m t s e rest x true
 
-pub next-state_after : (m : Meaning) (t : Terms) (s : State) (e : Event) (rest : List Event) (x : Effect) → s.pending ≡ e ∷ rest → e.key.stamp < end_stamp t.end → s.count ≢ t.limit
+pub next-goes_on : (m : Meaning) (t : Terms) (s : State) (e : Event) (rest : List Event) (x : Effect) → s.pending ≡ e ∷ rest → e.key.stamp < end_stamp t.end → s.count ≢ t.limit
     → Goes x ≡ m.effect e.key.dest (object_at s.objects e.key.dest).cells e → has_chain e.key.stamp x.sends ≡ false → next m t s ≡ does (e.key, x.note) (state_after s e rest x)
-next-state_after m t s e rest x = next-goes m t s e rest x false
+next-goes_on m t s e rest x = next-goes m t s e rest x false
 
 -- what is known of the first event of a lawful state
 pub first_sound : (m : Meaning) (t : Terms) (s : State) (e : Event) (rest : List Event) → Lawful m t s → s.pending ≡ e ∷ rest → IsSound m s.objects e

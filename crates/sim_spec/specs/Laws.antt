@@ -6,7 +6,7 @@ use Rattle.model_core.specs.declared.note.Note.{Note}
 use Rattle.model_core.specs.Meaning.{Meaning}
 use Rattle.sim_spec.specs.declared.terms.Terms.{Terms}
 use Rattle.sim_spec.specs.State.{State, Lawful}
-use Rattle.sim_spec.specs.Run.{Next, stops, does, next, run, Leads}
+use Rattle.sim_spec.specs.Run.{stops, does, next, run, Leads}
 
 -- by stamp, then destination, then source, then serial
 abbrev pub lt_without_rank : Key → Key → Bool

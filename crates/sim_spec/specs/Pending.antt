@@ -1,5 +1,5 @@
 -- The pending events, as one list in the order of their keys.
-use Rattle.std.specs.Prelude.{◌≡◌, ℕ, true, List, [], ◌∷◌, if◌then◌else◌}
+use Rattle.std.specs.Prelude.{◌≡◌, ◌≢◌, true, List, [], ◌∷◌, if◌then◌else◌}
 use Rattle.event_key.specs.declared.key.Key.{Key}
 use Rattle.event_key.specs.Keys.{key_lt}
 use Rattle.model_core.specs.declared.event.Event.{Event}
@@ -23,3 +23,8 @@ AllAfter k (x ∷ xs) = (key_lt k x.key ≡ true) × AllAfter k xs
 unfoldable pub IsAscending : List Event → Type 0
 IsAscending [] = Unit {0}
 IsAscending (x ∷ xs) = AllAfter x.key xs × IsAscending xs
+
+-- no event has this key
+unfoldable pub NoneAt : Key → List Event → Type 0
+NoneAt k [] = Unit {0}
+NoneAt k (x ∷ xs) = (k ≢ x.key) × NoneAt k xs
