@@ -1,0 +1,4 @@
+pub mod BeginLemmas
+pub mod FireLemmas
+pub mod PlaceLemmas
+pub mod SendLemmas

@@ -1,0 +1,10 @@
+//! A simulation on one sorted list of pending events: the plainest engine, and the reference for every other.
+#![tactic(auto)]
+
+mod beginning;
+mod engine;
+mod object;
+mod pending;
+mod sending;
+
+pub use engine::{ListEngine, Step};
