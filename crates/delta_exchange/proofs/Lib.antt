@@ -1,3 +1,5 @@
+pub mod Backwards
 pub mod Forwards
 pub mod LineLemmas
+pub mod Lists
 pub mod Room

@@ -1,5 +1,5 @@
 //! The state of an object: words, and lines of values.
-ghost use Rattle.std.specs.Prelude.{◌≡◌, ◌<◌, ◌≤◌, ◌^◌, ℕ, length, slice_index, map, IfOk, OnOk};
+ghost use Rattle.std.specs.Prelude.{◌≡◌, ◌<◌, ◌≤◌, ◌^◌, ℕ, length, slice_index, map, reverse, IfOk, OnOk};
 ghost use Rattle.delta_exchange.specs.Changes.{line_of, Fits, cells_after, inverse_of, AllFit, cells_after_all, inverses_of};
 ghost use Rattle.delta_exchange.specs.Spares.{FindsRoom, spare_after, AllFindRoom, spare_after_all, places_for, room_for, HaveRoom, NamesLine, NameLines, NoneFell};
 ghost use Rattle.delta_exchange.specs.Views.{unspared};
@@ -175,6 +175,19 @@ impl Cells {
     {
         for change in changes.iter_mut() {
             self.exchange(change);
+        }
+    }
+
+    /// Exchanges the changes from the last to the first.
+    pub fn undo(&mut self, changes: &mut [Change])
+        requires fit { AllFit (reverse changes.old) self.old.contents }
+        requires room { AllFindRoom (reverse changes.old) self.old.spare }
+        ensures cells { self.new.contents ≡ cells_after_all (reverse changes.old) self.old.contents }
+        ensures spare { self.new.spare ≡ spare_after_all (reverse changes.old) self.old.spare }
+        ensures changes { changes.new ≡ reverse (inverses_of (reverse changes.old) self.old.contents) }
+    {
+        for at in (0..changes.len()).rev() {
+            self.exchange(&mut changes[at]);
         }
     }
 }
