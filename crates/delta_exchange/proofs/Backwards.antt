@@ -1,5 +1,5 @@
 -- Changes exchanged from the last to the first, as a loop does: the change below `at`, and what is left.
-use Rattle.std.proofs.Common.{◌≡◌, ℕ, ◌+◌, ◌<◌, ◌≤◌, List, [], ◌∷◌, ◌++◌, length, get_or, take, drop, reverse, refl, ap, sym, ◌∙◌, arith}
+use Rattle.std.proofs.Common.{◌≡◌, ℕ, ◌+◌, ◌<◌, ◌≤◌, List, [], ◌∷◌, ◌++◌, length, get_or, take, drop, reverse, refl, ap, arith}
 use Rattle.std.proofs.Math.ListN.{set}
 use Rattle.std.proofs.lemmas.List.{take_more, reverse-append, append_assoc, append-nil, drop-set, take-set, take_all, drop_all}
 use Rattle.std.proofs.lemmas.Grind.{reverse_onto}

@@ -22,9 +22,9 @@ same_values lines at old new is same = map-set_same (λ (line : LineView). line.
 -- one number that is no less
 grown : (spare : List ℕ) (at places : ℕ) → get_or spare at 0 ≤ places → NoneFell spare (set spare at places)
 grown spare at places le = record {
-      as_many = length-set spare at places;
-      no_less = no_less spare at places le;
-    }
+  as_many = length-set spare at places;
+  no_less = no_less spare at places le;
+}
   where
     no_less : (spare : List ℕ) (at places : ℕ) → get_or spare at 0 ≤ places → (line : ℕ) → get_or spare line 0 ≤ get_or (set spare at places) line 0
     no_less [] at places le line = omega arith

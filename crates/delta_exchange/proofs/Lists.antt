@@ -1,5 +1,5 @@
 -- A list of changes and another after it.
-use Rattle.std.proofs.Common.{◌≡◌, ℕ, zero, suc, List, [], ◌∷◌, ◌++◌, take, drop, length, refl, ap, ◌∙◌}
+use Rattle.std.proofs.Common.{◌≡◌, ℕ, List, [], ◌∷◌, ◌++◌, length, refl, ap, ◌∙◌}
 use Rattle.std.proofs.lemmas.List.{length-set}
 use Rattle.delta_exchange.specs.Changes.{CellData, cells_after, inverse_of, AllFit, cells_after_all, inverses_of}
 use Rattle.delta_exchange.specs.Spares.{spare_after, AllFindRoom, spare_after_all}

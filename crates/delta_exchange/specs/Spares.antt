@@ -1,6 +1,7 @@
 -- The spares of an object's lines: for how many more values each has room for certain.
 use Rattle.std.specs.Prelude.{◌≡◌, ℕ, ◌+◌, ◌-◌, ◌<◌, ◌≤◌, List, [], ◌∷◌, length, slice_set, slice_index, ◌==◌, if◌then◌else◌}
 use Rattle.delta_exchange.specs.Changes.{CellData}
+use Rattle.delta_exchange.specs.Views.{CellsView}
 use Rattle.delta_exchange.specs.declared.change.Change.{Change}
 use Rattle.delta_exchange.specs.declared.change.Change.TheVariants.{Set, Push, Pop, Unpush, Unpop}
 
@@ -64,3 +65,7 @@ NameLines (change ∷ rest) cells = NamesLine change cells × NameLines rest cel
 pub record NoneFell (before after : List ℕ) : Type 0 where
   pub as_many : length after ≡ length before
   pub no_less : (line : ℕ) → slice_index before line ≤ slice_index after line
+
+-- each line has its spare
+abbrev pub HasSpares : CellsView → Type 0
+HasSpares cells = length cells.spare ≡ length cells.contents.lines

@@ -1,7 +1,7 @@
 -- Changes that are exchanged from the last to the first, and what that gives back.
-use Rattle.std.specs.Prelude.{◌≡◌, ℕ, ◌++◌, List, length, reverse}
-use Rattle.delta_exchange.specs.Changes.{AllFit, cells_after_all, inverses_of}
-use Rattle.delta_exchange.specs.Spares.{AllFindRoom, spare_after_all, HaveRoom, NoneFell, NameLines}
+use Rattle.std.specs.Prelude.{◌≡◌, ℕ, ◌++◌, List, reverse}
+use Rattle.delta_exchange.specs.Changes.{CellData, AllFit, cells_after_all, inverses_of}
+use Rattle.delta_exchange.specs.Spares.{AllFindRoom, spare_after_all, HaveRoom, NoneFell, NameLines, HasSpares}
 use Rattle.delta_exchange.specs.Views.{CellsView}
 use Rattle.delta_exchange.specs.declared.change.Change.{Change}
 
@@ -16,10 +16,6 @@ pub record UndoRestores (inverses : List Change) (later : CellsView) (changes : 
 -- the cells after a list of changes, with their spares
 abbrev pub view_after_all : List Change → CellsView → CellsView
 view_after_all changes cells = record { contents = cells_after_all changes cells.contents; spare = spare_after_all changes cells.spare }
-
--- each line has its spare
-abbrev pub HasSpares : CellsView → Type 0
-HasSpares cells = length cells.spare ≡ length cells.contents.lines
 
 -- the changes can be done on the cells
 abbrev pub CanBeDone : List Change → CellsView → Type 0
@@ -50,4 +46,4 @@ MoreSpareIsEnough = (changes : List Change) (before after : List ℕ) → NoneFe
 
 -- changes that fit name lines that are there
 abbrev pub FittingNamesLines : Type 0
-FittingNamesLines = (changes : List Change) (cells : CellsView) → AllFit changes cells.contents → NameLines changes cells.contents
+FittingNamesLines = (changes : List Change) (cells : CellData) → AllFit changes cells → NameLines changes cells

@@ -1,5 +1,5 @@
-use Rattle.std.proofs.Common.{◌≡◌, ◌+◌, ◌-◌, ◌<◌, ◌≤◌, ◌∙◌, sym, ap, refl, length, arith}
-use Rattle.std.proofs.lemmas.List.{length-set}
+use Rattle.std.proofs.Common.{◌≡◌, ◌+◌, ◌-◌, ◌∙◌, sym, refl, arith}
+use Rattle.std.proofs.lemmas.List.{length-set, length-map}
 use Rattle.delta_exchange.specs.declared.change.Change.TheVariants.{Set}
 use Rattle.delta_exchange.proofs.Backwards.{last_fits, last_room, last_cells, last_spare, last_inverse, front_of_set, all_left, none_done, cells_at_start, spare_at_start, inverses_at_start}
 use Rattle.delta_exchange.proofs.cells.Cells.undo.Goals as goal
@@ -7,6 +7,7 @@ use Rattle.delta_exchange.proofs.cells.Cells.undo.Goals as goal
 pub loop-at-init : goal.loop-at-init
 loop-at-init c =
     record {
+      spares = rw (← c.self.view_is) (simp length-map);
       within = omega arith;
       fit = rw (all_left c.args.changes.now) c.requires.fit;
       room = rw (all_left c.args.changes.now) c.requires.room;
@@ -33,6 +34,7 @@ loop-at-preserved c =
     let next : at - 1 + 1 ≡ at = omega arith in
     let done = c.exchange.ensures in
     record {
+      spares = done.spares;
       within = rw length-set (omega arith);
       fit = rw (front_of_set changes (at - 1) _, done.cells) (last_fits changes (at - 1) at (Set 0 0) _ next i.within i.fit).1;
       room = rw (front_of_set changes (at - 1) _, done.spare) (last_room changes (at - 1) at (Set 0 0) _ next i.within i.room).1;

@@ -1,11 +1,12 @@
 use Rattle.std.proofs.Common.{◌≡◌, ◌≤◌, ◌++◌, length, take, drop, reverse}
 use Rattle.delta_exchange.specs.Changes.{AllFit, cells_after_all, inverses_of}
-use Rattle.delta_exchange.specs.Spares.{AllFindRoom, spare_after_all}
+use Rattle.delta_exchange.specs.Spares.{AllFindRoom, spare_after_all, HasSpares}
 use Rattle.delta_exchange.proofs.cells.Cells.undo.Given as goal
 
 abbrev pub invariant-loop-at : goal.invariant-loop-at
 invariant-loop-at l =
     record {
+      spares : HasSpares l.self;
       within : l.at ≤ length l.changes;
       fit : AllFit (reverse (take l.at l.changes)) l.self.contents;
       room : AllFindRoom (reverse (take l.at l.changes)) l.self.spare;
