@@ -2,7 +2,7 @@
 use Rattle.std.proofs.Common.{◌≡◌, ℕ, ◌<◌, ◌≤◌, List, [], ◌∷◌, zero, suc, length, get_or, map, ap, sym, ◌∙◌, arith}
 use Rattle.std.proofs.Math.ListN.{set}
 use Rattle.std.proofs.Math.Seq.{map-set_same}
-use Rattle.std.proofs.lemmas.List.{map-set, get_or-map, get_or-set_same, length-map}
+use Rattle.std.proofs.lemmas.List.{map-set, get_or-map, get_or-set_same, length-map, length-set}
 use Rattle.delta_exchange.specs.Views.{LineView}
 use Rattle.delta_exchange.specs.Spares.{NoneFell}
 
@@ -19,18 +19,19 @@ pub same_values : (lines : List LineView) (at : ℕ) (old new : LineView) → ol
     → map (λ (line : LineView). line.values) (set lines at new) ≡ map (λ (line : LineView). line.values) lines
 same_values lines at old new is same = map-set_same (λ (line : LineView). line.values) lines at new old (same ∙ ap (λ (line : LineView). line.values) is)
 
-first : (x y : ℕ) (xs : List ℕ) → x ≤ y → NoneFell (x ∷ xs) (y ∷ xs)
-first x y xs le zero = le
-first x y xs le (suc line) = omega arith
-
-later : (x : ℕ) (xs ys : List ℕ) → NoneFell xs ys → NoneFell (x ∷ xs) (x ∷ ys)
-later x xs ys le zero = omega arith
-later x xs ys le (suc line) = le line
-
+-- one number that is no less
 grown : (spare : List ℕ) (at places : ℕ) → get_or spare at 0 ≤ places → NoneFell spare (set spare at places)
-grown [] at places le = λ line. omega arith
-grown (x ∷ xs) zero places le = first x places xs le
-grown (x ∷ xs) (suc at) places le = later x xs (set xs at places) (grown xs at places le)
+grown spare at places le = record {
+  as_many = length-set spare at places;
+  no_less = no_less spare at places le;
+}
+  where
+    no_less : (spare : List ℕ) (at places : ℕ) → get_or spare at 0 ≤ places → (line : ℕ) → get_or spare line 0 ≤ get_or (set spare at places) line 0
+    no_less [] at places le line = omega arith
+    no_less (x ∷ xs) zero places le zero = le
+    no_less (x ∷ xs) zero places le (suc line) = omega arith
+    no_less (x ∷ xs) (suc at) places le zero = omega arith
+    no_less (x ∷ xs) (suc at) places le (suc line) = no_less xs at places le line
 
 -- a line that loses no spare
 pub no_less_spare : (lines : List LineView) (at : ℕ) (old new : LineView) → at < length lines → old ≡ get_or lines at old → old.spare ≤ new.spare

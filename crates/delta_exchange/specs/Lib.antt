@@ -1,3 +1,4 @@
 pub mod Changes
 pub mod Spares
+pub mod Undoing
 pub mod Views

@@ -1,6 +1,7 @@
 -- The spares of an object's lines: for how many more values each has room for certain.
-use Rattle.std.specs.Prelude.{ℕ, ◌+◌, ◌-◌, ◌<◌, ◌≤◌, List, [], ◌∷◌, length, slice_set, slice_index, ◌==◌, if◌then◌else◌}
+use Rattle.std.specs.Prelude.{◌≡◌, ℕ, ◌+◌, ◌-◌, ◌<◌, ◌≤◌, List, [], ◌∷◌, length, slice_set, slice_index, ◌==◌, if◌then◌else◌}
 use Rattle.delta_exchange.specs.Changes.{CellData}
+use Rattle.delta_exchange.specs.Views.{CellsView}
 use Rattle.delta_exchange.specs.declared.change.Change.{Change}
 use Rattle.delta_exchange.specs.declared.change.Change.TheVariants.{Set, Push, Pop, Unpush, Unpop}
 
@@ -60,6 +61,11 @@ unfoldable pub NameLines : List Change → CellData → Type 0
 NameLines [] cells = Unit {0}
 NameLines (change ∷ rest) cells = NamesLine change cells × NameLines rest cells
 
--- no line has less spare than it had
-abbrev pub NoneFell : List ℕ → List ℕ → Type 0
-NoneFell before after = (line : ℕ) → slice_index before line ≤ slice_index after line
+-- the lines have their spares, and none has less than it had
+pub record NoneFell (before after : List ℕ) : Type 0 where
+  pub as_many : length after ≡ length before
+  pub no_less : (line : ℕ) → slice_index before line ≤ slice_index after line
+
+-- each line has its spare
+abbrev pub HasSpares : CellsView → Type 0
+HasSpares cells = length cells.spare ≡ length cells.contents.lines

@@ -1,7 +1,8 @@
 //! The state of an object: words, and lines of values.
-ghost use Rattle.std.specs.Prelude.{◌≡◌, ◌<◌, ◌≤◌, ◌^◌, ℕ, length, slice_index, map, IfOk, OnOk};
+ghost use Rattle.std.specs.Prelude.{◌≡◌, ◌<◌, ◌≤◌, ◌^◌, ℕ, length, slice_index, map, take, drop, reverse, IfOk, OnOk};
 ghost use Rattle.delta_exchange.specs.Changes.{line_of, Fits, cells_after, inverse_of, AllFit, cells_after_all, inverses_of};
-ghost use Rattle.delta_exchange.specs.Spares.{FindsRoom, spare_after, AllFindRoom, spare_after_all, places_for, room_for, HaveRoom, NamesLine, NameLines, NoneFell};
+ghost use Rattle.delta_exchange.specs.Spares.{FindsRoom, spare_after, AllFindRoom, spare_after_all, places_for, room_for, HaveRoom, NamesLine, NameLines, NoneFell, HasSpares};
+ghost use Rattle.delta_exchange.specs.Undoing.{UndoRestores, view_after_all};
 ghost use Rattle.delta_exchange.specs.Views.{unspared};
 
 use crate::change::Change;
@@ -39,8 +40,20 @@ impl Cells {
         ensures words { IfOk result (λ cells. cells.contents.words ≡ words.items) }
         ensures lines { IfOk result (λ cells. cells.contents.lines ≡ map (λ line. line.items) lines.items) }
         ensures spare { IfOk result (λ cells. cells.spare ≡ map (λ _. 0) lines.items) }
+        ensures spares { IfOk result HasSpares }
     {
         let lines = lines_of(alloc, lines)?;
+        Ok(Cells { words, lines })
+    }
+
+    /// The same words and lines, with no spare.
+    pub fn copy(&self, alloc: Global) -> Result<Cells, OutOfMemory>
+        ensures contents { IfOk result (λ copy. copy.contents ≡ self.now.contents) }
+        ensures spare { IfOk result (λ copy. copy.spare ≡ map (λ _. 0) self.now.contents.lines) }
+        ensures spares { IfOk result HasSpares }
+    {
+        let words = Vec::from_slice(alloc, &self.words)?;
+        let lines = copies_of(alloc, &self.lines)?;
         Ok(Cells { words, lines })
     }
 
@@ -91,7 +104,9 @@ impl Cells {
         ensures ok { OnOk result (HaveRoom changes.now self.new.spare) }
         ensures same { self.new.contents ≡ self.old.contents }
         ensures none_fell { NoneFell self.old.spare self.new.spare }
+        ensures spares { HasSpares self.new }
     {
+        let _ = &self.words;
         for change in changes {
             self.room_at(change, changes)?;
         }
@@ -132,6 +147,7 @@ impl Cells {
         ensures cells { self.new.contents ≡ cells_after change.old self.old.contents }
         ensures spare { self.new.spare ≡ spare_after change.old self.old.spare }
         ensures change { change.new ≡ inverse_of change.old self.old.contents }
+        ensures spares { HasSpares self.new }
     {
         match *change {
             Change::Set { word, value } => {
@@ -172,9 +188,30 @@ impl Cells {
         ensures cells { self.new.contents ≡ cells_after_all changes.old self.old.contents }
         ensures spare { self.new.spare ≡ spare_after_all changes.old self.old.spare }
         ensures changes { changes.new ≡ inverses_of changes.old self.old.contents }
+        ensures spares { HasSpares self.new }
+
+        // What undoing all of them restores, and what undoing all but the first ones does.
+        ensures undo { UndoRestores changes.new self.new changes.old self.old }
+        ensures undo_last { (kept : ℕ) → UndoRestores (drop kept changes.new) self.new (drop kept changes.old) (view_after_all (take kept changes.old) self.old) }
     {
+        let _ = &self.words;
         for change in changes.iter_mut() {
             self.exchange(change);
+        }
+    }
+
+    /// Exchanges the changes from the last to the first.
+    pub fn undo(&mut self, changes: &mut [Change])
+        requires fit { AllFit (reverse changes.old) self.old.contents }
+        requires room { AllFindRoom (reverse changes.old) self.old.spare }
+        ensures cells { self.new.contents ≡ cells_after_all (reverse changes.old) self.old.contents }
+        ensures spare { self.new.spare ≡ spare_after_all (reverse changes.old) self.old.spare }
+        ensures changes { changes.new ≡ reverse (inverses_of (reverse changes.old) self.old.contents) }
+        ensures spares { HasSpares self.new }
+    {
+        let _ = &self.words;
+        for at in (0..changes.len()).rev() {
+            self.exchange(&mut changes[at]);
         }
     }
 }
@@ -190,6 +227,17 @@ fn room_for(changes: &[Change], line: u32) -> usize
         }
     }
     places
+}
+
+/// Lines of the same values, with no spare.
+fn copies_of(alloc: Global, lines: &[Line]) -> Result<Vec<Line>, AllocError>
+    ensures { IfOk result (λ copies. copies.items ≡ map (λ line. unspared line.values) lines.now) }
+{
+    let mut copies = Vec::with_capacity(alloc, lines.len())?;
+    for line in lines {
+        copies.push(line.copy()?)?;
+    }
+    Ok(copies)
 }
 
 /// Each list as a line with no spare.

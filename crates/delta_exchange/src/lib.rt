@@ -3,9 +3,15 @@
 
 mod cells;
 mod change;
+mod laws;
 mod line;
 mod memory;
+#[cfg(test)]
+mod tests;
 
 pub use cells::Cells;
 pub use change::Change;
+pub use laws::{
+    law_lines_named, law_more_spare, law_room, law_undo, law_undo_first, law_undo_last,
+};
 pub use memory::OutOfMemory;

@@ -1,5 +1,6 @@
 //! A line of values that are taken and given at both ends.
-ghost use Rattle.std.specs.Prelude.{◌≡◌, ◌+◌, ◌-◌, ◌<◌, ◌≤◌, [], ◌∷◌, ◌++◌, length, take, drop, slice_index, OnOk};
+ghost use Rattle.std.specs.Prelude.{◌≡◌, ◌+◌, ◌-◌, ◌<◌, ◌≤◌, [], ◌∷◌, ◌++◌, length, take, drop, slice_index, IfOk, OnOk};
+ghost use Rattle.delta_exchange.specs.Views.{unspared};
 
 use std::alloc::AllocError;
 use std::collections::VecDeque;
@@ -27,12 +28,22 @@ impl Model for Line {
 impl Line {
     /// These values, with no spare.
     pub fn from_vec(values: Vec<u64>) -> Line
-        ensures { result ≡ record { values = values.items; spare = 0 } }
+        ensures { result ≡ unspared values.items }
     {
         Line {
             queue: VecDeque::from_vec(values),
             spare: 0,
         }
+    }
+
+    /// A line of the same values, with no spare.
+    pub fn copy(&self) -> Result<Line, AllocError>
+        ensures { IfOk result (λ line. line ≡ unspared self.now.values) }
+    {
+        Ok(Line {
+            queue: self.queue.clone()?,
+            spare: 0,
+        })
     }
 
     /// How many values it holds.

@@ -1,11 +1,12 @@
 use Rattle.std.proofs.Common.{◌≡◌, ◌++◌, take, drop}
 use Rattle.delta_exchange.specs.Changes.{AllFit, cells_after_all, inverses_of}
-use Rattle.delta_exchange.specs.Spares.{HaveRoom, spare_after_all}
+use Rattle.delta_exchange.specs.Spares.{HaveRoom, spare_after_all, HasSpares}
 use Rattle.delta_exchange.proofs.cells.Cells.apply.Given as goal
 
 abbrev pub invariant-loop-change : goal.invariant-loop-change
 invariant-loop-change l =
     record {
+      spares : HasSpares l.self;
       rest : drop l.change-index l.changes ≡ drop l.change-index l.initial.changes;
       fit : AllFit (drop l.change-index l.changes) l.self.contents;
       room : HaveRoom (drop l.change-index l.changes) l.self.spare;

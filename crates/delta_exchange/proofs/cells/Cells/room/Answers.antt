@@ -11,7 +11,7 @@ pub loop-change-init : goal.loop-change-init
 loop-change-init c =
     record {
       same = refl;
-      fell = λ line. omega arith;
+      fell = record { as_many = refl; no_less = λ line. omega arith };
       room = λ line some. absurd (omega (arith, none_before c.args.changes.now line, some));
     }
 
@@ -21,7 +21,7 @@ loop-change-preserved c =
     let made = c.in_ok-room_at.ensures in
     record {
       same = made.same ∙ so_far.same;
-      fell = λ line. omega (arith, so_far.fell line, made.none_fell line);
+      fell = record { as_many = made.none_fell.as_many ∙ so_far.fell.as_many; no_less = λ line. omega (arith, so_far.fell.no_less line, made.none_fell.no_less line) };
       room = λ line some.
-          either _ _ _ _ _ (rw (room_for_more c.args.changes.now c.loop-change.change-index (Set 0 0) line c.loop-change-test.true) at some) (so_far.room line) (made.none_fell line) (made.ok line);
+          either _ _ _ _ _ (rw (room_for_more c.args.changes.now c.loop-change.change-index (Set 0 0) line c.loop-change-test.true) at some) (so_far.room line) (made.none_fell.no_less line) (made.ok line);
     }

@@ -1,0 +1,91 @@
+//! What no clause says: that the calls succeed where there is memory, and what the clauses mean, by an example.
+ghost use Rattle.std.specs.Prelude.{◌≡◌, [], ◌∷◌, IfOk, OnOk};
+ghost use Rattle.delta_exchange.specs.Changes.{AllFit, cells_after_all, inverses_of};
+
+use super::*;
+use std::alloc::Global;
+use std::test::Fail;
+
+/// Makes room for changes that fit, and does them, as an engine does.
+#[tactic(auto, using(crate::proofs::Room::fitting_names_lines))]
+fn react(cells: &mut Cells, changes: &mut [Change]) -> Result<(), OutOfMemory>
+    requires { AllFit changes.old cells.old.contents }
+    ensures cells { OnOk result (cells.new.contents ≡ cells_after_all changes.old cells.old.contents) }
+    ensures changes { OnOk result (changes.new ≡ inverses_of changes.old cells.old.contents) }
+{
+    cells.room(changes)?;
+    cells.apply(changes);
+    Ok(())
+}
+
+/// Makes room for changes that fit, does them, and takes them back.
+#[tactic(auto, using(crate::proofs::Room::fitting_names_lines))]
+fn react_and_roll_back(cells: &mut Cells, changes: &mut [Change]) -> Result<(), OutOfMemory>
+    requires { AllFit changes.old cells.old.contents }
+    ensures cells { cells.new.contents ≡ cells.old.contents }
+    ensures changes { changes.new ≡ changes.old }
+{
+    cells.room(changes)?;
+    cells.apply(changes);
+    cells.undo(changes);
+    Ok(())
+}
+
+/// Two words, and one line of two values.
+fn example(alloc: Global) -> Result<Cells, OutOfMemory>
+    ensures words { IfOk result (λ cells. cells.contents.words ≡ 7 ∷ 8 ∷ []) }
+    ensures lines { IfOk result (λ cells. cells.contents.lines ≡ (1 ∷ 2 ∷ []) ∷ []) }
+{
+    let words = vec![in alloc; 7, 8]?;
+    let line = vec![in alloc; 1, 2]?;
+    let lines = vec![in alloc; line]?;
+    Cells::new(alloc, words, lines)
+}
+
+/// Whether there are these words, and the one line has these values.
+fn holds(cells: &Cells, words: [u64; 2], line: [u64; 2]) -> bool {
+    cells.words() == 2
+        && cells.lines() == 1
+        && cells.line_len(0) == 2
+        && [cells.word(0), cells.word(1)] == words
+        && [cells.line_at(0, 0), cells.line_at(0, 1)] == line
+}
+
+#[test]
+#[tactic(auto, unfolding(crate::specs::Changes::AllFit, crate::specs::Spares::NameLines))]
+fn each_change_becomes_its_inverse_and_undo_takes_all_back(rt: HostRuntime) -> Result<(), Fail> {
+    let alloc = rt.alloc();
+    let mut cells = example(alloc)?;
+    let changes = [
+        Change::Set { word: 0, value: 9 },
+        Change::Set { word: 0, value: 5 },
+        Change::Push { line: 0, value: 3 },
+        Change::Pop { line: 0 },
+    ];
+    let inverses = [
+        Change::Set { word: 0, value: 7 },
+        Change::Set { word: 0, value: 9 },
+        Change::Unpush { line: 0 },
+        Change::Unpop { line: 0, value: 1 },
+    ];
+    let mut log = changes;
+    cells.room(&log)?;
+    cells.apply(&mut log);
+    assert!(rt; holds(&cells, [5, 8], [2, 3]));
+    assert!(rt; log == inverses);
+
+    cells.undo(&mut log);
+    assert!(rt; holds(&cells, [7, 8], [1, 2]));
+    assert!(rt; log == changes);
+    Ok(())
+}
+
+#[test]
+fn a_copy_has_the_same_words_and_lines(rt: HostRuntime) -> Result<(), Fail> {
+    let alloc = rt.alloc();
+    let cells = example(alloc)?;
+    let copy = cells.copy(alloc)?;
+    assert!(rt; holds(&copy, [7, 8], [1, 2]));
+    assert!(rt; holds(&cells, [7, 8], [1, 2]));
+    Ok(())
+}
