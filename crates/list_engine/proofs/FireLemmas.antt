@@ -57,3 +57,15 @@ ranged_as n objects sends ss is_n is_sends h =
 
 pub fits_as : (changes cs : List Change) (cells : CellData) → changes ≡ cs → AllFit cs cells → AllFit changes cells
 fits_as changes cs cells is_changes h = let P : List Change → Type 0 = λ cs. AllFit cs cells in subst P (sym is_changes) h
+
+-- the first event of a list that is known by another name
+pub first_as : (inside pending : List Event) (e : Event) → inside ≡ pending → inside ≡ e ∷ drop 1 inside → pending ≡ e ∷ drop 1 pending
+first_as inside pending e same first = let P : List Event → Type 0 = λ es. es ≡ e ∷ drop 1 es in subst P same first
+
+-- what the model answers for the cells that were read is its effect on those of the object
+pub outcome_at : (m : Meaning) (s : State) (objects : List ObjectState) (e : Event) (o : ObjectState) (cells : CellData) (outcome answer : Outcome) → e.key.dest < length s.objects → objects ≡ s.objects
+    → o ≡ get_or objects e.key.dest o → cells ≡ o.cells → answer ≡ outcome → answer ≡ m.effect e.key.dest cells e → outcome ≡ m.effect e.key.dest (object_at s.objects e.key.dest).cells e
+outcome_at m s objects e o cells outcome answer within same is_o is_cells is_outcome is_answer =
+    let here = ap length same in
+    sym is_outcome ∙ is_answer
+    ∙ ap (λ cells. m.effect e.key.dest cells e) (cells_at objects e.key.dest o cells (omega arith) is_o is_cells ∙ ap (λ objects. (object_at objects e.key.dest).cells) same)
