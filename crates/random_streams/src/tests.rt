@@ -63,3 +63,55 @@ fn choices_under_seed_0(rt: HostRuntime) -> Result<(), Fail> {
     assert_eq!(rt; draw(0, 0, 3, &law), (2, 4));
     Ok(())
 }
+
+#[test]
+fn a_law_is_checked_at_its_bounds(rt: HostRuntime) -> Result<(), Fail> {
+    let most = 1 << 40;
+    let laws = [
+        (Law::Fixed { value: most }, true),
+        (Law::Fixed { value: most + 1 }, false),
+        (Law::Uniform { low: 5, high: 5 }, true),
+        (Law::Uniform { low: 5, high: 4 }, false),
+        (
+            Law::Uniform {
+                low: 0,
+                high: 4294967295,
+            },
+            true,
+        ),
+        (
+            Law::Uniform {
+                low: 0,
+                high: 4294967296,
+            },
+            false,
+        ),
+        (
+            Law::Uniform {
+                low: most,
+                high: most + 1,
+            },
+            false,
+        ),
+        (Law::Geometric { p: 1, cap: 65536 }, true),
+        (Law::Geometric { p: 0, cap: 1 }, false),
+        (Law::Geometric { p: 1, cap: 0 }, false),
+        (Law::Geometric { p: 1, cap: 65537 }, false),
+    ];
+    for (law, want) in &laws {
+        assert_eq!(rt; law.check(), *want, "{law:?}");
+    }
+    for (list, want) in [
+        (vec![in rt.alloc(); 65535; 64]?, true),
+        (vec![in rt.alloc(); 1; 65]?, false),
+        (vec![in rt.alloc(); 0, 1]?, true),
+        (vec![in rt.alloc(); 0, 0]?, false),
+        (vec![in rt.alloc(); 65536]?, false),
+        (Vec::new(rt.alloc()), false),
+    ] {
+        let weights = Weights::new(list);
+        let law = Law::Choice { weights };
+        assert_eq!(rt; law.check(), want, "{law:?}");
+    }
+    Ok(())
+}

@@ -1,6 +1,5 @@
-use Rattle.std.proofs.Common.{◌≡◌, ◌+◌, ◌%◌, ◌<◌, ◌≤◌, IsTrue, length, sum, subst, arith}
+use Rattle.std.proofs.Common.{◌≡◌, ◌+◌, arith}
 use Rattle.std.proofs.lemmas.Grind.{common_steps}
-use Rattle.random_streams.specs.declared.law.Law.TheVariants.{Geometric, Choice}
 use Rattle.random_streams.specs.Laws.{drawn_value, greatest_value}
 use Rattle.random_streams.specs.Words.{words_from}
 use Rattle.random_streams.proofs.Bounds.{drawn_value-le}

@@ -1,4 +1,4 @@
-use Rattle.std.proofs.Common.{◌≡◌, ℕ, ◌+◌, ◌-◌, ◌<◌, ◌≤◌, ◌∙◌, below_more, arith}
+use Rattle.std.proofs.Common.{◌-◌, ◌<◌, ◌≤◌, ◌∙◌, below_more, arith}
 use Rattle.random_streams.specs.Words.{words_from}
 use Rattle.random_streams.proofs.Firsts.{first_trial_is}
 use Rattle.random_streams.proofs.Places.{moved-one, word_of-moved}
