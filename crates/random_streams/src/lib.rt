@@ -1,0 +1,20 @@
+//! Random numbers of a simulation: each object has a stream of words under a seed, and laws draw values from
+//! the words at a place of it.
+//!
+//! A stream is the ChaCha20 key stream in its original layout, with a 64-bit block counter and a 64-bit stream
+//! number: D. J. Bernstein, "ChaCha, a variant of Salsa20", 2008. The block function is that of RFC 8439. The
+//! key is the seed's eight little-endian bytes and 24 zero bytes, and the stream number is the object's.
+#![tactic(auto)]
+
+mod draws;
+mod law;
+mod stream;
+mod weights;
+
+pub use draws::draw;
+pub use law::Law;
+pub use stream::Stream;
+pub use weights::Weights;
+
+#[cfg(test)]
+mod tests;

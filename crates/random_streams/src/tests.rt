@@ -1,0 +1,117 @@
+use super::*;
+use std::test::Fail;
+
+#[test]
+fn the_first_words_under_seed_0(rt: HostRuntime) {
+    let mut words = Stream::new(0, 0, 0);
+    for want in [2917185654, 2419978656, 3848953152, 683509331, 3088700093] {
+        assert_eq!(rt; words.word(), want);
+    }
+    assert_eq!(rt; words.place(), 5);
+}
+
+/// The key stream of test vector 1 of RFC 8439, appendix A.1: key, nonce and block counter are zero.
+#[test]
+fn the_key_stream_of_the_standard(rt: HostRuntime) {
+    let bytes: [[u8; 4]; 16] = [
+        [0x76, 0xb8, 0xe0, 0xad],
+        [0xa0, 0xf1, 0x3d, 0x90],
+        [0x40, 0x5d, 0x6a, 0xe5],
+        [0x53, 0x86, 0xbd, 0x28],
+        [0xbd, 0xd2, 0x19, 0xb8],
+        [0xa0, 0x8d, 0xed, 0x1a],
+        [0xa8, 0x36, 0xef, 0xcc],
+        [0x8b, 0x77, 0x0d, 0xc7],
+        [0xda, 0x41, 0x59, 0x7c],
+        [0x51, 0x57, 0x48, 0x8d],
+        [0x77, 0x24, 0xe0, 0x3f],
+        [0xb8, 0xd8, 0x4a, 0x37],
+        [0x6a, 0x43, 0xb8, 0xf4],
+        [0x15, 0x18, 0xa1, 0x1c],
+        [0xc3, 0x87, 0xb6, 0x69],
+        [0xb2, 0xee, 0x65, 0x86],
+    ];
+    let mut words = Stream::new(0, 0, 0);
+    for want in bytes {
+        assert_eq!(rt; words.word().to_le_bytes(), want);
+    }
+}
+
+#[test]
+fn draws_under_seed_0(rt: HostRuntime) {
+    let half = 2147483648;
+    let laws = [
+        (Law::Geometric { p: half, cap: 5 }, 0, (4, 4)),
+        (Law::Geometric { p: half, cap: 3 }, 0, (3, 2)),
+        (Law::Geometric { p: half, cap: 1 }, 0, (1, 0)),
+        (Law::Uniform { low: 1, high: 10 }, 2, (3, 3)),
+        (Law::Fixed { value: 6 }, 9, (6, 9)),
+    ];
+    for (law, place, want) in &laws {
+        assert!(rt; law.check());
+        assert_eq!(rt; draw(0, 0, *place, law), *want);
+    }
+}
+
+#[test]
+fn choices_under_seed_0(rt: HostRuntime) -> Result<(), Fail> {
+    let weights = Weights::new(vec![in rt.alloc(); 1, 2, 3]?);
+    assert_eq!(rt; weights.as_slice(), [1, 2, 3].as_slice());
+    let law = Law::Choice { weights };
+    assert!(rt; law.check());
+    assert_eq!(rt; draw(0, 0, 0, &law), (0, 1));
+    assert_eq!(rt; draw(0, 0, 3, &law), (2, 4));
+    Ok(())
+}
+
+#[test]
+fn a_law_is_checked_at_its_bounds(rt: HostRuntime) -> Result<(), Fail> {
+    let most = 1 << 40;
+    let laws = [
+        (Law::Fixed { value: most }, true),
+        (Law::Fixed { value: most + 1 }, false),
+        (Law::Uniform { low: 5, high: 5 }, true),
+        (Law::Uniform { low: 5, high: 4 }, false),
+        (
+            Law::Uniform {
+                low: 0,
+                high: 4294967295,
+            },
+            true,
+        ),
+        (
+            Law::Uniform {
+                low: 0,
+                high: 4294967296,
+            },
+            false,
+        ),
+        (
+            Law::Uniform {
+                low: most,
+                high: most + 1,
+            },
+            false,
+        ),
+        (Law::Geometric { p: 1, cap: 65536 }, true),
+        (Law::Geometric { p: 0, cap: 1 }, false),
+        (Law::Geometric { p: 1, cap: 0 }, false),
+        (Law::Geometric { p: 1, cap: 65537 }, false),
+    ];
+    for (law, want) in &laws {
+        assert_eq!(rt; law.check(), *want, "{law:?}");
+    }
+    for (list, want) in [
+        (vec![in rt.alloc(); 65535; 64]?, true),
+        (vec![in rt.alloc(); 1; 65]?, false),
+        (vec![in rt.alloc(); 0, 1]?, true),
+        (vec![in rt.alloc(); 0, 0]?, false),
+        (vec![in rt.alloc(); 65536]?, false),
+        (Vec::new(rt.alloc()), false),
+    ] {
+        let weights = Weights::new(list);
+        let law = Law::Choice { weights };
+        assert_eq!(rt; law.check(), want, "{law:?}");
+    }
+    Ok(())
+}
