@@ -1,0 +1,24 @@
+-- Reads and writes that go on from where the last one stopped.
+use Rattle.std.proofs.Common.{◌≡◌, ℕ, ◌-◌, ◌≤◌, List, ◌++◌, length, Option, Some, None, arith, length-append}
+use Rattle.std.proofs.lemmas.Grind.{common_steps}
+use Rattle.std.proofs.KnownBytes.{Consumes-trans}
+use Rattle.std.specs.Io.KnownBytes.{Consumes, IsAtEnd}
+use Rattle.sim_io.specs.Transfers.{TakesUpTo, TakesSome}
+
+-- as many bytes as were asked for were taken
+pub TakesUpTo-full : (most : ℕ) (old new : Option (List ℕ)) (bytes : List ℕ) → Consumes old new bytes → length bytes ≡ most → TakesUpTo most old new bytes
+TakesUpTo-full most None new bytes taken full = tt
+TakesUpTo-full most (Some left) None bytes taken full = absurd taken
+TakesUpTo-full most (Some left) (Some rest) bytes taken full = (grind (arith, common_steps), grind (arith, common_steps))
+
+-- all the bytes were taken
+pub TakesUpTo-end : (most : ℕ) (old new : Option (List ℕ)) (bytes : List ℕ) → Consumes old new bytes → length bytes ≤ most → IsAtEnd new → TakesUpTo most old new bytes
+TakesUpTo-end most None new bytes taken short end = tt
+TakesUpTo-end most (Some left) None bytes taken short end = absurd taken
+TakesUpTo-end most (Some left) (Some rest) bytes taken short end = (grind (arith, common_steps), grind (arith, common_steps))
+
+-- so many bytes were taken, and then some more
+pub TakesSome-more : (most n : ℕ) (old mid new : Option (List ℕ)) (bytes : List ℕ) → Consumes old mid bytes → length bytes ≡ n → n ≤ most → TakesSome (most - n) mid new
+    → TakesSome most old new
+TakesSome-more most n old mid new bytes taken size short more =
+    (bytes ++ more.0, omega (arith, size, more.1, length-append bytes more.0), Consumes-trans old mid new bytes more.0 taken more.2)
