@@ -3,6 +3,7 @@
 
 mod clean;
 mod failed;
+mod lines;
 mod mem_sink;
 mod mem_source;
 mod reading;
@@ -10,11 +11,13 @@ mod sink;
 mod source;
 mod std_sink;
 mod std_source;
+mod text_parts;
 mod words;
 mod writing;
 
 pub use clean::{CleanSink, CleanSource};
 pub use failed::Failed;
+pub use lines::{put_done, put_stop};
 pub use mem_sink::MemSink;
 pub use mem_source::MemSource;
 pub use reading::{MOST_BYTES, ReadEnd, read_all};
