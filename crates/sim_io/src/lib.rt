@@ -27,3 +27,6 @@ pub use std_sink::StdSink;
 pub use std_source::StdSource;
 pub use words::{Settings, WordFault, read_words};
 pub use writing::write_all;
+
+#[cfg(test)]
+mod tests;
