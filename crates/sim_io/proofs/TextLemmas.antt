@@ -1,0 +1,64 @@
+-- The text of an event by its parts, and of a simulation by its next event.
+use Rattle.std.proofs.Common.{◌≡◌, ℕ, ◌+◌, ◌≤◌, ◌<◌, List, [], ◌∷◌, ◌++◌, length, drop, get_or, Some, refl, sym, ap, ◌∙◌, append_assoc, add-one}
+use Rattle.std.specs.Prelude.{slice_get}
+use Rattle.std.proofs.Math.Seq.{drop-cons}
+use Rattle.std.proofs.Math.ListN.{drop_of_length-le}
+use Rattle.std.proofs.lemmas.Option.{slice_get_within, get_or_from_slice_get}
+use Rattle.event_key.specs.declared.key.Key.{Key}
+use Rattle.model_core.specs.declared.note.Note.{Note}
+use Rattle.model_core.specs.declared.note.Part.{Part}
+use Rattle.model_core.specs.Meaning.{Meaning}
+use Rattle.sim_spec.specs.declared.terms.Terms.{Terms}
+use Rattle.sim_spec.specs.declared.stop.Stop.{Stop}
+use Rattle.sim_spec.specs.State.{State}
+use Rattle.sim_spec.specs.Run.{Run, run, next, does, stops, after_records, Leads}
+use Rattle.sim_spec.proofs.RunLemmas.{run-does, run-stops, run-leads}
+use Rattle.sim_io.specs.Texts.{part_line, event_lines, record_lines, stop_line, text_of_run, run_text}
+
+-- the lines from a part on, by that part
+pub event_lines-drop : (m : Meaning) (key : Key) (parts : List Part) (i : ℕ) (part : Part) → slice_get parts i ≡ Some part
+    → event_lines m key (drop i parts) ≡ part_line m key part ++ event_lines m key (drop (i + 1) parts)
+unfolding event_lines
+event_lines-drop m key parts i part is_part =
+    let inside : i < length parts = slice_get_within parts i part is_part in
+    let here : get_or parts i part ≡ part = get_or_from_slice_get parts i part part is_part in
+    rw (add-one, drop-cons parts i part inside, here)
+
+-- no line comes after the last part
+pub event_lines-past : (m : Meaning) (key : Key) (parts : List Part) (i : ℕ) → length parts ≤ i → event_lines m key (drop i parts) ≡ []
+unfolding event_lines
+event_lines-past m key parts i past = ap (event_lines m key) (drop_of_length-le parts past)
+
+-- the lines of more records come after those of the first
+pub record_lines-append : (m : Meaning) (records more : List (Key × Note)) → record_lines m (records ++ more) ≡ record_lines m records ++ record_lines m more
+unfolding record_lines
+record_lines-append m [] more = refl
+record_lines-append m (told ∷ records) more =
+    ap (λ text. event_lines m told.0 told.1 ++ text) (record_lines-append m records more) ∙ sym (append_assoc (event_lines m told.0 told.1) (record_lines m records) (record_lines m more))
+
+text_of_run-after : (m : Meaning) (t : Terms) (records : List (Key × Note)) (r : Run) → text_of_run m t (after_records records r) ≡ record_lines m records ++ text_of_run m t r
+unfolding text_of_run
+text_of_run-after m t records r =
+    ap (λ text. text ++ stop_line m t r.last.count r.stop) (record_lines-append m records r.records)
+    ∙ append_assoc (record_lines m records) (record_lines m r.records) (stop_line m t r.last.count r.stop)
+
+-- events that lead to a state come first in the text
+pub run_text-leads : (m : Meaning) (t : Terms) (records : List (Key × Note)) (s last : State) → s.count ≤ t.limit → Leads m t s records last
+    → run_text m t s ≡ record_lines m records ++ run_text m t last
+unfolding run_text
+run_text-leads m t records s last room leads =
+    ap (text_of_run m t) (run-leads m t records s last room leads) ∙ text_of_run-after m t records (run m t last)
+
+-- the next event comes first in the text
+pub run_text-does : (m : Meaning) (t : Terms) (s : State) (told : Key × Note) (after : State) → s.count ≤ t.limit → next m t s ≡ does told after
+    → run_text m t s ≡ event_lines m told.0 told.1 ++ run_text m t after
+unfolding run_text record_lines
+run_text-does m t s told after room is_next =
+    ap (text_of_run m t) (run-does m t s told after room is_next)
+    ∙ text_of_run-after m t (told ∷ []) (run m t after)
+    ∙ append_assoc (event_lines m told.0 told.1) [] (text_of_run m t (run m t after))
+
+-- where nothing happens, the text is the stop line
+pub run_text-stops : (m : Meaning) (t : Terms) (s : State) (stop : Stop) → next m t s ≡ stops stop → run_text m t s ≡ stop_line m t s.count stop
+unfolding run_text text_of_run record_lines
+run_text-stops m t s stop is_next = ap (text_of_run m t) (run-stops m t s stop is_next)

@@ -1,0 +1,12 @@
+use Rattle.std.proofs.Common.{◌≡◌, ◌++◌, drop}
+use Rattle.std.specs.Io.{StartsWith}
+use Rattle.sim_io.specs.Texts.{event_lines}
+use Rattle.sim_io.proofs.lines.put_lines.Given as goal
+
+abbrev pub invariant-loop-i : goal.invariant-loop-i
+invariant-loop-i g l =
+    let m = g.M.Model.meaning l.model in
+    record {
+      lines : l.into.items ++ event_lines m l.key (drop l.i l.note) ≡ l.initial.into.items ++ event_lines m l.key l.note;
+      front : StartsWith l.into.items l.initial.into.items;
+    }

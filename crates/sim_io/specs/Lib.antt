@@ -1,0 +1,5 @@
+pub mod Causes
+pub mod Memory
+pub mod Texts
+pub mod Transfers
+pub mod Words

@@ -1,0 +1,80 @@
+-- The text of a simulation: a line for each part of what its events tell, and a line that says why it stopped.
+use Rattle.std.specs.Prelude.{ℕ, ◌<◌, List, [], ◌∷◌, ◌++◌, if◌then◌else◌, ◌==◌, decimal, codes}
+use Rattle.event_key.specs.declared.key.Key.{Key}
+use Rattle.event_key.specs.Stamps.{time_part, step_part}
+use Rattle.model_core.specs.declared.note.Note.{Note}
+use Rattle.model_core.specs.declared.note.Part.{Part}
+use Rattle.model_core.specs.Meaning.{Meaning}
+use Rattle.sim_spec.specs.declared.terms.Terms.{Terms}
+use Rattle.sim_spec.specs.declared.stop.Stop.{Stop}
+use Rattle.sim_spec.specs.declared.stop.Stop.TheVariants.{End, Limit, Fault}
+use Rattle.sim_spec.specs.State.{State}
+use Rattle.sim_spec.specs.Run.{Run, run}
+
+-- `time.step`
+unfoldable pub stamp_text : ℕ → List ℕ
+stamp_text stamp = decimal (time_part stamp) ++ (codes "." ++ decimal (step_part stamp))
+
+-- the word of a note, or its number where it has no name
+unfoldable pub word_text : ℕ → List ℕ
+word_text code =
+    if code == 1 then codes "hop"
+    else if code == 2 then codes "make"
+    else if code == 3 then codes "take"
+    else if code == 4 then codes "wait"
+    else if code == 5 then codes "lose"
+    else if code == 6 then codes "done"
+    else if code == 7 then codes "hold"
+    else if code == 8 then codes "route"
+    else if code == 9 then codes "leave"
+    else decimal code
+
+-- the word of a fault, or its number where it has no name
+unfoldable pub fault_text : ℕ → List ℕ
+fault_text code =
+    if code == 1 then codes "chain"
+    else if code == 2 then codes "line-full"
+    else if code == 3 then codes "late"
+    else decimal code
+
+-- a word and its two numbers
+unfoldable pub part_text : Part → List ℕ
+part_text part = word_text part.word ++ ((codes " " ++ decimal part.a) ++ (codes " " ++ decimal part.b))
+
+-- when and where: the stamp, and the name of the object
+unfoldable pub place_text : Meaning → Key → List ℕ
+place_text m key = stamp_text key.stamp ++ (codes " " ++ m.label key.dest)
+
+-- the line of one part of what an event tells
+unfoldable pub part_line : Meaning → Key → Part → List ℕ
+part_line m key part = place_text m key ++ (codes " " ++ (part_text part ++ codes "\n"))
+
+-- the lines of an event: one for each part, in order
+unfoldable pub event_lines : Meaning → Key → List Part → List ℕ
+event_lines m key [] = []
+event_lines m key (part ∷ rest) = part_line m key part ++ event_lines m key rest
+
+-- the lines of what happened, event by event
+unfoldable pub record_lines : Meaning → List (Key × Note) → List ℕ
+record_lines m [] = []
+record_lines m (told ∷ rest) = event_lines m told.0 told.1 ++ record_lines m rest
+
+-- the line that says why a simulation stopped, after so many events
+unfoldable pub stop_line : Meaning → Terms → ℕ → Stop → List ℕ
+stop_line m t count End = codes "end " ++ (decimal t.end ++ (codes " events " ++ (decimal count ++ codes "\n")))
+stop_line m t count Limit = codes "limit " ++ (decimal count ++ codes "\n")
+stop_line m t count (Fault key code) = codes "fault " ++ (place_text m key ++ (codes " " ++ (fault_text code ++ codes "\n")))
+
+-- where it stopped by a fault, that was at an object of the model
+abbrev pub IsAtObject : Meaning → Stop → Type 0
+IsAtObject m (Fault key code) = key.dest < m.objects
+IsAtObject m End = Unit {0}
+IsAtObject m Limit = Unit {0}
+
+-- the lines of a run and its stop line
+unfoldable pub text_of_run : Meaning → Terms → Run → List ℕ
+text_of_run m t r = record_lines m r.records ++ stop_line m t r.last.count r.stop
+
+-- the whole text of the simulation from a state
+unfoldable pub run_text : Meaning → Terms → State → List ℕ
+run_text m t s = text_of_run m t (run m t s)

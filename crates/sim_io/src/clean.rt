@@ -1,0 +1,84 @@
+//! A source and a sink that never fail.
+ghost use Rattle.std.specs.Prelude.{◌≡◌, ◌<◌, Option, None, Some, List, ℕ, Ok, IfOk, length, min};
+ghost use Rattle.std.specs.Io.{ReadsAtMost, WritesAtMost};
+ghost use Rattle.std.specs.Io.KnownBytes.{ReadConsumes, WriteAppends};
+ghost use Rattle.sim_io.specs.Causes.{HasCause, Rose};
+
+use crate::failed::Failed;
+use crate::sink::Sink;
+use crate::source::Source;
+use std::marker::Model;
+
+/// Bytes in memory, given without a fault. Contracts see the bytes that are left.
+#[derive(Drop)]
+pub struct CleanSource {
+    bytes: Vec<u8>,
+    at: usize,
+}
+
+impl Model for CleanSource {
+    ghost use Rattle.std.specs.Prelude.{ℕ, List, ◌≤◌, drop, length};
+
+    ghost Value = { List ℕ };
+
+    ghost view = { λ source. drop source.at source.bytes.items };
+
+    ghost invariant = { λ source. source.at ≤ length source.bytes.items };
+}
+
+impl CleanSource {
+    /// A source of these bytes.
+    pub fn new(bytes: Vec<u8>) -> CleanSource
+        ensures { result ≡ bytes.items }
+    {
+        CleanSource { bytes, at: 0 }
+    }
+}
+
+impl Source for CleanSource {
+    ghost left = { λ bytes. Some bytes };
+
+    ghost faults = { λ _. 0 };
+
+    fn read(&mut self, into: &mut [u8]) -> Result<usize, Failed>
+        ensures bound { ReadsAtMost result into.new }
+        ensures taken { ReadConsumes (Some self.old) (Some self.new) result into.new }
+        ensures cause { HasCause 0 0 result }
+        ensures count { result ≡ Ok (min (length into.old) (length self.old)) }
+    {
+        let (_, left) = self.bytes.split_at(self.at);
+        let count = into.len().min(left.len());
+        let (piece, _) = left.split_at(count);
+        let (front, _) = into.split_at_mut(count);
+        front.copy_from_slice(piece);
+        self.at += count;
+        Ok(count)
+    }
+}
+
+/// Takes each piece whole, keeps no byte and tells none.
+#[derive(Clone, Copy, Debug, Default)]
+pub struct CleanSink;
+
+impl CleanSink {
+    /// A sink that never fails.
+    pub fn new() -> CleanSink {
+        CleanSink
+    }
+}
+
+impl Sink for CleanSink {
+    ghost told = { λ _. None };
+
+    ghost faults = { λ _. 0 };
+
+    fn write(&mut self, bytes: &[u8]) -> Result<usize, Failed>
+        ensures bound { WritesAtMost result bytes.now }
+        ensures taken { WriteAppends None None result bytes.now }
+        ensures cause { HasCause 0 0 result }
+        ensures idle { IfOk result (λ n. n ≡ 0 → 0 < length bytes.now → Rose 0 0) }
+        ensures whole { result ≡ Ok (length bytes.now) }
+    {
+        Ok(bytes.len())
+    }
+}

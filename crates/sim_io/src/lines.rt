@@ -1,0 +1,123 @@
+//! The lines of a simulation's text.
+ghost use Rattle.std.specs.Prelude.{◌≡◌, ◌<◌, ◌++◌, OnOk, OnErr};
+ghost use Rattle.std.specs.Io.{StartsWith};
+ghost use Rattle.sim_io.specs.Texts.{part_line, event_lines, stop_line, IsAtObject};
+
+use crate::text_parts::{put_fault, put_number, put_part, put_place};
+use event_key::Key;
+use model_core::model::Model;
+use model_core::{Note, OutOfMemory, Part};
+use sim_spec::{Stop, Terms};
+use std::alloc::Global;
+
+#[tactic(auto, unfolding(crate::specs::Texts::part_line))]
+fn put_line<M: Model>(
+    alloc: Global,
+    model: &M,
+    key: &Key,
+    part: Part,
+    into: &mut Vec<u8>,
+) -> Result<(), OutOfMemory>
+    requires { key.now.dest < (M.meaning model.now).objects }
+    ensures ok { OnOk result (into.new.items ≡ into.old.items ++ part_line (M.meaning model.now) key.now part) }
+    ensures front { StartsWith into.new.items into.old.items }
+{
+    put_place(alloc, model, key, into)?;
+    into.push(b' ')?;
+    put_part(part, into)?;
+    into.push(b'\n')?;
+    Ok(())
+}
+
+fn put_lines<M: Model>(
+    alloc: Global,
+    model: &M,
+    key: &Key,
+    note: &Note,
+    into: &mut Vec<u8>,
+) -> Result<(), OutOfMemory>
+    requires { key.now.dest < (M.meaning model.now).objects }
+    ensures ok { OnOk result (into.new.items ≡ into.old.items ++ event_lines (M.meaning model.now) key.now note.now) }
+    ensures front { StartsWith into.new.items into.old.items }
+{
+    for i in 0..note.len() {
+        put_line(alloc, model, key, note.at(i), into)?;
+    }
+    Ok(())
+}
+
+/// Appends the lines of an event: one for each part of what it tells, in order. A refusal leaves what was there.
+pub fn put_done<M: Model>(
+    alloc: Global,
+    model: &M,
+    key: &Key,
+    note: &Note,
+    into: &mut Vec<u8>,
+) -> Result<(), OutOfMemory>
+    requires { key.now.dest < (M.meaning model.now).objects }
+    ensures ok { OnOk result (into.new.items ≡ into.old.items ++ event_lines (M.meaning model.now) key.now note.now) }
+    ensures err { OnErr result (into.new.items ≡ into.old.items) }
+{
+    let before = into.len();
+    let result = put_lines(alloc, model, key, note, into);
+    if result.is_err() {
+        into.truncate(before);
+    }
+    result
+}
+
+#[tactic(auto, unfolding(crate::specs::Texts::stop_line))]
+fn put_reason<M: Model>(
+    alloc: Global,
+    model: &M,
+    terms: &Terms,
+    count: u64,
+    stop: &Stop,
+    into: &mut Vec<u8>,
+) -> Result<(), OutOfMemory>
+    requires { IsAtObject (M.meaning model.now) stop.now }
+    ensures ok { OnOk result (into.new.items ≡ into.old.items ++ stop_line (M.meaning model.now) terms.now count stop.now) }
+    ensures front { StartsWith into.new.items into.old.items }
+{
+    match *stop {
+        Stop::End => {
+            into.extend_from_slice(b"end ")?;
+            put_number(terms.end, into)?;
+            into.extend_from_slice(b" events ")?;
+            put_number(count, into)?;
+        }
+        Stop::Limit => {
+            into.extend_from_slice(b"limit ")?;
+            put_number(count, into)?;
+        }
+        Stop::Fault { key, code } => {
+            into.extend_from_slice(b"fault ")?;
+            put_place(alloc, model, &key, into)?;
+            into.push(b' ')?;
+            put_fault(code, into)?;
+        }
+    }
+    into.push(b'\n')?;
+    Ok(())
+}
+
+/// Appends the line that says why the simulation stopped after so many events. A refusal leaves what was there.
+pub fn put_stop<M: Model>(
+    alloc: Global,
+    model: &M,
+    terms: &Terms,
+    count: u64,
+    stop: &Stop,
+    into: &mut Vec<u8>,
+) -> Result<(), OutOfMemory>
+    requires { IsAtObject (M.meaning model.now) stop.now }
+    ensures ok { OnOk result (into.new.items ≡ into.old.items ++ stop_line (M.meaning model.now) terms.now count stop.now) }
+    ensures err { OnErr result (into.new.items ≡ into.old.items) }
+{
+    let before = into.len();
+    let result = put_reason(alloc, model, terms, count, stop, into);
+    if result.is_err() {
+        into.truncate(before);
+    }
+    result
+}

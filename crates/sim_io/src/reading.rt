@@ -1,0 +1,76 @@
+//! Reading a whole input.
+ghost use Rattle.std.specs.Prelude.{◌≡◌, ◌-◌, ◌≤◌, ◌<◌, ◌++◌, ℕ, List, length, vec_len, IfOk, OnOk, OnErr, IsErrOf};
+ghost use Rattle.std.specs.Io.KnownBytes.{Consumes, IsAtEnd};
+ghost use Rattle.sim_io.specs.Causes.{Rose};
+ghost use Rattle.sim_io.specs.Transfers.{TakesUpTo, TakesSome};
+ghost use Rattle.sim_io.specs.declared.reading.ReadEnd.TheVariants.{OutOfMemory};
+
+use crate::failed::Failed;
+use crate::source::Source;
+use std::alloc::{AllocError, Global};
+use thiserror::Error;
+
+/// Why reading ended before the end.
+#[derive(Clone, Copy, Debug, PartialEq, Eq, Error)]
+pub enum ReadEnd {
+    #[error("read failed")]
+    Failed,
+    #[error("out of memory")]
+    OutOfMemory,
+}
+
+impl From<AllocError> for ReadEnd {
+    ghost from_gives = { λ _ end. end ≡ OutOfMemory };
+
+    fn from(_: AllocError) -> ReadEnd {
+        ReadEnd::OutOfMemory
+    }
+}
+
+/// How many bytes are read at most.
+pub const MOST_BYTES: usize = 1_048_577;
+
+/// How many bytes one read asks for at most.
+const PIECE: usize = 8192;
+
+/// Reads one piece to the end of what was read, and answers how long it is.
+fn read_piece<S: Source>(source: &mut S, bytes: &mut Vec<u8>) -> Result<usize, ReadEnd>
+    requires { vec_len bytes.old < MOST_BYTES }
+    ensures appended { IfOk result (λ n. (piece : List ℕ) × (bytes.new.items ≡ bytes.old.items ++ piece) × (length piece ≡ n)
+        × Consumes (S.left source.old) (S.left source.new) piece) }
+    ensures end { IfOk result (λ n. n ≡ 0 → IsAtEnd (S.left source.new)) }
+    ensures short { OnOk result (vec_len bytes.new ≤ MOST_BYTES) }
+    ensures refused { OnErr result (TakesSome (MOST_BYTES - vec_len bytes.old) (S.left source.old) (S.left source.new)) }
+    ensures later { S.faults source.old ≤ S.faults source.new }
+    ensures failed { IsErrOf result ReadEnd.Failed → Rose (S.faults source.old) (S.faults source.new) }
+{
+    let mut piece = [0u8; PIECE];
+    let room = (MOST_BYTES - bytes.len()).min(PIECE);
+    let (into, _) = piece.split_at_mut(room);
+    match source.read(into) {
+        Ok(count) => {
+            let (taken, _) = into.split_at(count);
+            bytes.extend_from_slice(taken)?;
+            Ok(count)
+        }
+        Err(Failed) => Err(ReadEnd::Failed),
+    }
+}
+
+/// Reads to the end, or until there are 1,048,577 bytes. After a refusal the bytes that were read are lost.
+pub fn read_all<S: Source>(alloc: Global, source: &mut S) -> Result<Vec<u8>, ReadEnd>
+    ensures all { IfOk result (λ bytes. TakesUpTo MOST_BYTES (S.left source.old) (S.left source.new) bytes.items) }
+    ensures short { IfOk result (λ bytes. vec_len bytes ≤ MOST_BYTES) }
+    ensures refused { OnErr result (TakesSome MOST_BYTES (S.left source.old) (S.left source.new)) }
+    ensures later { S.faults source.old ≤ S.faults source.new }
+    ensures failed { IsErrOf result ReadEnd.Failed → Rose (S.faults source.old) (S.faults source.new) }
+{
+    let mut bytes = Vec::new(alloc);
+    while bytes.len() < MOST_BYTES {
+        let count = read_piece(source, &mut bytes)?;
+        if count == 0 {
+            return Ok(bytes);
+        }
+    }
+    Ok(bytes)
+}

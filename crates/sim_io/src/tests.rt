@@ -1,0 +1,5 @@
+//! What no clause says: worked texts, and that calls succeed where memory is left.
+mod lines;
+mod named;
+mod streams;
+mod words;

@@ -1,0 +1,63 @@
+//! A model whose objects have names and do nothing.
+ghost use Rattle.std.specs.Prelude.{codes, decimal, [], ◌++◌, true};
+ghost use Rattle.model_core.specs.declared.effect.Outcome.TheVariants.{Fails};
+
+use model_core::model::Model as SimulationModel;
+use model_core::{Cells, Event, OutOfMemory, Outcome, Start};
+use std::alloc::Global;
+
+/// Nine objects, named by a `p` and their numbers.
+#[derive(Drop)]
+pub struct Named;
+
+impl SimulationModel for Named {
+    ghost use Rattle.std.proofs.Common.{arith};
+
+    ghost meaning = { λ _. record {
+      objects = 9;
+      lawful = λ _ _. true;
+      effect = λ _ _ _. Fails 2;
+      first = λ _. record { words = []; lines = [] };
+      starts = 0;
+      start_at = λ _. record { time = 0; dest = 0; kind = 0; a = 0; b = 0; rank = 0 };
+      label = λ object. codes "p" ++ decimal object;
+    } };
+
+    ghost laws = { λ _. Prim.grind arith };
+
+    fn objects(&self) -> u32 {
+        9
+    }
+
+    fn starts(&self) -> u32 {
+        0
+    }
+
+    fn start(&self, _i: u32) -> Start {
+        unreachable!()
+    }
+
+    fn first_cells(&self, alloc: Global, _object: u32) -> Result<Cells, OutOfMemory> {
+        Cells::new(alloc, Vec::new(alloc), Vec::new(alloc))
+    }
+
+    fn is_lawful(&self, _object: u32, _cells: &Cells) -> bool {
+        true
+    }
+
+    fn react(
+        &self,
+        _alloc: Global,
+        _object: u32,
+        _cells: &Cells,
+        _event: &Event,
+    ) -> Result<Outcome, OutOfMemory> {
+        Ok(Outcome::Fails(2))
+    }
+
+    fn put_name(&self, alloc: Global, object: u32, into: &mut Vec<u8>) -> Result<(), OutOfMemory> {
+        let name = format!(in alloc; "p{object}")?;
+        into.extend_from_slice(name.as_bytes())?;
+        Ok(())
+    }
+}

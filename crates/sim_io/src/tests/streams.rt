@@ -1,0 +1,108 @@
+use crate::{
+    CleanSink, CleanSource, Failed, MemSink, MemSource, ReadEnd, Sink, Source, StdSink, StdSource,
+    read_all, write_all,
+};
+use std::io;
+use std::io::{Cursor, ErrorKind, Read, Write};
+use std::test::Fail;
+
+/// 47 bytes: three pieces of at most 16.
+const TEXT: &[u8] = b"in arrivals 0 served 3 lost 0 busy 0 waiting 0\n";
+
+#[test]
+fn a_read_that_fails_in_mid_stream(rt: HostRuntime) -> Result<(), Fail> {
+    let alloc = rt.alloc();
+    for call in 1..=4 {
+        let mut source = MemSource::new(TEXT.to_vec(alloc)?, vec![in alloc; call]?, 16);
+        match read_all(alloc, &mut source) {
+            Ok(_) => panic!(rt; "read {call} fails"),
+            Err(end) => assert_eq!(rt; end, ReadEnd::Failed),
+        }
+    }
+    let mut source = MemSource::new(TEXT.to_vec(alloc)?, vec![in alloc; 5]?, 16);
+    assert_eq!(rt; read_all(alloc, &mut source)?.as_slice(), TEXT);
+    Ok(())
+}
+
+#[test]
+fn a_write_that_fails_in_mid_stream(rt: HostRuntime) -> Result<(), Fail> {
+    let alloc = rt.alloc();
+    for (call, taken) in [(1, 0), (2, 16), (3, 32)] {
+        let mut failing = MemSink::new(alloc, 100, vec![in alloc; call]?, Vec::new(alloc), 16)?;
+        assert_eq!(rt; write_all(&mut failing, TEXT), Err(Failed));
+        assert_eq!(rt; failing.bytes(), TEXT.get(..taken).ok_or("taken")?);
+        let mut idle = MemSink::new(alloc, 100, Vec::new(alloc), vec![in alloc; call]?, 16)?;
+        assert_eq!(rt; write_all(&mut idle, TEXT), Err(Failed));
+        assert_eq!(rt; idle.bytes(), TEXT.get(..taken).ok_or("taken")?);
+    }
+    let mut sink = MemSink::new(alloc, 47, vec![in alloc; 4]?, vec![in alloc; 4]?, 16)?;
+    assert_eq!(rt; write_all(&mut sink, TEXT), Ok(()));
+    assert_eq!(rt; sink.bytes(), TEXT);
+    Ok(())
+}
+
+#[test]
+fn a_sink_that_is_full(rt: HostRuntime) -> Result<(), Fail> {
+    let alloc = rt.alloc();
+    let mut sink = MemSink::new(alloc, 40, Vec::new(alloc), Vec::new(alloc), 16)?;
+    assert_eq!(rt; write_all(&mut sink, TEXT), Err(Failed));
+    assert_eq!(rt; sink.bytes(), TEXT.get(..40).ok_or("room")?);
+    Ok(())
+}
+
+#[test]
+fn what_never_fails(rt: HostRuntime) -> Result<(), Fail> {
+    let alloc = rt.alloc();
+    let mut source = CleanSource::new(TEXT.to_vec(alloc)?);
+    assert_eq!(rt; read_all(alloc, &mut source)?.as_slice(), TEXT);
+    assert_eq!(rt; write_all(&mut CleanSink::new(), TEXT), Ok(()));
+    Ok(())
+}
+
+#[test]
+fn what_passes_through_a_reader_and_a_writer(rt: HostRuntime) -> Result<(), Fail> {
+    let alloc = rt.alloc();
+    let mut source = StdSource::new(TEXT);
+    assert_eq!(rt; read_all(alloc, &mut source)?.as_slice(), TEXT);
+    let mut written = Vec::new(alloc);
+    write_all(&mut StdSink::new(&mut written), TEXT)?;
+    assert_eq!(rt; written.as_slice(), TEXT);
+    Ok(())
+}
+
+/// Fails at each call.
+#[derive(Drop)]
+struct Broken;
+
+impl Read for Broken {
+    fn read(&mut self, _into: &mut [u8]) -> io::Result<usize> {
+        Err(io::Error::from(ErrorKind::BrokenPipe))
+    }
+}
+
+impl Write for Broken {
+    fn write(&mut self, _bytes: &[u8]) -> io::Result<usize> {
+        Err(io::Error::from(ErrorKind::BrokenPipe))
+    }
+
+    fn flush(&mut self) -> io::Result<()> {
+        Ok(())
+    }
+}
+
+#[test]
+fn a_reader_and_a_writer_that_fail(rt: HostRuntime) -> Result<(), Fail> {
+    let alloc = rt.alloc();
+    match read_all(alloc, &mut StdSource::new(Broken)) {
+        Ok(_) => panic!(rt; "the reader fails"),
+        Err(end) => assert_eq!(rt; end, ReadEnd::Failed),
+    }
+    assert_eq!(rt; write_all(&mut StdSink::new(Broken), TEXT), Err(Failed));
+    let mut small = [0u8; 5];
+    assert_eq!(rt;
+        write_all(&mut StdSink::new(Cursor::new(small.as_mut_slice())), TEXT),
+        Err(Failed)
+    );
+    assert_eq!(rt; small.as_slice(), b"in ar".as_slice());
+    Ok(())
+}
