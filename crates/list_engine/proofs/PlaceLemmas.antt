@@ -42,9 +42,9 @@ stays-partitioned key xs up i j d le below h = by_first (key_lt key (get_or xs i
   where
     by_first : (b : Bool) → key_lt key (get_or xs i d).key ≡ b → not b ≡ true
     by_first true first =
-      let later = before_later key xs i j d up le below first in
-      let apart = not_true (key_lt key (get_or xs j d).key) h in
-      absurd (cc)
+        let later = before_later key xs i j d up le below first in
+        let apart = not_true (key_lt key (get_or xs j d).key) h in
+        absurd (cc)
     by_first false first = refl
 
 -- behind those that stay in front is the event's place
@@ -58,7 +58,7 @@ enqueue-place e (x ∷ xs) zero within point =
 enqueue-place e (x ∷ xs) (suc i) within point =
     let behind : key_lt e.key x.key ≡ false = not_true _ (point.0 0 x (omega arith) (omega arith)) in
     ap (λ ys. x ∷ ys) (enqueue-place e xs i (omega arith)
-      (λ k d low high. point.0 (suc k) d (omega arith) (omega arith), λ k d low high. point.1 (suc k) d (omega arith) (omega arith)))
+    (λ k d low high. point.0 (suc k) d (omega arith) (omega arith), λ k d low high. point.1 (suc k) d (omega arith) (omega arith)))
     ∙ ap (λ b. cond b (e ∷ x ∷ xs) (x ∷ enqueue e xs)) (sym behind)
 
 -- what is left when the first one is gone

@@ -46,11 +46,11 @@ later_comes stamp delay h none =
 -- what an object sends, at the stamp at which it comes
 abbrev pub emission_at : ℕ → ℕ → ℕ → Send → Event
 emission_at stamp object serial s = record {
-    key = record { stamp = stamp; rank = s.rank; dest = s.dest; src = object; serial = serial };
-    kind = s.kind;
-    a = s.a;
-    b = s.b
-  }
+  key = record { stamp = stamp; rank = s.rank; dest = s.dest; src = object; serial = serial };
+  kind = s.kind;
+  a = s.a;
+  b = s.b;
+}
 
 -- one more send is put at its place
 pub placed_more : (stamp object serial : ℕ) (ss : List Send) (i : ℕ) (d : Send) (xs : List Event) (at : ℕ) → i < length ss → at ≡ next_stamp stamp (get_or ss i d).delay

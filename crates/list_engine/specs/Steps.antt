@@ -28,5 +28,5 @@ state_past s key changes sends =
     record {
       objects = slice_set s.objects key.dest (record { cells = cells_after_all changes object.cells; sent = object.sent + length sends });
       pending = enqueue_all (emissions key.stamp key.dest object.sent sends) (drop 1 s.pending);
-      count = s.count + 1
+      count = s.count + 1;
     }

@@ -112,11 +112,13 @@ impl ListEngine {
         let object = &self.objects[key.dest as usize];
         match model.react(alloc, key.dest, object.cells(), event)? {
             Outcome::Fails(code) => Ok(Step::Stops(Stop::Fault { key, code })),
-            Outcome::Goes(Effect {
-                changes,
-                sends,
-                note,
-            }) => {
+            Outcome::Goes(
+                Effect {
+                    changes,
+                    sends,
+                    note,
+                },
+            ) => {
                 if has_chain(key.stamp, sends.as_slice()) {
                     return Ok(Step::Stops(Stop::Fault { key, code: 1 }));
                 }

@@ -6,5 +6,7 @@ mod engine;
 mod object;
 mod pending;
 mod sending;
+mod simulation;
 
 pub use engine::{ListEngine, Step};
+pub use simulation::{Unfinished, simulate};

@@ -32,21 +32,21 @@ react-requires-clause-lawful g c =
     let within = first_within _ _ _ c.args.event.now c.requires.lawful c.requires.first in
     let here = ap (λ (s : State). length s.objects) c.self.view_is in
     first_lawful _ _ _ c.args.event.now c.requires.lawful c.requires.first c.cells.result.now.contents
-      (cells_at c.self.inside.objects.items c.args.event.now.key.dest c.index-object.result.now _ (omega (arith, within, here)) c.index-object.ensures c.cells.ensures
-      ∙ ap (λ (s : State). (object_at s.objects c.args.event.now.key.dest).cells) c.self.view_is)
+    (cells_at c.self.inside.objects.items c.args.event.now.key.dest c.index-object.result.now _ (omega (arith, within, here)) c.index-object.ensures c.cells.ensures
+    ∙ ap (λ (s : State). (object_at s.objects c.args.event.now.key.dest).cells) c.self.view_is)
 
 pub returns-in-Fails-clause-next : goal.returns-in-Fails-clause-next
 returns-in-Fails-clause-next g c =
     let within = first_within _ _ _ c.args.event.now c.requires.lawful c.requires.first in
     next-fails _ _ _ c.args.event.now _ c.in-Fails.code c.requires.first c.requires.due c.requires.free
-      (outcome_at (g.M.Model.meaning c.args.model.now) c.args.self.now c.self.inside.objects.items c.args.event.now c.index-object.result.now c.cells.result.now.contents _ _ within (ap (λ (s : State). s.objects) c.self.view_is) c.index-object.ensures c.cells.ensures c.in-Fails.is c.in_ok-code.ensures)
+    (outcome_at (g.M.Model.meaning c.args.model.now) c.args.self.now c.self.inside.objects.items c.args.event.now c.index-object.result.now c.cells.result.now.contents _ _ within (ap (λ (s : State). s.objects) c.self.view_is) c.index-object.ensures c.cells.ensures c.in-Fails.is c.in_ok-code.ensures)
 
 pub returns-then-has_chain-clause-next : goal.returns-then-has_chain-clause-next
 returns-then-has_chain-clause-next g c =
     let within = first_within _ _ _ c.args.event.now c.requires.lawful c.requires.first in
     next-chain _ _ _ c.args.event.now _ c.in-Goes.field-0 c.requires.first c.requires.due c.requires.free
-      (outcome_at (g.M.Model.meaning c.args.model.now) c.args.self.now c.self.inside.objects.items c.args.event.now c.index-object.result.now c.cells.result.now.contents _ _ within (ap (λ (s : State). s.objects) c.self.view_is) c.index-object.ensures c.cells.ensures c.in-Goes.is c.in_ok-code.ensures)
-      (ap (has_chain c.args.event.now.key.stamp) (sym c.as_slice.ensures) ∙ sym c.has_chain.ensures ∙ c.if-has_chain.true)
+    (outcome_at (g.M.Model.meaning c.args.model.now) c.args.self.now c.self.inside.objects.items c.args.event.now c.index-object.result.now c.cells.result.now.contents _ _ within (ap (λ (s : State). s.objects) c.self.view_is) c.index-object.ensures c.cells.ensures c.in-Goes.is c.in_ok-code.ensures)
+    (ap (has_chain c.args.event.now.key.stamp) (sym c.as_slice.ensures) ∙ sym c.has_chain.ensures ∙ c.if-has_chain.true)
 
 pub advance-requires-clause-object : goal.advance-requires-clause-object
 advance-requires-clause-object g c = first_within _ _ _ c.args.event.now c.requires.lawful c.requires.first
@@ -55,14 +55,14 @@ pub advance-requires-clause-fits : goal.advance-requires-clause-fits
 advance-requires-clause-fits g c =
     let within = first_within _ _ _ c.args.event.now c.requires.lawful c.requires.first in
     let laws = first_effect _ _ _ c.args.event.now c.keeps_laws.ensures c.requires.lawful c.requires.first c.in-Goes.field-0
-      (outcome_at (g.M.Model.meaning c.args.model.now) c.args.self.now c.self.inside.objects.items c.args.event.now c.index-object.result.now c.cells.result.now.contents _ _ within (ap (λ (s : State). s.objects) c.self.view_is) c.index-object.ensures c.cells.ensures c.in-Goes.is c.in_ok-code.ensures) in
+    (outcome_at (g.M.Model.meaning c.args.model.now) c.args.self.now c.self.inside.objects.items c.args.event.now c.index-object.result.now c.cells.result.now.contents _ _ within (ap (λ (s : State). s.objects) c.self.view_is) c.index-object.ensures c.cells.ensures c.in-Goes.is c.in_ok-code.ensures) in
     fits_as _ _ _ c.into_vec.ensures laws.fits
 
 pub advance-requires-clause-ranged : goal.advance-requires-clause-ranged
 advance-requires-clause-ranged g c =
     let within = first_within _ _ _ c.args.event.now c.requires.lawful c.requires.first in
     let laws = first_effect _ _ _ c.args.event.now c.keeps_laws.ensures c.requires.lawful c.requires.first c.in-Goes.field-0
-      (outcome_at (g.M.Model.meaning c.args.model.now) c.args.self.now c.self.inside.objects.items c.args.event.now c.index-object.result.now c.cells.result.now.contents _ _ within (ap (λ (s : State). s.objects) c.self.view_is) c.index-object.ensures c.cells.ensures c.in-Goes.is c.in_ok-code.ensures) in
+    (outcome_at (g.M.Model.meaning c.args.model.now) c.args.self.now c.self.inside.objects.items c.args.event.now c.index-object.result.now c.cells.result.now.contents _ _ within (ap (λ (s : State). s.objects) c.self.view_is) c.index-object.ensures c.cells.ensures c.in-Goes.is c.in_ok-code.ensures) in
     ranged_as _ _ _ _ c.objects.ensures c.as_slice-in-Goes.ensures laws.sends
 
 pub advance-requires-clause-fresh : goal.advance-requires-clause-fresh
@@ -75,8 +75,8 @@ returns-in_ok-advance-in-Goes-clause-next g c =
     let key = c.args.event.now.key in
     let told : Key × Note = (key, c.in-Goes.field-0.note) in
     next-goes_on _ _ s c.args.event.now _ c.in-Goes.field-0 c.requires.first c.requires.due c.requires.free
-      (outcome_at (g.M.Model.meaning c.args.model.now) c.args.self.now c.self.inside.objects.items c.args.event.now c.index-object.result.now c.cells.result.now.contents _ _ within (ap (λ (s : State). s.objects) c.self.view_is) c.index-object.ensures c.cells.ensures c.in-Goes.is c.in_ok-code.ensures)
-      (ap (has_chain key.stamp) (sym c.as_slice.ensures) ∙ sym c.has_chain.ensures ∙ c.if-has_chain.false)
+    (outcome_at (g.M.Model.meaning c.args.model.now) c.args.self.now c.self.inside.objects.items c.args.event.now c.index-object.result.now c.cells.result.now.contents _ _ within (ap (λ (s : State). s.objects) c.self.view_is) c.index-object.ensures c.cells.ensures c.in-Goes.is c.in_ok-code.ensures)
+    (ap (has_chain key.stamp) (sym c.as_slice.ensures) ∙ sym c.has_chain.ensures ∙ c.if-has_chain.false)
     ∙ ap (λ (sends : List Send). does told (state_past s key c.in-Goes.field-0.changes sends)) (sym c.as_slice-in-Goes.ensures)
     ∙ ap (λ (changes : List Change). does told (state_past s key changes c.as_slice-in-Goes.result.now)) (sym c.into_vec.ensures)
     ∙ ap (does told) (sym c.in_ok-advance-in-Goes.ensures)
