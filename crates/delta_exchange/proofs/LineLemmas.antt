@@ -6,13 +6,22 @@ use Rattle.std.proofs.lemmas.List.{map-set, get_or-map, get_or-set_same, length-
 use Rattle.delta_exchange.specs.Views.{LineView}
 use Rattle.delta_exchange.specs.Spares.{NoneFell}
 
-pub line_changed : {B : Type 0} (part : LineView → B) (lines : List LineView) (at : ℕ) (old new : LineView) (other : B) (change : B → B) → at < length lines → old ≡ get_or lines at old → part new ≡ change (part old)
+line_changed : {B : Type 0} (part : LineView → B) (lines : List LineView) (at : ℕ) (old new : LineView) (other : B) (change : B → B) → at < length lines → old ≡ get_or lines at old → part new ≡ change (part old)
     → map part (set lines at new) ≡ set (map part lines) at (change (get_or (map part lines) at other))
 line_changed part lines at old new other change within is changed =
     map-set part lines at new ∙ ap (set (map part lines) at) (changed ∙ ap change (ap part is ∙ sym (get_or-map part lines at old other within)))
 
+-- a line is there where its part is
 pub within : {A B : Type 0} (f : A → B) (xs : List A) (at : ℕ) → at < length (map f xs) → at < length xs
 within f xs at h = rw length-map at h
+
+pub values_changed : (change : List ℕ → List ℕ) (lines : List LineView) (at : ℕ) (old new : LineView) → at < length (map (λ (line : LineView). line.values) lines) → old ≡ get_or lines at old → new.values ≡ change old.values
+    → map (λ (line : LineView). line.values) (set lines at new) ≡ set (map (λ (line : LineView). line.values) lines) at (change (get_or (map (λ (line : LineView). line.values) lines) at []))
+values_changed change lines at old new there is changed = line_changed (λ (line : LineView). line.values) lines at old new [] change (within _ lines at there) is changed
+
+pub spare_changed : (change : ℕ → ℕ) (lines : List LineView) (at : ℕ) (old new : LineView) → at < length (map (λ (line : LineView). line.values) lines) → old ≡ get_or lines at old → new.spare ≡ change old.spare
+    → map (λ (line : LineView). line.spare) (set lines at new) ≡ set (map (λ (line : LineView). line.spare) lines) at (change (get_or (map (λ (line : LineView). line.spare) lines) at 0))
+spare_changed change lines at old new there is changed = line_changed (λ (line : LineView). line.spare) lines at old new 0 change (within _ lines at there) is changed
 
 -- a line that keeps its values
 pub same_values : (lines : List LineView) (at : ℕ) (old new : LineView) → old ≡ get_or lines at old → new.values ≡ old.values

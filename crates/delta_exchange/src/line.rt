@@ -30,10 +30,8 @@ impl Line {
     pub fn from_vec(values: Vec<u64>) -> Line
         ensures { result ≡ unspared values.items }
     {
-        Line {
-            queue: VecDeque::from_vec(values),
-            spare: 0,
-        }
+        let queue = VecDeque::from_vec(values);
+        Line { queue, spare: 0 }
     }
 
     /// A line of the same values, with no spare.
