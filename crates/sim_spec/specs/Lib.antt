@@ -1,5 +1,10 @@
+pub mod Cut
+pub mod Cycles
 pub mod Firing
+pub mod Horizon
+pub mod HorizonLaws
 pub mod Laws
 pub mod Pending
+pub mod Replay
 pub mod Run
 pub mod State

@@ -1,0 +1,63 @@
+-- One object's part of a list of events, or of what was done.
+use Rattle.std.proofs.Common.{◌≡◌, ℕ, suc, Bool, true, false, cond, List, [], ◌∷◌, ◌++◌, length, refl, ap, ◌∙◌, eqb, eqb-true, eq-eqb}
+use Rattle.std.proofs.lemmas.List.Elements.{filter-append}
+use Rattle.std.proofs.lemmas.List.{length-map}
+use Rattle.std.specs.List.{AllByRecursion as Each}
+use Rattle.model_core.specs.declared.event.Event.{Event}
+use Rattle.sim_spec.specs.Firing.{Firing}
+use Rattle.sim_spec.specs.Pending.{enqueue_all, IsAscending}
+use Rattle.sim_spec.specs.Cut.{events_of}
+use Rattle.sim_spec.specs.Replay.{events_at, done_at}
+use Rattle.sim_spec.proofs.AscendingLemmas.{IsAscending-filter}
+use Rattle.sim_spec.proofs.EachLemmas.{Each-filter}
+use Rattle.sim_spec.proofs.ShareLemmas.{filter-enqueue_all}
+
+pub Each-events_at : (P : Event → Type 0) (object : ℕ) (es : List Event) → Each P es → Each P (events_at object es)
+unfolding events_at
+Each-events_at P object es all = Each-filter P (λ e. eqb e.key.dest object) es all
+
+pub IsAscending-events_at : (object : ℕ) (es : List Event) → IsAscending es → IsAscending (events_at object es)
+unfolding events_at
+IsAscending-events_at object es up = IsAscending-filter (λ e. eqb e.key.dest object) es up
+
+pub events_at-append : (object : ℕ) (xs ys : List Event) → events_at object (xs ++ ys) ≡ events_at object xs ++ events_at object ys
+unfolding events_at
+events_at-append object xs ys = filter-append (λ (e : Event). eqb e.key.dest object) xs ys
+
+pub done_at-append : (object : ℕ) (xs ys : List (Event × Firing)) → done_at object (xs ++ ys) ≡ done_at object xs ++ done_at object ys
+unfolding done_at
+done_at-append object xs ys = filter-append (λ (d : Event × Firing). eqb d.0.key.dest object) xs ys
+
+pub events_at-enqueue_all : (object : ℕ) (es xs : List Event) → IsAscending (enqueue_all es xs) → events_at object (enqueue_all es xs) ≡ enqueue_all (events_at object es) (events_at object xs)
+unfolding events_at
+events_at-enqueue_all object es xs up = filter-enqueue_all (λ e. eqb e.key.dest object) es xs up
+
+-- each event of the part is at the object
+pub events_at-dest : (object : ℕ) (es : List Event) → Each (λ (e : Event). e.key.dest ≡ object) (events_at object es)
+unfolding events_at
+events_at-dest object [] = tt
+events_at-dest object (e ∷ es) = by_dest (events_at-dest object es) (eqb e.key.dest object) refl
+  where
+    by_dest : Each (λ (e : Event). e.key.dest ≡ object) (events_at object es) → (b : Bool) → eqb e.key.dest object ≡ b → Each (λ (e : Event). e.key.dest ≡ object) (cond b (e ∷ events_at object es) (events_at object es))
+    by_dest more true here = (eqb-true e.key.dest object here, more)
+    by_dest more false there = more
+
+-- an event is the first one of its object
+pub events_at-first : (e : Event) (es : List Event) → events_at e.key.dest (e ∷ es) ≡ e ∷ events_at e.key.dest es
+unfolding events_at
+events_at-first e es = ap (λ b. cond b (e ∷ events_at e.key.dest es) (events_at e.key.dest es)) (eq-eqb e.key.dest e.key.dest refl)
+
+-- the events of the part are the part of the events
+pub events_at-events_of : (object : ℕ) (ds : List (Event × Firing)) → events_at object (events_of ds) ≡ events_of (done_at object ds)
+unfolding events_at done_at
+events_at-events_of object [] = refl
+events_at-events_of object (d ∷ ds) =
+    elim (eqb d.0.key.dest object) as (λ b. cond b (d.0 ∷ events_at object (events_of ds)) (events_at object (events_of ds)) ≡ events_of (cond b (d ∷ done_at object ds) (done_at object ds)))
+    [ true ↦ ap (λ zs. d.0 ∷ zs) (events_at-events_of object ds) | false ↦ events_at-events_of object ds ]
+
+pub events_of-append : (xs ys : List (Event × Firing)) → events_of (xs ++ ys) ≡ events_of xs ++ events_of ys
+events_of-append [] ys = refl
+events_of-append (x ∷ xs) ys = ap (λ zs. x.0 ∷ zs) (events_of-append xs ys)
+
+pub length-events_of : (ds : List (Event × Firing)) → length (events_of ds) ≡ length ds
+length-events_of ds = length-map ds (λ (d : Event × Firing). d.0)
