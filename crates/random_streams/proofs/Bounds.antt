@@ -7,7 +7,8 @@ use Rattle.std.proofs.lemmas.List.Sums.{fails_before_first, prefix_len-le-length
 use Rattle.std.specs.List.{position_or_len, range_with_len}
 use Rattle.random_streams.specs.declared.law.Law.{Law}
 use Rattle.random_streams.specs.declared.law.Law.TheVariants.{Fixed, Uniform, Geometric, Choice}
-use Rattle.random_streams.specs.Laws.{is_choice, is_drawable, first_trial, chosen_place, drawn_value, greatest_value}
+use Rattle.random_streams.specs.Words.{words_from}
+use Rattle.random_streams.specs.Laws.{is_choice, is_drawable, is_delay, draw, first_trial, chosen_place, drawn_value, greatest_value}
 
 -- the first of n numbers that passes is at most n
 first_below-le : (test : ℕ → Bool) (n : ℕ) → position_or_len test (range_with_len 0 n) ≤ n
@@ -59,3 +60,18 @@ greatest_value-le (Fixed value) h = grind (arith, nat_tests)
 greatest_value-le (Uniform low high) h = grind (arith, nat_tests)
 greatest_value-le (Geometric p cap) h = grind (arith, nat_tests)
 greatest_value-le (Choice weights) h = grind (arith, nat_tests)
+
+-- what models ask of a draw
+pub draw-within : (seed object place : ℕ) (law : Law) → IsTrue (is_drawable law) → (draw seed object place law).0 ≤ greatest_value law
+unfolding draw
+draw-within seed object place law h = drawn_value-le law (words_from seed object place) h
+
+pub draw-le : (seed object place : ℕ) (law : Law) → IsTrue (is_drawable law) → (draw seed object place law).0 ≤ 2 ^ 40
+draw-le seed object place law h = omega (arith, draw-within seed object place law h, greatest_value-le law h)
+
+pub is_drawable-delay : (law : Law) → IsTrue (is_delay law) → IsTrue (is_drawable law)
+unfolding is_delay
+is_drawable-delay (Fixed value) h = h
+is_drawable-delay (Uniform low high) h = h
+is_drawable-delay (Geometric p cap) h = h
+is_drawable-delay (Choice weights) h = cc

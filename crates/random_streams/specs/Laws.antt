@@ -1,5 +1,5 @@
 -- Laws: where one can be drawn, its value, and how many words it reads.
-use Rattle.std.specs.Prelude.{ℕ, ◌+◌, ◌-◌, ◌%◌, ◌^◌, min, Bool, ◌&&◌, List, sum, length, take, nat_lt, nat_le}
+use Rattle.std.specs.Prelude.{ℕ, ◌+◌, ◌-◌, ◌%◌, ◌^◌, min, Bool, false, ◌&&◌, List, sum, length, take, nat_lt, nat_le}
 use Rattle.std.specs.List.{list_all, position_or_len, range_with_len}
 use Rattle.random_streams.specs.Words.{words_from}
 use Rattle.random_streams.specs.declared.law.Law.{Law}
@@ -17,6 +17,13 @@ is_drawable (Fixed value) = nat_le value (2 ^ 40)
 is_drawable (Uniform low high) = nat_le low high && nat_le high (2 ^ 40) && nat_lt (high - low) (2 ^ 32)
 is_drawable (Geometric p cap) = nat_le 1 p && nat_le 1 cap && nat_le cap 65536
 is_drawable (Choice weights) = is_choice weights
+
+-- a law of delays: one that can be drawn, and is no choice
+unfoldable pub is_delay : Law → Bool
+is_delay (Fixed value) = is_drawable (Fixed value)
+is_delay (Uniform low high) = is_drawable (Uniform low high)
+is_delay (Geometric p cap) = is_drawable (Geometric p cap)
+is_delay (Choice weights) = false
 
 -- the first trial, counted from 1, whose word is below p; cap where none of the trials before it is one
 unfoldable pub first_trial : ℕ → ℕ → (ℕ → ℕ) → ℕ

@@ -1,6 +1,6 @@
 //! The laws by which values are drawn.
 ghost use Rattle.std.specs.Prelude.{◌≡◌};
-ghost use Rattle.random_streams.specs.Laws.{is_drawable};
+ghost use Rattle.random_streams.specs.Laws.{is_drawable, is_delay};
 
 use crate::weights::{Weights, is_choice};
 
@@ -39,6 +39,16 @@ impl Law {
             }
             Law::Geometric { p, cap } => *p >= 1 && *cap >= 1 && *cap <= MOST_TRIALS,
             Law::Choice { weights } => is_choice(weights.as_slice()),
+        }
+    }
+    /// Whether the law can be drawn and gives a number of ticks, as all but a choice do.
+    #[tactic(auto, unfolding(crate::specs::Laws::is_delay))]
+    pub fn is_delay(&self) -> bool
+        ensures { result ≡ is_delay self.now }
+    {
+        match self {
+            Law::Choice { .. } => false,
+            _ => self.check(),
         }
     }
 }

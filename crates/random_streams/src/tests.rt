@@ -100,6 +100,7 @@ fn a_law_is_checked_at_its_bounds(rt: HostRuntime) -> Result<(), Fail> {
     ];
     for (law, want) in &laws {
         assert_eq!(rt; law.check(), *want, "{law:?}");
+        assert_eq!(rt; law.is_delay(), *want, "{law:?}");
     }
     for (list, want) in [
         (vec![in rt.alloc(); 65535; 64]?, true),
@@ -112,6 +113,7 @@ fn a_law_is_checked_at_its_bounds(rt: HostRuntime) -> Result<(), Fail> {
         let weights = Weights::new(list);
         let law = Law::Choice { weights };
         assert_eq!(rt; law.check(), want, "{law:?}");
+        assert!(rt; !law.is_delay());
     }
     Ok(())
 }

@@ -1,0 +1,5 @@
+pub mod Meaning
+pub mod ModelLaws
+pub mod Parts
+pub mod Starts
+pub mod Views

@@ -1,0 +1,197 @@
+//! The model PHOLD.
+ghost use Rattle.std.specs.Prelude.{◌≡◌, ◌<◌, IsOkAnd, IfOk};
+ghost use Rattle.phold_model.specs.Parts.{IsPhold, phold_parts};
+ghost use Rattle.phold_model.specs.Meaning.{phold_meaning, hop_start, place_changes};
+
+use model_core::model::Model as SimulationModel;
+use model_core::{
+    Cells, Change, Effect, Entry, Event, Note, OutOfMemory, Outcome, Part, Send, Sequence, Start,
+};
+use random_streams::{Law, Stream};
+use std::alloc::Global;
+
+/// The kind of a hop's event.
+const HOP_KIND: u32 = 4;
+
+/// The word that tells of a hop.
+const HOP_WORD: u32 = 1;
+
+/// Objects that hand events on: each event sends one to the next object, or to one that is drawn evenly, after a
+/// delay that is drawn by a law.
+#[derive(Debug, Drop)]
+pub struct Phold {
+    seed: u64,
+    objects: u32,
+    delay: Law,
+    uniform: bool,
+    each: u32,
+    start: Vec<Entry>,
+    rank: u32,
+    ghost in_range: { IsPhold (phold_parts seed objects delay uniform each start.items rank) },
+}
+
+/// What an event draws at its object: a delay, a destination, and the place of the words after those that were read.
+#[derive(Clone, Copy)]
+struct Hop {
+    delay: u64,
+    dest: u32,
+    next: u64,
+}
+
+impl Phold {
+    /// The model with these parts: a seed, a number of objects, the law of the delay, whether the destination is drawn
+    /// evenly or is the next object, how many events each object has at time 0, further initial events, and the rank
+    /// of what is sent and of the events at time 0. It takes no memory.
+    pub fn make(
+        seed: u64,
+        objects: u32,
+        delay: Law,
+        uniform: bool,
+        each: u32,
+        start: Vec<Entry>,
+        rank: u32,
+    ) -> Result<Phold, OutOfMemory>
+        requires { IsPhold (phold_parts seed objects delay uniform each start.items rank) }
+        ensures { IsOkAnd result (λ phold. ⟦<Phold as SimulationModel>⟧.meaning phold ≡ phold_meaning (phold_parts seed objects delay uniform each start.items rank)) }
+    {
+        Ok(Phold {
+            seed,
+            objects,
+            delay,
+            uniform,
+            each,
+            start,
+            rank,
+        })
+    }
+}
+
+/// An initial event.
+fn hop_start(time: u64, dest: u32, rank: u32) -> Start
+    ensures { result ≡ hop_start time dest rank }
+{
+    Start {
+        time,
+        dest,
+        kind: HOP_KIND,
+        a: 0,
+        b: 0,
+        rank,
+    }
+}
+
+/// The change by which an object keeps its place, where words were read.
+#[tactic(auto, unfolding(crate::specs::Meaning::place_changes))]
+fn place_changes(alloc: Global, place: u64, next: u64) -> Result<Vec<Change>, OutOfMemory>
+    ensures { IfOk result (λ changes. changes.items ≡ place_changes place next) }
+{
+    let mut changes = Vec::new(alloc);
+    if next != place {
+        changes.push(Change::Set {
+            word: 0,
+            value: next,
+        })?;
+    }
+    Ok(changes)
+}
+
+impl Phold {
+    ghost use Rattle.phold_model.specs.Meaning.{hop_delay, hop_dest, hop_next};
+    ghost use Rattle.phold_model.specs.Views.{parts_of};
+
+    /// What an event draws at an object whose random place is this.
+    #[tactic(auto, unfolding(crate::specs::Meaning::hop_delay, crate::specs::Meaning::hop_dest, crate::specs::Meaning::hop_next))]
+    fn hop(&self, object: u32, place: u64) -> Hop
+        requires { object < self.now.objects }
+        ensures delay { result.delay ≡ hop_delay (parts_of self.now) object place }
+        ensures dest { result.dest ≡ hop_dest (parts_of self.now) object place }
+        ensures next { result.next ≡ hop_next (parts_of self.now) object place }
+    {
+        let mut words = Stream::new(self.seed, object, place);
+        let delay = words.draw(&self.delay);
+        let dest = if self.uniform {
+            words.word() % self.objects
+        } else {
+            (object + 1) % self.objects
+        };
+        Hop {
+            delay,
+            dest,
+            next: words.place(),
+        }
+    }
+}
+
+#[tactic(auto, unfolding(crate::specs::Meaning::phold_meaning))]
+impl SimulationModel for Phold {
+    ghost use Rattle.phold_model.specs.Meaning.{phold_meaning};
+    ghost use Rattle.phold_model.specs.Views.{parts_of};
+    ghost use Rattle.phold_model.specs.ModelLaws.{phold_laws};
+
+    ghost meaning = { λ p. phold_meaning (parts_of p) };
+
+    ghost laws = { λ p. phold_laws (parts_of p) p.in_range };
+
+    fn objects(&self) -> u32 {
+        self.objects
+    }
+
+    fn starts(&self) -> u32 {
+        self.objects * self.each + self.start.len() as u32
+    }
+
+    fn start(&self, i: u32) -> Start {
+        let early = self.objects * self.each;
+        if i < early {
+            return hop_start(0, i / self.each, self.rank);
+        }
+        let entry = self.start[(i - early) as usize];
+        hop_start(entry.time, entry.at, entry.rank)
+    }
+
+    fn first_cells(&self, alloc: Global, _object: u32) -> Result<Cells, OutOfMemory> {
+        let words = vec![in alloc; 0]?;
+        Cells::new(alloc, words, Vec::new(alloc))
+    }
+
+    fn is_lawful(&self, _object: u32, cells: &Cells) -> bool {
+        cells.words() == 1 && cells.lines() == 0
+    }
+
+    fn react(
+        &self,
+        alloc: Global,
+        object: u32,
+        cells: &Cells,
+        _event: &Event,
+    ) -> Result<Outcome, OutOfMemory> {
+        let place = cells.word(0);
+        let hop = self.hop(object, place);
+        let changes = place_changes(alloc, place, hop.next)?;
+        let sends = vec![in alloc;
+            Send {
+                dest: hop.dest,
+                delay: hop.delay,
+                kind: HOP_KIND,
+                a: 0,
+                b: 0,
+                rank: self.rank,
+            },
+        ]?;
+        Ok(Outcome::Goes(Effect {
+            changes: Sequence::new(changes),
+            sends: Sequence::new(sends),
+            note: Note::of(Part {
+                word: HOP_WORD,
+                a: hop.delay,
+                b: u64::from(hop.dest),
+            }),
+        }))
+    }
+
+    fn put_name(&self, alloc: Global, object: u32, into: &mut Vec<u8>) -> Result<(), OutOfMemory> {
+        let name = format!(in alloc; "p{object}")?;
+        into.extend_from_slice(name.as_bytes())?;
+        Ok(())
+    }
+}
