@@ -41,7 +41,7 @@ struct Hop {
 impl Phold {
     /// The model with these parts: a seed, a number of objects, the law of the delay, whether the destination is drawn
     /// evenly or is the next object, how many events each object has at time 0, further initial events, and the rank
-    /// of what is sent and of the events at time 0. It takes no memory.
+    /// of what is sent and of the events at time 0. It takes no memory, and so is never refused.
     pub fn make(
         seed: u64,
         objects: u32,
@@ -52,7 +52,8 @@ impl Phold {
         rank: u32,
     ) -> Result<Phold, OutOfMemory>
         requires { IsPhold (phold_parts seed objects delay uniform each start.items rank) }
-        ensures { IsOkAnd result (λ phold. ⟦<Phold as SimulationModel>⟧.meaning phold ≡ phold_meaning (phold_parts seed objects delay uniform each start.items rank)) }
+        ensures { IsOkAnd result (λ phold. ⟦<Phold as SimulationModel>⟧.meaning phold
+            ≡ phold_meaning (phold_parts seed objects delay uniform each start.items rank)) }
     {
         Ok(Phold {
             seed,

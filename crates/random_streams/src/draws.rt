@@ -26,7 +26,9 @@ impl Stream {
         requires { IsTrue (is_drawable law.now) }
         ensures within { result ≤ greatest_value law.now }
         ensures value { result ≡ (draw self.old.seed self.old.object self.old.place law.now).0 }
-        ensures place { self.new ≡ record self.old { place = (draw self.old.seed self.old.object self.old.place law.now).1 } }
+        ensures place { self.new ≡ record self.old {
+          place = (draw self.old.seed self.old.object self.old.place law.now).1;
+        } }
     {
         // A place is below 2^64.
         let _ = &self.place;
@@ -48,6 +50,7 @@ impl Stream {
         ensures trial { result ≡ first_trial p cap (words_from self.old.seed self.old.object self.old.place) }
         ensures place { self.new ≡ record self.old { place = (self.old.place + min result (cap - 1)) % 2 ^ 64 } }
     {
+        // A place is below 2^64.
         let _ = &self.place;
         let tests = cap - 1;
         for missed in 0..tests {
