@@ -1,0 +1,39 @@
+-- A check gives a value, or the code and item of the first refusal that it meets.
+use Rattle.std.specs.Prelude.{◌≡◌, ℕ, Bool, true, false, Result, Ok, Err}
+use Rattle.model_text.specs.declared.refusal.Cause.{Cause}
+use Rattle.model_text.specs.declared.refusal.Refusal.{Refusal}
+use Rattle.model_text.specs.declared.refusal.Refusal.TheVariants.{At, OutOfMemory}
+use Rattle.model_text.specs.Causes.{cause_code}
+
+-- why and where a text is refused
+pub record Refused : Type 0 where
+  pub code : ℕ
+  pub item : ℕ
+
+abbrev pub Checked : Type 0 → Type 0
+Checked A = Result A Refused
+
+-- the refusal of a cause at an item
+abbrev pub refusal : {A : Type 0} → Cause → ℕ → Checked A
+refusal cause at = Err (record { code = cause_code cause; item = at })
+
+-- a refusal where the test is met
+abbrev pub refusal_where : Bool → Cause → ℕ → Checked (Unit {0})
+refusal_where true cause at = refusal cause at
+refusal_where false cause at = Ok tt
+
+-- one check after another: the first refusal is the answer
+infixl 10 ◌>>=◌
+abbrev pub ◌>>=◌ : {A B : Type 0} → Checked A → (A → Checked B) → Checked B
+(Ok x) >>= f = f x
+(Err e) >>= f = Err e
+
+-- the check refuses in the same way, unless memory ran out
+abbrev pub Fails : {Y : Type 0} → Refusal → Checked Y → Type 0
+Fails OutOfMemory check = Unit {0}
+Fails (At code item) check = check ≡ Err (record { code = code; item = item })
+
+-- what a function returned, seen by a view, is what the check gives, unless memory ran out
+abbrev pub Gives : {X Y : Type 0} → (X → Y) → Result X Refusal → Checked Y → Type 0
+Gives view (Ok x) check = check ≡ Ok (view x)
+Gives view (Err e) check = Fails e check

@@ -1,0 +1,48 @@
+-- The check of a law: its fields in their order, what binds them, and then unknown keys.
+use Rattle.std.specs.Prelude.{ℕ, ◌-◌, List, [], ◌∷◌, Ok, codes, nat_lt, if◌then◌else◌}
+use Rattle.std.specs.Str.{bytes_eq}
+use Rattle.toml.specs.Data.{Data, Members}
+use Rattle.random_streams.specs.declared.law.Law.{Law}
+use Rattle.random_streams.specs.declared.law.Law.TheVariants.{Fixed, Uniform, Geometric}
+use Rattle.model_text.specs.declared.refusal.Cause.TheVariants.{BadValue, Limit}
+use Rattle.model_text.specs.Checks.{Checked, refusal, refusal_where, ◌>>=◌}
+use Rattle.model_text.specs.Fields.{number, text, table_of, required, only}
+
+-- 2^40 ticks
+abbrev pub most_delay : ℕ
+most_delay = 1099511627776
+
+unfoldable pub fixed_law : ℕ → Members → Checked Law
+fixed_law at ms = do
+  value ← required at (number at 0 most_delay) (codes "value") ms
+  known ← only at (codes "law" ∷ codes "value" ∷ []) ms
+  Ok (Fixed value)
+
+unfoldable pub uniform_law : ℕ → Members → Checked Law
+uniform_law at ms = do
+  low ← required at (number at 0 most_delay) (codes "low") ms
+  high ← required at (number at 0 most_delay) (codes "high") ms
+  ordered ← refusal_where (nat_lt high low) BadValue at
+  narrow ← refusal_where (nat_lt 4294967295 (high - low)) Limit at
+  known ← only at (codes "law" ∷ codes "low" ∷ codes "high" ∷ []) ms
+  Ok (Uniform low high)
+
+unfoldable pub geometric_law : ℕ → Members → Checked Law
+geometric_law at ms = do
+  p ← required at (number at 1 4294967295) (codes "p") ms
+  cap ← required at (number at 1 65536) (codes "cap") ms
+  known ← only at (codes "law" ∷ codes "p" ∷ codes "cap" ∷ []) ms
+  Ok (Geometric p cap)
+
+abbrev pub named_law : ℕ → Members → List ℕ → Checked Law
+named_law at ms name =
+    if bytes_eq name (codes "fixed") then fixed_law at ms
+    else if bytes_eq name (codes "uniform") then uniform_law at ms
+    else if bytes_eq name (codes "geometric") then geometric_law at ms
+    else refusal BadValue at
+
+unfoldable pub law : ℕ → Data → Checked Law
+law at d = do
+  ms ← table_of at d
+  name ← required at (text at) (codes "law") ms
+  named_law at ms name

@@ -1,0 +1,9 @@
+pub mod Causes
+pub mod Checks
+pub mod Fields
+pub mod LawTexts
+pub mod Meanings
+pub mod ModelTexts
+pub mod Phold
+pub mod Starts
+pub mod TermsOf

@@ -1,0 +1,48 @@
+-- The model of a text: the checks in the order in which the first refusal counts.
+use Rattle.std.specs.Prelude.{◌≡◌, ℕ, ◌-◌, ◌<◌, ◌≤◌, ◌^◌, min, max, not, List, [], ◌∷◌, length, Option, Some, None, Ok, Err, codes, nat_lt, if◌then◌else◌}
+use Rattle.std.specs.Str.{bytes_eq, is_utf8}
+use Rattle.toml.specs.Data.{Members}
+use Rattle.toml.specs.Parse.{parse_document}
+use Rattle.model_core.specs.Meaning.{Meaning}
+use Rattle.sim_spec.specs.declared.terms.Terms.{Terms}
+use Rattle.model_text.specs.declared.refusal.Cause.TheVariants.{TooLong, NotToml, BadValue}
+use Rattle.model_text.specs.Checks.{Checked, refusal, refusal_where, ◌>>=◌}
+use Rattle.model_text.specs.Fields.{number, only_number, text, required, optional, only}
+use Rattle.model_text.specs.Phold.{phold}
+use Rattle.model_text.specs.TermsOf.{terms_of}
+
+-- a model, and how far its simulation goes
+pub record ModelOf : Type 0 where
+  pub meaning : Meaning
+  pub terms : Terms
+
+-- the top table, and then the body of the model
+unfoldable pub top : Members → Checked ModelOf
+top ms = do
+  format ← required 0 (only_number 0 1) (codes "format") ms
+  name ← required 0 (text 0) (codes "model") ms
+  named ← refusal_where (not (bytes_eq name (codes "phold"))) BadValue 0
+  end ← required 0 (number 0 0 70368744177663) (codes "end") ms
+  seed ← optional 0 (number 0 0 9223372036854775807) (codes "seed") ms
+  limit ← optional 10000000 (number 0 1 1000000000) (codes "limit") ms
+  known ← only 0 (codes "format" ∷ codes "model" ∷ codes "end" ∷ codes "seed" ∷ codes "limit" ∷ codes "phold" ∷ []) ms
+  meaning ← required 0 (phold seed) (codes "phold") ms
+  Ok (record { meaning = meaning; terms = terms_of end limit })
+
+-- what TOML makes of the bytes, where they are a document
+abbrev pub tree_of : List ℕ → Option Members
+tree_of bytes = if is_utf8 bytes then parse_document bytes else None
+
+abbrev pub found_tree : Option Members → Checked Members
+found_tree (Some ms) = Ok ms
+found_tree None = refusal NotToml 0
+
+abbrev pub tree : List ℕ → Checked Members
+tree bytes = found_tree (tree_of bytes)
+
+-- the model of a text, or the code and the item of the first check that fails
+unfoldable pub model_of : List ℕ → Checked ModelOf
+model_of bytes = do
+  short ← refusal_where (nat_lt 1048576 (length bytes)) TooLong 0
+  ms ← tree bytes
+  top ms

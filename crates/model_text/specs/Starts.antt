@@ -1,0 +1,21 @@
+-- The check of the entries of `start`.
+use Rattle.std.specs.Prelude.{ℕ, List, [], ◌∷◌, Ok, codes, not, nat_lt}
+use Rattle.toml.specs.Data.{Data, Items}
+use Rattle.model_core.specs.declared.entry.Entry.{Entry}
+use Rattle.model_text.specs.declared.refusal.Cause.TheVariants.{BadLink}
+use Rattle.model_text.specs.Checks.{Checked, refusal_where, ◌>>=◌}
+use Rattle.model_text.specs.Fields.{number, table_of, required, only, each_from}
+
+-- an entry, in a model of so many objects
+unfoldable pub start_entry : ℕ → ℕ → Data → Checked Entry
+start_entry objects at d = do
+  ms ← table_of at d
+  time ← required at (number at 0 70368744177663) (codes "time") ms
+  object ← required at (number at 0 65535) (codes "at") ms
+  known ← only at (codes "time" ∷ codes "at" ∷ []) ms
+  linked ← refusal_where (not (nat_lt object objects)) BadLink at
+  Ok (record { time = time; at = object; rank = 0 })
+
+-- the entries one after another, the first with item 1
+abbrev pub start_entries : ℕ → Items → Checked (List Entry)
+start_entries objects ds = each_from (start_entry objects) 1 ds

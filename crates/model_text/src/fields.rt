@@ -1,0 +1,199 @@
+//! The checks of one field of a table.
+ghost use Rattle.std.specs.Prelude.{◌≡◌, ◌≤◌, ℕ, map, length, option_map, string_bytes, not, IfOk};
+ghost use Rattle.std.specs.List.{list_any, list_all};
+ghost use Rattle.std.specs.Str.{bytes_eq};
+ghost use Rattle.std.specs.BTreeMap.{keys};
+ghost use Rattle.toml.specs.Data.{get_member, no_items};
+ghost use Rattle.toml.specs.View.{view, table_view, items_view};
+ghost use Rattle.model_text.specs.Checks.{Gives};
+ghost use Rattle.model_text.specs.Fields.{number, only_number, text, table_of, item_count, array_of, required, optional, has_only, only};
+
+use crate::refusal::{Cause, Refusal};
+use toml::{Table, Value};
+
+/// A number from its least to its greatest value.
+pub(crate) fn number(value: &Value, item: u32, least: u64, most: u64) -> Result<u64, Refusal>
+    ensures read { Gives (λ n. n) result (number item least most (view value.now)) }
+    ensures least { IfOk result (λ n. least ≤ n) }
+    ensures most { IfOk result (λ n. n ≤ most) }
+{
+    let Some(integer) = value.as_integer() else {
+        return Err(Cause::BadValue.at(item));
+    };
+    if integer < 0 {
+        return Err(Cause::BadValue.at(item));
+    }
+    let n = integer as u64;
+    if n < least {
+        return Err(Cause::BadValue.at(item));
+    }
+    if most < n {
+        return Err(Cause::Limit.at(item));
+    }
+    Ok(n)
+}
+
+/// This number and no other.
+pub(crate) fn only_number(value: &Value, item: u32, wanted: u64) -> Result<u64, Refusal>
+    ensures { Gives (λ n. n) result (only_number item wanted (view value.now)) }
+{
+    let Some(integer) = value.as_integer() else {
+        return Err(Cause::BadValue.at(item));
+    };
+    if integer < 0 {
+        return Err(Cause::BadValue.at(item));
+    }
+    let n = integer as u64;
+    if n != wanted {
+        return Err(Cause::BadValue.at(item));
+    }
+    Ok(n)
+}
+
+pub(crate) fn text(value: &Value, item: u32) -> Result<&str, Refusal>
+    ensures { Gives (λ s. s.now) result (text item (view value.now)) }
+{
+    match value.as_str() {
+        Some(text) => Ok(text),
+        None => Err(Cause::BadValue.at(item)),
+    }
+}
+
+pub(crate) fn table_of(value: &Value, item: u32) -> Result<&Table, Refusal>
+    ensures { Gives (λ table. table_view table.now) result (table_of item (view value.now)) }
+{
+    match value.as_table() {
+        Some(table) => Ok(table),
+        None => Err(Cause::BadValue.at(item)),
+    }
+}
+
+fn item_count(values: &[Value]) -> usize
+    ensures count { result ≡ item_count (items_view values.now) }
+    ensures length { result ≡ length values.now }
+{
+    values.len()
+}
+
+/// An array of at most so many entries.
+pub(crate) fn array_of(value: &Value, item: u32, most: usize) -> Result<&[Value], Refusal>
+    ensures read { Gives (λ values. items_view values.now) result (array_of item most (view value.now)) }
+    ensures most { IfOk result (λ values. length values.now ≤ most) }
+{
+    let Some(array) = value.as_array() else {
+        return Err(Cause::BadValue.at(item));
+    };
+    let values = array.as_slice();
+    if item_count(values) > most {
+        return Err(Cause::Limit.at(item));
+    }
+    Ok(values)
+}
+
+/// What the table has at a key.
+pub(crate) fn field<'a>(table: &'a Table, key: &str) -> Option<&'a Value>
+    ensures { option_map (λ value. view value.now) result ≡ get_member key.now (table_view table.now) }
+{
+    table.get(key)
+}
+
+/// A field that has to be there.
+pub(crate) fn required<'a>(table: &'a Table, key: &str, item: u32) -> Result<&'a Value, Refusal>
+    ensures { Gives (λ value. view value.now) result (required item (λ d. Ok d) key.now (table_view table.now)) }
+{
+    match field(table, key) {
+        Some(value) => Ok(value),
+        None => Err(Cause::Missing.at(item)),
+    }
+}
+
+pub(crate) fn required_number(
+    table: &Table,
+    key: &str,
+    item: u32,
+    least: u64,
+    most: u64,
+) -> Result<u64, Refusal>
+    ensures read { Gives (λ n. n) result (required item (number item least most) key.now (table_view table.now)) }
+    ensures least { IfOk result (λ n. least ≤ n) }
+    ensures most { IfOk result (λ n. n ≤ most) }
+{
+    match field(table, key) {
+        Some(value) => number(value, item, least, most),
+        None => Err(Cause::Missing.at(item)),
+    }
+}
+
+pub(crate) fn optional_number(
+    table: &Table,
+    key: &str,
+    item: u32,
+    least: u64,
+    most: u64,
+    default: u64,
+) -> Result<u64, Refusal>
+    requires least { least ≤ default }
+    requires most { default ≤ most }
+    ensures read { Gives (λ n. n) result (optional default (number item least most) key.now (table_view table.now)) }
+    ensures least { IfOk result (λ n. least ≤ n) }
+    ensures most { IfOk result (λ n. n ≤ most) }
+{
+    match field(table, key) {
+        Some(value) => number(value, item, least, most),
+        None => Ok(default),
+    }
+}
+
+pub(crate) fn required_text<'a>(table: &'a Table, key: &str, item: u32) -> Result<&'a str, Refusal>
+    ensures { Gives (λ s. s.now) result (required item (text item) key.now (table_view table.now)) }
+{
+    match field(table, key) {
+        Some(value) => text(value, item),
+        None => Err(Cause::Missing.at(item)),
+    }
+}
+
+/// The entries of an array, none where it is absent.
+pub(crate) fn optional_array<'a>(
+    table: &'a Table,
+    key: &str,
+    item: u32,
+    most: usize,
+) -> Result<&'a [Value], Refusal>
+    ensures read { Gives (λ values. items_view values.now) result (optional no_items (array_of item most) key.now (table_view table.now)) }
+    ensures most { IfOk result (λ values. length values.now ≤ most) }
+{
+    match field(table, key) {
+        Some(value) => array_of(value, item, most),
+        None => Ok(&[]),
+    }
+}
+
+fn is_known(known: &[&str], key: &str) -> bool
+    ensures { result ≡ list_any (λ name. bytes_eq name.now key.now) known.now }
+{
+    known.iter().any(|name| *name == key)
+}
+
+fn has_known_keys(table: &Table, known: &[&str]) -> bool
+    ensures { result ≡ list_all (λ key. list_any (λ name. bytes_eq name.now (string_bytes key)) known.now) (keys table.now) }
+{
+    table.keys().all(|key| is_known(known, key.as_str()))
+}
+
+fn has_only(table: &Table, known: &[&str]) -> bool
+    ensures { result ≡ has_only (map (λ name. name.now) known.now) (table_view table.now) }
+{
+    has_known_keys(table, known)
+}
+
+/// No key but the known ones.
+pub(crate) fn only(table: &Table, known: &[&str], item: u32) -> Result<(), Refusal>
+    ensures { Gives (λ _. tt) result (only item (map (λ name. name.now) known.now) (table_view table.now)) }
+{
+    if has_only(table, known) {
+        Ok(())
+    } else {
+        Err(Cause::Unknown.at(item))
+    }
+}

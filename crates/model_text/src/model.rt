@@ -1,0 +1,68 @@
+//! The models that a text can describe.
+use delta_exchange::{Cells, OutOfMemory};
+use model_core::model::Model as SimulationModel;
+use model_core::{Event, Outcome, Start};
+use phold_model::Phold;
+use std::alloc::Global;
+
+/// A model of any kind that a text can describe.
+#[derive(Debug, Drop)]
+pub enum AnyModel {
+    Phold(Phold),
+}
+
+impl SimulationModel for AnyModel {
+    ghost use Rattle.model_text.specs.Meanings.{meaning_of, meaning_laws};
+
+    ghost meaning = { λ model. meaning_of model };
+
+    ghost laws = { λ model. meaning_laws model };
+
+    fn objects(&self) -> u32 {
+        match self {
+            AnyModel::Phold(phold) => phold.objects(),
+        }
+    }
+
+    fn starts(&self) -> u32 {
+        match self {
+            AnyModel::Phold(phold) => phold.starts(),
+        }
+    }
+
+    fn start(&self, i: u32) -> Start {
+        match self {
+            AnyModel::Phold(phold) => phold.start(i),
+        }
+    }
+
+    fn first_cells(&self, alloc: Global, object: u32) -> Result<Cells, OutOfMemory> {
+        match self {
+            AnyModel::Phold(phold) => phold.first_cells(alloc, object),
+        }
+    }
+
+    fn is_lawful(&self, object: u32, cells: &Cells) -> bool {
+        match self {
+            AnyModel::Phold(phold) => phold.is_lawful(object, cells),
+        }
+    }
+
+    fn react(
+        &self,
+        alloc: Global,
+        object: u32,
+        cells: &Cells,
+        event: &Event,
+    ) -> Result<Outcome, OutOfMemory> {
+        match self {
+            AnyModel::Phold(phold) => phold.react(alloc, object, cells, event),
+        }
+    }
+
+    fn put_name(&self, alloc: Global, object: u32, into: &mut Vec<u8>) -> Result<(), OutOfMemory> {
+        match self {
+            AnyModel::Phold(phold) => phold.put_name(alloc, object, into),
+        }
+    }
+}

@@ -1,0 +1,49 @@
+//! The entries of `start`.
+ghost use Rattle.std.specs.Prelude.{◌≡◌, ◌≤◌, length, All, IfOk};
+ghost use Rattle.phold_model.specs.Parts.{IsEntry};
+ghost use Rattle.toml.specs.View.{view, items_view};
+ghost use Rattle.model_text.specs.Checks.{Gives};
+ghost use Rattle.model_text.specs.Starts.{start_entry, start_entries};
+
+use crate::fields::{only, required_number, table_of};
+use crate::refusal::{Cause, Refusal};
+use model_core::Entry;
+use std::alloc::Global;
+use toml::Value;
+
+/// An entry, in a model of so many objects.
+#[tactic(auto, unfolding(crate::specs::Starts::start_entry))]
+fn start_entry(value: &Value, objects: u32, item: u32) -> Result<Entry, Refusal>
+    ensures read { Gives (λ entry. entry) result (start_entry objects item (view value.now)) }
+    ensures entry { IfOk result (IsEntry objects) }
+{
+    let table = table_of(value, item)?;
+    let time = required_number(table, "time", item, 0, 70_368_744_177_663)?;
+    let at = required_number(table, "at", item, 0, 65_535)?;
+    only(table, &["time", "at"], item)?;
+    let at = at as u32;
+    if at >= objects {
+        return Err(Cause::BadLink.at(item));
+    }
+    Ok(Entry { time, at, rank: 0 })
+}
+
+/// The entries one after another, the first with item 1.
+pub(crate) fn start_entries(
+    alloc: Global,
+    values: &[Value],
+    objects: u32,
+) -> Result<Vec<Entry>, Refusal>
+    requires { length values.now ≤ 65536 }
+    ensures read { Gives (λ entries. entries.items) result (start_entries objects (items_view values.now)) }
+    ensures count { IfOk result (λ entries. length entries.items ≡ length values.now) }
+    ensures entries { IfOk result (λ entries. All (IsEntry objects) entries.items) }
+{
+    let mut entries = Vec::new(alloc);
+    let mut item = 1;
+    for value in values {
+        entries.push(start_entry(value, objects, item)?)?;
+        item += 1;
+    }
+    Ok(entries)
+}
