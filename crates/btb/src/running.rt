@@ -1,0 +1,41 @@
+//! The command `run`.
+ghost use Rattle.std.specs.Prelude.{◌≡◌, ◌≤◌, IfSome, Some, drop};
+ghost use Rattle.std.specs.Io.KnownBytes.{Appends};
+ghost use Rattle.sim_io.specs.Causes.{Rose};
+ghost use Rattle.sim_io.specs.Transfers.{AppendsFront};
+ghost use Rattle.model_text.specs.ModelTexts.{model_of};
+ghost use Rattle.btb.specs.Answer.{answer_to_model};
+ghost use Rattle.btb.specs.Endings.{status_of_ending, line_of_ending, IsAnswered};
+
+use crate::ending::Ending;
+use list_engine::{Unfinished, simulate};
+use model_text::{Refusal, read_model};
+use sim_io::{MOST_BYTES, ReadEnd, Sink, Source, read_all};
+use std::alloc::Global;
+
+/// Reads a model and writes the text of its simulation.
+pub fn run_command<S: Source, K: Sink>(alloc: Global, source: &mut S, out: &mut K) -> Ending
+    ensures output { IsAnswered result → IfSome (S.left source.old) (λ bytes. Appends (K.told out.old) (K.told out.new) (answer_to_model (model_of bytes)).output) }
+    ensures status { IsAnswered result → IfSome (S.left source.old) (λ bytes. status_of_ending result ≡ (answer_to_model (model_of bytes)).status) }
+    ensures line { IsAnswered result → IfSome (S.left source.old) (λ bytes. line_of_ending result ≡ (answer_to_model (model_of bytes)).notes) }
+    ensures read { IsAnswered result → IfSome (S.left source.old) (λ bytes. S.left source.new ≡ Some (drop MOST_BYTES bytes)) }
+    ensures front { IfSome (S.left source.old) (λ bytes. AppendsFront (K.told out.old) (K.told out.new) (answer_to_model (model_of bytes)).output) }
+    ensures read_fault { result ≡ Ending.ReadFault → Rose (S.faults source.old) (S.faults source.new) }
+    ensures unwritten { result ≡ Ending.ReadFault → out.new ≡ out.old }
+    ensures write_fault { result ≡ Ending.WriteFault → Rose (K.faults out.old) (K.faults out.new) }
+{
+    let bytes = match read_all(alloc, source) {
+        Ok(bytes) => bytes,
+        Err(ReadEnd::Failed) => return Ending::ReadFault,
+        Err(ReadEnd::OutOfMemory) => return Ending::OutOfMemory,
+    };
+    match read_model(alloc, bytes.as_slice()) {
+        Ok((model, terms)) => match simulate(alloc, &model, &terms, out) {
+            Ok(stop) => Ending::Stopped(stop),
+            Err(Unfinished::WriteFault) => Ending::WriteFault,
+            Err(Unfinished::OutOfMemory) => Ending::OutOfMemory,
+        },
+        Err(Refusal::At { .. }) => Ending::Refused,
+        Err(Refusal::OutOfMemory) => Ending::OutOfMemory,
+    }
+}

@@ -1,0 +1,75 @@
+//! All that the program does, over any input and output.
+ghost use Rattle.std.specs.Prelude.{◌≡◌, ◌≢◌, ◌≤◌, ◌⊎◌, ◌↔◌, IfSome, IsErr, IsOk, Some, drop};
+ghost use Rattle.std.specs.Io.KnownBytes.{Appends};
+ghost use Rattle.sim_io.specs.Causes.{Rose};
+ghost use Rattle.sim_io.specs.Transfers.{AppendsFront};
+ghost use Rattle.sim_io.specs.Words.{settings, texts_of};
+ghost use Rattle.model_text.specs.ModelTexts.{model_of};
+ghost use Rattle.btb.specs.Answer.{answer};
+ghost use Rattle.btb.specs.Endings.{IsAnswering, noted_line, IsComplete};
+
+use crate::gate::Gate;
+use crate::notes::words_line;
+use crate::running::run_command;
+use sim_io::{MOST_BYTES, Settings, Sink, Source, read_words, write_all};
+use std::alloc::AllocGlobal;
+use std::thread::Threads;
+
+/// Does all that the program does with the words that follow its name, and answers the exit status.
+///
+/// | Status | Comes |
+/// |---|---|
+/// | 0 | exactly where the simulation ran to its end |
+/// | 1 | exactly where an event failed |
+/// | 2 | exactly where the words are refused: nothing is read, and no memory is taken |
+/// | 3 | exactly where the model is refused |
+/// | 4 | only where reading failed |
+/// | 5 | only where writing to `out` failed, after a front of the text |
+/// | 6 | where there was no memory left, after a front of the text |
+/// | 7 | exactly where the limit of events was met |
+///
+/// 'Exactly' yields to 4, 5 and 6 alone, and for status 2 to none.
+pub fn btb<R: AllocGlobal + Threads + Sync, S: Source, K: Sink, N: Sink, G: Gate>(
+    rt: &R,
+    words: &Vec<String>,
+    source: &mut S,
+    out: &mut K,
+    notes: &mut N,
+    gate: &G,
+) -> u8
+    ensures known { result ≤ 7 }
+
+    // What is written is the answer, or a front of it.
+    ensures output { IsAnswering result → IfSome (S.left source.old) (λ bytes. Appends (K.told out.old) (K.told out.new) (answer (texts_of words.now.items) bytes).output) }
+    ensures status { IsAnswering result → IfSome (S.left source.old) (λ bytes. result ≡ (answer (texts_of words.now.items) bytes).status) }
+    ensures front { IfSome (S.left source.old) (λ bytes. AppendsFront (K.told out.old) (K.told out.new) (answer (texts_of words.now.items) bytes).output) }
+
+    // Where the words are accepted the input is read to its end, or until it is too long.
+    ensures refused_words { (result ≡ 2) ↔ IsErr (settings (texts_of words.now.items)) }
+    ensures unread { result ≡ 2 → source.new ≡ source.old }
+    ensures read { IsAnswering result → result ≢ 2 → IfSome (S.left source.old) (λ bytes. S.left source.new ≡ Some (drop MOST_BYTES bytes)) }
+
+    // Faults have causes.
+    ensures read_fault { result ≡ 4 → Rose (S.faults source.old) (S.faults source.new) }
+    ensures write_fault { result ≡ 5 → Rose (K.faults out.old) (K.faults out.new) }
+    ensures unwritten { (result ≡ 2) ⊎ (result ≡ 4) → out.new ≡ out.old }
+
+    // One line is noted, or a front of it.
+    ensures notes_front { IfSome (S.left source.old) (λ bytes. AppendsFront (N.told notes.old) (N.told notes.new) (noted_line result (answer (texts_of words.now.items) bytes).notes)) }
+    ensures notes_whole { IfSome (S.left source.old) (λ bytes. Appends (N.told notes.old) (N.told notes.new) (noted_line result (answer (texts_of words.now.items) bytes).notes) ⊎ Rose (N.faults notes.old) (N.faults notes.new)) }
+
+    // Accepted words, an accepted model and no fault give the whole answer, or want of memory.
+    ensures complete { IsOk (settings (texts_of words.now.items)) → IfSome (S.left source.old) (λ bytes. IsOk (model_of bytes) → IsComplete result (answer (texts_of words.now.items) bytes).status (Rose (S.faults source.old) (S.faults source.new)) (Rose (K.faults out.old) (K.faults out.new))) }
+{
+    match read_words(words) {
+        Err(fault) => {
+            let _told = write_all(notes, words_line(fault));
+            2
+        }
+        Ok(Settings::Run) => {
+            let ending = run_command(rt.alloc(), source, out);
+            let _told = write_all(notes, ending.line());
+            ending.status()
+        }
+    }
+}
