@@ -1,0 +1,104 @@
+//! The shared word, and its seats.
+ghost use Rattle.std.specs.Prelude.{◌≡◌, ◌≤◌, All, IfOk, min, vec_len};
+ghost use Rattle.horizon_word.specs.Views.{IsSeatOf, new_seat, seat_after_lower, seat_after_read};
+
+use crate::note::{Note, Opening};
+use crate::rule::{Copied, Falling, Lower, Read};
+use atomic_table::{Seat, Table};
+use delta_exchange::OutOfMemory;
+use std::alloc::Global;
+use std::marker::Model;
+
+/// A number that threads share: the least stamp that any seat has offered, at first the start. It only falls.
+///
+/// It is the event horizon of one cycle of Breathing Time Buckets, shared as it is found: J. S. Steinman,
+/// "SPEEDES: A Multiple-Synchronization Environment for Parallel Discrete-Event Simulation", International Journal
+/// in Computer Simulation 2 (1992). Contracts see which word it is, since no one thread knows what it holds.
+#[derive(Drop)]
+pub struct HorizonWord {
+    table: Table<(), Note, Opening, Falling, Global>,
+}
+
+impl Model for HorizonWord {
+    ghost use Rattle.std.specs.Prelude.{◌≡◌};
+    ghost use Rattle.horizon_word.specs.Views.{WordId};
+
+    ghost Value = { WordId };
+
+    ghost view = { λ word. word.table.shared.table_id };
+
+    ghost invariant = { λ word. word.table.shared.table_id.words ≡ 1 };
+}
+
+/// The right to step on a word, and what the one who steps knows of it. It takes no bytes.
+#[derive(Drop)]
+pub struct WordSeat {
+    seat: Seat<(), Note>,
+}
+
+impl Model for WordSeat {
+    ghost use Rattle.horizon_word.specs.Views.{SeatView};
+
+    ghost Value = { SeatView };
+
+    ghost view = { λ held. record {
+      word = held.seat.table_id;
+      floor = held.seat.me.0.floor;
+      least = held.seat.me.0.least;
+      seen = held.seat.me.0.own.seen;
+      taken = held.seat.me.0.own.taken;
+    } };
+}
+
+impl HorizonWord {
+    /// A word that stands at `start`, to which no stamp below `floor` is ever offered, and so many seats of it.
+    pub fn begin(
+        alloc: Global,
+        floor: u64,
+        start: u64,
+        seats: usize,
+    ) -> Result<(HorizonWord, Vec<WordSeat>), OutOfMemory>
+        requires start { floor ≤ start }
+        requires seats { 1 ≤ seats }
+        ensures count { IfOk result (λ made. vec_len made.1 ≡ seats) }
+        ensures new { IfOk result (λ made. All (λ seat. seat ≡ new_seat made.0 floor start) made.1.items) }
+    {
+        let mut all = Vec::with_capacity(alloc, seats)?;
+        let (table, mut first) = Table::of_words(alloc, &[start], &Opening { floor, start })?;
+        for _ in 1..seats {
+            let seat = table.shared.split_seat::<Copied>(&mut first);
+            all.push(WordSeat { seat })?;
+        }
+        all.push(WordSeat { seat: first })?;
+        Ok((HorizonWord { table }, all))
+    }
+
+    /// Offers a stamp, by one fetch-min, and answers the word that it left: the lesser of the word before and the
+    /// stamp. It never waits.
+    pub fn lower(&self, seat: &mut WordSeat, stamp: u64) -> u64
+        requires seat { IsSeatOf self.now seat.old }
+        requires stamp { seat.old.floor ≤ stamp }
+        ensures floor { seat.old.floor ≤ result }
+        ensures stamp { result ≤ stamp }
+        ensures least { result ≤ seat.old.least }
+        ensures seen { result ≤ seat.old.seen }
+        ensures seat { seat.new ≡ seat_after_lower seat.old stamp result }
+    {
+        let before = self
+            .table
+            .shared
+            .fetch_min::<Lower>(&mut seat.seat, 0, stamp);
+        before.min(stamp)
+    }
+
+    /// Answers the word, by one load. It never waits.
+    pub fn read(&self, seat: &mut WordSeat) -> u64
+        requires { IsSeatOf self.now seat.old }
+        ensures floor { seat.old.floor ≤ result }
+        ensures least { result ≤ seat.old.least }
+        ensures seen { result ≤ seat.old.seen }
+        ensures seat { seat.new ≡ seat_after_read seat.old result }
+    {
+        self.table.shared.load::<Read>(&mut seat.seat, 0)
+    }
+}
