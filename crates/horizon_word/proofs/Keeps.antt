@@ -1,15 +1,15 @@
 -- Each kind of step keeps the rule of the word.
-use Rattle.std.proofs.Common.{◌≡◌, ◌≢◌, ℕ, zero, suc, ◌+◌, ◌<◌, ◌≤◌, min, List, [], ◌∷◌, ◌++◌, map, length, get_or, set, sym, refl, ap, ◌∙◌, subst, ⊎_elim, inl, inr, ◌⊎◌, arith, length-set, length-append, get_or-set_same, get_or-set_other}
+use Rattle.std.proofs.Common.{◌≡◌, ◌≢◌, ℕ, zero, suc, ◌+◌, ◌<◌, ◌≤◌, min, List, [], ◌∷◌, ◌++◌, map, length, get_or, set, sym, refl, ap, ◌∙◌, subst, ⊎_elim, arith, length-set, length-append, get_or-set_same, get_or-set_other}
 use Rattle.std.proofs.lemmas.List.{get_or_past, length-map}
 use mathlib.Core.Option.{some, some-injective, some-ne-none}
 use native.Mathlib.Decide.{ℕ_discrete, dec_le}
 use mathlib.Core.Logic.{dite}
 use lib.ListN.{get_elem?}
-use Rattle.atomic_table.proofs.Lists.{at_set, set_here, set_else, at_longer, at_snoc}
+use Rattle.atomic_table.proofs.Lists.{at_set, set_here, set_else, at_longer}
 use Rattle.horizon_word.specs.declared.note.Note.{Note}
 use Rattle.horizon_word.specs.declared.note.Opening.{Opening}
 use Rattle.horizon_word.specs.declared.note.Progress.{Progress}
-use Rattle.horizon_word.specs.Rule.{WordState, WordRule, HasNote, AllNotes, SomeNote, IsLast, KnowsPast, HasComeFrom, known_of, word_of, beginning, first_note, one_further, note_after_lower, note_after_read}
+use Rattle.horizon_word.specs.Rule.{WordState, WordRule, HasNote, AllNotes, SomeNote, KnowsPast, HasComeFrom, known_of, word_of, beginning, first_note, one_further, note_after_lower, note_after_read}
 use Rattle.horizon_word.specs.Steps.{OpeningKeepsRule, SplitKeepsRule, LowerKeepsRule, ReadKeepsRule, OthersStay, first_state, with_seat, after_step, known_after}
 
 -- a seat that has a note is one of the seats
@@ -83,8 +83,8 @@ module _ (o : Opening) (s : WordState) (rule : WordRule o s) (seat : ℕ) (note 
   reach : AllNotes next (λ i u. length u.known ≤ length next.views)
   reach = let longer = length-set s.views seat new in
       all (λ i u. length u.known ≤ length next.views)
-        (let a = length-set row seat (one_further note.own word) in let b = length-map s.views (λ (each : Note). each.own) in omega arith)
-        (λ i u _ there. let old = rule.in_reach i u there in omega arith)
+      (let a = length-set row seat (one_further note.own word) in let b = length-map s.views (λ (each : Note). each.own) in omega arith)
+      (λ i u _ there. let old = rule.in_reach i u there in omega arith)
 
   pub step_keeps : SomeNote next (λ i u. u.least ≡ word) → WordRule o next
   step_keeps offer = record {
@@ -105,9 +105,9 @@ read_keeps o s seat note rule at =
     let here : HasNote (after_step s seat (word_of s) new) seat new = set_here s.views seat new (in_row s.views seat note at) in
     let t = rule.offered in
     step_keeps o s rule seat note at (word_of s) note.least rule.above_floor (omega arith) (rule.below_offers seat note at)
-      (dite (ℕ_discrete t.0 seat)
-        (λ same. (seat, new, here, ap (λ (u : Note). u.least) (one_note s.views seat t.0 note t.1 (sym same) at t.2) ∙ t.3))
-        (λ other. (t.0, t.1, set_else s.views seat t.0 new other ∙ t.2, t.3)))
+    (dite (ℕ_discrete t.0 seat)
+    (λ same. (seat, new, here, ap (λ (u : Note). u.least) (one_note s.views seat t.0 note t.1 (sym same) at t.2) ∙ t.3))
+    (λ other. (t.0, t.1, set_else s.views seat t.0 new other ∙ t.2, t.3)))
 
 pub lower_keeps : LowerKeepsRule
 lower_keeps o s seat note stamp rule at high =
@@ -116,10 +116,10 @@ lower_keeps o s seat note stamp rule at high =
     let here : HasNote (after_step s seat word new) seat new = set_here s.views seat new (in_row s.views seat note at) in
     let t = rule.offered in let low = rule.above_floor in let under = rule.below_offers seat note at in
     step_keeps o s rule seat note at word (min note.least stamp) (omega arith) (omega arith) (omega arith)
-      (dite (ℕ_discrete t.0 seat)
-        (λ same. (seat, new, here, (let e = ap (λ (u : Note). u.least) (one_note s.views seat t.0 note t.1 (sym same) at t.2) ∙ t.3 in omega arith)))
-        (λ other. dite (dec_le stamp (word_of s)) (λ le. (seat, new, here, omega arith))
-          (λ more. (t.0, t.1, set_else s.views seat t.0 new other ∙ t.2, (let e = t.3 in omega arith)))))
+    (dite (ℕ_discrete t.0 seat)
+    (λ same. (seat, new, here, (let e = ap (λ (u : Note). u.least) (one_note s.views seat t.0 note t.1 (sym same) at t.2) ∙ t.3 in omega arith)))
+    (λ other. dite (dec_le stamp (word_of s)) (λ le. (seat, new, here, omega arith))
+    (λ more. (t.0, t.1, set_else s.views seat t.0 new other ∙ t.2, (let e = t.3 in omega arith)))))
 
 pub split_keeps : SplitKeepsRule
 split_keeps o s seat rule at =
@@ -135,8 +135,8 @@ split_keeps o s seat rule at =
       below_answers = all (λ i u. word_of s ≤ u.own.seen) (rule.below_answers seat new at) rule.below_answers;
       in_reach = (let n = length-append s.views (new ∷ []) in all (λ i u. length u.known ≤ length (s.views ++ new ∷ [])) (omega arith) (λ i u there. let r = rule.in_reach i u there in omega arith));
       past = all (λ j knower. KnowsPast o (with_seat s new) knower)
-        (all (λ i u. HasComeFrom (beginning o) u.own) (omega arith, λ _. refl) (λ i u there. rule.past seat new at i u there))
-        (λ j knower there. all (λ i u. HasComeFrom (known_of o knower i) u.own)
+          (all (λ i u. HasComeFrom (beginning o) u.own) (omega arith, λ _. refl) (λ i u there. rule.past seat new at i u there))
+          (λ j knower there. all (λ i u. HasComeFrom (known_of o knower i) u.own)
           (subst (λ p. HasComeFrom p (beginning o)) (sym (past_end knower.known (rule.in_reach j knower there))) (omega arith, λ _. refl))
           (λ i u held. rule.past j knower there i u held));
       last_step = (old.0, old.1, at_longer s.views (new ∷ []) old.0 old.1 old.2, (old.3.0, all (λ i u. known_of o old.1 i ≡ u.own) (past_end old.1.known (rule.in_reach old.0 old.1 old.2)) old.3.1));

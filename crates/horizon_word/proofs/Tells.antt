@@ -1,9 +1,7 @@
 -- What any step under the rule of the word tells, whatever code takes it.
-use Rattle.std.proofs.Common.{◌≡◌, ◌≢◌, ℕ, ◌+◌, ◌<◌, ◌≤◌, min, sym, refl, ap, ◌∙◌, subst, inl, inr, ◌⊎◌, arith, length-set, get_or-set_same}
-use mathlib.Core.Option.{some}
+use Rattle.std.proofs.Common.{◌≡◌, ◌≢◌, ℕ, ◌≤◌, min, sym, ap, ◌∙◌, inl, inr, ◌⊎◌, arith, get_or-set_same}
 use native.Mathlib.Decide.{ℕ_discrete}
 use mathlib.Core.Logic.{dite}
-use lib.ListN.{get_elem?}
 use Rattle.atomic_table.proofs.Lists.{set_here, set_else}
 use Rattle.horizon_word.specs.declared.note.Note.{Note}
 use Rattle.horizon_word.specs.declared.note.Opening.{Opening}
@@ -28,9 +26,9 @@ module _ (o : Opening) (s : WordState) (seat word : ℕ) (before after : Note) (
   told = let t = next.last_step in dite (ℕ_discrete t.0 seat)
       (λ same. inl (ap (λ (u : Note). u.own.seen) (one_note (after_step s seat word after).views seat t.0 after t.1 (sym same) here t.2) ∙ t.3.0 ∙ stands))
       (λ apart. let knows : known_of o t.1 seat ≡ after.own = t.3.1 seat after here in
-        let past = rule.past t.0 t.1 (as_before t.0 t.1 apart t.2) seat before at in
-        let taken : (known_of o t.1 seat).taken ≡ after.own.taken = ap (λ (p : Progress). p.taken) knows in
-        inr ((λ (e : before.own.taken ≡ after.own.taken). sym (past.1 (taken ∙ sym e)) ∙ knows), omega arith))
+      let past = rule.past t.0 t.1 (as_before t.0 t.1 apart t.2) seat before at in
+      let taken : (known_of o t.1 seat).taken ≡ after.own.taken = ap (λ (p : Progress). p.taken) knows in
+      inr ((λ (e : before.own.taken ≡ after.own.taken). sym (past.1 (taken ∙ sym e)) ∙ knows), omega arith))
 
 pub answers : AnswersItsWord
 answers o s seat word before after rule at next more = elim (told o s seat word before after rule at next) [ inl e ↦ e | inr t ↦ absurd (omega arith) ]
@@ -44,15 +42,15 @@ module _ (o : Opening) (s : WordState) (seat word stamp : ℕ) (before after : N
   far : word ≤ min (word_of s) stamp
   far = let e = stands o s seat word before after rule at next in let own = next.below_offers seat after (here o s seat word before after rule at next) in let t = rule.offered in
       dite (ℕ_discrete t.0 seat)
-        (λ same. let l = ap (λ (u : Note). u.least) (one_note s.views seat t.0 before t.1 (sym same) at t.2) ∙ t.3 in omega arith)
-        (λ apart. let other = next.below_offers t.0 t.1 (set_else s.views seat t.0 after apart ∙ t.2) in let l = t.3 in omega arith)
+      (λ same. let l = ap (λ (u : Note). u.least) (one_note s.views seat t.0 before t.1 (sym same) at t.2) ∙ t.3 in omega arith)
+      (λ apart. let other = next.below_offers t.0 t.1 (set_else s.views seat t.0 after apart ∙ t.2) in let l = t.3 in omega arith)
 
   -- and no further
   no_further : min (word_of s) stamp ≤ word
   no_further = let e = stands o s seat word before after rule at next in let own = rule.below_offers seat before at in let t = next.offered in
       dite (ℕ_discrete t.0 seat)
-        (λ same. let l = ap (λ (u : Note). u.least) (one_note (after_step s seat word after).views seat t.0 after t.1 (sym same) (here o s seat word before after rule at next) t.2) ∙ t.3 in omega arith)
-        (λ apart. let other = rule.below_offers t.0 t.1 (as_before o s seat word before after rule at next t.0 t.1 apart t.2) in let l = t.3 in omega arith)
+      (λ same. let l = ap (λ (u : Note). u.least) (one_note (after_step s seat word after).views seat t.0 after t.1 (sym same) (here o s seat word before after rule at next) t.2) ∙ t.3 in omega arith)
+      (λ apart. let other = rule.below_offers t.0 t.1 (as_before o s seat word before after rule at next t.0 t.1 apart t.2) in let l = t.3 in omega arith)
 
 pub falls : FallsToOffer
 falls o s seat word stamp before after rule at next offer =

@@ -2,7 +2,7 @@
 use Rattle.std.specs.Prelude.{◌≡◌, ℕ, ◌+◌, ◌≤◌, min, List, [], length, slice_index, slice_index_or}
 use mathlib.Core.Option.{some}
 use lib.ListN.{get_elem?}
-use Rattle.atomic_table.specs.Table.{State, Me, Step}
+use Rattle.atomic_table.specs.Table.{State}
 use Rattle.horizon_word.specs.declared.note.Note.{Note}
 use Rattle.horizon_word.specs.declared.note.Opening.{Opening}
 use Rattle.horizon_word.specs.declared.note.Progress.{Progress}
@@ -76,10 +76,6 @@ note_after_lower note stamp answer known = record { floor = note.floor; least = 
 abbrev pub note_after_read : Note → ℕ → List Progress → Note
 note_after_read note answer known = record { floor = note.floor; least = note.least; own = one_further note.own answer; known = known }
 
--- what a fetch-min tells: the word found, and the note afterwards, whose answer is the word left
-abbrev pub Lowers : Step (Unit {0}) → Me (Unit {0}) Note → ℕ → Me (Unit {0}) Note → Type 0
-Lowers x me found after = CanFind me.0 found × ((known : List Progress) × (after.0 ≡ note_after_lower me.0 x.first (min found x.first) known))
-
--- what a load tells: the word found, and the note afterwards, whose answer it is
-abbrev pub Reads : Step (Unit {0}) → Me (Unit {0}) Note → ℕ → Me (Unit {0}) Note → Type 0
-Reads x me found after = CanFind me.0 found × ((known : List Progress) × (after.0 ≡ note_after_read me.0 found known))
+-- what a step tells: the word that it found, and the note that it left, up to what it knows of other seats
+abbrev pub Finds : Note → ℕ → (List Progress → Note) → Note → Type 0
+Finds before word note_with after = CanFind before word × ((known : List Progress) × (after ≡ note_with known))

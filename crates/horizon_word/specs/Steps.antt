@@ -1,5 +1,5 @@
 -- What the rule of a horizon word says of steps.
-use Rattle.std.specs.Prelude.{◌≡◌, ◌≢◌, ℕ, ◌+◌, ◌<◌, ◌≤◌, min, ◌⊎◌, List, [], ◌∷◌, ◌++◌, map, slice_set}
+use Rattle.std.specs.Prelude.{◌≡◌, ◌≢◌, ℕ, ◌<◌, ◌≤◌, min, ◌⊎◌, List, [], ◌∷◌, ◌++◌, map, slice_set}
 use Rattle.horizon_word.specs.declared.note.Note.{Note}
 use Rattle.horizon_word.specs.declared.note.Opening.{Opening}
 use Rattle.horizon_word.specs.declared.note.Progress.{Progress}

@@ -15,5 +15,4 @@ pub fn law_word_rule()
     ensures answers { AnswersItsWord }
     ensures stays { KeepsItsAnswer }
     ensures falls { FallsToOffer }
-{
-}
+{}

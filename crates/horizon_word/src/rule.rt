@@ -1,5 +1,6 @@
 //! The rule of the word, and the kinds of step that its seats take.
-ghost use Rattle.horizon_word.specs.Rule.{WordRule, first_note, Lowers, Reads};
+ghost use Rattle.std.specs.Prelude.{min};
+ghost use Rattle.horizon_word.specs.Rule.{WordRule, Finds, first_note, note_after_lower, note_after_read};
 
 use crate::note::{Note, Opening};
 use atomic_table::{Play, Split, TableRule};
@@ -17,14 +18,14 @@ impl TableRule<(), Note, Opening> for Falling {
 pub(crate) struct Lower;
 
 impl Play<(), Note> for Lower {
-    ghost then = { Lowers };
+    ghost then = { λ step me found after. Finds me.0 found (note_after_lower me.0 step.first (min found step.first)) after.0 };
 }
 
 /// The load: the seat reads the word.
 pub(crate) struct Read;
 
 impl Play<(), Note> for Read {
-    ghost then = { Reads };
+    ghost then = { λ step me found after. Finds me.0 found (note_after_read me.0 found) after.0 };
 }
 
 /// The making of a seat, which begins with a copy of what the first one knows.

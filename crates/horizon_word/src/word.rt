@@ -1,6 +1,6 @@
 //! The shared word, and its seats.
 ghost use Rattle.std.specs.Prelude.{◌≡◌, ◌≤◌, All, IfOk, min, vec_len};
-ghost use Rattle.horizon_word.specs.Views.{IsSeatOf, new_seat, seat_after_lower, seat_after_read};
+ghost use Rattle.horizon_word.specs.Views.{FindsWord, IsSeatOf, new_seat, seat_after_lower, seat_after_read};
 
 use crate::note::{Note, Opening};
 use crate::rule::{Copied, Falling, Lower, Read};
@@ -78,6 +78,7 @@ impl HorizonWord {
     pub fn lower(&self, seat: &mut WordSeat, stamp: u64) -> u64
         requires seat { IsSeatOf self.now seat.old }
         requires stamp { seat.old.floor ≤ stamp }
+        ensures lesser { FindsWord seat.old (λ before. result ≡ min before stamp) }
         ensures floor { seat.old.floor ≤ result }
         ensures stamp { result ≤ stamp }
         ensures least { result ≤ seat.old.least }

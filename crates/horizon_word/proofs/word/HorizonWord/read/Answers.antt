@@ -1,4 +1,4 @@
-use Rattle.std.proofs.Common.{◌≡◌, ap, ◌∙◌, sym, arith}
+use Rattle.std.proofs.Common.{ap, ◌∙◌, sym, arith}
 use Rattle.horizon_word.specs.Views.{SeatView}
 use Rattle.horizon_word.proofs.Moves.{reads}
 use Rattle.horizon_word.proofs.word.HorizonWord.read.Goals as goal
