@@ -9,8 +9,8 @@ use Rattle.atomic_table.proofs.Lists.{at_set, set_here, set_else, at_longer}
 use Rattle.horizon_word.specs.declared.note.Note.{Note}
 use Rattle.horizon_word.specs.declared.note.Opening.{Opening}
 use Rattle.horizon_word.specs.declared.note.Progress.{Progress}
-use Rattle.horizon_word.specs.Rule.{WordState, WordRule, HasNote, AllNotes, SomeNote, KnowsPast, HasComeFrom, known_of, word_of, beginning, first_note, one_further, note_after_lower, note_after_read}
-use Rattle.horizon_word.specs.Steps.{OpeningKeepsRule, SplitKeepsRule, LowerKeepsRule, ReadKeepsRule, OthersStay, first_state, with_seat, after_step, known_after}
+use Rattle.horizon_word.specs.Rule.{WordState, WordRule, HasNote, AllNotes, SomeNote, KnowsPast, HasComeFrom, known_progress, word_of, beginning, first_note, next_progress, note_after_lower, note_after_read}
+use Rattle.horizon_word.specs.Steps.{OpeningKeepsRule, SplitKeepsRule, LowerKeepsRule, ReadKeepsRule, OthersStay, first_state, with_seat, after_step, all_progress}
 
 -- a seat that has a note is one of the seats
 pub in_row : (notes : List Note) (seat : ℕ) (note : Note) → get_elem? notes seat ≡ some note → seat < length notes
@@ -48,7 +48,7 @@ others_stay s seat word other after note apart at = set_else s.views seat other 
 module _ (o : Opening) (s : WordState) (rule : WordRule o s) (seat : ℕ) (note : Note) (at : HasNote s seat note) (word least : ℕ)
     (high : o.floor ≤ word) (down : word ≤ word_of s) (under : word ≤ least) where
   abbrev new : Note
-  new = record { floor = note.floor; least = least; own = one_further note.own word; known = known_after s seat note word }
+  new = record { floor = note.floor; least = least; own = next_progress note.own word; known = all_progress s seat note word }
 
   abbrev next : WordState
   next = after_step s seat word new
@@ -65,14 +65,14 @@ module _ (o : Opening) (s : WordState) (rule : WordRule o s) (seat : ℕ) (note 
   wide : seat < length row
   wide = let inside = in_row s.views seat note at in let same = length-map s.views (λ (each : Note). each.own) in omega arith
 
-  exact : AllNotes next (λ i u. known_of o new i ≡ u.own)
-  exact = all (λ i u. known_of o new i ≡ u.own)
-      (get_or-set_same row seat (one_further note.own word) (beginning o) wide)
-      (λ i u apart there. get_or-set_other row seat i (one_further note.own word) (beginning o) apart ∙ own_at s.views i u (beginning o) there)
+  exact : AllNotes next (λ i u. known_progress o new i ≡ u.own)
+  exact = all (λ i u. known_progress o new i ≡ u.own)
+      (get_or-set_same row seat (next_progress note.own word) (beginning o) wide)
+      (λ i u apart there. get_or-set_other row seat i (next_progress note.own word) (beginning o) apart ∙ own_at s.views i u (beginning o) there)
 
   other_knows : (j : ℕ) (knower : Note) → HasNote s j knower → KnowsPast o next knower
-  other_knows j knower there = all (λ i u. HasComeFrom (known_of o knower i) u.own)
-      (let old = (rule.past j knower there seat note at).0 in (omega arith, λ (e : (known_of o knower seat).taken ≡ note.own.taken + 1). absurd (omega arith)))
+  other_knows j knower there = all (λ i u. HasComeFrom (known_progress o knower i) u.own)
+      (let old = (rule.past j knower there seat note at).0 in (omega arith, λ (e : (known_progress o knower seat).taken ≡ note.own.taken + 1). absurd (omega arith)))
       (λ i u _ held. rule.past j knower there i u held)
 
   knows : AllNotes next (λ j knower. KnowsPast o next knower)
@@ -83,7 +83,7 @@ module _ (o : Opening) (s : WordState) (rule : WordRule o s) (seat : ℕ) (note 
   reach : AllNotes next (λ i u. length u.known ≤ length next.views)
   reach = let longer = length-set s.views seat new in
       all (λ i u. length u.known ≤ length next.views)
-      (let a = length-set row seat (one_further note.own word) in let b = length-map s.views (λ (each : Note). each.own) in omega arith)
+      (let a = length-set row seat (next_progress note.own word) in let b = length-map s.views (λ (each : Note). each.own) in omega arith)
       (λ i u _ there. let old = rule.in_reach i u there in omega arith)
 
   pub step_keeps : SomeNote next (λ i u. u.least ≡ word) → WordRule o next
@@ -101,7 +101,7 @@ module _ (o : Opening) (s : WordState) (rule : WordRule o s) (seat : ℕ) (note 
 
 pub read_keeps : ReadKeepsRule
 read_keeps o s seat note rule at =
-    let new : Note = note_after_read note (word_of s) (known_after s seat note (word_of s)) in
+    let new : Note = note_after_read note (word_of s) (all_progress s seat note (word_of s)) in
     let here : HasNote (after_step s seat (word_of s) new) seat new = set_here s.views seat new (in_row s.views seat note at) in
     let t = rule.offered in
     step_keeps o s rule seat note at (word_of s) note.least rule.above_floor (omega arith) (rule.below_offers seat note at)
@@ -112,7 +112,7 @@ read_keeps o s seat note rule at =
 pub lower_keeps : LowerKeepsRule
 lower_keeps o s seat note stamp rule at high =
     let word : ℕ = min (word_of s) stamp in
-    let new : Note = note_after_lower note stamp word (known_after s seat note word) in
+    let new : Note = note_after_lower note stamp word (all_progress s seat note word) in
     let here : HasNote (after_step s seat word new) seat new = set_here s.views seat new (in_row s.views seat note at) in
     let t = rule.offered in let low = rule.above_floor in let under = rule.below_offers seat note at in
     step_keeps o s rule seat note at word (min note.least stamp) (omega arith) (omega arith) (omega arith)
@@ -136,10 +136,10 @@ split_keeps o s seat rule at =
       in_reach = (let n = length-append s.views (new ∷ []) in all (λ i u. length u.known ≤ length (s.views ++ new ∷ [])) (omega arith) (λ i u there. let r = rule.in_reach i u there in omega arith));
       past = all (λ j knower. KnowsPast o (with_seat s new) knower)
           (all (λ i u. HasComeFrom (beginning o) u.own) (omega arith, λ _. refl) (λ i u there. rule.past seat new at i u there))
-          (λ j knower there. all (λ i u. HasComeFrom (known_of o knower i) u.own)
+          (λ j knower there. all (λ i u. HasComeFrom (known_progress o knower i) u.own)
           (subst (λ p. HasComeFrom p (beginning o)) (sym (past_end knower.known (rule.in_reach j knower there))) (omega arith, λ _. refl))
           (λ i u held. rule.past j knower there i u held));
-      last_step = (old.0, old.1, at_longer s.views (new ∷ []) old.0 old.1 old.2, (old.3.0, all (λ i u. known_of o old.1 i ≡ u.own) (past_end old.1.known (rule.in_reach old.0 old.1 old.2)) old.3.1));
+      last_step = (old.0, old.1, at_longer s.views (new ∷ []) old.0 old.1 old.2, (old.3.0, all (λ i u. known_progress o old.1 i ≡ u.own) (past_end old.1.known (rule.in_reach old.0 old.1 old.2)) old.3.1));
     }
 
 pub opening_keeps : OpeningKeepsRule

@@ -28,8 +28,8 @@ abbrev pub beginning : Opening → Progress
 beginning o = record { taken = 0; seen = o.start }
 
 -- how far a seat had come as far as the note knows
-abbrev pub known_of : Opening → Note → ℕ → Progress
-known_of o note seat = slice_index_or note.known seat (beginning o)
+abbrev pub known_progress : Opening → Note → ℕ → Progress
+known_progress o note seat = slice_index_or note.known seat (beginning o)
 
 -- it has come further since, or stands where it was
 abbrev pub HasComeFrom : Progress → Progress → Type 0
@@ -37,11 +37,11 @@ HasComeFrom before now = (before.taken ≤ now.taken) × (before.taken ≡ now.t
 
 -- What a note knows is how far each seat has come, or had come before
 abbrev pub KnowsPast : Opening → WordState → Note → Type 0
-KnowsPast o s knower = AllNotes s (λ seat note. HasComeFrom (known_of o knower seat) note.own)
+KnowsPast o s knower = AllNotes s (λ seat note. HasComeFrom (known_progress o knower seat) note.own)
 
 -- It took the last step of all: it was answered the word, and knows how far each seat has come
 abbrev pub IsLast : Opening → WordState → Note → Type 0
-IsLast o s last = (last.own.seen ≡ word_of s) × AllNotes s (λ seat note. known_of o last seat ≡ note.own)
+IsLast o s last = (last.own.seen ≡ word_of s) × AllNotes s (λ seat note. known_progress o last seat ≡ note.own)
 
 -- The floors are equal, and at most the word. The word is the least of all that was offered, and at most each last answer.
 -- Some seat took the last step, and its answer is the word
@@ -61,8 +61,8 @@ abbrev pub first_note : Opening → Note
 first_note o = record { floor = o.floor; least = o.start; own = beginning o; known = [] }
 
 -- one step more, with this answer
-abbrev pub one_further : Progress → ℕ → Progress
-one_further own answer = record { taken = own.taken + 1; seen = answer }
+abbrev pub next_progress : Progress → ℕ → Progress
+next_progress own answer = record { taken = own.taken + 1; seen = answer }
 
 -- a word that a seat can find
 abbrev pub CanFind : Note → ℕ → Type 0
@@ -70,11 +70,11 @@ CanFind note word = (note.floor ≤ word) × (word ≤ note.least) × (word ≤ 
 
 -- the note once the seat has offered a stamp and got an answer
 abbrev pub note_after_lower : Note → ℕ → ℕ → List Progress → Note
-note_after_lower note stamp answer known = record { floor = note.floor; least = min note.least stamp; own = one_further note.own answer; known = known }
+note_after_lower note stamp answer known = record { floor = note.floor; least = min note.least stamp; own = next_progress note.own answer; known = known }
 
 -- the note once the seat has read the word
 abbrev pub note_after_read : Note → ℕ → List Progress → Note
-note_after_read note answer known = record { floor = note.floor; least = note.least; own = one_further note.own answer; known = known }
+note_after_read note answer known = record { floor = note.floor; least = note.least; own = next_progress note.own answer; known = known }
 
 -- what a step tells: the word that it found, and the note that it left, up to what it knows of other seats
 abbrev pub Finds : Note → ℕ → (List Progress → Note) → Note → Type 0

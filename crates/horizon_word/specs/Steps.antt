@@ -3,7 +3,7 @@ use Rattle.std.specs.Prelude.{◌≡◌, ◌≢◌, ℕ, ◌<◌, ◌≤◌, min
 use Rattle.horizon_word.specs.declared.note.Note.{Note}
 use Rattle.horizon_word.specs.declared.note.Opening.{Opening}
 use Rattle.horizon_word.specs.declared.note.Progress.{Progress}
-use Rattle.horizon_word.specs.Rule.{WordState, WordRule, HasNote, word_of, one_further, first_note, note_after_lower, note_after_read}
+use Rattle.horizon_word.specs.Rule.{WordState, WordRule, HasNote, word_of, next_progress, first_note, note_after_lower, note_after_read}
 
 -- a word with its first seat
 abbrev pub first_state : Opening → WordState
@@ -18,8 +18,8 @@ abbrev pub after_step : WordState → ℕ → ℕ → Note → WordState
 after_step s seat word note = record s { words = slice_set s.words 0 word; views = slice_set s.views seat note }
 
 -- how far each seat has come once this one got an answer
-abbrev pub known_after : WordState → ℕ → Note → ℕ → List Progress
-known_after s seat note answer = slice_set (map (λ (each : Note). each.own) s.views) seat (one_further note.own answer)
+abbrev pub all_progress : WordState → ℕ → Note → ℕ → List Progress
+all_progress s seat note answer = slice_set (map (λ (each : Note). each.own) s.views) seat (next_progress note.own answer)
 
 -- a word begins under the rule
 abbrev pub OpeningKeepsRule : Type 0
@@ -32,12 +32,12 @@ SplitKeepsRule = (o : Opening) (s : WordState) (seat : ℕ) → WordRule o s →
 -- the fetch-min keeps the rule: the word becomes the lesser of itself and the stamp
 abbrev pub LowerKeepsRule : Type 0
 LowerKeepsRule = (o : Opening) (s : WordState) (seat : ℕ) (note : Note) (stamp : ℕ) → WordRule o s → HasNote s seat note → o.floor ≤ stamp
-    → let word = min (word_of s) stamp in WordRule o (after_step s seat word (note_after_lower note stamp word (known_after s seat note word)))
+    → let word = min (word_of s) stamp in WordRule o (after_step s seat word (note_after_lower note stamp word (all_progress s seat note word)))
 
 -- the load keeps the rule: the word stays
 abbrev pub ReadKeepsRule : Type 0
 ReadKeepsRule = (o : Opening) (s : WordState) (seat : ℕ) (note : Note) → WordRule o s → HasNote s seat note
-    → let word = word_of s in WordRule o (after_step s seat word (note_after_read note word (known_after s seat note word)))
+    → let word = word_of s in WordRule o (after_step s seat word (note_after_read note word (all_progress s seat note word)))
 
 -- the notes of the other seats stay
 abbrev pub OthersStay : Type 0

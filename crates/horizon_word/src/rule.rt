@@ -18,14 +18,16 @@ impl TableRule<(), Note, Opening> for Falling {
 pub(crate) struct Lower;
 
 impl Play<(), Note> for Lower {
-    ghost then = { λ step me found after. Finds me.0 found (note_after_lower me.0 step.first (min found step.first)) after.0 };
+    ghost then = { λ step me found after.
+        Finds me.0 found (note_after_lower me.0 step.first (min found step.first)) after.0 };
 }
 
 /// The load: the seat reads the word.
 pub(crate) struct Read;
 
 impl Play<(), Note> for Read {
-    ghost then = { λ step me found after. Finds me.0 found (note_after_read me.0 found) after.0 };
+    ghost then = { λ step me found after.
+        Finds me.0 found (note_after_read me.0 found) after.0 };
 }
 
 /// The making of a seat, which begins with a copy of what the first one knows.

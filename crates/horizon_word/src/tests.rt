@@ -11,7 +11,8 @@ use std::thread;
 
 /// A word at 100 that falls no lower than 10, and two seats of it.
 fn two_seats(alloc: Global) -> Result<Option<(HorizonWord, WordSeat, WordSeat)>, OutOfMemory>
-    ensures { IfOk result (λ made. IfSome made (λ held. IsSeatOf held.0 held.1 × IsSeatOf held.0 held.2 × (held.1.floor ≡ 10) × (held.2.floor ≡ 10))) }
+    ensures seats { IfOk result (λ made. IfSome made (λ held. IsSeatOf held.0 held.1 × IsSeatOf held.0 held.2)) }
+    ensures floors { IfOk result (λ made. IfSome made (λ held. (held.1.floor ≡ 10) × (held.2.floor ≡ 10))) }
 {
     let (word, mut seats) = HorizonWord::begin(alloc, 10, 100, 2)?;
     let (Some(one), Some(zero)) = (seats.pop(), seats.pop()) else {

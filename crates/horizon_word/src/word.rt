@@ -11,9 +11,11 @@ use std::marker::Model;
 
 /// A number that threads share: the least stamp that any seat has offered, at first the start. It only falls.
 ///
-/// It is the event horizon of one cycle of Breathing Time Buckets, shared as it is found: J. S. Steinman,
-/// "SPEEDES: A Multiple-Synchronization Environment for Parallel Discrete-Event Simulation", International Journal
-/// in Computer Simulation 2 (1992). Contracts see which word it is, since no one thread knows what it holds.
+/// A cycle of Breathing Time Buckets ends at its event horizon, the least stamp of the events that it generates
+/// (J. S. Steinman, "SPEEDES: A Multiple-Synchronization Environment for Parallel Discrete-Event Simulation",
+/// International Journal in Computer Simulation 2, 1992). Here threads share that horizon while it is being found.
+///
+/// Contracts see which word it is, and not what it holds, which no thread knows for longer than one step.
 #[derive(Drop)]
 pub struct HorizonWord {
     table: Table<(), Note, Opening, Falling, Global>,
@@ -30,7 +32,9 @@ impl Model for HorizonWord {
     ghost invariant = { λ word. word.table.shared.table_id.words ≡ 1 };
 }
 
-/// The right to step on a word, and what the one who steps knows of it. It takes no bytes.
+/// The right to step on a word. Contracts see which word that is, and the seat's view of it: the number that the word
+/// was made with, the least stamp that the seat has offered, its last answer, and how many steps it took. It takes no
+/// bytes, so that all of this stands in proofs alone.
 #[derive(Drop)]
 pub struct WordSeat {
     seat: Seat<(), Note>,
@@ -51,7 +55,8 @@ impl Model for WordSeat {
 }
 
 impl HorizonWord {
-    /// A word that stands at `start`, to which no stamp below `floor` is ever offered, and so many seats of it.
+    /// A word that stands at `start`, and so many seats of it. No stamp below `floor` is ever offered to it.
+    /// It answers an error only for want of memory.
     pub fn begin(
         alloc: Global,
         floor: u64,
