@@ -44,7 +44,8 @@ abbrev pub IsLast : Opening → WordState → Note → Type 0
 IsLast o s last = (last.own.seen ≡ word_of s) × AllNotes s (λ seat note. known_progress o last seat ≡ note.own)
 
 -- The floors are equal, and at most the word. The word is the least of all that was offered, and at most each last answer.
--- Some seat took the last step, and its answer is the word
+-- Some seat took the last step, and its answer is the word. For that the notes know of one another: nothing of seats that
+-- are not there, and of each other one how far it has come, or had come before
 pub record WordRule (o : Opening) (s : WordState) : Type 0 where
   pub one_word : length s.words ≡ 1
   pub floors : AllNotes s (λ seat note. note.floor ≡ o.floor)
