@@ -1,5 +1,5 @@
 -- The spares of an object's lines: for how many more values each has room for certain.
-use Rattle.std.specs.Prelude.{◌≡◌, ℕ, ◌+◌, ◌-◌, ◌<◌, ◌≤◌, List, [], ◌∷◌, length, slice_set, slice_index, ◌==◌, if◌then◌else◌}
+use Rattle.std.specs.Prelude.{◌≡◌, ℕ, ◌+◌, ◌-◌, ◌<◌, ◌≤◌, Bool, false, ◌==◌, List, [], ◌∷◌, length, slice_set, slice_index, All, count_by}
 use Rattle.delta_exchange.specs.Changes.{CellData}
 use Rattle.delta_exchange.specs.Views.{CellsView}
 use Rattle.delta_exchange.specs.declared.change.Change.{Change}
@@ -31,18 +31,17 @@ unfoldable pub spare_after_all : List Change → List ℕ → List ℕ
 spare_after_all [] spare = spare
 spare_after_all (change ∷ rest) spare = spare_after_all rest (spare_after change spare)
 
--- how many values a change puts in at a line
-abbrev pub places_for : Change → ℕ → ℕ
-places_for (Set word value) line = 0
-places_for (Push at value) line = if at == line then 1 else 0
-places_for (Pop at) line = 0
-places_for (Unpush at) line = 0
-places_for (Unpop at value) line = if at == line then 1 else 0
+-- whether the change puts a value in at the line
+abbrev pub puts_in_at : Change → ℕ → Bool
+puts_in_at (Set word value) line = false
+puts_in_at (Push at value) line = at == line
+puts_in_at (Pop at) line = false
+puts_in_at (Unpush at) line = false
+puts_in_at (Unpop at value) line = at == line
 
 -- how many values a list of changes puts in at a line
-unfoldable pub room_for : List Change → ℕ → ℕ
-room_for [] line = 0
-room_for (change ∷ rest) line = places_for change line + room_for rest line
+abbrev pub room_for : List Change → ℕ → ℕ
+room_for changes line = count_by (λ change. puts_in_at change line) changes
 
 -- the spare of each line is at least what the changes put in there
 abbrev pub HaveRoom : List Change → List ℕ → Type 0
@@ -57,9 +56,8 @@ NamesLine (Unpush line) cells = line < length cells.lines
 NamesLine (Unpop line value) cells = line < length cells.lines
 
 -- each line that the changes name is there
-unfoldable pub NameLines : List Change → CellData → Type 0
-NameLines [] cells = Unit {0}
-NameLines (change ∷ rest) cells = NamesLine change cells × NameLines rest cells
+abbrev pub NameLines : List Change → CellData → Type 0
+NameLines changes cells = All (λ change. NamesLine change cells) changes
 
 -- the lines have their spares, and none has less than it had
 pub record NoneFell (before after : List ℕ) : Type 0 where

@@ -1,4 +1,4 @@
--- Changes that are exchanged from the last to the first, and what that gives back.
+-- Undoing a list of changes, which exchanges from the last to the first, so it is done as its reverse; and what that gives back.
 use Rattle.std.specs.Prelude.{◌≡◌, ℕ, ◌++◌, List, reverse}
 use Rattle.delta_exchange.specs.Changes.{CellData, AllFit, cells_after_all, inverses_of}
 use Rattle.delta_exchange.specs.Spares.{AllFindRoom, spare_after_all, HaveRoom, NoneFell, NameLines, HasSpares}
@@ -43,6 +43,10 @@ RoomIsEnough = (changes : List Change) (spare : List ℕ) → HaveRoom changes s
 -- changes that find room find it where no spare is less
 abbrev pub MoreSpareIsEnough : Type 0
 MoreSpareIsEnough = (changes : List Change) (before after : List ℕ) → NoneFell before after → AllFindRoom changes before → AllFindRoom changes after
+
+-- spares of which none is less stay so
+abbrev pub MoreSpareStays : Type 0
+MoreSpareStays = (changes : List Change) (before after : List ℕ) → NoneFell before after → NoneFell (spare_after_all changes before) (spare_after_all changes after)
 
 -- changes that fit name lines that are there
 abbrev pub FittingNamesLines : Type 0

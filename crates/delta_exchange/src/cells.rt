@@ -1,9 +1,10 @@
 //! The state of an object: words, and lines of values.
-ghost use Rattle.std.specs.Prelude.{◌≡◌, ◌<◌, ◌≤◌, ◌^◌, ℕ, length, slice_index, map, take, drop, reverse, IfOk, OnOk};
+ghost use Rattle.std.specs.Prelude.{◌≡◌, ◌<◌, ◌≤◌, ◌^◌, ℕ, true, List, length, slice_index, map, take, drop, reverse, IfOk, OnOk};
 ghost use Rattle.delta_exchange.specs.Changes.{line_of, Fits, cells_after, inverse_of, AllFit, cells_after_all, inverses_of};
-ghost use Rattle.delta_exchange.specs.Spares.{FindsRoom, spare_after, AllFindRoom, spare_after_all, places_for, room_for, HaveRoom, NamesLine, NameLines, NoneFell, HasSpares};
+ghost use Rattle.delta_exchange.specs.Spares.{FindsRoom, spare_after, AllFindRoom, spare_after_all, puts_in_at, room_for, HaveRoom, NamesLine, NameLines, NoneFell, HasSpares};
 ghost use Rattle.delta_exchange.specs.Undoing.{UndoRestores, view_after_all};
 ghost use Rattle.delta_exchange.specs.Views.{unspared};
+ghost use Rattle.delta_exchange.specs.declared.change.Change.{Change};
 
 use crate::change::Change;
 use crate::line::Line;
@@ -104,6 +105,7 @@ impl Cells {
         ensures ok { OnOk result (HaveRoom changes.now self.new.spare) }
         ensures same { self.new.contents ≡ self.old.contents }
         ensures none_fell { NoneFell self.old.spare self.new.spare }
+        ensures kept { (others : List Change) → AllFindRoom others self.old.spare → AllFindRoom others self.new.spare }
         ensures spares { HasSpares self.new }
     {
         let _ = &self.words;
@@ -116,7 +118,7 @@ impl Cells {
     /// Makes the room that the changes need at the line where one of them puts a value in.
     fn room_at(&mut self, change: &Change, changes: &[Change]) -> Result<(), OutOfMemory>
         requires { NamesLine change.now self.old.contents }
-        ensures ok { OnOk result ((line : ℕ) → 0 < places_for change.now line → room_for changes.now line ≤ slice_index self.new.spare line) }
+        ensures ok { OnOk result ((line : ℕ) → puts_in_at change.now line ≡ true → room_for changes.now line ≤ slice_index self.new.spare line) }
         ensures same { self.new.contents ≡ self.old.contents }
         ensures none_fell { NoneFell self.old.spare self.new.spare }
     {
@@ -220,13 +222,10 @@ impl Cells {
 fn room_for(changes: &[Change], line: u32) -> usize
     ensures { result ≡ room_for changes.now line }
 {
-    let mut places = 0;
-    for change in changes {
-        if change.puts_in_at(line) {
-            places += 1;
-        }
-    }
-    places
+    changes
+        .iter()
+        .filter(|change| change.puts_in_at(line))
+        .count()
 }
 
 /// Lines of the same values, with no spare.

@@ -1,6 +1,6 @@
 //! One change of an object's cells.
-ghost use Rattle.std.specs.Prelude.{◌≡◌, if◌then◌else◌};
-ghost use Rattle.delta_exchange.specs.Spares.{places_for};
+ghost use Rattle.std.specs.Prelude.{◌≡◌};
+ghost use Rattle.delta_exchange.specs.Spares.{puts_in_at};
 
 /// A change of a word, or of one end of a line.
 #[derive(Clone, Copy, Debug, PartialEq, Eq)]
@@ -20,7 +20,7 @@ pub enum Change {
 impl Change {
     /// Whether the change puts a value in at the line.
     pub(crate) fn puts_in_at(&self, line: u32) -> bool
-        ensures { places_for self.now line ≡ (if result then 1 else 0) }
+        ensures { result ≡ puts_in_at self.now line }
     {
         match *self {
             Change::Push { line: at, .. } | Change::Unpop { line: at, .. } => at == line,

@@ -1,5 +1,5 @@
 //! Laws of the definitions, each the contract of a function that does nothing.
-ghost use Rattle.delta_exchange.specs.Undoing.{UndoingRestores, UndoingTheLastRestores, UndoingTheFirstRestores, RoomIsEnough, MoreSpareIsEnough, FittingNamesLines};
+ghost use Rattle.delta_exchange.specs.Undoing.{UndoingRestores, UndoingTheLastRestores, UndoingTheFirstRestores, RoomIsEnough, MoreSpareIsEnough, MoreSpareStays, FittingNamesLines};
 
 /// Undoing the inverses of a list of changes gives back the changes, the cells and the spares.
 pub fn law_undo()
@@ -27,6 +27,11 @@ pub fn law_room()
 #[tactic(auto, using(crate::proofs::Room::more_spare_is_enough))]
 pub fn law_more_spare()
     ensures { MoreSpareIsEnough }
+{}
+
+/// Where no spare is less, none is less after the same changes.
+pub fn law_more_spare_stays()
+    ensures { MoreSpareStays }
 {}
 
 /// Changes that fit name lines that are there.

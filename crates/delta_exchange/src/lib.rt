@@ -12,6 +12,7 @@ mod tests;
 pub use cells::Cells;
 pub use change::Change;
 pub use laws::{
-    law_lines_named, law_more_spare, law_room, law_undo, law_undo_first, law_undo_last,
+    law_lines_named, law_more_spare, law_more_spare_stays, law_room, law_undo, law_undo_first,
+    law_undo_last,
 };
 pub use memory::OutOfMemory;

@@ -1,33 +1,30 @@
 //! What no clause says: that the calls succeed where there is memory, and what the clauses mean, by an example.
 ghost use Rattle.std.specs.Prelude.{◌≡◌, [], ◌∷◌, IfOk, OnOk};
-ghost use Rattle.delta_exchange.specs.Changes.{AllFit, cells_after_all, inverses_of};
+ghost use Rattle.delta_exchange.specs.Changes.{AllFit, cells_after_all};
 
 use super::*;
 use std::alloc::Global;
 use std::test::Fail;
 
-/// Makes room for changes that fit, and does them, as an engine does.
+/// Does the changes of two events, each after its `room`, and takes them back, the later first.
 #[tactic(auto, using(crate::proofs::Room::fitting_names_lines))]
-fn react(cells: &mut Cells, changes: &mut [Change]) -> Result<(), OutOfMemory>
-    requires { AllFit changes.old cells.old.contents }
-    ensures cells { OnOk result (cells.new.contents ≡ cells_after_all changes.old cells.old.contents) }
-    ensures changes { OnOk result (changes.new ≡ inverses_of changes.old cells.old.contents) }
+fn react_twice_and_roll_back(
+    cells: &mut Cells,
+    first: &mut Vec<Change>,
+    second: &mut Vec<Change>,
+) -> Result<(), OutOfMemory>
+    requires first { AllFit first.old.items cells.old.contents }
+    requires second { AllFit second.old.items (cells_after_all first.old.items cells.old.contents) }
+    ensures cells { OnOk result (cells.new.contents ≡ cells.old.contents) }
+    ensures first { OnOk result (first.new.items ≡ first.old.items) }
+    ensures second { OnOk result (second.new.items ≡ second.old.items) }
 {
-    cells.room(changes)?;
-    cells.apply(changes);
-    Ok(())
-}
-
-/// Makes room for changes that fit, does them, and takes them back.
-#[tactic(auto, using(crate::proofs::Room::fitting_names_lines))]
-fn react_and_roll_back(cells: &mut Cells, changes: &mut [Change]) -> Result<(), OutOfMemory>
-    requires { AllFit changes.old cells.old.contents }
-    ensures cells { cells.new.contents ≡ cells.old.contents }
-    ensures changes { changes.new ≡ changes.old }
-{
-    cells.room(changes)?;
-    cells.apply(changes);
-    cells.undo(changes);
+    cells.room(first)?;
+    cells.apply(first);
+    cells.room(second)?;
+    cells.apply(second);
+    cells.undo(second);
+    cells.undo(first);
     Ok(())
 }
 
@@ -52,7 +49,7 @@ fn holds(cells: &Cells, words: [u64; 2], line: [u64; 2]) -> bool {
 }
 
 #[test]
-#[tactic(auto, unfolding(crate::specs::Changes::AllFit, crate::specs::Spares::NameLines))]
+#[tactic(auto, unfolding(crate::specs::Changes::AllFit))]
 fn each_change_becomes_its_inverse_and_undo_takes_all_back(rt: HostRuntime) -> Result<(), Fail> {
     let alloc = rt.alloc();
     let mut cells = example(alloc)?;
@@ -87,5 +84,24 @@ fn a_copy_has_the_same_words_and_lines(rt: HostRuntime) -> Result<(), Fail> {
     let copy = cells.copy(alloc)?;
     assert!(rt; holds(&copy, [7, 8], [1, 2]));
     assert!(rt; holds(&cells, [7, 8], [1, 2]));
+    Ok(())
+}
+
+#[test]
+#[tactic(auto, unfolding(crate::specs::Changes::AllFit, crate::specs::Changes::cells_after_all))]
+fn two_events_are_taken_back_the_later_first(rt: HostRuntime) -> Result<(), Fail> {
+    let alloc = rt.alloc();
+    let mut cells = example(alloc)?;
+    let first = [
+        Change::Set { word: 0, value: 9 },
+        Change::Push { line: 0, value: 3 },
+    ];
+    let second = [Change::Set { word: 0, value: 5 }, Change::Pop { line: 0 }];
+    let mut earlier = Vec::from_slice(alloc, &first)?;
+    let mut later = Vec::from_slice(alloc, &second)?;
+    react_twice_and_roll_back(&mut cells, &mut earlier, &mut later)?;
+    assert!(rt; holds(&cells, [7, 8], [1, 2]));
+    assert!(rt; earlier.as_slice() == first.as_slice());
+    assert!(rt; later.as_slice() == second.as_slice());
     Ok(())
 }

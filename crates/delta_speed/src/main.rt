@@ -17,7 +17,7 @@ fn empty_line(alloc: Global) -> Result<Cells, OutOfMemory>
 }
 
 /// Makes room for one value, and puts it in as the line's last.
-#[tactic(auto, unfolding(delta_exchange::specs::Changes::AllFit, delta_exchange::specs::Changes::cells_after_all, delta_exchange::specs::Spares::NameLines))]
+#[tactic(auto, unfolding(delta_exchange::specs::Changes::AllFit, delta_exchange::specs::Changes::cells_after_all))]
 fn push(cells: &mut Cells, value: u64) -> Result<(), OutOfMemory>
     requires { 0 < length cells.old.contents.lines }
     ensures { length cells.new.contents.lines ≡ length cells.old.contents.lines }
