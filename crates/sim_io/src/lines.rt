@@ -1,5 +1,5 @@
 //! The lines of a simulation's text.
-ghost use Rattle.std.specs.Prelude.{◌≡◌, ◌<◌, ◌++◌, OnOk, OnErr};
+ghost use Rattle.std.specs.Prelude.{◌≡◌, ◌<◌, ◌++◌, OnOk, OnErr, take};
 ghost use Rattle.std.specs.Io.{StartsWith};
 ghost use Rattle.sim_io.specs.Texts.{part_line, event_lines, stop_line, IsAtObject};
 
@@ -46,6 +46,22 @@ fn put_lines<M: Model>(
     Ok(())
 }
 
+/// Takes back what a refused call has appended to so many bytes.
+fn cut_back(
+    outcome: Result<(), OutOfMemory>,
+    before: usize,
+    into: &mut Vec<u8>,
+) -> Result<(), OutOfMemory>
+    ensures outcome { result ≡ outcome }
+    ensures ok { OnOk outcome (into.new.items ≡ into.old.items) }
+    ensures err { OnErr outcome (into.new.items ≡ take before into.old.items) }
+{
+    if outcome.is_err() {
+        into.truncate(before);
+    }
+    outcome
+}
+
 /// Appends the lines of an event: one for each part of what it tells, in order. A refusal leaves what was there.
 pub fn put_done<M: Model>(
     alloc: Global,
@@ -59,11 +75,8 @@ pub fn put_done<M: Model>(
     ensures err { OnErr result (into.new.items ≡ into.old.items) }
 {
     let before = into.len();
-    let result = put_lines(alloc, model, key, note, into);
-    if result.is_err() {
-        into.truncate(before);
-    }
-    result
+    let outcome = put_lines(alloc, model, key, note, into);
+    cut_back(outcome, before, into)
 }
 
 #[tactic(auto, unfolding(crate::specs::Texts::stop_line))]
@@ -115,9 +128,6 @@ pub fn put_stop<M: Model>(
     ensures err { OnErr result (into.new.items ≡ into.old.items) }
 {
     let before = into.len();
-    let result = put_reason(alloc, model, terms, count, stop, into);
-    if result.is_err() {
-        into.truncate(before);
-    }
-    result
+    let outcome = put_reason(alloc, model, terms, count, stop, into);
+    cut_back(outcome, before, into)
 }
