@@ -1,5 +1,5 @@
 -- A bucket is the next events of the run, and the run goes on at its fault or at the limit.
-use Rattle.std.proofs.Common.{◌≡◌, ℕ, zero, suc, ◌+◌, ◌-◌, ◌<◌, ◌≤◌, min, Bool, true, false, cond, ◌&&◌, ◌||◌, List, [], ◌∷◌, ◌++◌, length, take, drop, sym, refl, ap, ◌∙◌, subst, arith, eqb, ltb, ltb-true, ltb-false, eqb-true, eq-eqb, length-take, take-append-drop}
+use Rattle.std.proofs.Common.{◌≡◌, ℕ, ◌-◌, ◌<◌, ◌≤◌, min, Bool, true, false, cond, ◌&&◌, ◌||◌, List, [], ◌∷◌, ◌++◌, length, take, drop, sym, refl, ap, ◌∙◌, subst, arith, eqb, ltb, ltb-true, ltb-false, eqb-true, eq-eqb, length-take, take-append-drop}
 use Rattle.std.proofs.lemmas.List.{append-nil, take_all}
 use Rattle.std.specs.Prelude.{is_some, Option, Some, None}
 use Rattle.std.specs.List.{AllByRecursion as Each}
@@ -7,15 +7,15 @@ use Rattle.event_key.specs.declared.key.Key.{Key}
 use Rattle.event_key.specs.Stamps.{end_stamp}
 use Rattle.model_core.specs.declared.event.Event.{Event}
 use Rattle.model_core.specs.Meaning.{Meaning, MeaningLaws}
-use Rattle.sim_spec.specs.declared.stop.Stop.TheVariants.{End, Limit, Fault}
+use Rattle.sim_spec.specs.declared.stop.Stop.TheVariants.{Limit, Fault}
 use Rattle.sim_spec.specs.declared.terms.Terms.{Terms}
-use Rattle.sim_spec.specs.Firing.{Firing, fails}
+use Rattle.sim_spec.specs.Firing.{Firing}
 use Rattle.sim_spec.specs.Pending.{enqueue_all}
 use Rattle.sim_spec.specs.State.{State, Lawful}
 use Rattle.sim_spec.specs.Run.{next, next_fired, stops, Leads}
 use Rattle.sim_spec.specs.Horizon.{HorizonBucket, horizon_bucket}
-use Rattle.sim_spec.specs.Cut.{events_of, records_of, emissions_of, with_done, is_limited, committed_events, after, cut}
-use Rattle.sim_spec.specs.HorizonLaws.{IsNextOfRun, BucketLaw, IsNextFault}
+use Rattle.sim_spec.specs.Cut.{events_of, emissions_of, state_with_done, is_limited, committed_events, after, cut}
+use Rattle.sim_spec.specs.HorizonLaws.{BucketLaw}
 use Rattle.sim_spec.proofs.EachLemmas.{Each-back}
 use Rattle.sim_spec.proofs.StampLemmas.{NoneBelow-emissions_of}
 use Rattle.sim_spec.proofs.LawfulLemmas.{leads-lawful}
@@ -103,7 +103,7 @@ module _ (m : Meaning) (t : Terms) (s : State) (lawful : Lawful m t s) where
           record { event = found.event; behind = found.behind; first = ap (λ ds. drop (length ds) s.pending) all ∙ found.first; early = found.early }
 
   limited_next : (cut m t s).limited ≡ true → next m t (after m t s) ≡ stops Limit
-  unfolding cut after committed_events with_done
+  unfolding cut after committed_events state_with_done
   limited_next limited =
       let says = limited_says left b limited in
       let due = due_behind left says.1 says.0 in
@@ -113,7 +113,7 @@ module _ (m : Meaning) (t : Terms) (s : State) (lawful : Lawful m t s) where
       let few : length (take left b.done) ≡ min left (length b.done) = length-take left b.done in
       let room : s.count ≤ t.limit = lawful.count in
       let upto : left ≤ length b.done = says.0 in
-      next-full m t (with_done s (take left b.done)) due.event (enqueue_all (emissions_of (take left b.done)) due.behind)
+      next-full m t (state_with_done s (take left b.done)) due.event (enqueue_all (emissions_of (take left b.done)) due.behind)
       (done-pending s b.horizon (take left b.done) due.event due.behind due.first (NoneBelow-emissions_of b.horizon (take left b.done) come.emits) early)
       (omega arith) (omega arith)
 
@@ -122,7 +122,7 @@ module _ (m : Meaning) (t : Terms) (s : State) (lawful : Lawful m t s) where
   unlimited_fault false f fault is_fault = (refl, is_fault)
 
   fault_next : (fault : Key × ℕ) → (cut m t s).fault ≡ Some fault → next m t (after m t s) ≡ stops (Fault fault.0 fault.1)
-  unfolding cut after committed_events with_done next_fired
+  unfolding cut after committed_events state_with_done next_fired
   fault_next fault is_fault =
       let says = unlimited_fault (is_limited left b) b.fault fault is_fault in
       let short : length b.done < left = faulted_says left b says.0 (ap is_some says.1) in
@@ -130,12 +130,12 @@ module _ (m : Meaning) (t : Terms) (s : State) (lawful : Lawful m t s) where
       let found = (horizon_law m t s lawful).fault fault says.1 in
       let within : b.horizon ≤ end_stamp t.end = (horizon_law m t s lawful).within in
       let early : found.event.key.stamp < b.horizon = found.early in
-      let s' = with_done s b.done in
+      let s' = state_with_done s b.done in
       let rest = enqueue_all (emissions_of b.done) found.behind in
-      ap (λ ds. next m t (with_done s ds)) all
+      ap (λ ds. next m t (state_with_done s ds)) all
       ∙ next-fires m t s' found.event rest
-        (done-pending s b.horizon b.done found.event found.behind found.first (NoneBelow-emissions_of b.horizon b.done comes.emits) early)
-        (omega arith) (λ full. omega arith)
+      (done-pending s b.horizon b.done found.event found.behind found.first (NoneBelow-emissions_of b.horizon b.done comes.emits) early)
+      (omega arith) (λ full. omega arith)
       ∙ ap (next_fired s' found.event rest) found.fails
       ∙ ap (λ key. stops (Fault key fault.1)) found.key
 

@@ -1,27 +1,23 @@
 -- Bucket by bucket or event by event, the same happens, and cycles end.
-use Rattle.std.proofs.Common.{◌≡◌, ◌≢◌, ◌⊎◌, ℕ, zero, suc, ◌+◌, ◌-◌, ◌<◌, ◌≤◌, Bool, true, false, cond, List, [], ◌∷◌, ◌++◌, length, sym, refl, ap, ◌∙◌, subst, inl, inr, arith}
-use Rattle.std.proofs.lemmas.List.{length-map, append-nil}
-use Rattle.std.specs.Prelude.{is_some, IsSome, Option, Some, None}
+use Rattle.std.proofs.Common.{◌≡◌, ◌≢◌, ℕ, zero, suc, ◌+◌, ◌-◌, ◌<◌, ◌≤◌, Bool, true, false, length, sym, refl, ap, ◌∙◌, subst, inl, inr, arith}
+use Rattle.std.proofs.lemmas.List.{length-map}
+use Rattle.std.specs.Prelude.{is_some, Option, Some, None}
 use Rattle.event_key.specs.declared.key.Key.{Key}
-use Rattle.model_core.specs.declared.note.Note.{Note}
 use Rattle.model_core.specs.Meaning.{Meaning, MeaningLaws}
-use Rattle.sim_spec.specs.declared.bucket.Bucket.{Bucket}
-use Rattle.sim_spec.specs.declared.stop.Stop.{Stop}
 use Rattle.sim_spec.specs.declared.stop.Stop.TheVariants.{End, Limit, Fault}
 use Rattle.sim_spec.specs.declared.terms.Terms.{Terms}
 use Rattle.sim_spec.specs.State.{State, Lawful}
 use Rattle.sim_spec.specs.Run.{Next, stops, does, next, Run, run, after_records}
-use Rattle.sim_spec.specs.Cut.{records_of, with_done, committed_events, cut, after}
-use Rattle.sim_spec.specs.Cycles.{Cycles, no_cycles, after_bucket, cycles_behind, cycles_with, cycles_on, cycles_for, cycles, records_of_all, run_of}
-use Rattle.sim_spec.specs.Laws.{IsWholeRun}
-use Rattle.sim_spec.specs.HorizonLaws.{IsNextOfRun, CyclesLaw, CyclesEnd, EndsLaw}
+use Rattle.sim_spec.specs.Cut.{records_of, state_with_done, committed_events, cut, after}
+use Rattle.sim_spec.specs.Cycles.{Cycles, no_cycles, after_bucket, cycles_behind, cycles_with, cycles_on, cycles_for, cycles, records_of_buckets, run_of}
+use Rattle.sim_spec.specs.HorizonLaws.{IsNextOfRun, CyclesLaw, EndsLaw}
 use Rattle.sim_spec.proofs.RunEndsLemma.{run-ends}
 use Rattle.sim_spec.proofs.RunLemmas.{run-stops}
 use Rattle.sim_spec.proofs.BucketLaw.{bucket_law}
 use Rattle.sim_spec.proofs.MovesLaw.{moves_law}
 
 pub after-count : (m : Meaning) (t : Terms) (s : State) → (after m t s).count ≡ s.count + length (cut m t s).done
-unfolding after with_done cut
+unfolding after state_with_done cut
 after-count m t s = let told : length (records_of (committed_events m t s)) ≡ length (committed_events m t s) = length-map _ _ in omega arith
 
 -- a bucket that isn't limited and has no fault takes the count nearer to the limit
@@ -95,21 +91,21 @@ module _ (m : Meaning) (t : Terms) (laws : MeaningLaws m) where
   behind_same : (s : State) → IsNextOfRun m t s → ((cut m t s).fault ≡ None → run_of (cycles m t (after m t s)) ≡ run m t (after m t s))
       → (fault : Option (Key × ℕ)) → (cut m t s).fault ≡ fault → (limited : Bool) → (cut m t s).limited ≡ limited
       → run_of (cycles_behind (after m t s) (cycles m t) fault limited) ≡ run m t (after m t s)
-  unfolding cycles_behind records_of_all
+  unfolding cycles_behind records_of_buckets
   behind_same s law more (Some fault) is_fault limited is_limited = sym (run-stops m t (after m t s) (Fault fault.0 fault.1) (law.fault fault is_fault))
   behind_same s law more None is_fault true is_limited = sym (run-stops m t (after m t s) Limit (law.limited is_limited))
   behind_same s law more None is_fault false is_limited = more is_fault
 
   with_same : (s : State) → IsNextOfRun m t s → ((cut m t s).fault ≡ None → run_of (cycles m t (after m t s)) ≡ run m t (after m t s))
       → run_of (cycles_with (cut m t s) (after m t s) (cycles m t)) ≡ run m t s
-  unfolding records_of_all
+  unfolding records_of_buckets
   with_same s law more =
       ap (after_records (cut m t s).done) (behind_same s law more (cut m t s).fault refl (cut m t s).limited refl) ∙ sym law.run
 
   on_same : (s : State) → Lawful m t s → (n : Next) → next m t s ≡ n
       → (next m t s ≢ stops End → next m t s ≢ stops Limit → (cut m t s).fault ≡ None → run_of (cycles m t (after m t s)) ≡ run m t (after m t s))
       → run_of (cycles_on s (cut m t s) (after m t s) (cycles m t) n) ≡ run m t s
-  unfolding cycles_on records_of_all
+  unfolding cycles_on records_of_buckets
   on_same s lawful (stops End) is_next more = sym (run-stops m t s End is_next)
   on_same s lawful (stops Limit) is_next more = sym (run-stops m t s Limit is_next)
   on_same s lawful (stops (Fault key code)) is_next more = with_same s (bucket_law m t laws s lawful) (more (λ e. cc) (λ e. cc))
@@ -120,8 +116,8 @@ module _ (m : Meaning) (t : Terms) (laws : MeaningLaws m) where
   same_within (suc n) s lawful near =
       ap run_of (cycles-unfold s lawful)
       ∙ on_same s lawful (next m t s) refl (λ not_end not_limit no_fault.
-        let closer = nearer m t s laws lawful not_end not_limit no_fault in
-        same_within n (after m t s) (bucket_law m t laws s lawful).lawful (omega arith))
+      let closer = nearer m t s laws lawful not_end not_limit no_fault in
+      same_within n (after m t s) (bucket_law m t laws s lawful).lawful (omega arith))
 
 pub cycles_law : (m : Meaning) (t : Terms) → MeaningLaws m → CyclesLaw m t
 cycles_law m t laws s lawful = same_within m t laws (suc (t.limit - s.count)) s lawful (omega arith)

@@ -1,5 +1,5 @@
 -- A bucket is exactly the pending events before its end.
-use Rattle.std.proofs.Common.{◌≡◌, ℕ, zero, suc, ◌<◌, ◌≤◌, List, [], ◌∷◌, ◌++◌, length, take, drop, sym, refl, ap, ◌∙◌, subst, arith, take-append-drop, append_assoc}
+use Rattle.std.proofs.Common.{◌≡◌, ℕ, zero, suc, ◌<◌, List, [], ◌∷◌, ◌++◌, take, drop, sym, refl, ap, ◌∙◌, subst, arith, take-append-drop, append_assoc}
 use Rattle.std.specs.Prelude.{Option, Some, None}
 use Rattle.std.specs.List.{AllByRecursion as Each}
 use Rattle.event_key.specs.declared.key.Key.{Key}
@@ -10,10 +10,10 @@ use Rattle.model_core.specs.Meaning.{Meaning}
 use Rattle.sim_spec.specs.declared.terms.Terms.{Terms}
 use Rattle.sim_spec.specs.Firing.{ObjectState, Firing}
 use Rattle.sim_spec.specs.State.{State, Lawful}
-use Rattle.sim_spec.specs.Horizon.{HorizonBucket, horizon_bucket}
+use Rattle.sim_spec.specs.Horizon.{horizon_bucket}
 use Rattle.sim_spec.specs.Cut.{events_of}
-use Rattle.sim_spec.specs.Replay.{NoneBelow, EmitsFrom}
-use Rattle.sim_spec.specs.HorizonLaws.{IsBefore, IsNextFault, IsBelowHorizon, HorizonLaw}
+use Rattle.sim_spec.specs.Replay.{NoneBelow}
+use Rattle.sim_spec.specs.HorizonLaws.{IsBefore, IsBelowHorizon, HorizonLaw}
 use Rattle.sim_spec.proofs.EachLemmas.{Each-map, Each-front, Each-take}
 use Rattle.sim_spec.proofs.PartLemmas.{events_of-append}
 use Rattle.sim_spec.proofs.BucketInduction.{objects_with}
@@ -46,10 +46,10 @@ bucket-comes m t s lawful =
     let b = horizon_bucket m t s in
     let law : IsBelowHorizon m t s b = horizon_law m t s lawful in
     let fault_early : (f : Key × ℕ) → b.fault ≡ Some f → f.0.stamp < b.horizon = λ f is_f.
-        let found = law.fault f is_f in
-        let early : found.event.key.stamp < b.horizon = found.early in
-        let stamp : found.event.key.stamp ≡ f.0.stamp = ap (λ (k : Key). k.stamp) found.key in
-        omega arith in
+    let found = law.fault f is_f in
+    let early : found.event.key.stamp < b.horizon = found.early in
+    let stamp : found.event.key.stamp ≡ f.0.stamp = ap (λ (k : Key). k.stamp) found.key in
+    omega arith in
     record {
       turn = bucket-in-turn m (end_stamp t.end) s.objects s.pending;
       early = Each-map (λ (e : Event). IsBefore b.horizon b.fault e.key) (λ (e : Event). e.key.stamp < b.horizon) (events_of b.done) (λ e. before_early b.horizon b.fault fault_early e.key) law.before;

@@ -1,5 +1,5 @@
 -- What events that go in turn do at one object is the object's own replay.
-use Rattle.std.proofs.Common.{◌≡◌, ◌≢◌, ℕ, zero, suc, ◌+◌, ◌-◌, ◌<◌, ◌≤◌, Bool, true, false, cond, List, [], ◌∷◌, ◌++◌, length, take, drop, sym, refl, ap, ◌∙◌, subst, arith, eqb, eqb-true, get_or-set_other, get_or-set_same, length-set}
+use Rattle.std.proofs.Common.{◌≡◌, ◌≢◌, ℕ, zero, suc, ◌-◌, ◌<◌, ◌≤◌, Bool, true, false, cond, List, [], ◌∷◌, ◌++◌, length, take, sym, refl, ap, ◌∙◌, subst, arith, eqb, eqb-true, get_or-set_other, get_or-set_same, length-set}
 use Rattle.std.proofs.lemmas.Bool.{eqb-false}
 use Rattle.std.proofs.lemmas.List.{take_all}
 use Rattle.std.specs.Prelude.{slice_set, None}
@@ -8,11 +8,11 @@ use Rattle.model_core.specs.Meaning.{Meaning}
 use Rattle.sim_spec.specs.Firing.{ObjectState, Firing, goes, fire}
 use Rattle.sim_spec.specs.State.{State, object_at, no_object}
 use Rattle.sim_spec.specs.Cut.{events_of, objects_after}
-use Rattle.sim_spec.specs.Replay.{Replay, replayed_first, replay, events_at, done_at, early_replay}
+use Rattle.sim_spec.specs.Replay.{Replay, replay_with, replay, events_at, done_at, early_replay}
 use Rattle.sim_spec.proofs.PartLemmas.{events_at-append, events_at-events_of, length-events_of}
 use Rattle.sim_spec.proofs.BucketInduction.{fire_at, objects_with, replay-goes}
 use Rattle.sim_spec.proofs.BucketFacts.{GoInTurn}
-use Rattle.sim_spec.proofs.ReplayLemmas.{replayed_after, replay-append, replay-take}
+use Rattle.sim_spec.proofs.ReplayLemmas.{replay_after, replay-append, replay-take}
 
 -- the replay of events that all go
 abbrev pub whole_replay : List (Event × Firing) → ObjectState → Replay
@@ -31,7 +31,7 @@ replay_on m object objects d ds end inside is_fired rest true here =
     let Q : ℕ → Type 0 = λ i. object_at (slice_set objects i d.1.state) object ≡ d.1.state in
     let state : object_at (objects_with objects d.0 d.1) object ≡ d.1.state = subst Q (sym same) (get_or-set_same objects object d.1.state no_object inside) in
     replay-goes m object (object_at objects object) d.0 (events_at object (events_of ds)) d.1 (subst P same is_fired)
-    ∙ ap (replayed_first d) (ap (λ s. replay m object s (events_at object (events_of ds))) (sym state) ∙ rest)
+    ∙ ap (replay_with d) (ap (λ s. replay m object s (events_at object (events_of ds))) (sym state) ∙ rest)
 replay_on m object objects d ds end inside is_fired rest false there =
     let apart : object ≢ d.0.key.dest = λ same. eqb-false d.0.key.dest object there (sym same) in
     let state : object_at (objects_with objects d.0 d.1) object ≡ object_at objects object = get_or-set_other objects d.0.key.dest object d.1.state no_object apart in
@@ -79,7 +79,7 @@ module _ (m : Meaning) (s : State) (ds : List (Event × Firing)) (rest : List Ev
       ∙ ap (λ k. take n own ++ take (n - k) (events_at object rest)) long
 
   -- what an object does early is a front of what it does in turn, and then what is behind
-  pub early-parts : (state : ObjectState) × (early_replay m s object n ≡ replayed_after (take n (done_at object ds)) (replay m object state events_behind))
+  pub early-parts : (state : ObjectState) × (early_replay m s object n ≡ replay_after (take n (done_at object ds)) (replay m object state events_behind))
   unfolding early_replay
   early-parts =
       let r = replay m object (object_at s.objects object) (take n own) in
@@ -87,16 +87,16 @@ module _ (m : Meaning) (s : State) (ds : List (Event × Firing)) (rest : List Ev
       let done : r.done ≡ take n (done_at object ds) = front.done ∙ ap (λ (r : Replay). take n r.done) own_replay in (
         r.state,
         ap (replay m object (object_at s.objects object)) early-events
-        ∙ replay-append m object (object_at s.objects object) (take n own) events_behind front.fault
-        ∙ ap (λ ds. replayed_after ds (replay m object r.state events_behind)) done,
+            ∙ replay-append m object (object_at s.objects object) (take n own) events_behind front.fault
+            ∙ ap (λ ds. replay_after ds (replay m object r.state events_behind)) done,
       )
 
   -- once it has done all of that, it goes on from the state that is left
-  pub early-split : length (done_at object ds) ≤ n → early_replay m s object n ≡ replayed_after (done_at object ds) (replay m object (object_at (objects_after s.objects ds) object) events_behind)
+  pub early-split : length (done_at object ds) ≤ n → early_replay m s object n ≡ replay_after (done_at object ds) (replay m object (object_at (objects_after s.objects ds) object) events_behind)
   unfolding early_replay
   early-split upto =
       let long : length own ≡ length (done_at object ds) = ap length (events_at-events_of object ds) ∙ length-events_of (done_at object ds) in
       let all : take n own ≡ own = take_all n own (omega arith) in
       ap (replay m object (object_at s.objects object)) (early-events ∙ ap (λ es. es ++ events_behind) all)
       ∙ replay-append m object (object_at s.objects object) own events_behind (ap (λ (r : Replay). r.fault) own_replay)
-      ∙ ap (λ (r : Replay). replayed_after r.done (replay m object r.state events_behind)) own_replay
+      ∙ ap (λ (r : Replay). replay_after r.done (replay m object r.state events_behind)) own_replay

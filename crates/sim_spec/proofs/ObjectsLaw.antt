@@ -1,5 +1,5 @@
 -- An object's part of a bucket is its own replay, and nothing that it does early comes before the bucket's end.
-use Rattle.std.proofs.Common.{◌≡◌, ℕ, suc, ◌+◌, ◌-◌, ◌<◌, ◌≤◌, Bool, true, false, List, [], ◌∷◌, ◌++◌, length, take, drop, sym, refl, ap, ◌∙◌, subst, arith, eqb, ltb, ltb-true, ltb-false}
+use Rattle.std.proofs.Common.{◌≡◌, ℕ, suc, ◌+◌, ◌-◌, ◌<◌, ◌≤◌, Bool, true, false, List, ◌∷◌, length, take, drop, sym, refl, ap, ◌∙◌, subst, arith, eqb, ltb, ltb-true, ltb-false}
 use Rattle.std.proofs.lemmas.List.{append-nil}
 use Rattle.std.specs.Prelude.{Option, Some, None}
 use Rattle.std.specs.List.{AllByRecursion as Each}
@@ -15,13 +15,13 @@ use Rattle.sim_spec.specs.State.{State, Lawful, object_at}
 use Rattle.sim_spec.specs.Horizon.{HorizonBucket, horizon_bucket, reach_with, reach_of}
 use Rattle.sim_spec.specs.Cut.{events_of, objects_after}
 use Rattle.sim_spec.specs.Replay.{Replay, replay, events_at, done_at, early_replay, NoneBelow, EmitsFrom}
-use Rattle.sim_spec.specs.HorizonLaws.{IsPast, IsNextFault, IsBelowHorizon, IsOwnReplay, ObjectsLaw}
+use Rattle.sim_spec.specs.HorizonLaws.{IsPast, IsBelowHorizon, ObjectsLaw}
 use Rattle.sim_spec.proofs.EachLemmas.{Each-map, Each-append, Each-take, Each-filter}
 use Rattle.sim_spec.proofs.PartLemmas.{Each-events_at, events_at-append, events_at-first}
 use Rattle.sim_spec.proofs.StampLemmas.{EmitsFrom-le}
 use Rattle.sim_spec.proofs.BucketFacts.{bucket-in-turn}
 use Rattle.sim_spec.proofs.HorizonLaw.{horizon_law}
-use Rattle.sim_spec.proofs.ReplayLemmas.{replayed_after, replay-fault, replay-emits}
+use Rattle.sim_spec.proofs.ReplayLemmas.{replay_after, replay-fault, replay-emits}
 use Rattle.sim_spec.proofs.ObjectReplay.{GoFirst, in-turn-replay, events_behind, early-parts, early-split}
 use Rattle.sim_spec.proofs.BucketInduction.{replay-fails}
 
@@ -85,8 +85,8 @@ module _ (m : Meaning) (t : Terms) (s : State) (lawful : Lawful m t s) (object :
       let emitted = Each-take (λ (d : Event × Firing). NoneBelow b.horizon d.1.events) n (done_at object b.done) own_emits in
       let P : Replay → Type 0 = λ r. EmitsFrom (reach_of b) r.done in
       subst P (sym parts.1) (Each-append (λ (d : Event × Firing). NoneBelow (reach_of b) d.1.events) (take n (done_at object b.done)) (replay m object parts.0 es).done
-        (EmitsFrom-le (reach_of b) b.horizon (take n (done_at object b.done)) (reach_within b.fault refl) emitted)
-        (past_emits b.horizon b.fault es (behind_past n) (replay m object parts.0 es) (λ g. replay-emits m object g parts.0 es)))
+      (EmitsFrom-le (reach_of b) b.horizon (take n (done_at object b.done)) (reach_within b.fault refl) emitted)
+      (past_emits b.horizon b.fault es (behind_past n) (replay m object parts.0 es) (λ g. replay-emits m object g parts.0 es)))
 
   faults : (n : ℕ) (met : Key × ℕ) → (early_replay m s object n).fault ≡ Some met → IsPast b.horizon b.fault met.0
   faults n met is_met =
@@ -113,8 +113,8 @@ module _ (m : Meaning) (t : Terms) (s : State) (lawful : Lawful m t s) (object :
       ap (take (n - length ds)) next ∙ ap (λ k. take k (e ∷ events_at object found.behind)) more in
       let same : (e.key, fault.1) ≡ fault = ap (λ (k : Key). (k, fault.1)) found.key in
       early-split m s b.done tail goes_first object inside n (omega arith)
-      ∙ ap (λ es. replayed_after ds (replay m object state es)) events
-      ∙ ap (replayed_after ds) (replay-fails m object state e (take q (events_at object found.behind)) fault.1 fails_here)
+      ∙ ap (λ es. replay_after ds (replay m object state es)) events
+      ∙ ap (replay_after ds) (replay-fails m object state e (take q (events_at object found.behind)) fault.1 fails_here)
       ∙ λ i. record { done = append-nil ds i; fault = Some (same i); state = state }
 
 pub objects_law : (m : Meaning) (t : Terms) → ObjectsLaw m t

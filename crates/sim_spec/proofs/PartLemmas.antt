@@ -1,11 +1,13 @@
 -- One object's part of a list of events, or of what was done.
-use Rattle.std.proofs.Common.{◌≡◌, ℕ, suc, Bool, true, false, cond, List, [], ◌∷◌, ◌++◌, length, refl, ap, ◌∙◌, eqb, eqb-true, eq-eqb}
+use Rattle.std.proofs.Common.{◌≡◌, ℕ, ◌<◌, Bool, true, false, cond, List, [], ◌∷◌, ◌++◌, length, refl, ap, subst, eqb, eqb-true, eq-eqb}
 use Rattle.std.proofs.lemmas.List.Elements.{filter-append}
 use Rattle.std.proofs.lemmas.List.{length-map}
 use Rattle.std.specs.List.{AllByRecursion as Each}
 use Rattle.model_core.specs.declared.event.Event.{Event}
-use Rattle.sim_spec.specs.Firing.{Firing}
+use Rattle.model_core.specs.Meaning.{Meaning}
+use Rattle.sim_spec.specs.Firing.{ObjectState, Firing}
 use Rattle.sim_spec.specs.Pending.{enqueue_all, IsAscending}
+use Rattle.sim_spec.specs.State.{AllSound}
 use Rattle.sim_spec.specs.Cut.{events_of}
 use Rattle.sim_spec.specs.Replay.{events_at, done_at}
 use Rattle.sim_spec.proofs.AscendingLemmas.{IsAscending-filter}
@@ -61,3 +63,28 @@ events_of-append (x ∷ xs) ys = ap (λ zs. x.0 ∷ zs) (events_of-append xs ys)
 
 pub length-events_of : (ds : List (Event × Firing)) → length (events_of ds) ≡ length ds
 length-events_of ds = length-map ds (λ (d : Event × Firing). d.0)
+
+-- each pending event of a lawful state is at an object of the model
+pub AllSound-dest : (m : Meaning) (objects : List ObjectState) (es : List Event) → AllSound m objects es → Each (λ (e : Event). e.key.dest < m.objects) es
+unfolding AllSound
+AllSound-dest m objects [] sound = tt
+AllSound-dest m objects (e ∷ es) sound = (sound.0.dest, AllSound-dest m objects es sound.1)
+
+-- what holds of each part holds of the whole
+other_part : (P : Event × Firing → Type 0) (object : ℕ) (d : Event × Firing) (ds : List (Event × Firing)) → Each P (done_at object (d ∷ ds)) → Each P (done_at object ds)
+unfolding done_at
+other_part P object d ds part = by_dest (eqb d.0.key.dest object) part
+  where
+    by_dest : (b : Bool) → Each P (cond b (d ∷ done_at object ds) (done_at object ds)) → Each P (done_at object ds)
+    by_dest true part = part.1
+    by_dest false part = part
+
+pub Each-parts : (P : Event × Firing → Type 0) (n : ℕ) (ds : List (Event × Firing)) → Each (λ (e : Event). e.key.dest < n) (events_of ds)
+    → ((object : ℕ) → object < n → Each P (done_at object ds)) → Each P ds
+unfolding done_at
+Each-parts P n [] inside parts = tt
+Each-parts P n (d ∷ ds) inside parts =
+    let here : eqb d.0.key.dest d.0.key.dest ≡ true = eq-eqb _ _ refl in
+    let Q : Bool → Type 0 = λ b. Each P (cond b (d ∷ done_at d.0.key.dest ds) (done_at d.0.key.dest ds)) in
+    let one : Q true = subst Q here (parts d.0.key.dest inside.0) in
+    (one.0, Each-parts P n ds inside.1 (λ object below. other_part P object d ds (parts object below)))

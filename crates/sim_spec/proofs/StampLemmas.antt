@@ -1,5 +1,5 @@
 -- Bounds on the stamps of events, and of what they send.
-use Rattle.std.proofs.Common.{◌≡◌, ℕ, zero, suc, ◌+◌, ◌*◌, ◌/◌, ◌<◌, ◌≤◌, min, Bool, true, false, cond, List, [], ◌∷◌, ◌++◌, length, refl, ap, ◌∙◌, subst, arith, eqb, get_or}
+use Rattle.std.proofs.Common.{◌≡◌, ℕ, zero, suc, ◌+◌, ◌*◌, ◌<◌, ◌≤◌, min, Bool, true, false, cond, List, [], ◌∷◌, ◌++◌, length, refl, ap, ◌∙◌, subst, arith, eqb, get_or}
 use Rattle.std.proofs.lemmas.Bool.{eqb-false}
 use Rattle.std.specs.Prelude.{Contains}
 use Rattle.event_key.specs.declared.key.Key.{Key}

@@ -30,24 +30,26 @@ objects_after objects [] = objects
 objects_after objects (d ∷ ds) = objects_after (slice_set objects d.0.key.dest d.1.state) ds
 
 -- the state once its first pending events are done
-unfoldable pub with_done : State → List (Event × Firing) → State
-with_done s done = record {
-    objects = objects_after s.objects done;
-    pending = enqueue_all (emissions_of done) (drop (length done) s.pending);
-    count = s.count + length done;
-  }
+unfoldable pub state_with_done : State → List (Event × Firing) → State
+state_with_done s done = record {
+  objects = objects_after s.objects done;
+  pending = enqueue_all (emissions_of done) (drop (length done) s.pending);
+  count = s.count + length done;
+}
 
 -- more is due than the events that are left: another event, or the one that fails
 unfoldable pub is_limited : ℕ → HorizonBucket → Bool
 is_limited left b = nat_lt left (length b.done) || (left == length b.done && is_some b.fault)
 
--- the events of the bucket that happen
+-- the events of the bucket that happen: as many as the limit still lets happen
 unfoldable pub committed_events : Meaning → Terms → State → List (Event × Firing)
 committed_events m t s = take (t.limit - s.count) (horizon_bucket m t s).done
 
+-- the state after the cycle
 unfoldable pub after : Meaning → Terms → State → State
-after m t s = with_done s (committed_events m t s)
+after m t s = state_with_done s (committed_events m t s)
 
+-- what the cycle commits; there is a horizon only where the bucket met neither the limit nor a fault
 unfoldable pub cut : Meaning → Terms → State → Bucket
 cut m t s =
     let b = horizon_bucket m t s in

@@ -52,10 +52,10 @@ unfoldable pub cycles : Meaning → Terms → State → Cycles
 cycles m t s = cycles_for (suc (t.limit - s.count)) m t s
 
 -- the records of buckets, one bucket after another
-unfoldable pub records_of_all : List Bucket → List (Key × Note)
-records_of_all [] = []
-records_of_all (b ∷ bs) = b.done ++ records_of_all bs
+unfoldable pub records_of_buckets : List Bucket → List (Key × Note)
+records_of_buckets [] = []
+records_of_buckets (b ∷ bs) = b.done ++ records_of_buckets bs
 
 -- the run that the cycles amount to
 abbrev pub run_of : Cycles → Run
-run_of c = record { records = records_of_all c.buckets; last = c.last; stop = c.stop }
+run_of c = record { records = records_of_buckets c.buckets; last = c.last; stop = c.stop }

@@ -25,13 +25,13 @@ abbrev pub empty_bucket : ℕ → HorizonBucket
 empty_bucket h = record { done = []; horizon = h; fault = None }
 
 -- a bucket with an event before its own
-abbrev pub with_first : Event × Firing → HorizonBucket → HorizonBucket
-with_first d b = record b { done = d ∷ b.done }
+abbrev pub bucket_with : Event × Firing → HorizonBucket → HorizonBucket
+bucket_with d b = record b { done = d ∷ b.done }
 
 -- the bucket whose first event comes out so: nothing is fired after a fault
 unfoldable pub bucket_fired : ℕ → Event → (Firing → HorizonBucket) → Fired → HorizonBucket
 bucket_fired h e more (fails code) = record { done = []; horizon = h; fault = Some (e.key, code) }
-bucket_fired h e more (goes x) = with_first (e, x) (more x)
+bucket_fired h e more (goes x) = bucket_with (e, x) (more x)
 
 -- the pending events in order, below a horizon that each lowers to what it sends
 unfoldable pub bucket_below : Meaning → ℕ → List ObjectState → List Event → HorizonBucket

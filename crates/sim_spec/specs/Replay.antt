@@ -14,13 +14,13 @@ pub record Replay : Type 0 where
   pub state : ObjectState
 
 -- a replay with an event before its own
-abbrev pub replayed_first : Event × Firing → Replay → Replay
-replayed_first d r = record r { done = d ∷ r.done }
+abbrev pub replay_with : Event × Firing → Replay → Replay
+replay_with d r = record r { done = d ∷ r.done }
 
 -- the replay whose first event comes out so
 unfoldable pub replay_fired : ObjectState → Event → (Firing → Replay) → Fired → Replay
 replay_fired state e more (fails code) = record { done = []; fault = Some (e.key, code); state = state }
-replay_fired state e more (goes x) = replayed_first (e, x) (more x)
+replay_fired state e more (goes x) = replay_with (e, x) (more x)
 
 -- events at an object from its state, up to the first fault
 unfoldable pub replay : Meaning → ℕ → ObjectState → List Event → Replay
