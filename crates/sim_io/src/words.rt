@@ -48,19 +48,37 @@ pub enum Settings {
     Run,
 }
 
-ghost use Rattle.sim_io.specs.Words.{settings, texts_of};
+ghost use Rattle.sim_io.specs.Words.{after_run, settings, texts_of};
+
+/// What follows `run`: it takes no word.
+fn after_run(words: &[String]) -> Result<Settings, WordFault>
+    ensures { result ≡ after_run (texts_of words.now) }
+{
+    match words {
+        [] => Ok(Settings::Run),
+        [word, ..] => {
+            if word.as_bytes().starts_with(b"-") {
+                Err(WordFault::UnknownOption)
+            } else {
+                Err(WordFault::ExtraWord)
+            }
+        }
+    }
+}
 
 /// Reads the words that follow the program's name.
 #[tactic(auto, unfolding(crate::specs::Words::settings))]
 pub fn read_words(words: &Vec<String>) -> Result<Settings, WordFault>
     ensures { result ≡ settings (texts_of words.now.items) }
 {
-    if words.is_empty() {
-        return Err(WordFault::NoCommand);
-    }
-    if words.len() == 1 && words[0].as_str() == "run" {
-        Ok(Settings::Run)
-    } else {
-        Err(WordFault::UnknownCommand)
+    match words.as_slice() {
+        [] => Err(WordFault::NoCommand),
+        [command, rest @ ..] => {
+            if command.as_str() == "run" {
+                after_run(rest)
+            } else {
+                Err(WordFault::UnknownCommand)
+            }
+        }
     }
 }

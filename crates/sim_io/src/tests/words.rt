@@ -1,18 +1,53 @@
 use crate::{Settings, WordFault, read_words};
+use std::alloc::Global;
 use std::test::Fail;
+
+fn list_of(alloc: Global, words: &[&str]) -> Result<Vec<String>, Fail> {
+    let mut list = Vec::new(alloc);
+    for word in words {
+        list.push(String::from_str(alloc, word)?)?;
+    }
+    Ok(list)
+}
 
 #[test]
 fn only_run_is_a_command(rt: HostRuntime) -> Result<(), Fail> {
     let alloc = rt.alloc();
-    let mut words = Vec::new(alloc);
-    assert_eq!(rt; read_words(&words), Err(WordFault::NoCommand));
-    words.push(String::from_str(alloc, "run")?)?;
-    assert_eq!(rt; read_words(&words), Ok(Settings::Run));
-    words.push(String::from_str(alloc, "run")?)?;
-    assert_eq!(rt; read_words(&words), Err(WordFault::UnknownCommand));
-    words.truncate(0);
-    words.push(String::from_str(alloc, "go")?)?;
-    assert_eq!(rt; read_words(&words), Err(WordFault::UnknownCommand));
+    assert_eq!(rt;
+        read_words(&list_of(alloc, &[])?),
+        Err(WordFault::NoCommand)
+    );
+    assert_eq!(rt; read_words(&list_of(alloc, &["run"])?), Ok(Settings::Run));
+    assert_eq!(rt;
+        read_words(&list_of(alloc, &["go"])?),
+        Err(WordFault::UnknownCommand)
+    );
+    assert_eq!(rt;
+        read_words(&list_of(alloc, &["go", "run"])?),
+        Err(WordFault::UnknownCommand)
+    );
+    Ok(())
+}
+
+#[test]
+fn the_first_word_after_run_is_judged(rt: HostRuntime) -> Result<(), Fail> {
+    let alloc = rt.alloc();
+    assert_eq!(rt;
+        read_words(&list_of(alloc, &["run", "--nodes=2"])?),
+        Err(WordFault::UnknownOption)
+    );
+    assert_eq!(rt;
+        read_words(&list_of(alloc, &["run", "run"])?),
+        Err(WordFault::ExtraWord)
+    );
+    assert_eq!(rt;
+        read_words(&list_of(alloc, &["run", "-", "x"])?),
+        Err(WordFault::UnknownOption)
+    );
+    assert_eq!(rt;
+        read_words(&list_of(alloc, &["run", "x", "-"])?),
+        Err(WordFault::ExtraWord)
+    );
     Ok(())
 }
 
