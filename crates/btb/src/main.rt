@@ -5,6 +5,8 @@ mod ending;
 mod gate;
 mod notes;
 mod running;
+#[cfg(test)]
+mod tests;
 mod top;
 
 use crate::gate::Open;
