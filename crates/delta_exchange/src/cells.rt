@@ -1,7 +1,11 @@
 //! The state of an object: words, and lines of values.
-ghost use Rattle.std.specs.Prelude.{◌≡◌, ◌<◌, ◌≤◌, ◌^◌, ℕ, true, List, length, slice_index, map, take, drop, reverse, IfOk, OnOk};
-ghost use Rattle.delta_exchange.specs.Changes.{line_of, Fits, cells_after, inverse_of, AllFit, cells_after_all, inverses_of};
-ghost use Rattle.delta_exchange.specs.Spares.{FindsRoom, spare_after, AllFindRoom, spare_after_all, puts_in_at, room_for, HaveRoom, NamesLine, NameLines, NoneFell, HasSpares};
+ghost use Rattle.std.specs.Prelude.{◌≡◌, ◌<◌, ◌≤◌, ◌^◌, ℕ, true, List, length, slice_index};
+ghost use Rattle.std.specs.Prelude.{map, take, drop, reverse, IfOk, OnOk};
+ghost use Rattle.delta_exchange.specs.Changes.{line_of, Fits, cells_after, inverse_of};
+ghost use Rattle.delta_exchange.specs.Changes.{AllFit, cells_after_all, inverses_of};
+ghost use Rattle.delta_exchange.specs.Spares.{FindsRoom, spare_after, AllFindRoom, spare_after_all};
+ghost use Rattle.delta_exchange.specs.Spares.{puts_in_at, room_for, HaveRoom, NamesLine, NameLines};
+ghost use Rattle.delta_exchange.specs.Spares.{NoneFell, HasSpares};
 ghost use Rattle.delta_exchange.specs.Undoing.{UndoRestores, view_after_all};
 ghost use Rattle.delta_exchange.specs.Views.{unspared};
 ghost use Rattle.delta_exchange.specs.declared.change.Change.{Change};
@@ -12,7 +16,8 @@ use crate::memory::OutOfMemory;
 use std::alloc::{AllocError, Global};
 use std::marker::Model;
 
-/// The words and the lines of an object.
+/// The words and the lines of an object, fewer than 2^32 of each. Contracts see beside each line its
+/// spare: for how many more values it has room for certain.
 #[derive(Drop)]
 pub struct Cells {
     words: Vec<u64>,
@@ -99,15 +104,21 @@ impl Cells {
         line.at(place)
     }
 
-    /// Makes room for the values that the changes put in.
+    /// Makes room for the values that the changes put in, so that doing them takes no memory. Asks for
+    /// memory at most once a line, and for twice as much each time, so that many calls cost no more
+    /// than the values that they make room for. After an `Err` the lines that were seen to keep their room.
     pub fn room(&mut self, changes: &[Change]) -> Result<(), OutOfMemory>
         requires { NameLines changes.now self.old.contents }
         ensures ok { OnOk result (HaveRoom changes.now self.new.spare) }
         ensures same { self.new.contents ≡ self.old.contents }
         ensures none_fell { NoneFell self.old.spare self.new.spare }
-        ensures kept { (others : List Change) → AllFindRoom others self.old.spare → AllFindRoom others self.new.spare }
+
+        // Whatever found room before still finds it.
+        ensures kept { (others : List Change) → AllFindRoom others self.old.spare
+            → AllFindRoom others self.new.spare }
         ensures spares { HasSpares self.new }
     {
+        // Opens the cells, so that the proof knows that each line has its spare.
         let _ = &self.words;
         for change in changes {
             self.room_at(change, changes)?;
@@ -118,7 +129,8 @@ impl Cells {
     /// Makes the room that the changes need at the line where one of them puts a value in.
     fn room_at(&mut self, change: &Change, changes: &[Change]) -> Result<(), OutOfMemory>
         requires { NamesLine change.now self.old.contents }
-        ensures ok { OnOk result ((line : ℕ) → puts_in_at change.now line ≡ true → room_for changes.now line ≤ slice_index self.new.spare line) }
+        ensures ok { OnOk result ((line : ℕ) → puts_in_at change.now line ≡ true
+            → room_for changes.now line ≤ slice_index self.new.spare line) }
         ensures same { self.new.contents ≡ self.old.contents }
         ensures none_fell { NoneFell self.old.spare self.new.spare }
     {
@@ -142,7 +154,7 @@ impl Cells {
         Ok(())
     }
 
-    /// Does a change and turns it into its inverse.
+    /// Does a change and turns it into its inverse, in constant time and with no memory.
     pub fn exchange(&mut self, change: &mut Change)
         requires fits { Fits change.old self.old.contents }
         requires room { FindsRoom change.old self.old.spare }
@@ -183,7 +195,7 @@ impl Cells {
         }
     }
 
-    /// Exchanges the changes from the first to the last.
+    /// Exchanges the changes from the first to the last. After `room` this takes no memory.
     pub fn apply(&mut self, changes: &mut [Change])
         requires fit { AllFit changes.old self.old.contents }
         requires room { HaveRoom changes.old self.old.spare }
@@ -192,17 +204,20 @@ impl Cells {
         ensures changes { changes.new ≡ inverses_of changes.old self.old.contents }
         ensures spares { HasSpares self.new }
 
-        // What undoing all of them restores, and what undoing all but the first ones does.
+        // What undoing them all restores, and what undoing all but the first ones does.
         ensures undo { UndoRestores changes.new self.new changes.old self.old }
-        ensures undo_last { (kept : ℕ) → UndoRestores (drop kept changes.new) self.new (drop kept changes.old) (view_after_all (take kept changes.old) self.old) }
+        ensures undo_last { (kept : ℕ) → UndoRestores (drop kept changes.new) self.new
+            (drop kept changes.old) (view_after_all (take kept changes.old) self.old) }
     {
+        // Opens the cells, so that the proof knows that each line has its spare.
         let _ = &self.words;
         for change in changes.iter_mut() {
             self.exchange(change);
         }
     }
 
-    /// Exchanges the changes from the last to the first.
+    /// Exchanges the changes from the last to the first. What `apply` made of a list can be undone, with
+    /// no memory, which gives back the list, the cells and the spares.
     pub fn undo(&mut self, changes: &mut [Change])
         requires fit { AllFit (reverse changes.old) self.old.contents }
         requires room { AllFindRoom (reverse changes.old) self.old.spare }
@@ -211,6 +226,7 @@ impl Cells {
         ensures changes { changes.new ≡ reverse (inverses_of (reverse changes.old) self.old.contents) }
         ensures spares { HasSpares self.new }
     {
+        // Opens the cells, so that the proof knows that each line has its spare.
         let _ = &self.words;
         for at in (0..changes.len()).rev() {
             self.exchange(&mut changes[at]);

@@ -1,17 +1,21 @@
 //! Laws of the definitions, each the contract of a function that does nothing.
-ghost use Rattle.delta_exchange.specs.Undoing.{UndoingRestores, UndoingTheLastRestores, UndoingTheFirstRestores, RoomIsEnough, MoreSpareIsEnough, MoreSpareStays, FittingNamesLines};
+ghost use Rattle.delta_exchange.specs.Undoing.{UndoingRestores, UndoingTheLastRestores};
+ghost use Rattle.delta_exchange.specs.Undoing.{UndoingTheFirstRestores, RoomIsEnough};
+ghost use Rattle.delta_exchange.specs.Undoing.{MoreSpareIsEnough, MoreSpareStays, FittingNamesLines};
 
 /// Undoing the inverses of a list of changes gives back the changes, the cells and the spares.
 pub fn law_undo()
     ensures { UndoingRestores }
 {}
 
-/// Undoing the inverses of the last changes of a list gives back those changes, and the cells and spares after the others.
+/// Undoing the inverses of the last changes of a list gives back those changes, and the cells and
+/// spares after the others.
 pub fn law_undo_last()
     ensures { UndoingTheLastRestores }
 {}
 
-/// Undoing the inverses of the first changes of a list, where only they were done, gives back those changes, the cells and the spares.
+/// Undoing the inverses of the first changes of a list, where only they were done, gives back those
+/// changes, the cells and the spares.
 #[tactic(auto, using(crate::proofs::Undoing::undoing_the_first_restores))]
 pub fn law_undo_first()
     ensures { UndoingTheFirstRestores }

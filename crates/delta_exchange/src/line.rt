@@ -1,5 +1,6 @@
 //! A line of values that are taken and given at both ends.
-ghost use Rattle.std.specs.Prelude.{◌≡◌, ◌+◌, ◌-◌, ◌<◌, ◌≤◌, [], ◌∷◌, ◌++◌, length, take, drop, slice_index, IfOk, OnOk};
+ghost use Rattle.std.specs.Prelude.{◌≡◌, ◌+◌, ◌-◌, ◌<◌, ◌≤◌, [], ◌∷◌, ◌++◌};
+ghost use Rattle.std.specs.Prelude.{length, take, drop, slice_index, IfOk, OnOk};
 ghost use Rattle.delta_exchange.specs.Views.{unspared};
 
 use std::alloc::AllocError;
@@ -59,7 +60,7 @@ impl Line {
         self.queue[place]
     }
 
-    /// Makes the spare at least this many.
+    /// Makes the spare at least this many. The queue grows to twice its length at least.
     pub fn reserve(&mut self, places: usize) -> Result<(), AllocError>
         ensures values { self.new.values ≡ self.old.values }
         ensures spare { OnOk result (places ≤ self.new.spare) }
@@ -75,7 +76,10 @@ impl Line {
     /// Puts a value in as the last.
     pub fn push_back(&mut self, value: u64)
         requires { 0 < self.old.spare }
-        ensures { self.new ≡ record { values = self.old.values ++ value ∷ []; spare = self.old.spare - 1 } }
+        ensures { self.new ≡ record {
+          values = self.old.values ++ value ∷ [];
+          spare = self.old.spare - 1;
+        } }
     {
         self.queue.push_back_reserved(value);
         self.spare -= 1;
@@ -84,7 +88,10 @@ impl Line {
     /// Puts a value in as the first.
     pub fn push_front(&mut self, value: u64)
         requires { 0 < self.old.spare }
-        ensures { self.new ≡ record { values = value ∷ self.old.values; spare = self.old.spare - 1 } }
+        ensures { self.new ≡ record {
+          values = value ∷ self.old.values;
+          spare = self.old.spare - 1;
+        } }
     {
         self.queue.push_front_reserved(value);
         self.spare -= 1;
@@ -94,7 +101,10 @@ impl Line {
     pub fn pop_back(&mut self) -> u64
         requires { 0 < length self.old.values }
         ensures value { result ≡ slice_index self.old.values (length self.old.values - 1) }
-        ensures rest { self.new ≡ record { values = take (length self.old.values - 1) self.old.values; spare = self.old.spare + 1 } }
+        ensures rest { self.new ≡ record {
+          values = take (length self.old.values - 1) self.old.values;
+          spare = self.old.spare + 1;
+        } }
     {
         let value = self.queue.pop_back().unwrap();
         self.spare += 1;
@@ -105,7 +115,10 @@ impl Line {
     pub fn pop_front(&mut self) -> u64
         requires { 0 < length self.old.values }
         ensures value { result ≡ slice_index self.old.values 0 }
-        ensures rest { self.new ≡ record { values = drop 1 self.old.values; spare = self.old.spare + 1 } }
+        ensures rest { self.new ≡ record {
+          values = drop 1 self.old.values;
+          spare = self.old.spare + 1;
+        } }
     {
         let value = self.queue.pop_front().unwrap();
         self.spare += 1;

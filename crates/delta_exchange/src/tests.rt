@@ -1,4 +1,5 @@
-//! What no clause says: that the calls succeed where there is memory, and what the clauses mean, by an example.
+//! What no clause says: that the calls succeed where there is memory, and what the clauses mean, by an
+//! example.
 ghost use Rattle.std.specs.Prelude.{◌≡◌, [], ◌∷◌, IfOk, OnOk};
 ghost use Rattle.delta_exchange.specs.Changes.{AllFit, cells_after_all};
 
