@@ -97,16 +97,6 @@ pub(crate) fn field<'a>(table: &'a Table, key: &str) -> Option<&'a Value>
     table.get(key)
 }
 
-/// A field that has to be there.
-pub(crate) fn required<'a>(table: &'a Table, key: &str, item: u32) -> Result<&'a Value, Refusal>
-    ensures { Gives (λ value. view value.now) result (required item (λ d. Ok d) key.now (table_view table.now)) }
-{
-    match field(table, key) {
-        Some(value) => Ok(value),
-        None => Err(Cause::Missing.at(item)),
-    }
-}
-
 pub(crate) fn required_number(
     table: &Table,
     key: &str,

@@ -63,7 +63,7 @@ impl From<OutOfMemory> for Refusal {
 impl Cause {
     ghost use Rattle.std.specs.Prelude.{◌≡◌};
     ghost use Rattle.model_text.specs.declared.refusal.Refusal.TheVariants.{At};
-    ghost use Rattle.model_text.specs.Causes.{cause_code, cause_name};
+    ghost use Rattle.model_text.specs.Causes.{cause_code, cause_name, coded_cause};
 
     /// Its code, from 1 to 7.
     pub fn code(self) -> u8
@@ -92,6 +92,22 @@ impl Cause {
             Cause::BadValue => "BadValue",
             Cause::BadLink => "BadLink",
             Cause::Limit => "Limit",
+        }
+    }
+
+    /// The cause with this code.
+    pub fn of_code(code: u8) -> Option<Cause>
+        ensures { result ≡ coded_cause code }
+    {
+        match code {
+            1 => Some(Cause::TooLong),
+            2 => Some(Cause::NotToml),
+            3 => Some(Cause::Missing),
+            4 => Some(Cause::Unknown),
+            5 => Some(Cause::BadValue),
+            6 => Some(Cause::BadLink),
+            7 => Some(Cause::Limit),
+            _ => None,
         }
     }
 

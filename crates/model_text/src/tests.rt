@@ -205,5 +205,6 @@ fn a_cause_has_a_code_and_a_name(rt: HostRuntime) {
     ] {
         assert_eq!(rt; cause.code(), code);
         assert_eq!(rt; cause.name(), name);
+        assert_eq!(rt; Cause::of_code(code), Some(cause));
     }
 }
