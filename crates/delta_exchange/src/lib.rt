@@ -1,4 +1,4 @@
-//! Delta exchange (J. S. Steinman, SPEEDES, 1991 and 1992): the state of an object, and changes of it
+//! Delta exchange, this project's own form of incremental state saving: the state of an object, and changes of it
 //! that turn into their inverses as they are done, so that doing those from the last to the first
 //! takes them back.
 #![tactic(auto)]

@@ -35,12 +35,6 @@ unfolding NoneAt IsAscending enqueue AllAfter
 IsAscending-enqueue e [] none up = (tt, tt)
 IsAscending-enqueue e (x ∷ xs) none up = ascending_on e x xs (key_lt e.key x.key) refl none.0 up (IsAscending-enqueue e xs none.1 up.1)
 
--- a property of each event, through the places
-module _ (P : Event → Type 0) where
-  unfoldable pub Each : List Event → Type 0
-  Each [] = Unit {0}
-  Each (x ∷ xs) = P x × Each xs
-
 pub length-enqueue : (e : Event) (xs : List Event) → length (enqueue e xs) ≡ suc (length xs)
 unfolding enqueue
 length-enqueue e [] = refl
