@@ -18,7 +18,7 @@ impl SimulationModel for Named {
       lawful = λ _ _. true;
       effect = λ _ _ _. Fails 2;
       first = λ _. record { words = []; lines = [] };
-      starts = 0;
+      starts = 1;
       start_at = λ _. record { time = 0; dest = 0; kind = 0; a = 0; b = 0; rank = 0 };
       label = λ object. codes "p" ++ decimal object;
     } };
@@ -30,11 +30,18 @@ impl SimulationModel for Named {
     }
 
     fn starts(&self) -> u32 {
-        0
+        1
     }
 
     fn start(&self, _i: u32) -> Start {
-        unreachable!()
+        Start {
+            time: 0,
+            dest: 0,
+            kind: 0,
+            a: 0,
+            b: 0,
+            rank: 0,
+        }
     }
 
     fn first_cells(&self, alloc: Global, _object: u32) -> Result<Cells, OutOfMemory> {
