@@ -1,5 +1,5 @@
 -- What the laws of models ask of the effects at one object, and lemmas that serve several kinds of objects.
-use Rattle.std.proofs.Common.{◌≡◌, ℕ, ◌+◌, ◌<◌, ◌≤◌, ◌^◌, Bool, true, false, List, [], ◌∷◌, ◌++◌, length, arith}
+use Rattle.std.proofs.Common.{◌≡◌, ℕ, ◌<◌, ◌≤◌, Bool, true, false, List, [], ◌∷◌, length, arith}
 use Rattle.std.specs.Prelude.{IsTrue, if◌then◌else◌, ◌==◌}
 use Rattle.delta_exchange.specs.declared.change.Change.{Change}
 use Rattle.delta_exchange.specs.declared.change.Change.TheVariants.{Set}

@@ -1,13 +1,9 @@
 -- A network keeps the laws of models.
-use Rattle.std.proofs.Common.{◌≡◌, ℕ, ◌+◌, ◌-◌, ◌<◌, ◌≤◌, ◌^◌, Bool, true, false, refl, List, length, get_or, arith}
-use Rattle.std.specs.Prelude.{IsTrue, if◌then◌else◌, ◌==◌, nat_lt, slice_index, All}
-use Rattle.std.specs.List.{range_with_len}
+use Rattle.std.proofs.Common.{◌≡◌, ℕ, ◌+◌, ◌-◌, ◌<◌, ◌^◌, Bool, true, false, refl, List, length, arith}
+use Rattle.std.specs.Prelude.{IsTrue, if◌then◌else◌, nat_lt, slice_index}
 use Rattle.std.proofs.lemmas.Bool.Decides.{nat_tests}
-use Rattle.std.proofs.lemmas.List.Elements.{All-filter}
-use Rattle.std.proofs.lemmas.List.FromFn.{length-range_with_len, get_or-range_with_len}
 use Rattle.delta_exchange.specs.Changes.{CellData}
 use Rattle.model_core.specs.declared.event.Event.{Event}
-use Rattle.model_core.specs.declared.event.Start.{Start}
 use Rattle.model_core.specs.Meaning.{MeaningLaws, StartLaws}
 use Rattle.random_streams.proofs.Bounds.{is_drawable-delay}
 use Rattle.queue_models.specs.declared.object.Object.{Object}
@@ -16,7 +12,7 @@ use Rattle.queue_models.specs.declared.object.Role.TheVariants.{Makes, Serves, H
 use Rattle.queue_models.specs.declared.site.Site.{Site}
 use Rattle.queue_models.specs.Keeping.{OutcomeKeeps, IsSite, outcome_laws}
 use Rattle.queue_models.specs.Meaning.{network_meaning, site_of, source_start, job_start, start_of}
-use Rattle.queue_models.specs.Objects.{NetworkParts, object_at, is_source, source_numbers, first_time_of}
+use Rattle.queue_models.specs.Objects.{NetworkParts, object_at, source_numbers, first_time_of}
 use Rattle.queue_models.specs.Parts.{IsNetwork, IsObject, IsRole}
 use Rattle.queue_models.specs.PlainLaws.{delay_keeps, router_keeps, sink_keeps}
 use Rattle.queue_models.specs.Roles.{RoleCanDraw, is_lawful, effect_at, first_cells_of}
@@ -83,8 +79,8 @@ network_laws p fine = record {
   starts = omega (arith, length-source_numbers p.objects, fine.few_objects, fine.few_jobs);
   first = λ object exists. first_lawful p.objects _ (object_fine p fine object exists).role;
   outcome = λ object cells event exists lawful.
-    outcome_laws (network_meaning p) object cells _
-    (role_keeps p.objects (site_of p object) (object_at p.objects object).role cells event (object_fine p fine object exists).role
-    (record { object = exists; rank = (object_fine p fine object exists).rank }) lawful);
+      outcome_laws (network_meaning p) object cells _
+      (role_keeps p.objects (site_of p object) (object_at p.objects object).role cells event (object_fine p fine object exists).role
+      (record { object = exists; rank = (object_fine p fine object exists).rank }) lawful);
   start = λ i exists. start_laws p fine i exists;
 }

@@ -1,9 +1,7 @@
 -- Delays, routers and sinks keep the laws of models.
-use Rattle.std.proofs.Common.{◌≡◌, ℕ, ◌+◌, ◌-◌, ◌<◌, ◌≤◌, ◌^◌, Bool, true, false, refl, List, [], ◌∷◌, length, subst, arith}
+use Rattle.std.proofs.Common.{◌≡◌, ℕ, ◌-◌, ◌<◌, ◌≤◌, Bool, true, false, List, [], ◌∷◌, length, arith}
 use Rattle.std.specs.Prelude.{IsTrue, if◌then◌else◌, ◌==◌, ◌&&◌, slice_index}
 use Rattle.std.proofs.lemmas.Bool.Decides.{nat_tests}
-use Rattle.delta_exchange.specs.declared.change.Change.{Change}
-use Rattle.delta_exchange.specs.declared.change.Change.TheVariants.{Set}
 use Rattle.delta_exchange.specs.Changes.{CellData, AllFit, cells_after_all}
 use Rattle.event_key.specs.Stamps.{time_part}
 use Rattle.model_core.specs.declared.effect.Outcome.TheVariants.{Goes, Fails}
@@ -22,7 +20,7 @@ use Rattle.queue_models.specs.Delays.{delay_effect}
 use Rattle.queue_models.specs.Routers.{IsChoiceOf, router_effect}
 use Rattle.queue_models.specs.Sinks.{is_late, sink_effect}
 use Rattle.queue_models.specs.Parts.{IsDelay, IsLink, IsRouter}
-use Rattle.queue_models.specs.Keeping.{Keeps, EffectKeeps, OutcomeKeeps, IsSite, place_cases, one_element}
+use Rattle.queue_models.specs.Keeping.{Keeps, OutcomeKeeps, IsSite, place_cases, one_element}
 
 place_keeps : (cells : CellData) (next : ℕ) → IsTrue (is_plain_cells cells) → Keeps is_plain_cells (place_changes (place_of cells) next) cells
 unfolding AllFit cells_after_all
@@ -74,8 +72,11 @@ unfolding router_effect
 router_keeps objects site router cells event fine here lawful =
     let way = (drawn_at site cells router.choice).0 in
     let within : way < length router.next.items =
-    omega (arith, draw-within site.seed site.object (place_of cells) router.choice (choice_can_be_drawn router.next.items router.choice fine.choice),
-    choice_within router.next.items router.choice fine.choice) in
+    omega (
+      arith,
+      draw-within site.seed site.object (place_of cells) router.choice (choice_can_be_drawn router.next.items router.choice fine.choice),
+      choice_within router.next.items router.choice fine.choice,
+    ) in
     let link : IsLink objects (slice_index router.next.items way) = fine.next way 0 within in
     record {
       changes = place_keeps cells (drawn_at site cells router.choice).1 lawful;

@@ -1,5 +1,5 @@
 -- A source keeps the laws of models.
-use Rattle.std.proofs.Common.{◌≡◌, ℕ, ◌+◌, ◌-◌, ◌<◌, ◌≤◌, ◌^◌, Bool, true, false, refl, List, [], ◌∷◌, ◌++◌, length, subst, arith}
+use Rattle.std.proofs.Common.{◌≡◌, ℕ, ◌+◌, ◌-◌, ◌≤◌, ◌^◌, Bool, true, false, refl, List, [], ◌∷◌, ◌++◌, length, subst, arith}
 use Rattle.std.specs.Prelude.{IsTrue, if◌then◌else◌, ◌==◌, slice_index}
 use Rattle.std.proofs.lemmas.Bool.Decides.{nat_tests}
 use Rattle.delta_exchange.specs.declared.change.Change.{Change}
@@ -46,12 +46,13 @@ counts source cells next lawful some =
         let still : made + 1 + (left - 1) ≡ source.count = omega arith in
         let after : IsTrue (is_source_cells source (with_words cells (place ∷ (made + 1) ∷ (left - 1) ∷ []))) = grind (arith, nat_tests) in
         let stays : Keeps (is_source_cells source) (counted (with_words cells (place ∷ made ∷ left ∷ []))) (with_words cells (place ∷ made ∷ left ∷ [])) =
-        record { few = omega arith; fits = (omega arith, (omega arith, tt)); after = after } in
-        (place_cases
-        (λ changes. Keeps (is_source_cells source) (changes ++ counted (with_words cells (place ∷ made ∷ left ∷ []))) (with_words cells (place ∷ made ∷ left ∷ [])))
-        place next stays
-        (record { few = omega arith; fits = (omega arith, (omega arith, (omega arith, tt))); after = after }),
-        stays)
+        record { few = omega arith; fits = (omega arith, (omega arith, tt)); after = after } in (
+          place_cases
+              (λ changes. Keeps (is_source_cells source) (changes ++ counted (with_words cells (place ∷ made ∷ left ∷ []))) (with_words cells (place ∷ made ∷ left ∷ [])))
+              place next stays
+              (record { few = omega arith; fits = (omega arith, (omega arith, (omega arith, tt))); after = after }),
+          stays,
+        )
 
 every_delay : (objects : List Object) (site : Site) (source : Source) (cells : CellData) → IsSource objects source → (drawn_at site cells source.every).0 ≤ 2 ^ 40
 every_delay objects site source cells fine = draw-le site.seed site.object (place_of cells) source.every (is_drawable-delay source.every fine.every)

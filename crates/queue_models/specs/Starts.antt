@@ -1,6 +1,6 @@
 -- Lemmas on the numbers of the sources, and on the initial events.
-use Rattle.std.proofs.Common.{◌≡◌, ℕ, ◌+◌, ◌-◌, ◌<◌, ◌≤◌, Bool, true, false, cond, List, [], ◌∷◌, ◌++◌, length, get_or, map, sym, ap, ◌∙◌, map-id, append-nil, arith}
-use Rattle.std.specs.Prelude.{slice_index, nat_lt, if◌then◌else◌, All, count_by}
+use Rattle.std.proofs.Common.{◌≡◌, ℕ, ◌+◌, ◌-◌, ◌<◌, ◌≤◌, Bool, true, false, cond, List, [], ◌∷◌, ◌++◌, length, get_or, sym, ap, ◌∙◌, map-id, append-nil, arith}
+use Rattle.std.specs.Prelude.{slice_index, nat_lt, if◌then◌else◌, All}
 use Rattle.std.specs.List.{range_with_len, filter}
 use Rattle.std.proofs.lemmas.Bool.Decides.{nat_tests}
 use Rattle.std.proofs.lemmas.Grind.{get_or_default_zero}
@@ -16,8 +16,12 @@ pub length-source_numbers : (objects : List Object) → length (source_numbers o
 unfolding sources_below
 length-source_numbers objects =
     let test = λ (number : ℕ). is_source (object_at objects number).role in
-    omega (arith, length-filter test (range_with_len 0 (length objects)), count_by-le-length test (range_with_len 0 (length objects)),
-    length-range_with_len 0 (length objects))
+    omega (
+      arith,
+      length-filter test (range_with_len 0 (length objects)),
+      count_by-le-length test (range_with_len 0 (length objects)),
+      length-range_with_len 0 (length objects),
+    )
 
 numbers_below : (n : ℕ) → All (λ number. number < n) (range_with_len 0 n)
 numbers_below n =
@@ -67,10 +71,11 @@ start_of-source p sources i number d listed within read =
     let below : i < length numbers = omega (arith, ap length listed) in
     let at : number ≡ slice_index numbers i = read ∙ ap (λ (xs : List ℕ). get_or xs i d) listed ∙ get_or_default_zero numbers i d below in
     let exists : slice_index numbers i < length p.objects = source_numbers-exist p.objects i below in
-    let early : nat_lt i (length numbers) ≡ true = grind (arith, nat_tests) in
-    (omega arith,
-    ap (source_start p) at
-    ∙ sym (ap (λ b. if b then source_start p (slice_index numbers i) else job_start p (i - length numbers)) early))
+    let early : nat_lt i (length numbers) ≡ true = grind (arith, nat_tests) in (
+      omega arith,
+      ap (source_start p) at
+          ∙ sym (ap (λ b. if b then source_start p (slice_index numbers i) else job_start p (i - length numbers)) early),
+    )
 
 -- then come those of the jobs
 pub start_of-job : (p : NetworkParts) (sources : List ℕ) (i : ℕ) → sources ≡ source_numbers p.objects → length sources ≤ i

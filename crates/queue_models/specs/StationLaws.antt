@@ -1,8 +1,7 @@
 -- A station keeps the laws of models.
-use Rattle.std.proofs.Common.{◌≡◌, ℕ, ◌+◌, ◌-◌, ◌<◌, ◌≤◌, ◌^◌, Bool, true, false, refl, List, [], ◌∷◌, ◌++◌, length, length-append, subst, arith}
-use Rattle.std.specs.Prelude.{IsTrue, if◌then◌else◌, ◌==◌, ◌&&◌, nat_lt, nat_le, slice_index}
+use Rattle.std.proofs.Common.{◌≡◌, ℕ, ◌+◌, ◌-◌, ◌<◌, ◌≤◌, ◌^◌, Bool, true, false, refl, List, [], ◌∷◌, ◌++◌, length, length-append, arith}
+use Rattle.std.specs.Prelude.{IsTrue, if◌then◌else◌, ◌==◌, nat_lt}
 use Rattle.std.proofs.lemmas.Bool.Decides.{nat_tests}
-use Rattle.delta_exchange.specs.declared.change.Change.{Change}
 use Rattle.delta_exchange.specs.declared.change.Change.TheVariants.{Set, Push, Pop}
 use Rattle.delta_exchange.specs.Changes.{CellData, AllFit, cells_after_all}
 use Rattle.model_core.specs.declared.effect.Outcome.TheVariants.{Goes, Fails}

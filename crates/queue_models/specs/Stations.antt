@@ -1,5 +1,5 @@
 -- What a station does: it serves jobs in order of arrival.
-use Rattle.std.specs.Prelude.{ℕ, ◌+◌, ◌-◌, ◌==◌, ◌&&◌, nat_lt, nat_le, Bool, if◌then◌else◌, List, [], ◌∷◌, ◌++◌, length, slice_index}
+use Rattle.std.specs.Prelude.{ℕ, ◌+◌, ◌-◌, ◌==◌, ◌&&◌, nat_lt, nat_le, Bool, if◌then◌else◌, [], ◌∷◌, ◌++◌, length, slice_index}
 use Rattle.delta_exchange.specs.declared.change.Change.TheVariants.{Set, Push, Pop}
 use Rattle.delta_exchange.specs.Changes.{CellData, line_of}
 use Rattle.model_core.specs.declared.effect.Effect.{Effect}

@@ -24,11 +24,19 @@ pub enum Kind {
         next: u32,
     },
     /// Sends each job to `next` after a drawn delay.
-    Delay { delay: Law, next: u32 },
+    Delay {
+        delay: Law,
+        next: u32,
+    },
     /// Sends each job at once to one of `next`, 1 to 64 objects, drawn in proportion to their `weights`.
-    Router { next: Vec<u32>, weights: Weights },
+    Router {
+        next: Vec<u32>,
+        weights: Weights,
+    },
     /// Takes each job out of the network. A job that is older than `due`, which is below 2^46, fails with code 3.
-    Sink { due: Option<u64> },
+    Sink {
+        due: Option<u64>,
+    },
 }
 
 /// An object of a network: its name, of 1 to 16 bytes, each an ASCII letter, a digit, `_` or `-`; what it does; and the

@@ -17,4 +17,3 @@ mod station;
 
 pub use kind::{Item, Kind};
 pub use network::Network;
-

@@ -10,8 +10,11 @@ use std::alloc::Global;
 
 /// The words that tell of a job.
 const TAKEN_WORD: u32 = 3;
+
 const WAITING_WORD: u32 = 4;
+
 const LOST_WORD: u32 = 5;
+
 const DONE_WORD: u32 = 6;
 
 /// The code of a job that finds the line of a strict station full.
@@ -22,6 +25,7 @@ const BUSY: u32 = 1;
 
 /// The lines of the waiting jobs, and of when each was born.
 const JOBS: u32 = 0;
+
 const BIRTHS: u32 = 1;
 
 /// Serves jobs in order of arrival.

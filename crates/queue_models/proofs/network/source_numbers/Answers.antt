@@ -1,4 +1,4 @@
-use Rattle.std.proofs.Common.{◌≡◌, ℕ, ◌∙◌, ap, sym, length, arith}
+use Rattle.std.proofs.Common.{◌≡◌, ◌∙◌, ap, sym, length, arith}
 use Rattle.queue_models.specs.Objects.{sources_below}
 use Rattle.queue_models.specs.Starts.{sources_below-more_source, sources_below-more_other}
 use Rattle.queue_models.proofs.network.source_numbers.Goals as goal
@@ -14,8 +14,8 @@ loop-number-preserved c =
     let within = c.loop-number-test.true in
     let read = c.index-objects-number.is in
     elim c.if-is_source.branch [
-      then-is_source+in_ok-push w ↦ let more = sources_below-more_source objects c.loop-number.number _ within read (sym c.is_source.ensures ∙ w.if-is_source.true) in cc (more, c.loop-number.invariant, w.numbers-is, w.in_ok-push.ensures.items)
-    | else-is_source w ↦ let more = sources_below-more_other objects c.loop-number.number _ within read (sym c.is_source.ensures ∙ w.if-is_source.false) in cc (more, c.loop-number.invariant, w.numbers-is)
+      | then-is_source+in_ok-push w ↦ let more = sources_below-more_source objects c.loop-number.number _ within read (sym c.is_source.ensures ∙ w.if-is_source.true) in cc (more, c.loop-number.invariant, w.numbers-is, w.in_ok-push.ensures.items)
+      | else-is_source w ↦ let more = sources_below-more_other objects c.loop-number.number _ within read (sym c.is_source.ensures ∙ w.if-is_source.false) in cc (more, c.loop-number.invariant, w.numbers-is)
     ]
 
 pub returns : goal.returns

@@ -25,5 +25,7 @@ job_start-requires c = omega (arith, ap length c.args.self.now.listed, c.require
 pub returns : goal.returns
 unfolding network_meaning
 returns c =
+    let from : c.len-from.result ≡ length c.args.self.now.sources.items = omega arith in
     c.job_start.ensures
+    ∙ ap (λ n. job_start (parts_of c.args.self.now) (c.args.i - n)) from
     ∙ start_of-job (parts_of c.args.self.now) c.args.self.now.sources.items c.args.i c.args.self.now.listed (omega arith)

@@ -5,8 +5,13 @@ use Rattle.queue_models.proofs.network.NetworkSimulationModel.starts.Goals as go
 
 pub overflow_cast-result : goal.overflow_cast-result
 overflow_cast-result c =
-    omega (arith, ap length c.args.self.now.listed, length-source_numbers c.args.self.now.objects.items,
-    c.args.self.now.in_range.few_objects, c.args.self.now.in_range.few_jobs)
+    omega (
+      arith,
+      ap length c.args.self.now.listed,
+      length-source_numbers c.args.self.now.objects.items,
+      c.args.self.now.in_range.few_objects,
+      c.args.self.now.in_range.few_jobs,
+    )
 
 pub returns : goal.returns
 unfolding network_meaning
