@@ -1,0 +1,6 @@
+-- The parts that a network keeps.
+use Rattle.queue_models.specs.declared.network.Network.{Network}
+use Rattle.queue_models.specs.Objects.{NetworkParts, network_of}
+
+abbrev pub parts_of : Network → NetworkParts
+parts_of network = network_of network.seed network.objects.items network.jobs.items

@@ -1,0 +1,19 @@
+//! Queueing networks: sources make jobs, stations serve them, delays hold them, routers part them, and sinks take them
+//! out.
+//!
+//! The words are those of queueing theory: L. Kleinrock, "Queueing Systems", volume 1, 1975. The numbers of objects and
+//! jobs, the laws of times and the order of what is drawn are those of this project.
+#![tactic(auto)]
+
+mod delay;
+mod kind;
+mod network;
+mod object;
+mod router;
+mod sink;
+mod site;
+mod source;
+mod station;
+
+pub use kind::{Item, Kind};
+pub use network::Network;

@@ -1,0 +1,189 @@
+//! The model of a queueing network.
+ghost use Rattle.std.specs.Prelude.{◌≡◌, ◌<◌, ◌≤◌, IfOk, map, length};
+ghost use Rattle.queue_models.specs.Objects.{object_at, object_of, network_of, network_parts, source_numbers};
+ghost use Rattle.queue_models.specs.Parts.{IsNetwork};
+ghost use Rattle.queue_models.specs.PartsProps.{IsNetwork-prop};
+ghost use Rattle.queue_models.specs.Meaning.{network_meaning};
+
+use crate::kind::Item;
+use crate::object::{Object, Role};
+use crate::site::{ARRIVE, MAKE, Site};
+use model_core::model::Model as SimulationModel;
+use model_core::{Cells, Entry, Event, OutOfMemory, Outcome, Start};
+use std::alloc::Global;
+
+/// Objects through which jobs go.
+#[derive(Debug, Drop)]
+pub struct Network {
+    seed: u64,
+    objects: Vec<Object>,
+    sources: Vec<u32>,
+    jobs: Vec<Entry>,
+    ghost in_range: { IsNetwork (network_of seed objects.items jobs.items) } by { IsNetwork-prop (network_of seed objects.items jobs.items) },
+    ghost listed: { sources.items ≡ source_numbers objects.items },
+}
+
+/// The numbers of the sources among the objects.
+fn source_numbers(alloc: Global, objects: &[Object]) -> Result<Vec<u32>, OutOfMemory>
+    requires { length objects.now ≤ 65536 }
+    ensures { IfOk result (λ numbers. numbers.items ≡ source_numbers objects.now) }
+{
+    let mut numbers = Vec::new(alloc);
+    for (number, object) in objects.iter().enumerate() {
+        if object.role.is_source() {
+            numbers.push(number as u32)?;
+        }
+    }
+    Ok(numbers)
+}
+
+impl Network {
+    /// The network with these parts: a seed, below 2^63; the objects, at most 65,536, whose names differ, and each of
+    /// which has numbers within the bounds of its kind and names objects that there are and that are no sources; and the
+    /// jobs with which it begins beside those of its sources, at most 65,536, each at an object that is no source.
+    pub fn make(
+        alloc: Global,
+        seed: u64,
+        objects: Vec<Item>,
+        jobs: Vec<Entry>,
+    ) -> Result<Network, OutOfMemory>
+        requires { IsNetwork (network_parts seed objects.items jobs.items) }
+        ensures { IfOk result (λ network. ⟦<Network as SimulationModel>⟧.meaning network
+            ≡ network_meaning (network_parts seed objects.items jobs.items)) }
+    {
+        let objects = objects_of(alloc, objects)?;
+        let sources = source_numbers(alloc, &objects)?;
+        Ok(Network {
+            seed,
+            objects,
+            sources,
+            jobs,
+        })
+    }
+}
+
+/// The objects that these items stand for.
+fn objects_of(alloc: Global, items: Vec<Item>) -> Result<Vec<Object>, OutOfMemory>
+    ensures { IfOk result (λ objects. objects.items ≡ map object_of items.items) }
+{
+    let objects = items
+        .into_iter()
+        .map(|item| Object::of(item))
+        .collect(alloc)?;
+    Ok(objects)
+}
+
+impl Network {
+    ghost use Rattle.queue_models.specs.Meaning.{source_start, job_start, site_of};
+    ghost use Rattle.queue_models.specs.Views.{parts_of};
+
+    /// What an object does.
+    fn role_of(&self, object: u32) -> &Role
+        requires { object < length self.now.objects.items }
+        ensures { result.now ≡ (object_at self.now.objects.items object).role }
+    {
+        let object = &self.objects[object as usize];
+        &object.role
+    }
+
+    /// Where an event at an object happens.
+    fn site(&self, object: u32) -> Site
+        requires { object < length self.now.objects.items }
+        ensures { result ≡ site_of (parts_of self.now) object }
+    {
+        let rank = self.objects[object as usize].rank;
+        Site {
+            seed: self.seed,
+            object,
+            rank,
+        }
+    }
+
+    /// The event at which a source makes its first job.
+    fn source_start(&self, number: u32) -> Start
+        requires { number < length self.now.objects.items }
+        ensures { result ≡ source_start (parts_of self.now) number }
+    {
+        let object = &self.objects[number as usize];
+        Start {
+            time: object.role.first_time(),
+            dest: number,
+            kind: MAKE,
+            a: 0,
+            b: 0,
+            rank: object.rank,
+        }
+    }
+
+    /// The event at which a job arrives. Jobs are numbered from 1 on.
+    fn job_start(&self, i: u32) -> Start
+        requires { i < length self.now.jobs.items }
+        ensures { result ≡ job_start (parts_of self.now) i }
+    {
+        let job = self.jobs[i as usize];
+        Start {
+            time: job.time,
+            dest: job.at,
+            kind: ARRIVE,
+            a: u64::from(i) + 1,
+            b: job.time,
+            rank: job.rank,
+        }
+    }
+}
+
+#[tactic(auto, unfolding(crate::specs::Meaning::network_meaning))]
+impl SimulationModel for Network {
+    ghost use Rattle.queue_models.specs.Meaning.{network_meaning};
+    ghost use Rattle.queue_models.specs.Views.{parts_of};
+    ghost use Rattle.queue_models.specs.ModelLaws.{network_laws};
+
+    ghost meaning = { λ network. network_meaning (parts_of network) };
+
+    ghost laws = { λ network. network_laws (parts_of network) network.in_range };
+
+    fn objects(&self) -> u32 {
+        self.objects.len() as u32
+    }
+
+    fn starts(&self) -> u32 {
+        (self.sources.len() + self.jobs.len()) as u32
+    }
+
+    fn start(&self, i: u32) -> Start {
+        let from = self.sources.len() as u32;
+        if i < from {
+            let number = self.sources[i as usize];
+            return self.source_start(number);
+        }
+        self.job_start(i - from)
+    }
+
+    fn first_cells(&self, alloc: Global, object: u32) -> Result<Cells, OutOfMemory> {
+        let role = self.role_of(object);
+        role.first_cells(alloc)
+    }
+
+    fn is_lawful(&self, object: u32, cells: &Cells) -> bool {
+        let role = self.role_of(object);
+        role.is_lawful(cells)
+    }
+
+    fn react(
+        &self,
+        alloc: Global,
+        object: u32,
+        cells: &Cells,
+        event: &Event,
+    ) -> Result<Outcome, OutOfMemory> {
+        let site = self.site(object);
+        let role = self.role_of(object);
+        role.react(alloc, site, cells, event)
+    }
+
+    fn put_name(&self, _alloc: Global, object: u32, into: &mut Vec<u8>) -> Result<(), OutOfMemory> {
+        let name = &self.objects[object as usize].name;
+        into.extend_from_slice(name.bytes())?;
+        Ok(())
+    }
+}

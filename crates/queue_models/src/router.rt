@@ -1,0 +1,54 @@
+//! Routers: where jobs part.
+ghost use Rattle.std.specs.Prelude.{◌≡◌, ◌<◌, IfOk, IsTrue, length, slice_index};
+ghost use Rattle.queue_models.specs.Sites.{is_plain_cells};
+ghost use Rattle.queue_models.specs.Routers.{IsChoiceOf, router_effect};
+
+use crate::site::{Site, place_changes, told};
+use model_core::{Cells, Effect, Event, OutOfMemory, Outcome, Sequence};
+use random_streams::{Law, draw};
+use std::alloc::Global;
+
+/// The word that tells of a job that is routed.
+const ROUTED_WORD: u32 = 8;
+
+/// Sends each job at once to one of several objects, drawn by a choice with a weight for each.
+#[derive(Debug, Drop)]
+pub struct Router {
+    pub next: Vec<u32>,
+    pub choice: Law,
+}
+
+impl Router {
+    /// Routes a job. A word is drawn also where there is no choice.
+    #[tactic(auto, unfolding(crate::specs::Routers::router_effect))]
+    pub fn react(
+        &self,
+        alloc: Global,
+        site: Site,
+        cells: &Cells,
+        event: &Event,
+    ) -> Result<Outcome, OutOfMemory>
+        requires choice { IsChoiceOf self.now.next.items self.now.choice }
+        requires cells { IsTrue (is_plain_cells cells.now.contents) }
+        ensures { IfOk result (λ outcome. outcome ≡ router_effect site self.now cells.now.contents event.now) }
+    {
+        let place = cells.word(0);
+        let (way, next_place) = draw(site.seed, site.object, place, &self.choice);
+        let dest = self.chosen(way);
+        let changes = place_changes(alloc, place, next_place)?;
+        let sends = vec![in alloc; site.job_to(dest, 0, event.a, event.b)]?;
+        Ok(Outcome::Goes(Effect {
+            changes: Sequence::new(changes),
+            sends: Sequence::new(sends),
+            note: told(ROUTED_WORD, event.a, u64::from(dest)),
+        }))
+    }
+
+    /// The object that is chosen by its place.
+    fn chosen(&self, way: u64) -> u32
+        requires { way < length self.now.next.items }
+        ensures { result ≡ slice_index self.now.next.items way }
+    {
+        self.next[way as usize]
+    }
+}

@@ -1,0 +1,48 @@
+//! Sinks: where jobs leave.
+ghost use Rattle.std.specs.Prelude.{◌≡◌, IfOk};
+ghost use Rattle.queue_models.specs.Sinks.{is_late, sink_effect};
+
+use crate::site::told;
+use event_key::time_of;
+use model_core::{Effect, Event, OutOfMemory, Outcome, Sequence};
+use std::alloc::Global;
+
+/// The word that tells of a job that leaves.
+const LEFT_WORD: u32 = 9;
+
+/// The code of a job that leaves too late.
+const LATE: u32 = 3;
+
+/// Takes each job out, which may have to come by a due age.
+#[derive(Debug, Drop)]
+pub struct Sink {
+    pub due: Option<u64>,
+}
+
+impl Sink {
+    /// A job leaves, at its age since it was born.
+    #[tactic(auto, unfolding(crate::specs::Sinks::sink_effect))]
+    pub fn react(&self, alloc: Global, event: &Event) -> Result<Outcome, OutOfMemory>
+        ensures { IfOk result (λ outcome. outcome ≡ sink_effect self.now event.now) }
+    {
+        let age = time_of(event.key.stamp).saturating_sub(event.b);
+        if self.is_late(age) {
+            return Ok(Outcome::Fails(LATE));
+        }
+        Ok(Outcome::Goes(Effect {
+            changes: Sequence::new(Vec::new(alloc)),
+            sends: Sequence::new(Vec::new(alloc)),
+            note: told(LEFT_WORD, event.a, age),
+        }))
+    }
+
+    /// Whether a job of this age is late.
+    fn is_late(&self, age: u64) -> bool
+        ensures { result ≡ is_late self.now.due age }
+    {
+        match self.due {
+            Some(due) => age > due,
+            None => false,
+        }
+    }
+}

@@ -1,0 +1,153 @@
+//! Sources: where jobs come from.
+ghost use Rattle.std.specs.Prelude.{◌≡◌, ◌<◌, ◌≤◌, ◌+◌, ◌^◌, IfOk, IsTrue};
+ghost use Rattle.event_key.specs.Stamps.{time_part};
+ghost use Rattle.random_streams.specs.Laws.{is_drawable};
+ghost use Rattle.queue_models.specs.Sources.{is_source_cells, first_source_cells, idle_effect, last_effect, make_effect, source_effect, left_of};
+
+use crate::site::{MAKE, Site, place_changes, told};
+use event_key::time_of;
+use model_core::{Cells, Change, Effect, Event, OutOfMemory, Outcome, Send, Sequence};
+use random_streams::{Law, draw};
+use std::alloc::Global;
+
+/// The word that tells of a job that was made.
+const MADE_WORD: u32 = 2;
+
+/// Makes a number of jobs, one after another.
+#[derive(Debug, Drop)]
+pub struct Source {
+    pub first: u64,
+    pub every: Law,
+    pub count: u32,
+    pub next: u32,
+}
+
+impl Source {
+    /// The cells at the start: no job is made, and all are left.
+    pub fn first_cells(&self, alloc: Global) -> Result<Cells, OutOfMemory>
+        ensures { IfOk result (λ cells. cells.contents ≡ first_source_cells self.now) }
+    {
+        let words = vec![in alloc; 0, 0, u64::from(self.count)]?;
+        Cells::new(alloc, words, Vec::new(alloc))
+    }
+
+    /// Whether the jobs that are made and those that are left are all.
+    pub fn is_lawful(&self, cells: &Cells) -> bool
+        ensures { result ≡ is_source_cells self.now cells.now.contents }
+    {
+        let count = u64::from(self.count);
+        if cells.words() != 3 || cells.lines() != 0 {
+            return false;
+        }
+        match cells.word(1).checked_add(cells.word(2)) {
+            Some(jobs) => jobs == count,
+            None => false,
+        }
+    }
+
+    /// Makes the next job, where one is left.
+    #[tactic(auto, unfolding(crate::specs::Sources::source_effect))]
+    pub fn react(
+        &self,
+        alloc: Global,
+        site: Site,
+        cells: &Cells,
+        event: &Event,
+    ) -> Result<Outcome, OutOfMemory>
+        requires every { IsTrue (is_drawable self.now.every) }
+        requires cells { IsTrue (is_source_cells self.now cells.now.contents) }
+        ensures { IfOk result (λ outcome. outcome ≡ source_effect site self.now cells.now.contents event.now) }
+    {
+        let time = time_of(event.key.stamp);
+        let effect = match cells.word(2) {
+            0 => self.idle(alloc, cells),
+            1 => self.make_last(alloc, site, cells, time)?,
+            _ => self.make(alloc, site, cells, time)?,
+        };
+        Ok(Outcome::Goes(effect))
+    }
+
+    /// No job is left.
+    #[tactic(auto, unfolding(crate::specs::Sources::idle_effect))]
+    fn idle(&self, alloc: Global, cells: &Cells) -> Effect
+        requires { IsTrue (is_source_cells self.now cells.now.contents) }
+        ensures { result ≡ idle_effect cells.now.contents }
+    {
+        Effect {
+            changes: Sequence::new(Vec::new(alloc)),
+            sends: Sequence::new(Vec::new(alloc)),
+            note: told(MADE_WORD, cells.word(1), 0),
+        }
+    }
+
+    /// Makes the last job.
+    #[tactic(auto, unfolding(crate::specs::Sources::last_effect))]
+    fn make_last(
+        &self,
+        alloc: Global,
+        site: Site,
+        cells: &Cells,
+        time: u64,
+    ) -> Result<Effect, OutOfMemory>
+        requires { IsTrue (is_source_cells self.now cells.now.contents) }
+        ensures { IfOk result (λ effect. effect ≡ last_effect site self.now cells.now.contents time) }
+    {
+        let job = cells.word(1) + 1;
+        let changes = vec![in alloc;
+            Change::Set {
+                word: 1,
+                value: job
+            },
+            Change::Set { word: 2, value: 0 },
+        ]?;
+        let sends = vec![in alloc; site.job_to(self.next, 0, job, time)]?;
+        Ok(Effect {
+            changes: Sequence::new(changes),
+            sends: Sequence::new(sends),
+            note: told(MADE_WORD, job, 0),
+        })
+    }
+
+    /// Makes a job, and will make another after a drawn delay.
+    #[tactic(auto, unfolding(crate::specs::Sources::make_effect))]
+    fn make(
+        &self,
+        alloc: Global,
+        site: Site,
+        cells: &Cells,
+        time: u64,
+    ) -> Result<Effect, OutOfMemory>
+        requires every { IsTrue (is_drawable self.now.every) }
+        requires cells { IsTrue (is_source_cells self.now cells.now.contents) }
+        requires left { 1 ≤ left_of cells.now.contents }
+        ensures { IfOk result (λ effect. effect ≡ make_effect site self.now cells.now.contents time) }
+    {
+        let place = cells.word(0);
+        let job = cells.word(1) + 1;
+        let left = cells.word(2) - 1;
+        let (delay, next_place) = draw(site.seed, site.object, place, &self.every);
+        let mut changes = place_changes(alloc, place, next_place)?;
+        changes.push(Change::Set {
+            word: 1,
+            value: job,
+        })?;
+        changes.push(Change::Set {
+            word: 2,
+            value: left,
+        })?;
+        let again = Send {
+            dest: site.object,
+            delay,
+            kind: MAKE,
+            a: 0,
+            b: 0,
+            rank: site.rank,
+        };
+        let sends = vec![in alloc; site.job_to(self.next, 0, job, time), again]?;
+        Ok(Effect {
+            changes: Sequence::new(changes),
+            sends: Sequence::new(sends),
+            note: told(MADE_WORD, job, left),
+        })
+    }
+}

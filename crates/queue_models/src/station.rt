@@ -1,0 +1,266 @@
+//! Stations: where jobs are served.
+ghost use Rattle.std.specs.Prelude.{◌≡◌, ◌<◌, IfOk, IsTrue};
+ghost use Rattle.random_streams.specs.Laws.{is_drawable};
+ghost use Rattle.queue_models.specs.Stations.{is_station_cells, first_station_cells, busy_servers, waiting_jobs, done_after, take_effect, wait_effect, lose_effect, arrival_outcome, serve_effect, free_effect, done_effect, station_effect};
+
+use crate::site::{DONE, Site, place_changes, told};
+use model_core::{Cells, Change, Effect, Event, OutOfMemory, Outcome, Send, Sequence};
+use random_streams::{Law, draw};
+use std::alloc::Global;
+
+/// The words that tell of a job.
+const TAKEN_WORD: u32 = 3;
+
+const WAITING_WORD: u32 = 4;
+
+const LOST_WORD: u32 = 5;
+
+const DONE_WORD: u32 = 6;
+
+/// The code of a job that finds the line of a strict station full.
+const LINE_FULL: u32 = 2;
+
+/// The word that counts the busy servers.
+const BUSY: u32 = 1;
+
+/// The lines of the waiting jobs, and of when each was born.
+const JOBS: u32 = 0;
+
+const BIRTHS: u32 = 1;
+
+/// Serves jobs in order of arrival.
+#[derive(Debug, Drop)]
+pub struct Station {
+    pub servers: u32,
+    pub service: Law,
+    pub line: u32,
+    pub strict: bool,
+    pub next: u32,
+}
+
+/// The end of a job's service, which comes back to its station.
+fn done_after(site: &Site, service: u64, job: u64, birth: u64) -> Send
+    ensures { result ≡ done_after site.now service job birth }
+{
+    Send {
+        dest: site.object,
+        delay: service,
+        kind: DONE,
+        a: job,
+        b: birth,
+        rank: site.rank,
+    }
+}
+
+impl Station {
+    /// The cells at the start: no server is busy, and nobody waits.
+    pub fn first_cells(alloc: Global) -> Result<Cells, OutOfMemory>
+        ensures { IfOk result (λ cells. cells.contents ≡ first_station_cells) }
+    {
+        let words = vec![in alloc; 0, 0]?;
+        let lines = vec![in alloc; Vec::new(alloc), Vec::new(alloc)]?;
+        Cells::new(alloc, words, lines)
+    }
+
+    /// Whether no more servers are busy and no more jobs wait than there may be.
+    pub fn is_lawful(&self, cells: &Cells) -> bool
+        ensures { result ≡ is_station_cells self.now cells.now.contents }
+    {
+        if cells.words() != 2 || cells.lines() != 2 {
+            return false;
+        }
+        let waiting = cells.line_len(JOBS);
+        waiting == cells.line_len(BIRTHS)
+            && waiting <= self.line as usize
+            && cells.word(BUSY) <= u64::from(self.servers)
+    }
+
+    /// A service is done, or a job arrives, whatever else the kind of the event.
+    #[tactic(auto, unfolding(crate::specs::Stations::station_effect))]
+    pub fn react(
+        &self,
+        alloc: Global,
+        site: Site,
+        cells: &Cells,
+        event: &Event,
+    ) -> Result<Outcome, OutOfMemory>
+        requires service { IsTrue (is_drawable self.now.service) }
+        requires cells { IsTrue (is_station_cells self.now cells.now.contents) }
+        ensures { IfOk result (λ outcome. outcome ≡ station_effect site self.now cells.now.contents event.now) }
+    {
+        match event.kind {
+            DONE => Ok(Outcome::Goes(self.done(alloc, site, cells, event)?)),
+            _ => self.arrival(alloc, site, cells, event),
+        }
+    }
+
+    /// A job arrives: it is taken, waits, or finds the line full.
+    #[tactic(auto, unfolding(crate::specs::Stations::arrival_outcome))]
+    fn arrival(
+        &self,
+        alloc: Global,
+        site: Site,
+        cells: &Cells,
+        event: &Event,
+    ) -> Result<Outcome, OutOfMemory>
+        requires service { IsTrue (is_drawable self.now.service) }
+        requires cells { IsTrue (is_station_cells self.now cells.now.contents) }
+        ensures { IfOk result (λ outcome. outcome ≡ arrival_outcome site self.now cells.now.contents event.now) }
+    {
+        if cells.word(BUSY) < u64::from(self.servers) {
+            return Ok(Outcome::Goes(self.take(alloc, site, cells, event)?));
+        }
+        if cells.line_len(JOBS) < self.line as usize {
+            return Ok(Outcome::Goes(self.wait(alloc, cells, event)?));
+        }
+        if self.strict {
+            return Ok(Outcome::Fails(LINE_FULL));
+        }
+        Ok(Outcome::Goes(self.lose(alloc, cells, event)))
+    }
+
+    /// A free server takes the job.
+    #[tactic(auto, unfolding(crate::specs::Stations::take_effect))]
+    fn take(
+        &self,
+        alloc: Global,
+        site: Site,
+        cells: &Cells,
+        event: &Event,
+    ) -> Result<Effect, OutOfMemory>
+        requires service { IsTrue (is_drawable self.now.service) }
+        requires cells { IsTrue (is_station_cells self.now cells.now.contents) }
+        ensures { IfOk result (λ effect. effect ≡ take_effect site self.now cells.now.contents event.now) }
+    {
+        let place = cells.word(0);
+        let (service, next_place) = draw(site.seed, site.object, place, &self.service);
+        let mut changes = place_changes(alloc, place, next_place)?;
+        changes.push(Change::Set {
+            word: BUSY,
+            value: cells.word(BUSY) + 1,
+        })?;
+        let sends = vec![in alloc; done_after(&site, service, event.a, event.b)]?;
+        Ok(Effect {
+            changes: Sequence::new(changes),
+            sends: Sequence::new(sends),
+            note: told(TAKEN_WORD, event.a, cells.line_len(JOBS) as u64),
+        })
+    }
+
+    /// The job goes to the end of the line.
+    #[tactic(auto, unfolding(crate::specs::Stations::wait_effect))]
+    fn wait(&self, alloc: Global, cells: &Cells, event: &Event) -> Result<Effect, OutOfMemory>
+        requires { IsTrue (is_station_cells self.now cells.now.contents) }
+        ensures { IfOk result (λ effect. effect ≡ wait_effect cells.now.contents event.now) }
+    {
+        let waiting = cells.line_len(JOBS) as u64;
+        let changes = vec![in alloc;
+            Change::Push {
+                line: JOBS,
+                value: event.a
+            },
+            Change::Push {
+                line: BIRTHS,
+                value: event.b
+            },
+        ]?;
+        Ok(Effect {
+            changes: Sequence::new(changes),
+            sends: Sequence::new(Vec::new(alloc)),
+            note: told(WAITING_WORD, event.a, waiting + 1),
+        })
+    }
+
+    /// The job is turned away.
+    #[tactic(auto, unfolding(crate::specs::Stations::lose_effect))]
+    fn lose(&self, alloc: Global, cells: &Cells, event: &Event) -> Effect
+        requires { IsTrue (is_station_cells self.now cells.now.contents) }
+        ensures { result ≡ lose_effect cells.now.contents event.now }
+    {
+        Effect {
+            changes: Sequence::new(Vec::new(alloc)),
+            sends: Sequence::new(Vec::new(alloc)),
+            note: told(LOST_WORD, event.a, cells.line_len(JOBS) as u64),
+        }
+    }
+
+    /// A job is done: the next one is served, or the server is free.
+    #[tactic(auto, unfolding(crate::specs::Stations::done_effect))]
+    fn done(
+        &self,
+        alloc: Global,
+        site: Site,
+        cells: &Cells,
+        event: &Event,
+    ) -> Result<Effect, OutOfMemory>
+        requires service { IsTrue (is_drawable self.now.service) }
+        requires cells { IsTrue (is_station_cells self.now cells.now.contents) }
+        ensures { IfOk result (λ effect. effect ≡ done_effect site self.now cells.now.contents event.now) }
+    {
+        if cells.line_len(JOBS) > 0 {
+            self.serve(alloc, site, cells, event)
+        } else {
+            self.free(alloc, site, cells, event)
+        }
+    }
+
+    /// The server goes on with the job that has waited longest.
+    #[tactic(auto, unfolding(crate::specs::Stations::serve_effect))]
+    fn serve(
+        &self,
+        alloc: Global,
+        site: Site,
+        cells: &Cells,
+        event: &Event,
+    ) -> Result<Effect, OutOfMemory>
+        requires service { IsTrue (is_drawable self.now.service) }
+        requires cells { IsTrue (is_station_cells self.now cells.now.contents) }
+        requires waiting { 0 < waiting_jobs cells.now.contents }
+        ensures { IfOk result (λ effect. effect ≡ serve_effect site self.now cells.now.contents event.now) }
+    {
+        let job = cells.line_at(JOBS, 0);
+        let birth = cells.line_at(BIRTHS, 0);
+        let place = cells.word(0);
+        let (service, next_place) = draw(site.seed, site.object, place, &self.service);
+        let mut changes = place_changes(alloc, place, next_place)?;
+        changes.push(Change::Pop { line: JOBS })?;
+        changes.push(Change::Pop { line: BIRTHS })?;
+        let sends = vec![in alloc;
+            site.job_to(self.next, 0, event.a, event.b),
+            done_after(&site, service, job, birth),
+        ]?;
+        Ok(Effect {
+            changes: Sequence::new(changes),
+            sends: Sequence::new(sends),
+            note: told(DONE_WORD, event.a, cells.line_len(JOBS) as u64 - 1),
+        })
+    }
+
+    /// Nobody waits: the server is free.
+    #[tactic(auto, unfolding(crate::specs::Stations::free_effect))]
+    fn free(
+        &self,
+        alloc: Global,
+        site: Site,
+        cells: &Cells,
+        event: &Event,
+    ) -> Result<Effect, OutOfMemory>
+        requires { IsTrue (is_station_cells self.now cells.now.contents) }
+        ensures { IfOk result (λ effect. effect ≡ free_effect site self.now cells.now.contents event.now) }
+    {
+        let mut changes = Vec::new(alloc);
+        let busy = cells.word(BUSY);
+        if busy > 0 {
+            changes.push(Change::Set {
+                word: BUSY,
+                value: busy - 1,
+            })?;
+        }
+        let sends = vec![in alloc; site.job_to(self.next, 0, event.a, event.b)]?;
+        Ok(Effect {
+            changes: Sequence::new(changes),
+            sends: Sequence::new(sends),
+            note: told(DONE_WORD, event.a, 0),
+        })
+    }
+}
