@@ -1,0 +1,242 @@
+-- A commit leaves a node that stands for the share without what was due.
+use Rattle.std.proofs.Common.{◌≡◌, ℕ, suc, ◌+◌, ◌-◌, ◌<◌, ◌≤◌, min, Bool, not, true, false, cond, ◌&&◌, List, [], ◌∷◌, ◌++◌, length, take, drop, sym, refl, ap, ◌∙◌, subst, arith, eqb, ltb, ltb-true, lt-ltb, take-append-drop, length-take}
+use Rattle.std.proofs.Math.Seq.{drop-append_seam}
+use Rattle.std.proofs.lemmas.List.{length-append, append-nil, drop-drop}
+use Rattle.std.proofs.lemmas.List.Elements.{filter-append}
+use Rattle.std.specs.Prelude.{filter, Option, Some, None}
+use Rattle.event_key.specs.declared.key.Key.{Key}
+use Rattle.event_key.specs.Keys.{key_lt}
+use Rattle.event_key.specs.Stamps.{end_stamp}
+use Rattle.event_key.proofs.Order.{key_lt-trans, stamp-le}
+use Rattle.model_core.specs.declared.event.Event.{Event}
+use Rattle.model_core.specs.Meaning.{Meaning, MeaningLaws}
+use Rattle.sim_spec.specs.declared.terms.Terms.{Terms}
+use Rattle.std.specs.List.{AllByRecursion as Each}
+use Rattle.sim_spec.proofs.AscendingLemmas.{AllAfter-each, IsAscending-filter}
+use Rattle.sim_spec.proofs.EachLemmas.{Each-back, Each-filter, Each-map}
+use Rattle.sim_spec.proofs.PartLemmas.{Each-events_at, IsAscending-events_at}
+use Rattle.sim_spec.proofs.ReplayLemmas.{replay-append, replay-faulted, replay_after}
+use Rattle.sim_spec.specs.Firing.{ObjectState}
+use Rattle.sim_spec.specs.Pending.{IsAscending}
+use Rattle.sim_spec.specs.Replay.{Replay, events_at, replay}
+use Rattle.world_spec.proofs.FilterLemmas.{filter-all, filter-none}
+use Rattle.world_spec.proofs.NodeLaw.{replay-lawful, take-split}
+use Rattle.world_spec.proofs.ReplayMore.{taken-le, taken-rest}
+use Rattle.world_spec.specs.Early.{is_due, taken}
+use Rattle.world_spec.specs.Share.{IsAtHome, IsCommit, IsDueDone, IsHome, NodeData, Share, StandsFor, committed, committed_ahead, due_count, log_of, without_first}
+use Rattle.sim_spec.proofs.ReplayLemmas.{replay-fault}
+
+and_parts : (a b : Bool) → (a && b) ≡ true → (a ≡ true) × (b ≡ true)
+and_parts true b h = (refl, h)
+and_parts false b h = absurd (cc)
+
+and_make : (a b : Bool) → a ≡ true → b ≡ true → (a && b) ≡ true
+and_make a b h k = ap (λ c. c && b) h ∙ k
+
+-- what comes before an event that is due is due
+pub due-down : (g : ℕ) (cut : Option Key) (j k : Key) → key_lt j k ≡ true → is_due g cut k ≡ true → is_due g cut j ≡ true
+unfolding is_due
+due-down g None j k lt due = let p = and_parts (ltb k.stamp g) true due in let low = ltb-true k.stamp g p.0 in let le = stamp-le j k lt in and_make (ltb j.stamp g) true (lt-ltb j.stamp g (omega arith)) refl
+due-down g (Some c) j k lt due =
+    let p = and_parts (ltb k.stamp g) (key_lt k c) due in
+    let low = ltb-true k.stamp g p.0 in
+    let le = stamp-le j k lt in
+    and_make (ltb j.stamp g) (key_lt j c) (lt-ltb j.stamp g (omega arith)) (key_lt-trans j k c lt p.1)
+
+false_of : (b : Bool) → (b ≡ true → ⊥) → b ≡ false
+false_of true h = absurd (h refl)
+false_of false h = refl
+
+module _ (g : ℕ) (cut : Option Key) where
+  abbrev due : Event → Bool
+  due e = is_due g cut e.key
+
+  abbrev stays : Event → Bool
+  stays e = not (is_due g cut e.key)
+
+  none_due : (e : Event) (es : List Event) → due e ≡ false → Each (λ x. key_lt e.key x.key ≡ true) es → Each (λ x. due x ≡ false) es
+  none_due e es not after = Each-map (λ x. key_lt e.key x.key ≡ true) (λ x. due x ≡ false) es (λ x lt. false_of (due x) (λ yes. let h = due-down g cut e.key x.key lt yes in cc)) after
+
+  -- in a list in order, what is due stands at the front
+  pub due-front : (es : List Event) → IsAscending es → (filter due es ≡ take (length (filter due es)) es) × (filter stays es ≡ drop (length (filter due es)) es)
+  unfolding IsAscending
+  due-front [] up = (refl, refl)
+  due-front (e ∷ es) up = by_test (due e) refl (due-front es up.1)
+    where
+      by_test : (b : Bool) → due e ≡ b → (filter due es ≡ take (length (filter due es)) es) × (filter stays es ≡ drop (length (filter due es)) es)
+          → (cond b (e ∷ filter due es) (filter due es) ≡ take (length (cond b (e ∷ filter due es) (filter due es))) (e ∷ es))
+          × (cond (not b) (e ∷ filter stays es) (filter stays es) ≡ drop (length (cond b (e ∷ filter due es) (filter due es))) (e ∷ es))
+      by_test true h more = (ap (λ xs. e ∷ xs) more.0, more.1)
+      by_test false h more =
+          let no = none_due e es h (AllAfter-each e.key es up.0) in
+          let nothing : filter due es ≡ [] = filter-none due es no in
+          let all : filter stays es ≡ es = filter-all stays es (Each-map (λ x. due x ≡ false) (λ x. stays x ≡ true) es (λ x n. ap not n) no) in
+          (nothing ∙ sym (ap (λ xs. take (length xs) (e ∷ es)) nothing), ap (λ xs. e ∷ xs) all ∙ sym (ap (λ xs. drop (length xs) (e ∷ es)) nothing))
+
+  each_passes : (es : List Event) → Each (λ (e : Event). due e ≡ true) (filter due es)
+  each_passes [] = tt
+  each_passes (e ∷ es) = by_test (due e) refl (each_passes es)
+    where
+      by_test : (b : Bool) → due e ≡ b → Each (λ (e : Event). due e ≡ true) (filter due es) → Each (λ (e : Event). due e ≡ true) (cond b (e ∷ filter due es) (filter due es))
+      by_test true h more = (h, more)
+      by_test false h more = more
+
+  length_filter : (p : Event → Bool) (es : List Event) → length (filter p es) ≤ length es
+  length_filter p [] = omega arith
+  length_filter p (e ∷ es) = let le = length_filter p es in
+      elim (p e) as (λ b. length (cond b (e ∷ filter p es) (filter p es)) ≤ suc (length es)) [ true ↦ omega arith | false ↦ omega arith ]
+
+  at_filter : (p : Event → Bool) (object : ℕ) (es : List Event) → events_at object (filter p es) ≡ filter p (events_at object es)
+  unfolding events_at
+  at_filter p object [] = refl
+  at_filter p object (e ∷ es) = by_tests (p e) (eqb e.key.dest object) refl refl (at_filter p object es)
+    where
+      by_tests : (a b : Bool) → p e ≡ a → eqb e.key.dest object ≡ b → events_at object (filter p es) ≡ filter p (events_at object es)
+          → events_at object (cond a (e ∷ filter p es) (filter p es)) ≡ filter p (cond b (e ∷ events_at object es) (events_at object es))
+      by_tests true true h k more = ap (λ c. cond c (e ∷ events_at object (filter p es)) (events_at object (filter p es))) k ∙ ap (λ xs. e ∷ xs) more ∙ sym (ap (λ c. cond c (e ∷ filter p (events_at object es)) (filter p (events_at object es))) h)
+      by_tests true false h k more = ap (λ c. cond c (e ∷ events_at object (filter p es)) (events_at object (filter p es))) k ∙ more
+      by_tests false true h k more = more ∙ sym (ap (λ c. cond c (e ∷ filter p (events_at object es)) (filter p (events_at object es))) h)
+      by_tests false false h k more = more
+
+  module _ (m : Meaning) (t : Terms) (laws : MeaningLaws m) (home : ℕ → ℕ) (node : ℕ) (share : Share) (ahead : ℕ → ℕ) (old new : NodeData)
+      (stands : StandsFor m t home node share ahead old) (done : IsDueDone m home node g cut old) (commit : IsCommit m home node g cut share old new) where
+    evs : ℕ → List Event
+    evs object = events_at object share.pending
+
+    abbrev c : ℕ → ℕ
+    c = due_count g cut share
+
+    count_is : (object : ℕ) → c object ≡ length (filter due (evs object))
+    unfolding due_count evs
+    count_is object = refl
+
+    up_at : (object : ℕ) → IsAscending (evs object)
+    unfolding evs
+    up_at object = IsAscending-events_at object share.pending stands.ordered
+
+    -- all that is due is processed
+    due_ahead : (object : ℕ) → IsHome m home node object → c object ≤ ahead object
+    unfolding evs
+    due_ahead object at =
+        let n = ahead object in
+        let parts : filter due (evs object) ≡ filter due (take n (evs object)) ++ filter due (drop n (evs object)) =
+        ap (filter due) (sym (take-append-drop n (evs object))) ∙ filter-append due (take n (evs object)) (drop n (evs object)) in
+        let P : List Event → Type 0 = Each (λ (e : Event). due e ≡ false) in
+        let none : filter due (drop n (evs object)) ≡ [] = filter-none due (drop n (evs object)) (subst P (stands.waiting object at) (Each-events_at (λ (e : Event). due e ≡ false) object old.unprocessed done.waiting)) in
+        let few : length (filter due (take n (evs object))) ≤ length (take n (evs object)) = length_filter due (take n (evs object)) in
+        let long : length (take n (evs object)) ≡ min n (length (evs object)) = length-take n (evs object) in
+        let sum : length (filter due (evs object)) ≡ length (filter due (take n (evs object)) ++ filter due (drop n (evs object))) = ap length parts in
+        let sum2 : length (filter due (take n (evs object)) ++ filter due (drop n (evs object))) ≡ length (filter due (take n (evs object))) = ap (λ xs. length (filter due (take n (evs object)) ++ xs)) none ∙ ap length (append-nil (filter due (take n (evs object)))) in
+        let same = count_is object in
+        omega arith
+
+    split : (object : ℕ) → IsHome m home node object → take (ahead object) (evs object) ≡ take (c object) (evs object) ++ take (ahead object - c object) (drop (c object) (evs object))
+    split object at =
+        let le = due_ahead object at in
+        let sum : ahead object ≡ c object + (ahead object - c object) = omega arith in
+        ap (λ n. take n (evs object)) sum ∙ take-split (c object) (ahead object - c object) (evs object)
+
+    base : ℕ → ObjectState
+    base object = share.states object
+
+    front : ℕ → Replay
+    front object = replay m object (base object) (take (c object) (evs object))
+
+    front_due : (object : ℕ) → Each (λ (e : Event). due e ≡ true) (take (c object) (evs object))
+    unfolding evs
+    front_due object =
+        let P : List Event → Type 0 = Each (λ (e : Event). due e ≡ true) in
+        subst P ((due-front (evs object) (up_at object)).0 ∙ sym (ap (λ n. take n (evs object)) (count_is object))) (each_passes (evs object))
+
+    log_is : (object : ℕ) → IsHome m home node object → old.log object ≡ replay m object (base object) (take (c object) (evs object) ++ take (ahead object - c object) (drop (c object) (evs object)))
+    unfolding evs base log_of
+    log_is object at = stands.logs object at ∙ ap (replay m object (share.states object)) (split object at)
+
+    front_whole : (object : ℕ) → IsHome m home node object → (front object).fault ≡ None
+    unfolding front
+    front_whole object at = by_fault (front object).fault refl
+      where
+        by_fault : (f : Option (Key × ℕ)) → (front object).fault ≡ f → f ≡ None
+        by_fault None h = refl
+        by_fault (Some fault) h =
+            let due_fault : is_due g cut fault.0 ≡ true = replay-fault (λ k. is_due g cut k ≡ true) m object (base object) (take (c object) (evs object)) (front_due object) fault h in
+            let same : (old.log object).fault ≡ Some fault =
+            ap (λ (r : Replay). r.fault) (log_is object at ∙ replay-faulted m object (base object) (take (c object) (evs object)) (take (ahead object - c object) (drop (c object) (evs object))) fault h) ∙ h in
+            let not_due = done.faults object at fault same in
+            absurd (cc)
+
+    behind : ℕ → List Event
+    behind object = take (ahead object - c object) (drop (c object) (evs object))
+
+    log_parts : (object : ℕ) → IsHome m home node object → old.log object ≡ replay_after (front object).done (replay m object (front object).state (behind object))
+    unfolding front behind
+    log_parts object at = log_is object at ∙ replay-append m object (base object) (take (c object) (evs object)) (take (ahead object - c object) (drop (c object) (evs object))) (front_whole object at)
+
+    whole_log : (object : ℕ) → IsHome m home node object → (taken (replay m object (base object) (take (c object) (evs object) ++ behind object)) ≡ length (take (c object) (evs object) ++ behind object)) × (length (behind object) ≡ ahead object - c object) × (length (take (c object) (evs object)) ≡ c object)
+    unfolding evs base log_of behind
+    whole_log object at =
+        let n = ahead object in
+        let whole : taken (replay m object (share.states object) (take n (evs object))) ≡ n = (stands.early object at).whole in
+        let le : taken (replay m object (share.states object) (take n (evs object))) ≤ length (take n (evs object)) = taken-le m object (share.states object) (take n (evs object)) in
+        let short : length (take n (evs object)) ≡ min n (length (evs object)) = length-take n (evs object) in
+        let same : taken (replay m object (share.states object) (take n (evs object))) ≡ taken (replay m object (base object) (take (c object) (evs object) ++ behind object)) = ap (λ es. taken (replay m object (share.states object) es)) (split object at) in
+        let long : length (take n (evs object)) ≡ length (take (c object) (evs object) ++ behind object) = ap length (split object at) in
+        let sum : length (take (c object) (evs object) ++ behind object) ≡ length (take (c object) (evs object)) + length (behind object) = length-append (take (c object) (evs object)) (behind object) in
+        let one : length (take (c object) (evs object)) ≡ min (c object) (length (evs object)) = length-take (c object) (evs object) in
+        let fits = due_ahead object at in (
+          (let r : taken (replay m object (base object) (take (c object) (evs object) ++ behind object)) ≡ length (take (c object) (evs object) ++ behind object) = omega arith in r),
+          (let r : length (behind object) ≡ ahead object - c object = omega arith in r),
+          (let r : length (take (c object) (evs object)) ≡ c object = omega arith in r),
+        )
+
+    front_long : (object : ℕ) → IsHome m home node object → length (front object).done ≡ c object
+    unfolding front
+    front_long object at =
+        let w = whole_log object at in
+        let sum : length (take (c object) (evs object) ++ behind object) ≡ length (take (c object) (evs object)) + length (behind object) = length-append (take (c object) (evs object)) (behind object) in
+        let joined : replay m object (base object) (take (c object) (evs object) ++ behind object) ≡ replay_after (front object).done (replay m object (front object).state (behind object)) =
+        replay-append m object (base object) (take (c object) (evs object)) (behind object) (front_whole object at) in
+        let total : taken (replay m object (base object) (take (c object) (evs object) ++ behind object)) ≡ taken (replay_after (front object).done (replay m object (front object).state (behind object))) = ap taken joined in
+        let parts : length ((front object).done ++ (replay m object (front object).state (behind object)).done) ≡ length (front object).done + length (replay m object (front object).state (behind object)).done = length-append (front object).done (replay m object (front object).state (behind object)).done in
+        let rest : taken (replay m object (front object).state (behind object)) ≡ length (behind object) = taken-rest m object (base object) (take (c object) (evs object)) (behind object) (front_whole object at) w.0 in
+        omega arith
+
+    next_events : (object : ℕ) → events_at object (filter stays share.pending) ≡ drop (c object) (evs object)
+    unfolding evs
+    next_events object =
+        at_filter stays object share.pending ∙ (due-front (evs object) (up_at object)).1 ∙ sym (ap (λ n. drop n (evs object)) (count_is object))
+
+    next_log : (object : ℕ) → IsHome m home node object → log_of m (committed m g cut share) object (ahead object - c object) ≡ replay m object (front object).state (behind object)
+    unfolding log_of front behind base evs
+    next_log object at = ap (λ es. replay m object (front object).state (take (ahead object - c object) es)) (next_events object)
+
+    pub commit_stands : StandsFor m t home node (committed m g cut share) (committed_ahead g cut share ahead) new
+    unfolding behind front base evs log_of
+    commit_stands =
+        let B : List Event → Type 0 = Each (λ (e : Event). e.key.stamp < end_stamp t.end) in
+        let O : List Event → Type 0 = IsAscending in
+        let H : List Event → Type 0 = Each (IsAtHome m home node) in
+        record {
+          ordered = IsAscending-filter stays share.pending stands.ordered;
+          homed = Each-filter (IsAtHome m home node) stays share.pending stands.homed;
+          cells = λ object at. replay-lawful m object (share.states object) (take (c object) (evs object)) laws at.0 (stands.cells object at);
+          early = λ object at. record {
+            whole = ap taken (next_log object at) ∙ taken-rest m object (base object) (take (c object) (evs object)) (behind object) (front_whole object at) (whole_log object at).0 ∙ (whole_log object at).1;
+            below = subst B (sym (ap (take (ahead object - c object)) (next_events object)))
+                (Each-back (λ (e : Event). e.key.stamp < end_stamp t.end) (take (c object) (evs object)) (behind object) (subst B (split object at) (stands.early object at).below));
+          };
+          logs = λ object at.
+              commit.logs object at
+              ∙ ap (without_first (c object)) (log_parts object at)
+              ∙ ap (λ ds. record (replay m object (front object).state (behind object)) { done = ds })
+              (ap (λ n. drop n ((front object).done ++ (replay m object (front object).state (behind object)).done)) (sym (front_long object at))
+              ∙ drop-append_seam (front object).done (replay m object (front object).state (behind object)).done)
+              ∙ sym (next_log object at);
+          waiting_ordered = subst O (sym commit.waits) stands.waiting_ordered;
+          waiting_homed = subst H (sym commit.waits) stands.waiting_homed;
+          waiting = λ object at.
+              ap (events_at object) commit.waits ∙ stands.waiting object at
+              ∙ (let le = due_ahead object at in let sum : ahead object ≡ c object + (ahead object - c object) = omega arith in ap (λ n. drop n (evs object)) sum)
+              ∙ sym (drop-drop (ahead object - c object) (c object) (evs object))
+              ∙ sym (ap (drop (ahead object - c object)) (next_events object));
+        }
