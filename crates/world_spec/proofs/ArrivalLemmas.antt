@@ -1,16 +1,16 @@
 -- Events may be put at their places in any order.
-use Rattle.std.proofs.Common.{◌≡◌, ℕ, ◌+◌, ◌≤◌, Bool, true, false, cond, ◌||◌, List, [], ◌∷◌, ◌++◌, sym, refl, ap, ◌∙◌, subst, arith}
-use Rattle.std.specs.Prelude.{IsPermutation}
+use Rattle.std.proofs.Common.{Bool, List, [], ap, arith, cond, false, refl, subst, sym, true, ℕ, ◌++◌, ◌+◌, ◌||◌, ◌∙◌, ◌∷◌, ◌≡◌, ◌≤◌}
+use Rattle.std.proofs.lemmas.List.Sorted.{IsPermutation-append_left, IsPermutation-append_right, IsPermutation-cons, IsPermutation-middle, IsPermutation-refl, IsPermutation-sym, IsPermutation-trans, sum_by-IsPermutation}
+use Rattle.std.proofs.lemmas.List.Sums.{sum_by-append, sum_by-cons}
 use Rattle.std.specs.List.{sum_by}
-use Rattle.std.proofs.lemmas.List.Sorted.{IsPermutation-refl, IsPermutation-sym, IsPermutation-trans, IsPermutation-cons, IsPermutation-append_left, IsPermutation-append_right, IsPermutation-middle, sum_by-IsPermutation}
-use Rattle.std.proofs.lemmas.List.Sums.{sum_by-cons, sum_by-append}
-use Rattle.event_key.specs.declared.key.Key.{Key}
+use Rattle.std.specs.Prelude.{IsPermutation}
+use Rattle.event_key.proofs.Order.{key_lt-apart, key_lt-irrefl}
 use Rattle.event_key.specs.Keys.{key_lt}
-use Rattle.event_key.proofs.Order.{key_lt-irrefl, key_lt-apart}
+use Rattle.event_key.specs.declared.key.Key.{Key}
 use Rattle.model_core.specs.declared.event.Event.{Event}
+use Rattle.sim_spec.specs.Pending.{AllAfter, IsAscending, NoneAt, enqueue, enqueue_all}
 use Rattle.sim_spec.proofs.EnqueueLemmas.{IsAscending-enqueue}
 use Rattle.sim_spec.proofs.OrderLemmas.{ascending_permutation}
-use Rattle.sim_spec.specs.Pending.{AllAfter, IsAscending, NoneAt, enqueue, enqueue_all}
 
 abbrev pub unless : Bool → Bool → ℕ
 unless a b = cond (a || b) 0 1

@@ -1,92 +1,34 @@
 -- A bound at which a cycle is closed gives the bucket, and what is left behind it has run ahead of the next state.
-use Rattle.std.proofs.Common.{◌≡◌, ◌⊎◌, ℕ, zero, suc, ◌+◌, ◌-◌, ◌<◌, ◌≤◌, Bool, true, false, cond, ◌&&◌, List, [], ◌∷◌, ◌++◌, length, take, drop, sym, refl, ap, ◌∙◌, subst, inl, inr, arith, ltb, lt-ltb, le-ltb, take-append-drop, append_assoc}
-use Rattle.std.proofs.lemmas.List.{length-append, append-nil}
-use Rattle.std.specs.Prelude.{filter, Option, Some, None}
+use Rattle.std.proofs.Common.{List, [], ap, append_assoc, arith, drop, false, inl, inr, length, lt-ltb, ltb, not, refl, subst, sym, take, take-append-drop, true, ℕ, ◌&&◌, ◌++◌, ◌+◌, ◌-◌, ◌<◌, ◌∙◌, ◌∷◌, ◌≡◌, ◌≤◌, ◌⊎◌}
+use Rattle.std.proofs.lemmas.Bool.{and_right}
+use Rattle.std.proofs.lemmas.List.{append-nil, length-append}
 use Rattle.std.specs.List.{AllByRecursion as Each}
-use Rattle.event_key.specs.declared.key.Key.{Key}
+use Rattle.std.specs.Prelude.{None, Option, Some, filter}
 use Rattle.event_key.specs.Keys.{key_lt}
 use Rattle.event_key.specs.Stamps.{end_stamp}
-use Rattle.event_key.proofs.Order.{key_lt-trans, stamp-le}
-use Rattle.model_core.specs.declared.event.Event.{Event}
+use Rattle.event_key.specs.declared.key.Key.{Key}
 use Rattle.model_core.specs.Meaning.{Meaning, MeaningLaws}
-use Rattle.sim_spec.specs.declared.terms.Terms.{Terms}
+use Rattle.model_core.specs.declared.event.Event.{Event}
+use Rattle.sim_spec.specs.Cut.{after, committed_events, emissions_of, events_of}
 use Rattle.sim_spec.specs.Firing.{Firing}
+use Rattle.sim_spec.specs.Horizon.{HorizonBucket, horizon_bucket, reach_of, reach_with}
+use Rattle.sim_spec.specs.HorizonLaws.{IsBefore, IsBelowHorizon, IsOwnReplay, IsPast}
 use Rattle.sim_spec.specs.Pending.{IsAscending}
-use Rattle.sim_spec.specs.State.{State, Lawful, object_at}
-use Rattle.sim_spec.specs.Horizon.{HorizonBucket, horizon_bucket, reach_with, reach_of}
-use Rattle.sim_spec.specs.Cut.{events_of, emissions_of, objects_after, committed_events, after}
-use Rattle.sim_spec.specs.Replay.{Replay, replay, early_replay, events_at, done_at, NoneBelow, EmitsFrom}
-use Rattle.sim_spec.specs.HorizonLaws.{IsBefore, IsPast, IsBelowHorizon, IsOwnReplay}
+use Rattle.sim_spec.specs.Replay.{EmitsFrom, NoneBelow, Replay, done_at, early_replay, events_at}
+use Rattle.sim_spec.specs.State.{Lawful, State}
+use Rattle.sim_spec.specs.declared.terms.Terms.{Terms}
 use Rattle.sim_spec.proofs.AscendingLemmas.{ascending-before, ascending-from}
-use Rattle.sim_spec.proofs.EachLemmas.{Each-map, Each-both, Each-append, Each-front, Each-back, Each-take}
-use Rattle.sim_spec.proofs.PartLemmas.{Each-events_at, events_at-append, events_at-events_of, events_at-first, length-events_of, done_at-append, AllSound-dest, Each-parts}
-use Rattle.sim_spec.proofs.StampLemmas.{NoneBelow-emissions_of, NoneBelow-contains}
-use Rattle.sim_spec.proofs.ReplayLemmas.{replay_after, replay-each}
 use Rattle.sim_spec.proofs.BucketFacts.{GoInTurn, bucket-in-turn, reach-le}
-use Rattle.sim_spec.proofs.HorizonLaw.{horizon_law, GoInTurn-take, events_of-split, pending-split}
 use Rattle.sim_spec.proofs.BucketLaw.{bucket_law}
+use Rattle.sim_spec.proofs.EachLemmas.{Each-append, Each-back, Each-both, Each-front, Each-map}
+use Rattle.sim_spec.proofs.HorizonLaw.{GoInTurn-take, events_of-split, horizon_law, pending-split}
 use Rattle.sim_spec.proofs.ObjectsLaw.{objects_law}
-use Rattle.world_spec.specs.Early.{RunsAhead, IsPastFault, IsClosed, is_due, kept}
-use Rattle.world_spec.specs.Closed.{IsLeastFault, first_key, fault_key, cut_key, CycleLaw}
-use Rattle.world_spec.proofs.CommitLemmas.{IsProcessed, behind, early-split, kept-early}
-
--- where none of the first events waits, and each event from place n on does, the first ones stand before place n
-none-waits : (P : Event → Type 0) (n : ℕ) (xs ys : List Event) → Each (λ (e : Event). P e → ⊥) xs → Each P (drop n (xs ++ ys)) → length xs ≤ n
-none-waits P n [] ys never waits = omega arith
-none-waits P zero (x ∷ xs) ys never waits = absurd (never.0 waits.0)
-none-waits P (suc n) (x ∷ xs) ys never waits = let le = none-waits P n xs ys never.1 waits in omega arith
-
--- a test that the first part passes, and the second doesn't
-filter-parts : (p : Key → Bool) (xs ys : List (Event × Firing)) → Each (λ (e : Event). p e.key ≡ true) (events_of xs) → Each (λ (e : Event). p e.key ≡ false) (events_of ys)
-    → filter (λ d. p d.0.key) (xs ++ ys) ≡ xs
-filter-parts p [] [] pass stay = refl
-filter-parts p [] (y ∷ ys) pass stay = ap (λ b. cond b (y ∷ filter (λ d. p d.0.key) ys) (filter (λ d. p d.0.key) ys)) stay.0 ∙ filter-parts p [] ys tt stay.1
-filter-parts p (x ∷ xs) ys pass stay =
-    ap (λ b. cond b (x ∷ filter (λ d. p d.0.key) (xs ++ ys)) (filter (λ d. p d.0.key) (xs ++ ys))) pass.0 ∙ ap (λ zs. x ∷ zs) (filter-parts p xs ys pass.1 stay)
-
--- what is due of an object's events is what was done there
-due-is : (p : Key → Bool) (m : Meaning) (t : Terms) (s : State) (done : List (Event × Firing)) (rest : List Event) (object n : ℕ) → IsProcessed m t s done rest object n
-    → Each (λ (e : Event). p e.key ≡ true) (events_of done) → Each (λ (e : Event). p e.key ≡ false) rest
-    → filter (λ d. p d.0.key) (early_replay m s object n).done ≡ done_at object done
-due-is p m t s done rest object n processed pass stay =
-    let R = replay m object (object_at (objects_after s.objects done) object) (behind m t s done rest object n) in
-    let Q : List Event → Type 0 = Each (λ (e : Event). p e.key ≡ true) in
-    let pass_here : Q (events_of (done_at object done)) = subst Q (events_at-events_of object done) (Each-events_at (λ (e : Event). p e.key ≡ true) object (events_of done) pass) in
-    let stay_here : Each (λ (e : Event). p e.key ≡ false) (events_of R.done) =
-    replay-each (λ (e : Event). p e.key ≡ false) m object _ (behind m t s done rest object n)
-    (Each-take (λ (e : Event). p e.key ≡ false) (n - length (done_at object done)) (events_at object rest) (Each-events_at (λ (e : Event). p e.key ≡ false) object rest stay)) in
-    ap (λ (r : Replay). filter (λ d. p d.0.key) r.done) (early-split m t s done rest object n processed)
-    ∙ filter-parts p (done_at object done) R.done pass_here stay_here
-
-and_false : (b : Bool) → (b && false) ≡ false
-and_false true = refl
-and_false false = refl
-
--- a fault past the end of a bucket has no smaller key than what comes before that end
-past_before : (h : ℕ) (fault : Option (Key × ℕ)) (met key : Key) → IsPast h fault met → key_lt met key ≡ true → IsBefore h fault key → ⊥
-past_before h None met key past lt before = let le = stamp-le met key lt in omega arith
-past_before h (Some fault) met key past lt before = let yes = key_lt-trans met key fault.0 lt before in cc
-
-before_reach : (g h : ℕ) (fault : Option (Key × ℕ)) (key : Key) → reach_with h fault ≤ g → IsBefore h fault key → key.stamp < g
-before_reach g h None key reach before = omega arith
-before_reach g h (Some fault) key reach before = let le = stamp-le key fault.0 before in omega arith
-
-due_before : (g h : ℕ) (fault : Option (Key × ℕ)) (key : Key) → reach_with h fault ≤ g → IsBefore h fault key → is_due g (fault_key fault) key ≡ true
-unfolding is_due
-due_before g h None key reach before = ap (λ b. b && true) (lt-ltb key.stamp g (before_reach g h None key reach before))
-due_before g h (Some fault) key reach before = ap (λ b. b && key_lt key fault.0) (lt-ltb key.stamp g (before_reach g h (Some fault) key reach before)) ∙ before
-
-past_stays : (g h : ℕ) (fault : Option (Key × ℕ)) (key : Key) → (fault ≡ None → g ≡ h) → IsPast h fault key → is_due g (fault_key fault) key ≡ false
-unfolding is_due
-past_stays g h None key same past = let is = same refl in ap (λ b. b && true) (le-ltb key.stamp g (omega arith))
-past_stays g h (Some fault) key same past = ap (λ b. ltb key.stamp g && b) past ∙ and_false (ltb key.stamp g)
-
--- the pending events behind the bucket, and those behind what is committed
-abbrev pub behind_bucket : Meaning → Terms → State → List Event
-behind_bucket m t s = drop (length (horizon_bucket m t s).done) s.pending
-
-abbrev pub left_of : Meaning → Terms → State → List Event
-left_of m t s = events_of (drop (t.limit - s.count) (horizon_bucket m t s).done) ++ behind_bucket m t s
+use Rattle.sim_spec.proofs.PartLemmas.{AllSound-dest, Each-events_at, Each-parts, done_at-append, events_at-events_of, events_at-first, length-events_of}
+use Rattle.sim_spec.proofs.StampLemmas.{NoneBelow-contains, NoneBelow-emissions_of}
+use Rattle.world_spec.specs.Closed.{CycleLaw, IsLeastFault, cut_key, fault_key, first_key}
+use Rattle.world_spec.specs.Early.{IsClosed, IsPastFault, RunsAhead, is_due, kept}
+use Rattle.world_spec.proofs.ClosedFacts.{before_reach, behind_bucket, due-is, due_before, left_of, none-waits, past_before, past_stays}
+use Rattle.world_spec.proofs.ProcessedLemmas.{IsProcessed, kept-early, replay-split}
 
 module _ (m : Meaning) (t : Terms) (s : State) (ahead : ℕ → ℕ) (g : ℕ) (lawful : Lawful m t s) (runs : RunsAhead m t s ahead) (closed : IsClosed m t s ahead g) where
   abbrev b : HorizonBucket
@@ -162,15 +104,14 @@ module _ (m : Meaning) (t : Terms) (s : State) (ahead : ℕ → ℕ) (g : ℕ) (
       let sum : length (done_at object b.done) ≡ length (done_at object (take k b.done)) + length (done_at object (drop k b.done)) = ap length at ∙ length-append _ _ in
       let all = processed_is object below in
       record {
-        pending = split_at k;
-        fires = GoInTurn-take m k s.objects b.done in_turn;
+        goes_first = record { pending = split_at k; turn = GoInTurn-take m k s.objects b.done in_turn };
         inside = inside object below;
         early = runs object below;
         upto = omega arith;
       }
 
   pub bucket_processed : (object : ℕ) → object < m.objects → IsProcessed m t s b.done tail object (ahead object)
-  bucket_processed object below = record { pending = law.first; fires = in_turn; inside = inside object below; early = runs object below; upto = processed_is object below }
+  bucket_processed object below = record { goes_first = record { pending = law.first; turn = in_turn }; inside = inside object below; early = runs object below; upto = processed_is object below }
 
   abbrev InModel : List Event → Type 0
   InModel = Each (λ (e : Event). e.key.dest < m.objects)
@@ -185,9 +126,9 @@ module _ (m : Meaning) (t : Terms) (s : State) (ahead : ℕ → ℕ) (g : ℕ) (
       (Each-parts (λ (d : Event × Firing). NoneBelow g d.1.events) m.objects b.done (Each-front (λ (e : Event). e.key.dest < m.objects) (events_of b.done) tail all_in_model) (λ object below.
       let Q : Replay → Type 0 = λ r. EmitsFrom g r.done in
       Each-front (λ (d : Event × Firing). NoneBelow g d.1.events) (done_at object b.done) _
-      (subst Q (early-split m t s b.done tail object (ahead object) (bucket_processed object below)) (closed.held object below))))
+      (subst Q (replay-split m t s b.done tail object (ahead object) (bucket_processed object below)) (closed.held object below))))
 
-  horizon_is : b.fault ≡ None → g ≡ b.horizon
+  pub horizon_is : b.fault ≡ None → g ≡ b.horizon
   horizon_is none =
       let up = horizon_from in
       let down = reach_is in
@@ -239,7 +180,7 @@ module _ (m : Meaning) (t : Terms) (s : State) (ahead : ℕ → ℕ) (g : ℕ) (
       let bounded : fault.0.stamp < g = omega arith in
       (placed, subst H dest held, bounded)
 
-  least_fault : (x : Option (Key × ℕ)) → b.fault ≡ x → IsLeastFault m s ahead g x
+  pub least_fault : (x : Option (Key × ℕ)) → b.fault ≡ x → IsLeastFault m s ahead g x
   least_fault None is_x = λ object below met is_met.
       let P : Option (Key × ℕ) → Type 0 = λ f. IsPast b.horizon f met.0 in
       let late : b.horizon ≤ met.0.stamp = subst P is_x ((own object below).faults (ahead object) met is_met) in
@@ -293,7 +234,7 @@ module _ (m : Meaning) (t : Terms) (s : State) (ahead : ℕ → ℕ) (g : ℕ) (
       due_first cut e first lt = ap (λ b. b && key_lt e.key cut) (lt-ltb e.key.stamp g (before_reach g b.horizon b.fault e.key reach_is first)) ∙ lt
 
       not_due : (cut : Key) (e : Event) → key_lt e.key cut ≡ false → is_due g (Some cut) e.key ≡ false
-      not_due cut e not = ap (λ b. ltb e.key.stamp g && b) not ∙ and_false (ltb e.key.stamp g)
+      not_due cut e not = ap (λ b. ltb e.key.stamp g && b) not ∙ and_right (ltb e.key.stamp g) false refl
 
   pub due_parts : Each (λ (e : Event). is_due g (cut_key m t s) e.key ≡ true) (events_of (committed_events m t s)) × Each (λ (e : Event). is_due g (cut_key m t s) e.key ≡ false) (left_of m t s)
   unfolding cut_key committed_events
@@ -310,7 +251,7 @@ module _ (m : Meaning) (t : Terms) (s : State) (ahead : ℕ → ℕ) (g : ℕ) (
   left_is : MeaningLaws m → RunsAhead m t (after m t s) (kept s (committed_events m t s) ahead)
   unfolding after
   left_is laws object below =
-      kept-early m t s (committed_events m t s) (left_of m t s) ahead object (committed_processed object below) (bucket_law m t laws s lawful).lawful.ordered
+      kept-early m t s (committed_events m t s) (left_of m t s) object (ahead object) ahead refl (committed_processed object below) (bucket_law m t laws s lawful).lawful.ordered
 
 pub pending_is : (m : Meaning) (t : Terms) (s : State) → Lawful m t s → s.pending ≡ events_of (committed_events m t s) ++ left_of m t s
 unfolding committed_events
@@ -318,7 +259,7 @@ pending_is m t s lawful = pending-split (t.limit - s.count) s.pending (horizon_b
 
 pub cycle_law : (m : Meaning) (t : Terms) → MeaningLaws m → CycleLaw m t
 cycle_law m t laws s ahead g lawful runs closed = record {
-  reach = reach_is m t s ahead g lawful runs closed;
+  reached = reach_is m t s ahead g lawful runs closed;
   processed = processed_is m t s ahead g lawful runs closed;
   horizon = horizon_is m t s ahead g lawful runs closed;
   fault = least_fault m t s ahead g lawful runs closed (horizon_bucket m t s).fault refl;

@@ -1,39 +1,43 @@
 -- What each node has after a cycle is its share of the next state.
-use Rattle.std.proofs.Common.{◌≡◌, ℕ, ◌-◌, ◌<◌, Bool, not, true, false, List, ◌++◌, length, take, drop, sym, refl, ap, ◌∙◌, subst}
+use Rattle.std.proofs.Common.{Bool, List, ap, drop, false, length, not, subst, sym, take, true, ℕ, ◌++◌, ◌-◌, ◌<◌, ◌∙◌, ◌≡◌}
 use Rattle.std.proofs.Math.Seq.{take-append_seam}
+use Rattle.std.proofs.lemmas.Bool.{not_from_false, not_from_true}
 use Rattle.std.proofs.lemmas.List.{append-nil}
 use Rattle.std.proofs.lemmas.List.Elements.{filter-append}
-use Rattle.std.specs.Prelude.{filter, IsPermutation}
-use Rattle.model_core.specs.declared.event.Event.{Event}
-use Rattle.model_core.specs.Meaning.{Meaning, MeaningLaws}
-use Rattle.sim_spec.specs.declared.terms.Terms.{Terms}
 use Rattle.std.specs.List.{AllByRecursion as Each}
-use Rattle.sim_spec.proofs.AscendingLemmas.{IsAscending-filter, IsAscending-without_all}
-use Rattle.sim_spec.proofs.BucketLaw.{bucket_law}
-use Rattle.sim_spec.proofs.EachLemmas.{Each-filter, Each-map}
-use Rattle.sim_spec.proofs.ObjectReplay.{in-turn-replay}
-use Rattle.sim_spec.proofs.PartLemmas.{Each-events_at, events_at-append, events_at-events_of, length-events_of}
-use Rattle.sim_spec.proofs.ShareLemmas.{filter-enqueue_all}
+use Rattle.std.specs.Prelude.{IsPermutation, filter}
+use Rattle.model_core.specs.Meaning.{Meaning, MeaningLaws}
+use Rattle.model_core.specs.declared.event.Event.{Event}
 use Rattle.sim_spec.specs.Cut.{after, committed_events, emissions_of, events_of, objects_after, state_with_done}
 use Rattle.sim_spec.specs.Firing.{Firing}
 use Rattle.sim_spec.specs.Pending.{IsAscending, enqueue_all}
 use Rattle.sim_spec.specs.Replay.{Replay, done_at, events_at, replay}
 use Rattle.sim_spec.specs.State.{Lawful, State, object_at}
-use Rattle.world_spec.proofs.ArrivalLemmas.{arrival}
-use Rattle.world_spec.proofs.ClosedLaw.{pending_is, committed_processed, due_parts, left_of}
-use Rattle.world_spec.proofs.FilterLemmas.{at-home, before-permutation, filter-all, filter-none, leading-same}
+use Rattle.sim_spec.specs.declared.terms.Terms.{Terms}
+use Rattle.sim_spec.proofs.AscendingLemmas.{IsAscending-filter, IsAscending-without_all}
+use Rattle.sim_spec.proofs.BucketLaw.{bucket_law}
+use Rattle.sim_spec.proofs.EachLemmas.{Each-filter, Each-map}
+use Rattle.sim_spec.proofs.InTurnLemmas.{drop-front}
+use Rattle.sim_spec.proofs.ObjectReplay.{in-turn-replay}
+use Rattle.sim_spec.proofs.PartLemmas.{Each-events_at, events_at-append, events_at-events_of, length-events_of}
+use Rattle.sim_spec.proofs.ShareLemmas.{filter-enqueue_all}
 use Rattle.world_spec.specs.Closed.{cut_key}
 use Rattle.world_spec.specs.Early.{IsClosed, RunsAhead, is_before_all, is_due, kept, leading}
-use Rattle.world_spec.specs.Share.{IsHome, IsNextShare, IsShareOf, Share, SharesLaw, ahead_events, committed, committed_ahead, due_count, is_at, log_of, received_ahead}
-use Rattle.world_spec.proofs.CommitLemmas.{IsProcessed, behind, behind-is, drop-parts}
+use Rattle.world_spec.specs.Moves.{committed, committed_ahead, due_count, received, received_ahead}
+use Rattle.world_spec.specs.Share.{IsHome, IsShareOf, Share, ahead_events, is_at, log_of}
+use Rattle.world_spec.proofs.ArrivalLemmas.{arrival}
+use Rattle.world_spec.proofs.ClosedFacts.{left_of}
+use Rattle.world_spec.proofs.ClosedLaw.{committed_processed, due_parts, pending_is}
+use Rattle.world_spec.proofs.FilterLemmas.{filter-all, filter-none}
+use Rattle.world_spec.proofs.FrontLemmas.{before-permutation, leading-same}
+use Rattle.world_spec.proofs.HomeLemmas.{at-home}
+use Rattle.world_spec.proofs.ProcessedLemmas.{IsProcessed, further-is, further_events}
 
-not_of : (b : Bool) → b ≡ true → not b ≡ false
-not_of true h = refl
-not_of false h = absurd (cc)
-
-is_not : (b : Bool) → b ≡ false → not b ≡ true
-is_not false h = refl
-is_not true h = absurd (cc)
+-- a node has its share of the next state, and each of its objects is as far ahead as it keeps
+pub record IsNextShare (m : Meaning) (t : Terms) (home : ℕ → ℕ) (s : State) (ahead : ℕ → ℕ) (bound node : ℕ) (share : Share) (es : List Event) : Type 0 where
+  pub share_of : IsShareOf m home (after m t s) node (received es (committed m bound (cut_key m t s) share))
+  pub ahead_is : (object : ℕ) → IsHome m home node object
+      → received_ahead es (committed m bound (cut_key m t s) share) (committed_ahead bound (cut_key m t s) share ahead) object ≡ kept s (committed_events m t s) ahead object
 
 module _ (m : Meaning) (t : Terms) (laws : MeaningLaws m) (home : ℕ → ℕ) (s : State) (ahead : ℕ → ℕ) (g node : ℕ) (share : Share) (es : List Event)
     (lawful : Lawful m t s) (runs : RunsAhead m t s ahead) (closed : IsClosed m t s ahead g) (own : IsShareOf m home s node share)
@@ -61,7 +65,7 @@ module _ (m : Meaning) (t : Terms) (laws : MeaningLaws m) (home : ℕ → ℕ) (
   split = pending_is m t s lawful
 
   dropped : drop (length d) s.pending ≡ rest
-  dropped = drop-parts d rest s.pending split
+  dropped = ap (drop (length d)) split ∙ drop-front d rest
 
   processed : (object : ℕ) → object < m.objects → IsProcessed m t s d rest object (ahead object)
   processed = committed_processed m t s ahead g lawful runs closed
@@ -75,14 +79,14 @@ module _ (m : Meaning) (t : Terms) (laws : MeaningLaws m) (home : ℕ → ℕ) (
       ap (filter (λ (e : Event). not (due e))) parts_is
       ∙ filter-append (λ (e : Event). not (due e)) (filter here (events_of d)) (filter here rest)
       ∙ ap (λ xs. xs ++ filter (λ (e : Event). not (due e)) (filter here rest))
-      (filter-none (λ (e : Event). not (due e)) (filter here (events_of d)) (Each-filter (λ (e : Event). not (due e) ≡ false) here (events_of d) (Each-map (λ (e : Event). due e ≡ true) (λ (e : Event). not (due e) ≡ false) (events_of d) (λ e h. not_of (due e) h) parts.0)))
-      ∙ filter-all (λ (e : Event). not (due e)) (filter here rest) (Each-filter (λ (e : Event). not (due e) ≡ true) here rest (Each-map (λ (e : Event). due e ≡ false) (λ (e : Event). not (due e) ≡ true) rest (λ e h. is_not (due e) h) parts.1))
+      (filter-none (λ (e : Event). not (due e)) (filter here (events_of d)) (Each-filter (λ (e : Event). not (due e) ≡ false) here (events_of d) (Each-map (λ (e : Event). due e ≡ true) (λ (e : Event). not (due e) ≡ false) (events_of d) (λ e h. not_from_true (due e) h) parts.0)))
+      ∙ filter-all (λ (e : Event). not (due e)) (filter here rest) (Each-filter (λ (e : Event). not (due e) ≡ true) here rest (Each-map (λ (e : Event). due e ≡ false) (λ (e : Event). not (due e) ≡ true) rest (λ e h. not_from_false (due e) h) parts.1))
 
   events_is : (object : ℕ) → IsHome m home node object → events_at object share.pending ≡ events_at object s.pending
   events_is object at = ap (events_at object) own.pending ∙ at-home home node object s.pending at.1
 
   events_parts : (object : ℕ) → IsHome m home node object → events_at object share.pending ≡ events_at object (events_of d) ++ events_at object rest
-  events_parts object at = events_is object at ∙ ap (events_at object) (processed object at.0).pending ∙ events_at-append object (events_of d) rest
+  events_parts object at = events_is object at ∙ ap (events_at object) (processed object at.0).goes_first.pending ∙ events_at-append object (events_of d) rest
 
   due_is : (object : ℕ) → IsHome m home node object → due_count g (cut_key m t s) share object ≡ length (done_at object d)
   unfolding due_count
@@ -105,7 +109,7 @@ module _ (m : Meaning) (t : Terms) (laws : MeaningLaws m) (home : ℕ → ℕ) (
       ∙ take-append_seam (events_at object (events_of d)) (events_at object rest) in
       ap (λ xs. (replay m object (share.states object) xs).state) front
       ∙ ap (λ x. (replay m object x (events_at object (events_of d))).state) (own.states object at)
-      ∙ ap (λ (r : Replay). r.state) (in-turn-replay m object s.objects d p.inside p.fires)
+      ∙ ap (λ (r : Replay). r.state) (in-turn-replay m object s.objects d p.inside p.goes_first.turn)
 
   next_pending : enqueue_all es (filter (λ (e : Event). not (due e)) share.pending) ≡ filter here (enqueue_all (emissions_of d) (drop (length d) s.pending))
   next_pending =
@@ -123,7 +127,7 @@ module _ (m : Meaning) (t : Terms) (laws : MeaningLaws m) (home : ℕ → ℕ) (
       → received_ahead es (committed m g (cut_key m t s) share) (committed_ahead g (cut_key m t s) share ahead) object ≡ kept s d ahead object
   unfolding received_ahead kept
   next_ahead object at =
-      let xs = behind m t s d rest object (ahead object) in
+      let xs = further_events m t s d rest object (ahead object) in
       let front : take (ahead object - due_count g (cut_key m t s) share object) (events_at object (filter (λ (e : Event). not (due e)) share.pending)) ≡ xs =
       ap (λ n. take (ahead object - n) (events_at object (filter (λ (e : Event). not (due e)) share.pending))) (due_is object at)
       ∙ ap (λ ys. take (ahead object - length (done_at object d)) (events_at object ys)) left_is
@@ -132,14 +136,16 @@ module _ (m : Meaning) (t : Terms) (laws : MeaningLaws m) (home : ℕ → ℕ) (
       λ x. before-permutation object (filter here (emissions_of d)) es x moves ∙ ap (λ ms. is_before_all ms x) (at-home home node object (emissions_of d) at.1) in
       ap (leading (is_before_all (events_at object es))) front
       ∙ leading-same (is_before_all (events_at object es)) (is_before_all (events_at object (emissions_of d))) xs same
-      ∙ sym (ap (leading (is_before_all (events_at object (emissions_of d)))) (behind-is m t s d rest object (ahead object) (processed object at.0)))
+      ∙ sym (ap (leading (is_before_all (events_at object (emissions_of d)))) (further-is m t s d rest object (ahead object) (processed object at.0)))
 
-  next_share : IsNextShare m t home s ahead g node share es
+  next_share_is : IsNextShare m t home s ahead g node share es
   unfolding after state_with_done
-  next_share = record {
+  next_share_is = record {
     share_of = record { states = state_is; pending = next_pending };
     ahead_is = next_ahead;
   }
 
-pub shares_law : (m : Meaning) (t : Terms) → MeaningLaws m → SharesLaw m t
-shares_law m t laws home s ahead g node share es lawful runs closed own moves = next_share m t laws home s ahead g node share es lawful runs closed own moves
+pub shares-law : (m : Meaning) (t : Terms) → MeaningLaws m → (home : ℕ → ℕ) (s : State) (ahead : ℕ → ℕ) (bound node : ℕ) (share : Share) (es : List Event)
+    → Lawful m t s → RunsAhead m t s ahead → IsClosed m t s ahead bound → IsShareOf m home s node share → IsPermutation (filter (is_at home node) (emissions_of (committed_events m t s))) es
+    → IsNextShare m t home s ahead bound node share es
+shares-law m t laws home s ahead bound node share es lawful runs closed own moves = next_share_is m t laws home s ahead bound node share es lawful runs closed own moves

@@ -1,14 +1,13 @@
--- A replay by its parts.
-use Rattle.std.proofs.Common.{◌≡◌, ℕ, zero, suc, ◌+◌, ◌≤◌, List, [], ◌∷◌, ◌++◌, length, take, refl, ap, arith, length-take}
+-- How many events a replay takes.
+use Rattle.std.proofs.Common.{List, [], ap, arith, length, length-take, refl, suc, take, zero, ℕ, ◌++◌, ◌+◌, ◌∷◌, ◌≡◌, ◌≤◌}
 use Rattle.std.proofs.lemmas.List.{length-append}
-use Rattle.std.specs.Prelude.{Some, None}
-use Rattle.event_key.specs.declared.key.Key.{Key}
-use Rattle.model_core.specs.declared.event.Event.{Event}
+use Rattle.std.specs.Prelude.{None}
 use Rattle.model_core.specs.Meaning.{Meaning}
-use Rattle.sim_spec.specs.Firing.{Fired, Firing, ObjectState, fails, fire, goes}
+use Rattle.model_core.specs.declared.event.Event.{Event}
+use Rattle.sim_spec.specs.Firing.{Fired, ObjectState, fails, fire, goes}
 use Rattle.sim_spec.specs.Replay.{Replay, replay, replay_fired}
+use Rattle.sim_spec.proofs.ReplayLemmas.{replay-append, replay_after}
 use Rattle.world_spec.specs.Early.{fault_count, taken}
-use Rattle.sim_spec.proofs.ReplayLemmas.{replay_after, replay-append}
 
 taken_on : (m : Meaning) (object : ℕ) (state : ObjectState) (e : Event) (es : List Event) (f : Fired)
     → ((s : ObjectState) → taken (replay m object s es) ≤ length es) → taken (replay_fired state e (λ x. replay m object x.state es) f) ≤ suc (length es)

@@ -1,51 +1,58 @@
 -- A commit leaves a node that stands for the share without what was due.
-use Rattle.std.proofs.Common.{◌≡◌, ℕ, suc, ◌+◌, ◌-◌, ◌<◌, ◌≤◌, min, Bool, not, true, false, cond, ◌&&◌, List, [], ◌∷◌, ◌++◌, length, take, drop, sym, refl, ap, ◌∙◌, subst, arith, eqb, ltb, ltb-true, lt-ltb, take-append-drop, length-take}
+use Rattle.std.proofs.Common.{Bool, List, [], ap, arith, cond, drop, eqb, false, length, length-take, lt-ltb, ltb, ltb-true, min, not, refl, subst, suc, sym, take, take-append-drop, true, zero, ℕ, ◌++◌, ◌+◌, ◌-◌, ◌<◌, ◌∙◌, ◌∷◌, ◌≡◌, ◌≤◌}
 use Rattle.std.proofs.Math.Seq.{drop-append_seam}
-use Rattle.std.proofs.lemmas.List.{length-append, append-nil, drop-drop}
+use Rattle.std.proofs.lemmas.Bool.{and_from, and_parts, false_from_ne_true}
+use Rattle.std.proofs.lemmas.List.{append-nil, drop-drop, length-append}
 use Rattle.std.proofs.lemmas.List.Elements.{filter-append}
-use Rattle.std.specs.Prelude.{filter, Option, Some, None}
-use Rattle.event_key.specs.declared.key.Key.{Key}
+use Rattle.std.specs.List.{AllByRecursion as Each}
+use Rattle.std.specs.Prelude.{None, Option, Some, filter}
+use Rattle.event_key.proofs.Order.{key_lt-trans, stamp-le}
 use Rattle.event_key.specs.Keys.{key_lt}
 use Rattle.event_key.specs.Stamps.{end_stamp}
-use Rattle.event_key.proofs.Order.{key_lt-trans, stamp-le}
-use Rattle.model_core.specs.declared.event.Event.{Event}
+use Rattle.event_key.specs.declared.key.Key.{Key}
 use Rattle.model_core.specs.Meaning.{Meaning, MeaningLaws}
-use Rattle.sim_spec.specs.declared.terms.Terms.{Terms}
-use Rattle.std.specs.List.{AllByRecursion as Each}
-use Rattle.sim_spec.proofs.AscendingLemmas.{AllAfter-each, IsAscending-filter}
-use Rattle.sim_spec.proofs.EachLemmas.{Each-back, Each-filter, Each-map}
-use Rattle.sim_spec.proofs.PartLemmas.{Each-events_at, IsAscending-events_at}
-use Rattle.sim_spec.proofs.ReplayLemmas.{replay-append, replay-faulted, replay_after}
+use Rattle.model_core.specs.declared.event.Event.{Event}
+use Rattle.sim_spec.specs.Cut.{after}
 use Rattle.sim_spec.specs.Firing.{ObjectState}
 use Rattle.sim_spec.specs.Pending.{IsAscending}
 use Rattle.sim_spec.specs.Replay.{Replay, events_at, replay}
-use Rattle.world_spec.proofs.FilterLemmas.{filter-all, filter-none}
-use Rattle.world_spec.proofs.NodeLaw.{replay-lawful, take-split}
-use Rattle.world_spec.proofs.ReplayMore.{taken-le, taken-rest}
+use Rattle.sim_spec.specs.declared.terms.Terms.{Terms}
+use Rattle.sim_spec.proofs.AscendingLemmas.{AllAfter-each, IsAscending-filter}
+use Rattle.sim_spec.proofs.EachLemmas.{Each-back, Each-filter, Each-map}
+use Rattle.sim_spec.proofs.PartLemmas.{Each-events_at, IsAscending-events_at}
+use Rattle.sim_spec.proofs.ReplayLemmas.{replay-append, replay-fault, replay-faulted, replay_after}
 use Rattle.world_spec.specs.Early.{is_due, taken}
-use Rattle.world_spec.specs.Share.{IsAtHome, IsCommit, IsDueDone, IsHome, NodeData, Share, StandsFor, committed, committed_ahead, due_count, log_of, without_first}
-use Rattle.sim_spec.proofs.ReplayLemmas.{replay-fault}
-
-and_parts : (a b : Bool) → (a && b) ≡ true → (a ≡ true) × (b ≡ true)
-and_parts true b h = (refl, h)
-and_parts false b h = absurd (cc)
-
-and_make : (a b : Bool) → a ≡ true → b ≡ true → (a && b) ≡ true
-and_make a b h k = ap (λ c. c && b) h ∙ k
+use Rattle.world_spec.specs.Moves.{IsCommit, IsDueDone, committed, committed_ahead, due_count, without_first}
+use Rattle.world_spec.specs.NodeLaws.{CommitLaw}
+use Rattle.world_spec.specs.Share.{IsAtHome, IsHome, NodeData, Share, StandsFor, log_of}
+use Rattle.world_spec.proofs.FilterLemmas.{filter-all, filter-none, filter-passes, filter-swap, length-filter_le}
+use Rattle.world_spec.proofs.ReplayLawful.{replay-lawful}
+use Rattle.world_spec.proofs.TakenLemmas.{taken-le, taken-rest}
 
 -- what comes before an event that is due is due
-pub due-down : (g : ℕ) (cut : Option Key) (j k : Key) → key_lt j k ≡ true → is_due g cut k ≡ true → is_due g cut j ≡ true
+pub due-down : (bound : ℕ) (cut : Option Key) (j k : Key) → key_lt j k ≡ true → is_due bound cut k ≡ true → is_due bound cut j ≡ true
 unfolding is_due
-due-down g None j k lt due = let p = and_parts (ltb k.stamp g) true due in let low = ltb-true k.stamp g p.0 in let le = stamp-le j k lt in and_make (ltb j.stamp g) true (lt-ltb j.stamp g (omega arith)) refl
-due-down g (Some c) j k lt due =
-    let p = and_parts (ltb k.stamp g) (key_lt k c) due in
-    let low = ltb-true k.stamp g p.0 in
+due-down bound None j k lt due =
+    let low = ltb-true k.stamp bound (and_parts (ltb k.stamp bound) true due).0 in
     let le = stamp-le j k lt in
-    and_make (ltb j.stamp g) (key_lt j c) (lt-ltb j.stamp g (omega arith)) (key_lt-trans j k c lt p.1)
+    and_from (ltb j.stamp bound) true (lt-ltb j.stamp bound (omega arith)) refl
+due-down bound (Some c) j k lt due =
+    let p = and_parts (ltb k.stamp bound) (key_lt k c) due in
+    let low = ltb-true k.stamp bound p.0 in
+    let le = stamp-le j k lt in
+    and_from (ltb j.stamp bound) (key_lt j c) (lt-ltb j.stamp bound (omega arith)) (key_lt-trans j k c lt p.1)
 
-false_of : (b : Bool) → (b ≡ true → ⊥) → b ≡ false
-false_of true h = absurd (h refl)
-false_of false h = refl
+abbrev no_events : List Event
+no_events = []
+
+take_none : (q : ℕ) → take q no_events ≡ no_events
+take_none zero = refl
+take_none (suc q) = refl
+
+pub take-split : (c q : ℕ) (xs : List Event) → take (c + q) xs ≡ take c xs ++ take q (drop c xs)
+take-split zero q xs = ap (λ n. take n xs) (let same : zero + q ≡ q = omega arith in same)
+take-split (suc c) q [] = ap (λ n. take n no_events) (let same : suc c + q ≡ suc (c + q) = omega arith in same) ∙ sym (take_none q)
+take-split (suc c) q (x ∷ xs) = ap (λ n. take n (x ∷ xs)) (let same : suc c + q ≡ suc (c + q) = omega arith in same) ∙ ap (λ ys. x ∷ ys) (take-split c q xs)
 
 module _ (g : ℕ) (cut : Option Key) where
   abbrev due : Event → Bool
@@ -55,7 +62,7 @@ module _ (g : ℕ) (cut : Option Key) where
   stays e = not (is_due g cut e.key)
 
   none_due : (e : Event) (es : List Event) → due e ≡ false → Each (λ x. key_lt e.key x.key ≡ true) es → Each (λ x. due x ≡ false) es
-  none_due e es not after = Each-map (λ x. key_lt e.key x.key ≡ true) (λ x. due x ≡ false) es (λ x lt. false_of (due x) (λ yes. let h = due-down g cut e.key x.key lt yes in cc)) after
+  none_due e es not after = Each-map (λ x. key_lt e.key x.key ≡ true) (λ x. due x ≡ false) es (λ x lt. false_from_ne_true (due x) (λ yes. let h = due-down g cut e.key x.key lt yes in cc)) after
 
   -- in a list in order, what is due stands at the front
   pub due-front : (es : List Event) → IsAscending es → (filter due es ≡ take (length (filter due es)) es) × (filter stays es ≡ drop (length (filter due es)) es)
@@ -72,31 +79,6 @@ module _ (g : ℕ) (cut : Option Key) where
           let nothing : filter due es ≡ [] = filter-none due es no in
           let all : filter stays es ≡ es = filter-all stays es (Each-map (λ x. due x ≡ false) (λ x. stays x ≡ true) es (λ x n. ap not n) no) in
           (nothing ∙ sym (ap (λ xs. take (length xs) (e ∷ es)) nothing), ap (λ xs. e ∷ xs) all ∙ sym (ap (λ xs. drop (length xs) (e ∷ es)) nothing))
-
-  each_passes : (es : List Event) → Each (λ (e : Event). due e ≡ true) (filter due es)
-  each_passes [] = tt
-  each_passes (e ∷ es) = by_test (due e) refl (each_passes es)
-    where
-      by_test : (b : Bool) → due e ≡ b → Each (λ (e : Event). due e ≡ true) (filter due es) → Each (λ (e : Event). due e ≡ true) (cond b (e ∷ filter due es) (filter due es))
-      by_test true h more = (h, more)
-      by_test false h more = more
-
-  length_filter : (p : Event → Bool) (es : List Event) → length (filter p es) ≤ length es
-  length_filter p [] = omega arith
-  length_filter p (e ∷ es) = let le = length_filter p es in
-      elim (p e) as (λ b. length (cond b (e ∷ filter p es) (filter p es)) ≤ suc (length es)) [ true ↦ omega arith | false ↦ omega arith ]
-
-  at_filter : (p : Event → Bool) (object : ℕ) (es : List Event) → events_at object (filter p es) ≡ filter p (events_at object es)
-  unfolding events_at
-  at_filter p object [] = refl
-  at_filter p object (e ∷ es) = by_tests (p e) (eqb e.key.dest object) refl refl (at_filter p object es)
-    where
-      by_tests : (a b : Bool) → p e ≡ a → eqb e.key.dest object ≡ b → events_at object (filter p es) ≡ filter p (events_at object es)
-          → events_at object (cond a (e ∷ filter p es) (filter p es)) ≡ filter p (cond b (e ∷ events_at object es) (events_at object es))
-      by_tests true true h k more = ap (λ c. cond c (e ∷ events_at object (filter p es)) (events_at object (filter p es))) k ∙ ap (λ xs. e ∷ xs) more ∙ sym (ap (λ c. cond c (e ∷ filter p (events_at object es)) (filter p (events_at object es))) h)
-      by_tests true false h k more = ap (λ c. cond c (e ∷ events_at object (filter p es)) (events_at object (filter p es))) k ∙ more
-      by_tests false true h k more = more ∙ sym (ap (λ c. cond c (e ∷ filter p (events_at object es)) (filter p (events_at object es))) h)
-      by_tests false false h k more = more
 
   module _ (m : Meaning) (t : Terms) (laws : MeaningLaws m) (home : ℕ → ℕ) (node : ℕ) (share : Share) (ahead : ℕ → ℕ) (old new : NodeData)
       (stands : StandsFor m t home node share ahead old) (done : IsDueDone m home node g cut old) (commit : IsCommit m home node g cut share old new) where
@@ -123,7 +105,7 @@ module _ (g : ℕ) (cut : Option Key) where
         ap (filter due) (sym (take-append-drop n (evs object))) ∙ filter-append due (take n (evs object)) (drop n (evs object)) in
         let P : List Event → Type 0 = Each (λ (e : Event). due e ≡ false) in
         let none : filter due (drop n (evs object)) ≡ [] = filter-none due (drop n (evs object)) (subst P (stands.waiting object at) (Each-events_at (λ (e : Event). due e ≡ false) object old.unprocessed done.waiting)) in
-        let few : length (filter due (take n (evs object))) ≤ length (take n (evs object)) = length_filter due (take n (evs object)) in
+        let few : length (filter due (take n (evs object))) ≤ length (take n (evs object)) = length-filter_le due (take n (evs object)) in
         let long : length (take n (evs object)) ≡ min n (length (evs object)) = length-take n (evs object) in
         let sum : length (filter due (evs object)) ≡ length (filter due (take n (evs object)) ++ filter due (drop n (evs object))) = ap length parts in
         let sum2 : length (filter due (take n (evs object)) ++ filter due (drop n (evs object))) ≡ length (filter due (take n (evs object))) = ap (λ xs. length (filter due (take n (evs object)) ++ xs)) none ∙ ap length (append-nil (filter due (take n (evs object)))) in
@@ -146,7 +128,7 @@ module _ (g : ℕ) (cut : Option Key) where
     unfolding evs
     front_due object =
         let P : List Event → Type 0 = Each (λ (e : Event). due e ≡ true) in
-        subst P ((due-front (evs object) (up_at object)).0 ∙ sym (ap (λ n. take n (evs object)) (count_is object))) (each_passes (evs object))
+        subst P ((due-front (evs object) (up_at object)).0 ∙ sym (ap (λ n. take n (evs object)) (count_is object))) (filter-passes due (evs object))
 
     log_is : (object : ℕ) → IsHome m home node object → old.log object ≡ replay m object (base object) (take (c object) (evs object) ++ take (ahead object - c object) (drop (c object) (evs object)))
     unfolding evs base log_of
@@ -202,9 +184,9 @@ module _ (g : ℕ) (cut : Option Key) where
         omega arith
 
     next_events : (object : ℕ) → events_at object (filter stays share.pending) ≡ drop (c object) (evs object)
-    unfolding evs
+    unfolding evs events_at
     next_events object =
-        at_filter stays object share.pending ∙ (due-front (evs object) (up_at object)).1 ∙ sym (ap (λ n. drop n (evs object)) (count_is object))
+        filter-swap (λ e. eqb e.key.dest object) stays share.pending ∙ (due-front (evs object) (up_at object)).1 ∙ sym (ap (λ n. drop n (evs object)) (count_is object))
 
     next_log : (object : ℕ) → IsHome m home node object → log_of m (committed m g cut share) object (ahead object - c object) ≡ replay m object (front object).state (behind object)
     unfolding log_of front behind base evs
@@ -240,3 +222,6 @@ module _ (g : ℕ) (cut : Option Key) where
               ∙ sym (drop-drop (ahead object - c object) (c object) (evs object))
               ∙ sym (ap (drop (ahead object - c object)) (next_events object));
         }
+
+pub commit_law : (m : Meaning) (t : Terms) → MeaningLaws m → CommitLaw m t
+commit_law m t laws home node bound cut share ahead old new stands done commit = commit_stands bound cut m t laws home node share ahead old new stands done commit

@@ -1,27 +1,29 @@
 -- However many events a node processes, it stands for the same share.
-use Rattle.std.proofs.Common.{◌≡◌, ◌≢◌, ℕ, zero, suc, ◌+◌, ◌<◌, ◌≤◌, Bool, true, false, cond, List, [], ◌∷◌, ◌++◌, length, take, drop, sym, refl, ap, ◌∙◌, subst, arith, eqb, eqb-true, eq-eqb, ne_eqb}
+use Rattle.std.proofs.Common.{Bool, List, [], ap, arith, cond, drop, eq-eqb, eqb, eqb-true, false, length, ne_eqb, refl, subst, suc, sym, take, true, zero, ℕ, ◌++◌, ◌+◌, ◌<◌, ◌∙◌, ◌∷◌, ◌≡◌, ◌≢◌, ◌≤◌}
 use Rattle.std.proofs.lemmas.Bool.{eqb-false}
 use Rattle.std.proofs.lemmas.List.{length-append}
-use Rattle.std.specs.Prelude.{Option, Some, None}
-use Rattle.event_key.specs.declared.key.Key.{Key}
+use Rattle.std.specs.List.{AllByRecursion as Each}
+use Rattle.std.specs.Prelude.{None, Option, Some}
+use Rattle.event_key.proofs.Order.{key_lt-irrefl, key_lt-trans}
 use Rattle.event_key.specs.Keys.{key_lt}
 use Rattle.event_key.specs.Stamps.{end_stamp}
-use Rattle.event_key.proofs.Order.{key_lt-irrefl, key_lt-trans}
-use Rattle.model_core.specs.declared.event.Event.{Event}
+use Rattle.event_key.specs.declared.key.Key.{Key}
 use Rattle.model_core.specs.Meaning.{Meaning}
+use Rattle.model_core.specs.declared.event.Event.{Event}
+use Rattle.sim_spec.specs.Firing.{ObjectState, fails, fire, goes}
+use Rattle.sim_spec.specs.Pending.{IsAscending}
+use Rattle.sim_spec.specs.Replay.{Replay, events_at, replay, replay_fired}
+use Rattle.sim_spec.specs.Run.{next}
 use Rattle.sim_spec.specs.declared.terms.Terms.{Terms}
-use Rattle.std.specs.List.{AllByRecursion as Each}
 use Rattle.sim_spec.proofs.AscendingLemmas.{ascending-before}
 use Rattle.sim_spec.proofs.EachLemmas.{Each-append}
 use Rattle.sim_spec.proofs.PartLemmas.{IsAscending-events_at, events_at-first}
-use Rattle.sim_spec.proofs.ReplayLemmas.{replay-append, replay_after}
-use Rattle.sim_spec.specs.Firing.{Fired, ObjectState, fails, fire, goes}
-use Rattle.sim_spec.specs.Pending.{IsAscending}
-use Rattle.sim_spec.specs.Replay.{Replay, events_at, replay, replay_fired}
-use Rattle.world_spec.proofs.ReplayMore.{taken-whole}
+use Rattle.sim_spec.proofs.ReplayLemmas.{replay-append, replay-fault, replay_after}
 use Rattle.world_spec.specs.Early.{taken}
-use Rattle.world_spec.specs.Share.{IsAhead, IsAtHome, IsHome, IsStep, NodeData, Share, StandsFor, Steps, log_of, one_more, raised}
-use Rattle.sim_spec.proofs.ReplayLemmas.{replay-fault}
+use Rattle.world_spec.specs.Moves.{IsStep, Steps, one_more, raised}
+use Rattle.world_spec.specs.NodeLaws.{StepsLaw}
+use Rattle.world_spec.specs.Share.{IsAhead, IsAtHome, IsHome, NodeData, Share, StandsFor, log_of}
+use Rattle.world_spec.proofs.TakenLemmas.{taken-whole}
 
 -- the first event that is not taken
 pub next-of : (n : ℕ) (xs : List Event) (e : Event) (ys : List Event) → drop n xs ≡ e ∷ ys → (take (suc n) xs ≡ take n xs ++ (e ∷ [])) × (drop (suc n) xs ≡ ys) × (xs ≡ take n xs ++ (e ∷ ys))
@@ -48,7 +50,7 @@ ahead-more m t share object n e ys ahead next none below =
     let count : taken (replay m object base (take (suc n) evs)) ≡ taken (replay_after r.done one) = ap taken same in
     let sum : length (r.done ++ one.done) ≡ length r.done + length one.done = length-append r.done one.done in
     let whole : taken r ≡ n = ahead.whole in
-    let state_after : taken r ≡ length r.done = taken-whole r none in
+    let gone : taken r ≡ length r.done = taken-whole r none in
     let last : taken one ≡ 1 = taken-one m object r.state e in
     let P : List Event → Type 0 = Each (λ (e : Event). e.key.stamp < end_stamp t.end) in (
       same,
@@ -146,17 +148,20 @@ module _ (m : Meaning) (t : Terms) (home : ℕ → ℕ) (node bound : ℕ) (shar
       }
 
 -- so do any number of steps, and no object falls back
-pub steps-stand : (m : Meaning) (t : Terms) (home : ℕ → ℕ) (node bound n : ℕ) (share : Share) (ahead : ℕ → ℕ) (old new : NodeData) → bound ≤ end_stamp t.end
-    → Steps m home node bound n old new → StandsFor m t home node share ahead old
-    → (further : ℕ → ℕ) × ((object : ℕ) → ahead object ≤ further object) × StandsFor m t home node share further new
+pub steps_law : (m : Meaning) (t : Terms) → StepsLaw m t
 unfolding Steps
-steps-stand m t home node bound zero share ahead old new le steps stands = (ahead, (λ object. omega arith), (let P : NodeData → Type 0 = StandsFor m t home node share ahead in subst P steps stands))
-steps-stand m t home node bound (suc n) share ahead old new le steps stands =
+steps_law m t home node [] share ahead old new within steps stands =
+    record { ahead_now = ahead; further = λ object. omega arith; stands = let P : NodeData → Type 0 = StandsFor m t home node share ahead in subst P steps stands }
+steps_law m t home node (bound ∷ bounds) share ahead old new within steps stands =
     let mid = steps.0 in
     let dest = steps.1.event.key.dest in
-    let one = step_stands m t home node bound share ahead old mid le steps.1 stands in
-    let more = steps-stand m t home node bound n share (raised ahead dest) mid new le steps.2 one in
-    (more.0, (λ object. let le1 : raised ahead dest object ≤ more.0 object = more.1 object in let le2 = raised_le ahead dest object in omega arith), more.2)
+    let one = step_stands m t home node bound share ahead old mid within.0 steps.1 stands in
+    let more = steps_law m t home node bounds share (raised ahead dest) mid new within.1 steps.2 one in
+    record {
+      ahead_now = more.ahead_now;
+      further = λ object. let le = more.further object in let first = raised_le ahead dest object in omega arith;
+      stands = more.stands;
+    }
   where
     raised_le : (ahead : ℕ → ℕ) (dest object : ℕ) → ahead object ≤ raised ahead dest object
     raised_le ahead dest object = elim (eqb object dest) as (λ b. ahead object ≤ cond b (suc (ahead object)) (ahead object)) [ true ↦ omega arith | false ↦ omega arith ]
