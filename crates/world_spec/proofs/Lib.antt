@@ -6,10 +6,14 @@ pub mod CarriedLaw
 pub mod CarriedLemmas
 pub mod ClosedFacts
 pub mod ClosedLaw
+pub mod ClosesLaw
 pub mod CommitLaw
+pub mod EndsLaw
+pub mod FalseFault
 pub mod FilterLemmas
 pub mod FrontLemmas
 pub mod HandedLemmas
+pub mod HeldLemmas
 pub mod HomeLemmas
 pub mod MemberLemmas
 pub mod NextWorld
@@ -22,5 +26,7 @@ pub mod RollbackLaw
 pub mod ShareLaw
 pub mod StepsLaw
 pub mod TakenLemmas
+pub mod WaitingLemmas
 pub mod WorldFacts
 pub mod WorldStepsLaw
+pub mod WorldsLaw
