@@ -101,15 +101,21 @@ module _ (m : Meaning) (t : Terms) (home : ℕ → ℕ) (node h : ℕ) (share : 
     unfolding IsAscending
     idle_late bound late =
         let P : List Event → Type 0 = Each (λ (x : Event). (bound ≤ x.key.stamp) ⊎ IsPastFaultOf m home node held x.key) in
-        subst P (sym waits) (inl late, Each-map (λ (x : Event). key_lt e.key x.key ≡ true) (λ (x : Event). (bound ≤ x.key.stamp) ⊎ IsPastFaultOf m home node held x.key) rest
-        (λ x lt. let le = stamp-le e.key x.key lt in inl (omega arith)) (AllAfter-each e.key rest ordered.0))
+        subst P (sym waits) (
+          inl late,
+          Each-map (λ (x : Event). key_lt e.key x.key ≡ true) (λ (x : Event). (bound ≤ x.key.stamp) ⊎ IsPastFaultOf m home node held x.key) rest
+              (λ x lt. let le = stamp-le e.key x.key lt in inl (omega arith)) (AllAfter-each e.key rest ordered.0),
+        )
 
     idle_past : (bound : ℕ) → IsPastSome m home node held e.key m.objects → IsIdle m home node bound held
     unfolding IsAscending
     idle_past bound some =
         let P : List Event → Type 0 = Each (λ (x : Event). (bound ≤ x.key.stamp) ⊎ IsPastFaultOf m home node held x.key) in
-        subst P (sym waits) (inr (some.0, some.2, some.3, some.4, some.5), Each-map (λ (x : Event). key_lt e.key x.key ≡ true) (λ (x : Event). (bound ≤ x.key.stamp) ⊎ IsPastFaultOf m home node held x.key) rest
-        (λ x lt. inr (some.0, some.2, some.3, some.4, key_lt-trans some.3.0 e.key x.key some.5 lt)) (AllAfter-each e.key rest ordered.0))
+        subst P (sym waits) (
+          inr (some.0, some.2, some.3, some.4, some.5),
+          Each-map (λ (x : Event). key_lt e.key x.key ≡ true) (λ (x : Event). (bound ≤ x.key.stamp) ⊎ IsPastFaultOf m home node held x.key) rest
+              (λ x lt. inr (some.0, some.2, some.3, some.4, key_lt-trans some.3.0 e.key x.key some.5 lt)) (AllAfter-each e.key rest ordered.0),
+        )
 
     closes_with : ((further : ℕ → ℕ) → StandsFor m t home node share further stepped → NodeCloses m t home node h stepped) → NodeCloses m t home node h held
     unfolding Steps step_is

@@ -21,7 +21,7 @@ use Rattle.sim_spec.proofs.PartLemmas.{IsAscending-events_at, events_at-first}
 use Rattle.sim_spec.proofs.ReplayLemmas.{replay-append, replay-fault, replay_after}
 use Rattle.world_spec.specs.Early.{taken}
 use Rattle.world_spec.specs.Moves.{IsStep, Steps, one_more, raised}
-use Rattle.world_spec.specs.NodeLaws.{StepsLaw}
+use Rattle.world_spec.specs.NodeLaws.{AdvanceLaw, StepsLaw}
 use Rattle.world_spec.specs.Share.{IsAhead, IsAtHome, IsHome, NodeData, Share, StandsFor, log_of}
 use Rattle.world_spec.proofs.TakenLemmas.{taken-whole}
 
@@ -165,3 +165,6 @@ steps_law m t home node (bound ∷ bounds) share ahead old new within steps stan
   where
     raised_le : (ahead : ℕ → ℕ) (dest object : ℕ) → ahead object ≤ raised ahead dest object
     raised_le ahead dest object = elim (eqb object dest) as (λ b. ahead object ≤ cond b (suc (ahead object)) (ahead object)) [ true ↦ omega arith | false ↦ omega arith ]
+
+pub advance_law : (m : Meaning) (t : Terms) → AdvanceLaw m t
+advance_law m t home node seen depth share ahead old new advance stands = steps_law m t home node advance.bounds share ahead old new advance.within advance.steps stands

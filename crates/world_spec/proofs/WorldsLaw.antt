@@ -1,11 +1,15 @@
 -- Each lawful state has a world, with its objects ahead in any way in which they may be.
-use Rattle.std.proofs.Common.{ℕ, ◌<◌, List, take, sym, refl, ap, ◌∙◌, subst}
+use Rattle.std.proofs.Common.{◌≡◌, arith, ◌*◌, ℕ, ◌<◌, List, take, sym, refl, ap, ◌∙◌, subst}
+use Rattle.std.proofs.lemmas.Nat.{mod_below, div_below}
+use Rattle.std.proofs.Math.Nat.{mul-lt-mul_of_pos_right, mul_comm}
 use Rattle.std.specs.Prelude.{filter, None}
 use Rattle.std.specs.List.{AllByRecursion as Each}
 use Rattle.event_key.specs.Stamps.{end_stamp}
 use Rattle.model_core.specs.declared.event.Event.{Event}
 use Rattle.model_core.specs.Meaning.{Meaning}
+use Rattle.sim_spec.specs.declared.placement.Placement.TheVariants.{Round, Block}
 use Rattle.sim_spec.specs.declared.terms.Terms.{Terms}
+use Rattle.world_spec.specs.World.{PlacementLaw}
 use Rattle.sim_spec.specs.State.{State, object_at}
 use Rattle.sim_spec.proofs.AscendingLemmas.{IsAscending-filter}
 use Rattle.world_spec.specs.Early.{taken}
@@ -14,6 +18,13 @@ use Rattle.world_spec.specs.WorldLaws.{WorldsLaw}
 use Rattle.world_spec.proofs.NextWorld.{share-homed}
 use Rattle.world_spec.proofs.WaitingLemmas.{node_with, node_with-stands}
 use Rattle.world_spec.proofs.WorldFacts.{share-events, share-log}
+
+pub placement_law : PlacementLaw
+placement_law Round objects nodes object some below = mod_below object nodes (omega arith)
+placement_law Block objects nodes object some below =
+    let more : object * nodes < objects * nodes = mul-lt-mul_of_pos_right below (omega arith) in
+    let turned : objects * nodes ≡ nodes * objects = mul_comm objects nodes in
+    div_below (object * nodes) objects nodes (omega arith) (omega arith)
 
 -- a node's share of a state
 abbrev pub share_at : (ℕ → ℕ) → State → ℕ → Share

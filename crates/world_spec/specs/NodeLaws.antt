@@ -9,7 +9,7 @@ use Rattle.sim_spec.specs.declared.terms.Terms.{Terms}
 use Rattle.sim_spec.specs.Pending.{IsAscending, enqueue_all}
 use Rattle.sim_spec.specs.Replay.{events_at}
 use Rattle.world_spec.specs.Share.{Share, IsHome, IsAtHome, NodeData, StandsFor}
-use Rattle.world_spec.specs.Moves.{Steps, received, received_ahead, committed, committed_ahead, IsDueDone, IsCommit, IsReceipt, IsRollback}
+use Rattle.world_spec.specs.Moves.{Steps, IsAdvance, received, received_ahead, committed, committed_ahead, IsDueDone, IsCommit, IsReceipt, IsRollback}
 
 -- the same share, with no object less far ahead: each log begins with what it held
 pub record StandsOn (m : Meaning) (t : Terms) (home : ℕ → ℕ) (node : ℕ) (share : Share) (ahead : ℕ → ℕ) (held : NodeData) : Type 0 where
@@ -23,6 +23,12 @@ StepsLaw m t =
     (home : ℕ → ℕ) (node : ℕ) (bounds : List ℕ) (share : Share) (ahead : ℕ → ℕ) (old new : NodeData)
     → AllByRecursion (λ (bound : ℕ). bound ≤ end_stamp t.end) bounds → Steps m home node bounds old new
     → StandsFor m t home node share ahead old → StandsOn m t home node share ahead new
+
+-- so does a lawful advance
+abbrev pub AdvanceLaw : Meaning → Terms → Type 0
+AdvanceLaw m t =
+    (home : ℕ → ℕ) (node seen depth : ℕ) (share : Share) (ahead : ℕ → ℕ) (old new : NodeData)
+    → IsAdvance m t home node seen depth old new → StandsFor m t home node share ahead old → StandsOn m t home node share ahead new
 
 -- a commit of what is due and done leaves the share without it
 abbrev pub CommitLaw : Meaning → Terms → Type 0

@@ -20,6 +20,10 @@ abbrev pub home_by : Placement → ℕ → ℕ → ℕ → ℕ
 home_by Round objects nodes object = object % nodes
 home_by Block objects nodes object = object * nodes / objects
 
+-- each object has a node
+abbrev pub PlacementLaw : Type 0
+PlacementLaw = (placement : Placement) (objects nodes object : ℕ) → 1 ≤ nodes → object < objects → home_by placement objects nodes object < nodes
+
 -- what a node was made with
 pub record Setting : Type 0 where
   pub model : Meaning

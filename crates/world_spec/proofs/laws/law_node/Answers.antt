@@ -2,7 +2,7 @@
 use Rattle.world_spec.proofs.CommitLaw.{commit_law}
 use Rattle.world_spec.proofs.ReceiptLaw.{receipt_law, receipts_law}
 use Rattle.world_spec.proofs.RollbackLaw.{rollback_law}
-use Rattle.world_spec.proofs.StepsLaw.{steps_law}
+use Rattle.world_spec.proofs.StepsLaw.{advance_law, steps_law}
 use Rattle.world_spec.proofs.laws.law_node.Goals as goal
 
 pub returns-clause-steps : goal.returns-clause-steps
@@ -19,3 +19,6 @@ returns-clause-receipts g c = receipts_law
 
 pub returns-clause-rollback : goal.returns-clause-rollback
 returns-clause-rollback g c = rollback_law (g.M.Model.meaning c.args.model.now) c.args.terms.now
+
+pub returns-clause-advance : goal.returns-clause-advance
+returns-clause-advance g c = advance_law (g.M.Model.meaning c.args.model.now) c.args.terms.now

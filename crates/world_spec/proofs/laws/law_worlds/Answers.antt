@@ -1,7 +1,7 @@
 -- The premises are never vacuous.
 use Rattle.world_spec.proofs.ClosesLaw.{closes_law}
 use Rattle.world_spec.proofs.EndsLaw.{ends_law}
-use Rattle.world_spec.proofs.WorldsLaw.{worlds_law}
+use Rattle.world_spec.proofs.WorldsLaw.{placement_law, worlds_law}
 use Rattle.world_spec.proofs.laws.law_worlds.Goals as goal
 
 pub returns-clause-worlds : goal.returns-clause-worlds
@@ -12,3 +12,6 @@ returns-clause-closes g c = closes_law (g.M.Model.meaning c.args.model.now) c.ar
 
 pub returns-clause-ends : goal.returns-clause-ends
 returns-clause-ends g c = ends_law (g.M.Model.meaning c.args.model.now) c.args.terms.now c.keeps_laws.ensures
+
+pub returns-clause-placed : goal.returns-clause-placed
+returns-clause-placed g c = placement_law
