@@ -39,11 +39,11 @@ cut-is m t s =
     below_is k ds fault = ap (λ ks. first_of ks (fault_key fault)) (drop-map (λ (d : Event × Firing). d.0.key) k ds) ∙ first_is (drop k ds) (fault_key fault)
 
 -- there is one least fault
-pub least-fault_unique : (m : Meaning) (s : State) (ahead : ℕ → ℕ) (g : ℕ) (a b : Option (Key × ℕ)) → IsLeastFault m s ahead g a → IsLeastFault m s ahead g b → a ≡ b
-least-fault_unique m s ahead g None None h k = refl
-least-fault_unique m s ahead g None (Some b) h k = absurd (let late = h b.0.dest k.0 b k.1 in let low : b.0.stamp < g = k.2 in omega arith)
-least-fault_unique m s ahead g (Some a) None h k = absurd (let late = k a.0.dest h.0 a h.1 in let low : a.0.stamp < g = h.2 in omega arith)
-least-fault_unique m s ahead g (Some a) (Some b) h k =
+pub least-fault_unique : (m : Meaning) (s : State) (ahead : ℕ → ℕ) (bound : ℕ) (a b : Option (Key × ℕ)) → IsLeastFault m s ahead bound a → IsLeastFault m s ahead bound b → a ≡ b
+least-fault_unique m s ahead bound None None h k = refl
+least-fault_unique m s ahead bound None (Some b) h k = absurd (let late = h b.0.dest k.0 b k.1 in let low : b.0.stamp < bound = k.2 in omega arith)
+least-fault_unique m s ahead bound (Some a) None h k = absurd (let late = k a.0.dest h.0 a h.1 in let low : a.0.stamp < bound = h.2 in omega arith)
+least-fault_unique m s ahead bound (Some a) (Some b) h k =
     let one = h.3 b.0.dest k.0 b k.1 in
     let two = k.3 a.0.dest h.0 a h.1 in
     let same : a.0 ≡ b.0 = key_lt-apart a.0 b.0 two one in
@@ -55,10 +55,10 @@ keys_map : (ds : List (Event × Firing)) → keys_of (events_of ds) ≡ map (λ 
 keys_map [] = refl
 keys_map (d ∷ ds) = ap (λ ks. d.0.key ∷ ks) (keys_map ds)
 
-horizon_of : (limited : Bool) (fault : Option (Key × ℕ)) (g h : ℕ) → (fault ≡ None → g ≡ h) → cond limited 0 (cond (is_some (cond limited None fault)) 0 g) ≡ cond limited 0 (cond (is_some fault) 0 h)
-horizon_of true fault g h same = refl
-horizon_of false None g h same = same refl
-horizon_of false (Some f) g h same = refl
+horizon_of : (limited : Bool) (fault : Option (Key × ℕ)) (bound h : ℕ) → (fault ≡ None → bound ≡ h) → cond limited 0 (cond (is_some (cond limited None fault)) 0 bound) ≡ cond limited 0 (cond (is_some fault) 0 h)
+horizon_of true fault bound h same = refl
+horizon_of false None bound h same = same refl
+horizon_of false (Some f) bound h same = refl
 
 pub answer_law : (m : Meaning) (t : Terms) → AnswerLaw m t
 unfolding cut

@@ -38,10 +38,10 @@ unfolding events_at
 keys_at object es = filter-map (λ (e : Event). e.key) (λ (k : Key). eqb k.dest object) es
 
 -- the keys of the processed events below the bound, cut at the least fault, are the keys of the bucket
-pub bucket-keys : (m : Meaning) (t : Terms) (s : State) (ahead : ℕ → ℕ) (g : ℕ) (keys : List Key) → Lawful m t s → RunsAhead m t s ahead → IsClosed m t s ahead g → AreKeysBelow m s ahead g keys
+pub bucket-keys : (m : Meaning) (t : Terms) (s : State) (ahead : ℕ → ℕ) (bound : ℕ) (keys : List Key) → Lawful m t s → RunsAhead m t s ahead → IsClosed m t s ahead bound → AreKeysBelow m s ahead bound keys
     → filter (is_uncut (fault_key (horizon_bucket m t s).fault)) keys ≡ keys_of (events_of (horizon_bucket m t s).done)
 unfolding is_due
-bucket-keys m t s ahead g keys lawful runs closed below =
+bucket-keys m t s ahead bound keys lawful runs closed below =
     let cut = fault_key (horizon_bucket m t s).fault in
     let done = (horizon_bucket m t s).done in
     let rest = behind_bucket m t s in
@@ -53,19 +53,19 @@ bucket-keys m t s ahead g keys lawful runs closed below =
     by-objects (λ (k : Key). k) (filter (is_uncut cut) keys) (keys_of (events_of done)) (Ascends-filter (λ (k : Key). k) (is_uncut cut) keys below.ordered) (Ascends-map (λ (k : Key). k) (λ (e : Event). e.key) (events_of done) (Ascends-events (events_of done) up))
     (λ object. elim (inside_or object m.objects) [
       | inl low ↦ (
-          let p = bucket_processed m t s ahead g lawful runs closed object low in
+          let p = bucket_processed m t s ahead bound lawful runs closed object low in
           let first = events_at object (events_of done) in
           let rest_here = further_events m t s done rest object (ahead object) in
           filter-swap (λ (k : Key). eqb k.dest object) (is_uncut cut) keys
           ∙ ap (filter (is_uncut cut)) (below.parts object low)
-          ∙ (filter-map (λ (e : Event). e.key) (is_uncut cut) (filter (λ (e : Event). ltb e.key.stamp g) (early_events s object (ahead object)))
-          ∙ ap keys_of (filter-both (λ (e : Event). is_uncut cut e.key) (λ (e : Event). ltb e.key.stamp g) (early_events s object (ahead object))))
-          ∙ ap (λ es. keys_of (filter (λ (e : Event). is_due g cut e.key) es)) (events-split m t s done rest object (ahead object) p)
-          ∙ ap keys_of (filter-append (λ (e : Event). is_due g cut e.key) first rest_here)
-          ∙ ap (λ es. keys_of (filter (λ (e : Event). is_due g cut e.key) first ++ es)) (filter-none (λ (e : Event). is_due g cut e.key) rest_here
-          (Each-take (λ (e : Event). is_due g cut e.key ≡ false) (ahead object - length (done_at object done)) (events_at object rest) (Each-events_at (λ (e : Event). is_due g cut e.key ≡ false) object rest (behind_stays m t s ahead g lawful runs closed))))
-          ∙ ap keys_of (append-nil (filter (λ (e : Event). is_due g cut e.key) first))
-          ∙ ap keys_of (filter-all (λ (e : Event). is_due g cut e.key) first (Each-events_at (λ (e : Event). is_due g cut e.key ≡ true) object (events_of done) (bucket_due m t s ahead g lawful runs closed)))
+          ∙ (filter-map (λ (e : Event). e.key) (is_uncut cut) (filter (λ (e : Event). ltb e.key.stamp bound) (early_events s object (ahead object)))
+          ∙ ap keys_of (filter-both (λ (e : Event). is_uncut cut e.key) (λ (e : Event). ltb e.key.stamp bound) (early_events s object (ahead object))))
+          ∙ ap (λ es. keys_of (filter (λ (e : Event). is_due bound cut e.key) es)) (events-split m t s done rest object (ahead object) p)
+          ∙ ap keys_of (filter-append (λ (e : Event). is_due bound cut e.key) first rest_here)
+          ∙ ap (λ es. keys_of (filter (λ (e : Event). is_due bound cut e.key) first ++ es)) (filter-none (λ (e : Event). is_due bound cut e.key) rest_here
+          (Each-take (λ (e : Event). is_due bound cut e.key ≡ false) (ahead object - length (done_at object done)) (events_at object rest) (Each-events_at (λ (e : Event). is_due bound cut e.key ≡ false) object rest (behind_stays m t s ahead bound lawful runs closed))))
+          ∙ ap keys_of (append-nil (filter (λ (e : Event). is_due bound cut e.key) first))
+          ∙ ap keys_of (filter-all (λ (e : Event). is_due bound cut e.key) first (Each-events_at (λ (e : Event). is_due bound cut e.key ≡ true) object (events_of done) (bucket_due m t s ahead bound lawful runs closed)))
           ∙ sym (keys_at object (events_of done)))
       | inr far ↦ (
           filter-swap (λ (k : Key). eqb k.dest object) (is_uncut cut) keys

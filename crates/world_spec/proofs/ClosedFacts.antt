@@ -54,19 +54,19 @@ pub past_before : (h : ℕ) (fault : Option (Key × ℕ)) (met key : Key) → Is
 past_before h None met key past lt before = let le = stamp-le met key lt in omega arith
 past_before h (Some fault) met key past lt before = let yes = key_lt-trans met key fault.0 lt before in cc
 
-pub before_reach : (g h : ℕ) (fault : Option (Key × ℕ)) (key : Key) → reach_with h fault ≤ g → IsBefore h fault key → key.stamp < g
-before_reach g h None key reach before = omega arith
-before_reach g h (Some fault) key reach before = let le = stamp-le key fault.0 before in omega arith
+pub before_reach : (bound h : ℕ) (fault : Option (Key × ℕ)) (key : Key) → reach_with h fault ≤ bound → IsBefore h fault key → key.stamp < bound
+before_reach bound h None key reach before = omega arith
+before_reach bound h (Some fault) key reach before = let le = stamp-le key fault.0 before in omega arith
 
-pub due_before : (g h : ℕ) (fault : Option (Key × ℕ)) (key : Key) → reach_with h fault ≤ g → IsBefore h fault key → is_due g (fault_key fault) key ≡ true
+pub due_before : (bound h : ℕ) (fault : Option (Key × ℕ)) (key : Key) → reach_with h fault ≤ bound → IsBefore h fault key → is_due bound (fault_key fault) key ≡ true
 unfolding is_due
-due_before g h None key reach before = ap (λ b. b && true) (lt-ltb key.stamp g (before_reach g h None key reach before))
-due_before g h (Some fault) key reach before = ap (λ b. b && key_lt key fault.0) (lt-ltb key.stamp g (before_reach g h (Some fault) key reach before)) ∙ before
+due_before bound h None key reach before = ap (λ b. b && true) (lt-ltb key.stamp bound (before_reach bound h None key reach before))
+due_before bound h (Some fault) key reach before = ap (λ b. b && key_lt key fault.0) (lt-ltb key.stamp bound (before_reach bound h (Some fault) key reach before)) ∙ before
 
-pub past_stays : (g h : ℕ) (fault : Option (Key × ℕ)) (key : Key) → (fault ≡ None → g ≡ h) → IsPast h fault key → is_due g (fault_key fault) key ≡ false
+pub past_stays : (bound h : ℕ) (fault : Option (Key × ℕ)) (key : Key) → (fault ≡ None → bound ≡ h) → IsPast h fault key → is_due bound (fault_key fault) key ≡ false
 unfolding is_due
-past_stays g h None key same past = let is = same refl in ap (λ b. b && true) (le-ltb key.stamp g (omega arith))
-past_stays g h (Some fault) key same past = ap (λ b. ltb key.stamp g && b) past ∙ and_right (ltb key.stamp g) false refl
+past_stays bound h None key same past = let is = same refl in ap (λ b. b && true) (le-ltb key.stamp bound (omega arith))
+past_stays bound h (Some fault) key same past = ap (λ b. ltb key.stamp bound && b) past ∙ and_right (ltb key.stamp bound) false refl
 
 -- the pending events behind the bucket, and those behind what is committed
 abbrev pub behind_bucket : Meaning → Terms → State → List Event

@@ -30,7 +30,7 @@ use Rattle.world_spec.specs.Early.{IsClosed, IsPastFault, RunsAhead, is_due, kep
 use Rattle.world_spec.proofs.ClosedFacts.{before_reach, behind_bucket, due-is, due_before, left_of, none-waits, past_before, past_stays}
 use Rattle.world_spec.proofs.ProcessedLemmas.{IsProcessed, kept-early, replay-split}
 
-module _ (m : Meaning) (t : Terms) (s : State) (ahead : ℕ → ℕ) (g : ℕ) (lawful : Lawful m t s) (runs : RunsAhead m t s ahead) (closed : IsClosed m t s ahead g) where
+module _ (m : Meaning) (t : Terms) (s : State) (ahead : ℕ → ℕ) (bound : ℕ) (lawful : Lawful m t s) (runs : RunsAhead m t s ahead) (closed : IsClosed m t s ahead bound) where
   abbrev b : HorizonBucket
   b = horizon_bucket m t s
 
@@ -44,7 +44,7 @@ module _ (m : Meaning) (t : Terms) (s : State) (ahead : ℕ → ℕ) (g : ℕ) (
   own = objects_law m t s lawful
 
   -- nothing is sent below the reach, so the bound is not below it
-  reach_is : reach_with b.horizon b.fault ≤ g
+  reach_is : reach_with b.horizon b.fault ≤ bound
   unfolding horizon_bucket
   reach_is =
       elim closed.reached [
@@ -53,18 +53,18 @@ module _ (m : Meaning) (t : Terms) (s : State) (ahead : ℕ → ℕ) (g : ℕ) (
             (let sent = (early_replay m s held.0 (ahead held.0)).done in
             let le : reach_with b.horizon b.fault ≤ held.2.key.stamp =
             NoneBelow-contains (reach_of b) (emissions_of sent) held.2 (NoneBelow-emissions_of (reach_of b) sent ((own held.0 held.1).sends (ahead held.0))) held.3 in
-            let same : held.2.key.stamp ≡ g = held.4 in
+            let same : held.2.key.stamp ≡ bound = held.4 in
             omega arith)
       ]
 
   abbrev Waits : Event → Type 0
-  Waits e = (g ≤ e.key.stamp) ⊎ IsPastFault m s ahead e.key
+  Waits e = (bound ≤ e.key.stamp) ⊎ IsPastFault m s ahead e.key
 
   -- no event of the bucket waits: no object has met a fault before it
   never_waits : (e : Event) → IsBefore b.horizon b.fault e.key → Waits e → ⊥
   never_waits e before waits =
       elim waits [
-        | inl late ↦ (let early = before_reach g b.horizon b.fault e.key reach_is before in omega arith)
+        | inl late ↦ (let early = before_reach bound b.horizon b.fault e.key reach_is before in omega arith)
         | inr past ↦ past_before b.horizon b.fault past.2.0 e.key ((own past.0 past.1).faults (ahead past.0) past.2 past.3) past.4 before
       ]
 
@@ -120,15 +120,15 @@ module _ (m : Meaning) (t : Terms) (s : State) (ahead : ℕ → ℕ) (g : ℕ) (
   all_in_model = let P : List Event → Type 0 = InModel in subst P law.first (AllSound-dest m s.objects s.pending lawful.sound)
 
   -- no message of the bucket is below the bound, so neither is the horizon
-  horizon_from : g ≤ b.horizon
+  horizon_from : bound ≤ b.horizon
   horizon_from =
-      law.greatest g closed.within
-      (Each-parts (λ (d : Event × Firing). NoneBelow g d.1.events) m.objects b.done (Each-front (λ (e : Event). e.key.dest < m.objects) (events_of b.done) tail all_in_model) (λ object below.
-      let Q : Replay → Type 0 = λ r. EmitsFrom g r.done in
-      Each-front (λ (d : Event × Firing). NoneBelow g d.1.events) (done_at object b.done) _
+      law.greatest bound closed.within
+      (Each-parts (λ (d : Event × Firing). NoneBelow bound d.1.events) m.objects b.done (Each-front (λ (e : Event). e.key.dest < m.objects) (events_of b.done) tail all_in_model) (λ object below.
+      let Q : Replay → Type 0 = λ r. EmitsFrom bound r.done in
+      Each-front (λ (d : Event × Firing). NoneBelow bound d.1.events) (done_at object b.done) _
       (subst Q (replay-split m t s b.done tail object (ahead object) (bucket_processed object below)) (closed.held object below))))
 
-  pub horizon_is : b.fault ≡ None → g ≡ b.horizon
+  pub horizon_is : b.fault ≡ None → bound ≡ b.horizon
   horizon_is none =
       let up = horizon_from in
       let down = reach_is in
@@ -152,7 +152,7 @@ module _ (m : Meaning) (t : Terms) (s : State) (ahead : ℕ → ℕ) (g : ℕ) (
 
   -- so its object has met the fault
   fault_held : (fault : Key × ℕ) → b.fault ≡ Some fault
-      → (fault.0.dest < m.objects) × ((early_replay m s fault.0.dest (ahead fault.0.dest)).fault ≡ Some fault) × (fault.0.stamp < g)
+      → (fault.0.dest < m.objects) × ((early_replay m s fault.0.dest (ahead fault.0.dest)).fault ≡ Some fault) × (fault.0.stamp < bound)
   fault_held fault is_fault =
       let found = law.fault fault is_fault in
       let e = found.event in
@@ -177,10 +177,10 @@ module _ (m : Meaning) (t : Terms) (s : State) (ahead : ℕ → ℕ) (g : ℕ) (
       let reach : reach_with b.horizon b.fault ≡ fault.0.stamp + 1 = ap (reach_with b.horizon) is_fault in
       let upto = reach_is in
       let placed : fault.0.dest < m.objects = omega arith in
-      let bounded : fault.0.stamp < g = omega arith in
+      let bounded : fault.0.stamp < bound = omega arith in
       (placed, subst H dest held, bounded)
 
-  pub least_fault : (x : Option (Key × ℕ)) → b.fault ≡ x → IsLeastFault m s ahead g x
+  pub least_fault : (x : Option (Key × ℕ)) → b.fault ≡ x → IsLeastFault m s ahead bound x
   least_fault None is_x = λ object below met is_met.
       let P : Option (Key × ℕ) → Type 0 = λ f. IsPast b.horizon f met.0 in
       let late : b.horizon ≤ met.0.stamp = subst P is_x ((own object below).faults (ahead object) met is_met) in
@@ -196,28 +196,28 @@ module _ (m : Meaning) (t : Terms) (s : State) (ahead : ℕ → ℕ) (g : ℕ) (
             subst P is_x ((own object below).faults (ahead object) met is_met),
       )
 
-  pub bucket_due : Each (λ (e : Event). is_due g (fault_key b.fault) e.key ≡ true) (events_of b.done)
-  bucket_due = Each-map (λ (e : Event). IsBefore b.horizon b.fault e.key) (λ (e : Event). is_due g (fault_key b.fault) e.key ≡ true) (events_of b.done) (λ e. due_before g b.horizon b.fault e.key reach_is) law.before
+  pub bucket_due : Each (λ (e : Event). is_due bound (fault_key b.fault) e.key ≡ true) (events_of b.done)
+  bucket_due = Each-map (λ (e : Event). IsBefore b.horizon b.fault e.key) (λ (e : Event). is_due bound (fault_key b.fault) e.key ≡ true) (events_of b.done) (λ e. due_before bound b.horizon b.fault e.key reach_is) law.before
 
-  pub behind_stays : Each (λ (e : Event). is_due g (fault_key b.fault) e.key ≡ false) tail
-  behind_stays = Each-map (λ (e : Event). IsPast b.horizon b.fault e.key) (λ (e : Event). is_due g (fault_key b.fault) e.key ≡ false) tail (λ e. past_stays g b.horizon b.fault e.key horizon_is) law.past
+  pub behind_stays : Each (λ (e : Event). is_due bound (fault_key b.fault) e.key ≡ false) tail
+  behind_stays = Each-map (λ (e : Event). IsPast b.horizon b.fault e.key) (λ (e : Event). is_due bound (fault_key b.fault) e.key ≡ false) tail (λ e. past_stays bound b.horizon b.fault e.key horizon_is) law.past
 
   -- all that the bucket fires is what is due before the fault
-  whole_is : (object : ℕ) → object < m.objects → filter (λ d. is_due g (fault_key b.fault) d.0.key) (early_replay m s object (ahead object)).done ≡ done_at object b.done
+  whole_is : (object : ℕ) → object < m.objects → filter (λ d. is_due bound (fault_key b.fault) d.0.key) (early_replay m s object (ahead object)).done ≡ done_at object b.done
   whole_is object below =
-      due-is (is_due g (fault_key b.fault)) m t s b.done tail object (ahead object) (bucket_processed object below) bucket_due behind_stays
+      due-is (is_due bound (fault_key b.fault)) m t s b.done tail object (ahead object) (bucket_processed object below) bucket_due behind_stays
 
   -- cut at one of its events: what is due is before it, and it and what is behind it isn't
   due_parts_of : (k : ℕ) → (ds : List (Event × Firing)) → drop k b.done ≡ ds
-      → Each (λ (e : Event). is_due g (first_key ds (fault_key b.fault)) e.key ≡ true) (events_of (take k b.done))
-      × Each (λ (e : Event). is_due g (first_key ds (fault_key b.fault)) e.key ≡ false) (events_of ds ++ tail)
+      → Each (λ (e : Event). is_due bound (first_key ds (fault_key b.fault)) e.key ≡ true) (events_of (take k b.done))
+      × Each (λ (e : Event). is_due bound (first_key ds (fault_key b.fault)) e.key ≡ false) (events_of ds ++ tail)
   unfolding is_due
   due_parts_of k [] is_ds =
       let all : b.done ≡ take k b.done = sym (take-append-drop k b.done) ∙ ap (λ ds. take k b.done ++ ds) is_ds ∙ append-nil (take k b.done) in
-      let E : List (Event × Firing) → Type 0 = λ ds. Each (λ (e : Event). is_due g (fault_key b.fault) e.key ≡ true) (events_of ds) in
+      let E : List (Event × Firing) → Type 0 = λ ds. Each (λ (e : Event). is_due bound (fault_key b.fault) e.key ≡ true) (events_of ds) in
       (subst E all bucket_due, behind_stays)
   due_parts_of k (x ∷ xs) is_ds =
-      let Due : Event → Type 0 = λ e. is_due g (Some x.0.key) e.key ≡ true in
+      let Due : Event → Type 0 = λ e. is_due bound (Some x.0.key) e.key ≡ true in
       let B : List Event → Type 0 = Each (λ (e : Event). IsBefore b.horizon b.fault e.key) in
       let U : List (Event × Firing) → Type 0 = λ ds. IsAscending (events_of (take k b.done) ++ (events_of ds ++ tail)) in
       let V : List Event → Type 0 = IsAscending in
@@ -226,17 +226,17 @@ module _ (m : Meaning) (t : Terms) (s : State) (ahead : ℕ → ℕ) (g : ℕ) (
       Each-front (λ (e : Event). IsBefore b.horizon b.fault e.key) (events_of (take k b.done)) (events_of (drop k b.done)) (subst B (events_of-split k b.done) law.before) in (
         Each-both (λ (e : Event). IsBefore b.horizon b.fault e.key) (λ (e : Event). key_lt e.key x.0.key ≡ true) Due (events_of (take k b.done)) (due_first x.0.key) before
             (ascending-before (events_of (take k b.done)) x.0 (events_of xs ++ tail) up),
-        Each-map (λ (e : Event). key_lt e.key x.0.key ≡ false) (λ (e : Event). is_due g (Some x.0.key) e.key ≡ false) (x.0 ∷ (events_of xs ++ tail)) (not_due x.0.key)
+        Each-map (λ (e : Event). key_lt e.key x.0.key ≡ false) (λ (e : Event). is_due bound (Some x.0.key) e.key ≡ false) (x.0 ∷ (events_of xs ++ tail)) (not_due x.0.key)
             (ascending-from (events_of (take k b.done)) x.0 (events_of xs ++ tail) up),
       )
     where
-      due_first : (cut : Key) (e : Event) → IsBefore b.horizon b.fault e.key → key_lt e.key cut ≡ true → is_due g (Some cut) e.key ≡ true
-      due_first cut e first lt = ap (λ b. b && key_lt e.key cut) (lt-ltb e.key.stamp g (before_reach g b.horizon b.fault e.key reach_is first)) ∙ lt
+      due_first : (cut : Key) (e : Event) → IsBefore b.horizon b.fault e.key → key_lt e.key cut ≡ true → is_due bound (Some cut) e.key ≡ true
+      due_first cut e first lt = ap (λ b. b && key_lt e.key cut) (lt-ltb e.key.stamp bound (before_reach bound b.horizon b.fault e.key reach_is first)) ∙ lt
 
-      not_due : (cut : Key) (e : Event) → key_lt e.key cut ≡ false → is_due g (Some cut) e.key ≡ false
-      not_due cut e not = ap (λ b. ltb e.key.stamp g && b) not ∙ and_right (ltb e.key.stamp g) false refl
+      not_due : (cut : Key) (e : Event) → key_lt e.key cut ≡ false → is_due bound (Some cut) e.key ≡ false
+      not_due cut e not = ap (λ b. ltb e.key.stamp bound && b) not ∙ and_right (ltb e.key.stamp bound) false refl
 
-  pub due_parts : Each (λ (e : Event). is_due g (cut_key m t s) e.key ≡ true) (events_of (committed_events m t s)) × Each (λ (e : Event). is_due g (cut_key m t s) e.key ≡ false) (left_of m t s)
+  pub due_parts : Each (λ (e : Event). is_due bound (cut_key m t s) e.key ≡ true) (events_of (committed_events m t s)) × Each (λ (e : Event). is_due bound (cut_key m t s) e.key ≡ false) (left_of m t s)
   unfolding cut_key committed_events
   due_parts = due_parts_of (t.limit - s.count) (drop (t.limit - s.count) b.done) refl
 
@@ -244,9 +244,9 @@ module _ (m : Meaning) (t : Terms) (s : State) (ahead : ℕ → ℕ) (g : ℕ) (
   unfolding committed_events
   committed_processed = first_processed (t.limit - s.count)
 
-  committed_is : (object : ℕ) → object < m.objects → filter (λ d. is_due g (cut_key m t s) d.0.key) (early_replay m s object (ahead object)).done ≡ done_at object (committed_events m t s)
+  committed_is : (object : ℕ) → object < m.objects → filter (λ d. is_due bound (cut_key m t s) d.0.key) (early_replay m s object (ahead object)).done ≡ done_at object (committed_events m t s)
   committed_is object below =
-      due-is (is_due g (cut_key m t s)) m t s (committed_events m t s) (left_of m t s) object (ahead object) (committed_processed object below) due_parts.0 due_parts.1
+      due-is (is_due bound (cut_key m t s)) m t s (committed_events m t s) (left_of m t s) object (ahead object) (committed_processed object below) due_parts.0 due_parts.1
 
   left_is : MeaningLaws m → RunsAhead m t (after m t s) (kept s (committed_events m t s) ahead)
   unfolding after
@@ -258,13 +258,13 @@ unfolding committed_events
 pending_is m t s lawful = pending-split (t.limit - s.count) s.pending (horizon_bucket m t s).done (behind_bucket m t s) (horizon_law m t s lawful).first
 
 pub cycle_law : (m : Meaning) (t : Terms) → MeaningLaws m → CycleLaw m t
-cycle_law m t laws s ahead g lawful runs closed = record {
-  reached = reach_is m t s ahead g lawful runs closed;
-  processed = processed_is m t s ahead g lawful runs closed;
-  horizon = horizon_is m t s ahead g lawful runs closed;
-  fault = least_fault m t s ahead g lawful runs closed (horizon_bucket m t s).fault refl;
-  whole = whole_is m t s ahead g lawful runs closed;
-  committed = committed_is m t s ahead g lawful runs closed;
+cycle_law m t laws s ahead bound lawful runs closed = record {
+  reached = reach_is m t s ahead bound lawful runs closed;
+  processed = processed_is m t s ahead bound lawful runs closed;
+  horizon = horizon_is m t s ahead bound lawful runs closed;
+  fault = least_fault m t s ahead bound lawful runs closed (horizon_bucket m t s).fault refl;
+  whole = whole_is m t s ahead bound lawful runs closed;
+  committed = committed_is m t s ahead bound lawful runs closed;
   lawful = (bucket_law m t laws s lawful).lawful;
-  left = left_is m t s ahead g lawful runs closed laws;
+  left = left_is m t s ahead bound lawful runs closed laws;
 }

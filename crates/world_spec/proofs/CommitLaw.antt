@@ -42,6 +42,7 @@ due-down bound (Some c) j k lt due =
     let le = stamp-le j k lt in
     and_from (ltb j.stamp bound) (key_lt j c) (lt-ltb j.stamp bound (omega arith)) (key_lt-trans j k c lt p.1)
 
+-- the first events, and those behind them
 abbrev no_events : List Event
 no_events = []
 
@@ -54,15 +55,15 @@ take-split zero q xs = ap (λ n. take n xs) (let same : zero + q ≡ q = omega a
 take-split (suc c) q [] = ap (λ n. take n no_events) (let same : suc c + q ≡ suc (c + q) = omega arith in same) ∙ sym (take_none q)
 take-split (suc c) q (x ∷ xs) = ap (λ n. take n (x ∷ xs)) (let same : suc c + q ≡ suc (c + q) = omega arith in same) ∙ ap (λ ys. x ∷ ys) (take-split c q xs)
 
-module _ (g : ℕ) (cut : Option Key) where
+module _ (bound : ℕ) (cut : Option Key) where
   abbrev due : Event → Bool
-  due e = is_due g cut e.key
+  due e = is_due bound cut e.key
 
   abbrev stays : Event → Bool
-  stays e = not (is_due g cut e.key)
+  stays e = not (is_due bound cut e.key)
 
   none_due : (e : Event) (es : List Event) → due e ≡ false → Each (λ x. key_lt e.key x.key ≡ true) es → Each (λ x. due x ≡ false) es
-  none_due e es not after = Each-map (λ x. key_lt e.key x.key ≡ true) (λ x. due x ≡ false) es (λ x lt. false_from_ne_true (due x) (λ yes. let h = due-down g cut e.key x.key lt yes in cc)) after
+  none_due e es not after = Each-map (λ x. key_lt e.key x.key ≡ true) (λ x. due x ≡ false) es (λ x lt. false_from_ne_true (due x) (λ yes. let h = due-down bound cut e.key x.key lt yes in cc)) after
 
   -- in a list in order, what is due stands at the front
   pub due-front : (es : List Event) → IsAscending es → (filter due es ≡ take (length (filter due es)) es) × (filter stays es ≡ drop (length (filter due es)) es)
@@ -81,57 +82,57 @@ module _ (g : ℕ) (cut : Option Key) where
           (nothing ∙ sym (ap (λ xs. take (length xs) (e ∷ es)) nothing), ap (λ xs. e ∷ xs) all ∙ sym (ap (λ xs. drop (length xs) (e ∷ es)) nothing))
 
   module _ (m : Meaning) (t : Terms) (laws : MeaningLaws m) (home : ℕ → ℕ) (node : ℕ) (share : Share) (ahead : ℕ → ℕ) (old new : NodeData)
-      (stands : StandsFor m t home node share ahead old) (done : IsDueDone m home node g cut old) (commit : IsCommit m home node g cut share old new) where
-    evs : ℕ → List Event
-    evs object = events_at object share.pending
+      (stands : StandsFor m t home node share ahead old) (done : IsDueDone m home node bound cut old) (commit : IsCommit m home node bound cut share old new) where
+    own_events : ℕ → List Event
+    own_events object = events_at object share.pending
 
-    abbrev c : ℕ → ℕ
-    c = due_count g cut share
+    abbrev due_at : ℕ → ℕ
+    due_at = due_count bound cut share
 
-    count_is : (object : ℕ) → c object ≡ length (filter due (evs object))
-    unfolding due_count evs
+    count_is : (object : ℕ) → due_at object ≡ length (filter due (own_events object))
+    unfolding due_count own_events
     count_is object = refl
 
-    up_at : (object : ℕ) → IsAscending (evs object)
-    unfolding evs
+    up_at : (object : ℕ) → IsAscending (own_events object)
+    unfolding own_events
     up_at object = IsAscending-events_at object share.pending stands.ordered
 
     -- all that is due is processed
-    due_ahead : (object : ℕ) → IsHome m home node object → c object ≤ ahead object
-    unfolding evs
+    due_ahead : (object : ℕ) → IsHome m home node object → due_at object ≤ ahead object
+    unfolding own_events
     due_ahead object at =
         let n = ahead object in
-        let parts : filter due (evs object) ≡ filter due (take n (evs object)) ++ filter due (drop n (evs object)) =
-        ap (filter due) (sym (take-append-drop n (evs object))) ∙ filter-append due (take n (evs object)) (drop n (evs object)) in
+        let parts : filter due (own_events object) ≡ filter due (take n (own_events object)) ++ filter due (drop n (own_events object)) =
+        ap (filter due) (sym (take-append-drop n (own_events object))) ∙ filter-append due (take n (own_events object)) (drop n (own_events object)) in
         let P : List Event → Type 0 = Each (λ (e : Event). due e ≡ false) in
-        let none : filter due (drop n (evs object)) ≡ [] = filter-none due (drop n (evs object)) (subst P (stands.waiting object at) (Each-events_at (λ (e : Event). due e ≡ false) object old.unprocessed done.waiting)) in
-        let few : length (filter due (take n (evs object))) ≤ length (take n (evs object)) = length-filter_le due (take n (evs object)) in
-        let long : length (take n (evs object)) ≡ min n (length (evs object)) = length-take n (evs object) in
-        let sum : length (filter due (evs object)) ≡ length (filter due (take n (evs object)) ++ filter due (drop n (evs object))) = ap length parts in
-        let sum2 : length (filter due (take n (evs object)) ++ filter due (drop n (evs object))) ≡ length (filter due (take n (evs object))) = ap (λ xs. length (filter due (take n (evs object)) ++ xs)) none ∙ ap length (append-nil (filter due (take n (evs object)))) in
+        let none : filter due (drop n (own_events object)) ≡ [] = filter-none due (drop n (own_events object)) (subst P (stands.waiting object at) (Each-events_at (λ (e : Event). due e ≡ false) object old.unprocessed done.waiting)) in
+        let few : length (filter due (take n (own_events object))) ≤ length (take n (own_events object)) = length-filter_le due (take n (own_events object)) in
+        let long : length (take n (own_events object)) ≡ min n (length (own_events object)) = length-take n (own_events object) in
+        let sum : length (filter due (own_events object)) ≡ length (filter due (take n (own_events object)) ++ filter due (drop n (own_events object))) = ap length parts in
+        let sum2 : length (filter due (take n (own_events object)) ++ filter due (drop n (own_events object))) ≡ length (filter due (take n (own_events object))) = ap (λ xs. length (filter due (take n (own_events object)) ++ xs)) none ∙ ap length (append-nil (filter due (take n (own_events object)))) in
         let same = count_is object in
         omega arith
 
-    split : (object : ℕ) → IsHome m home node object → take (ahead object) (evs object) ≡ take (c object) (evs object) ++ take (ahead object - c object) (drop (c object) (evs object))
+    split : (object : ℕ) → IsHome m home node object → take (ahead object) (own_events object) ≡ take (due_at object) (own_events object) ++ take (ahead object - due_at object) (drop (due_at object) (own_events object))
     split object at =
         let le = due_ahead object at in
-        let sum : ahead object ≡ c object + (ahead object - c object) = omega arith in
-        ap (λ n. take n (evs object)) sum ∙ take-split (c object) (ahead object - c object) (evs object)
+        let sum : ahead object ≡ due_at object + (ahead object - due_at object) = omega arith in
+        ap (λ n. take n (own_events object)) sum ∙ take-split (due_at object) (ahead object - due_at object) (own_events object)
 
     base : ℕ → ObjectState
     base object = share.states object
 
     front : ℕ → Replay
-    front object = replay m object (base object) (take (c object) (evs object))
+    front object = replay m object (base object) (take (due_at object) (own_events object))
 
-    front_due : (object : ℕ) → Each (λ (e : Event). due e ≡ true) (take (c object) (evs object))
-    unfolding evs
+    front_due : (object : ℕ) → Each (λ (e : Event). due e ≡ true) (take (due_at object) (own_events object))
+    unfolding own_events
     front_due object =
         let P : List Event → Type 0 = Each (λ (e : Event). due e ≡ true) in
-        subst P ((due-front (evs object) (up_at object)).0 ∙ sym (ap (λ n. take n (evs object)) (count_is object))) (filter-passes due (evs object))
+        subst P ((due-front (own_events object) (up_at object)).0 ∙ sym (ap (λ n. take n (own_events object)) (count_is object))) (filter-passes due (own_events object))
 
-    log_is : (object : ℕ) → IsHome m home node object → old.log object ≡ replay m object (base object) (take (c object) (evs object) ++ take (ahead object - c object) (drop (c object) (evs object)))
-    unfolding evs base log_of
+    log_is : (object : ℕ) → IsHome m home node object → old.log object ≡ replay m object (base object) (take (due_at object) (own_events object) ++ take (ahead object - due_at object) (drop (due_at object) (own_events object)))
+    unfolding own_events base log_of
     log_is object at = stands.logs object at ∙ ap (replay m object (share.states object)) (split object at)
 
     front_whole : (object : ℕ) → IsHome m home node object → (front object).fault ≡ None
@@ -141,59 +142,59 @@ module _ (g : ℕ) (cut : Option Key) where
         by_fault : (f : Option (Key × ℕ)) → (front object).fault ≡ f → f ≡ None
         by_fault None h = refl
         by_fault (Some fault) h =
-            let due_fault : is_due g cut fault.0 ≡ true = replay-fault (λ k. is_due g cut k ≡ true) m object (base object) (take (c object) (evs object)) (front_due object) fault h in
+            let due_fault : is_due bound cut fault.0 ≡ true = replay-fault (λ k. is_due bound cut k ≡ true) m object (base object) (take (due_at object) (own_events object)) (front_due object) fault h in
             let same : (old.log object).fault ≡ Some fault =
-            ap (λ (r : Replay). r.fault) (log_is object at ∙ replay-faulted m object (base object) (take (c object) (evs object)) (take (ahead object - c object) (drop (c object) (evs object))) fault h) ∙ h in
+            ap (λ (r : Replay). r.fault) (log_is object at ∙ replay-faulted m object (base object) (take (due_at object) (own_events object)) (take (ahead object - due_at object) (drop (due_at object) (own_events object))) fault h) ∙ h in
             let not_due = done.faults object at fault same in
             absurd (cc)
 
     behind : ℕ → List Event
-    behind object = take (ahead object - c object) (drop (c object) (evs object))
+    behind object = take (ahead object - due_at object) (drop (due_at object) (own_events object))
 
     log_parts : (object : ℕ) → IsHome m home node object → old.log object ≡ replay_after (front object).done (replay m object (front object).state (behind object))
     unfolding front behind
-    log_parts object at = log_is object at ∙ replay-append m object (base object) (take (c object) (evs object)) (take (ahead object - c object) (drop (c object) (evs object))) (front_whole object at)
+    log_parts object at = log_is object at ∙ replay-append m object (base object) (take (due_at object) (own_events object)) (take (ahead object - due_at object) (drop (due_at object) (own_events object))) (front_whole object at)
 
-    whole_log : (object : ℕ) → IsHome m home node object → (taken (replay m object (base object) (take (c object) (evs object) ++ behind object)) ≡ length (take (c object) (evs object) ++ behind object)) × (length (behind object) ≡ ahead object - c object) × (length (take (c object) (evs object)) ≡ c object)
-    unfolding evs base log_of behind
+    whole_log : (object : ℕ) → IsHome m home node object → (taken (replay m object (base object) (take (due_at object) (own_events object) ++ behind object)) ≡ length (take (due_at object) (own_events object) ++ behind object)) × (length (behind object) ≡ ahead object - due_at object) × (length (take (due_at object) (own_events object)) ≡ due_at object)
+    unfolding own_events base log_of behind
     whole_log object at =
         let n = ahead object in
-        let whole : taken (replay m object (share.states object) (take n (evs object))) ≡ n = (stands.early object at).whole in
-        let le : taken (replay m object (share.states object) (take n (evs object))) ≤ length (take n (evs object)) = taken-le m object (share.states object) (take n (evs object)) in
-        let short : length (take n (evs object)) ≡ min n (length (evs object)) = length-take n (evs object) in
-        let same : taken (replay m object (share.states object) (take n (evs object))) ≡ taken (replay m object (base object) (take (c object) (evs object) ++ behind object)) = ap (λ es. taken (replay m object (share.states object) es)) (split object at) in
-        let long : length (take n (evs object)) ≡ length (take (c object) (evs object) ++ behind object) = ap length (split object at) in
-        let sum : length (take (c object) (evs object) ++ behind object) ≡ length (take (c object) (evs object)) + length (behind object) = length-append (take (c object) (evs object)) (behind object) in
-        let one : length (take (c object) (evs object)) ≡ min (c object) (length (evs object)) = length-take (c object) (evs object) in
+        let whole : taken (replay m object (share.states object) (take n (own_events object))) ≡ n = (stands.early object at).whole in
+        let le : taken (replay m object (share.states object) (take n (own_events object))) ≤ length (take n (own_events object)) = taken-le m object (share.states object) (take n (own_events object)) in
+        let short : length (take n (own_events object)) ≡ min n (length (own_events object)) = length-take n (own_events object) in
+        let same : taken (replay m object (share.states object) (take n (own_events object))) ≡ taken (replay m object (base object) (take (due_at object) (own_events object) ++ behind object)) = ap (λ es. taken (replay m object (share.states object) es)) (split object at) in
+        let long : length (take n (own_events object)) ≡ length (take (due_at object) (own_events object) ++ behind object) = ap length (split object at) in
+        let sum : length (take (due_at object) (own_events object) ++ behind object) ≡ length (take (due_at object) (own_events object)) + length (behind object) = length-append (take (due_at object) (own_events object)) (behind object) in
+        let one : length (take (due_at object) (own_events object)) ≡ min (due_at object) (length (own_events object)) = length-take (due_at object) (own_events object) in
         let fits = due_ahead object at in (
-          (let r : taken (replay m object (base object) (take (c object) (evs object) ++ behind object)) ≡ length (take (c object) (evs object) ++ behind object) = omega arith in r),
-          (let r : length (behind object) ≡ ahead object - c object = omega arith in r),
-          (let r : length (take (c object) (evs object)) ≡ c object = omega arith in r),
+          (let r : taken (replay m object (base object) (take (due_at object) (own_events object) ++ behind object)) ≡ length (take (due_at object) (own_events object) ++ behind object) = omega arith in r),
+          (let r : length (behind object) ≡ ahead object - due_at object = omega arith in r),
+          (let r : length (take (due_at object) (own_events object)) ≡ due_at object = omega arith in r),
         )
 
-    front_long : (object : ℕ) → IsHome m home node object → length (front object).done ≡ c object
+    front_long : (object : ℕ) → IsHome m home node object → length (front object).done ≡ due_at object
     unfolding front
     front_long object at =
         let w = whole_log object at in
-        let sum : length (take (c object) (evs object) ++ behind object) ≡ length (take (c object) (evs object)) + length (behind object) = length-append (take (c object) (evs object)) (behind object) in
-        let joined : replay m object (base object) (take (c object) (evs object) ++ behind object) ≡ replay_after (front object).done (replay m object (front object).state (behind object)) =
-        replay-append m object (base object) (take (c object) (evs object)) (behind object) (front_whole object at) in
-        let total : taken (replay m object (base object) (take (c object) (evs object) ++ behind object)) ≡ taken (replay_after (front object).done (replay m object (front object).state (behind object))) = ap taken joined in
+        let sum : length (take (due_at object) (own_events object) ++ behind object) ≡ length (take (due_at object) (own_events object)) + length (behind object) = length-append (take (due_at object) (own_events object)) (behind object) in
+        let joined : replay m object (base object) (take (due_at object) (own_events object) ++ behind object) ≡ replay_after (front object).done (replay m object (front object).state (behind object)) =
+        replay-append m object (base object) (take (due_at object) (own_events object)) (behind object) (front_whole object at) in
+        let total : taken (replay m object (base object) (take (due_at object) (own_events object) ++ behind object)) ≡ taken (replay_after (front object).done (replay m object (front object).state (behind object))) = ap taken joined in
         let parts : length ((front object).done ++ (replay m object (front object).state (behind object)).done) ≡ length (front object).done + length (replay m object (front object).state (behind object)).done = length-append (front object).done (replay m object (front object).state (behind object)).done in
-        let rest : taken (replay m object (front object).state (behind object)) ≡ length (behind object) = taken-rest m object (base object) (take (c object) (evs object)) (behind object) (front_whole object at) w.0 in
+        let rest : taken (replay m object (front object).state (behind object)) ≡ length (behind object) = taken-rest m object (base object) (take (due_at object) (own_events object)) (behind object) (front_whole object at) w.0 in
         omega arith
 
-    next_events : (object : ℕ) → events_at object (filter stays share.pending) ≡ drop (c object) (evs object)
-    unfolding evs events_at
+    next_events : (object : ℕ) → events_at object (filter stays share.pending) ≡ drop (due_at object) (own_events object)
+    unfolding own_events events_at
     next_events object =
-        filter-swap (λ e. eqb e.key.dest object) stays share.pending ∙ (due-front (evs object) (up_at object)).1 ∙ sym (ap (λ n. drop n (evs object)) (count_is object))
+        filter-swap (λ e. eqb e.key.dest object) stays share.pending ∙ (due-front (own_events object) (up_at object)).1 ∙ sym (ap (λ n. drop n (own_events object)) (count_is object))
 
-    next_log : (object : ℕ) → IsHome m home node object → log_of m (committed m g cut share) object (ahead object - c object) ≡ replay m object (front object).state (behind object)
-    unfolding log_of front behind base evs
-    next_log object at = ap (λ es. replay m object (front object).state (take (ahead object - c object) es)) (next_events object)
+    next_log : (object : ℕ) → IsHome m home node object → log_of m (committed m bound cut share) object (ahead object - due_at object) ≡ replay m object (front object).state (behind object)
+    unfolding log_of front behind base own_events
+    next_log object at = ap (λ es. replay m object (front object).state (take (ahead object - due_at object) es)) (next_events object)
 
-    pub commit_stands : StandsFor m t home node (committed m g cut share) (committed_ahead g cut share ahead) new
-    unfolding behind front base evs log_of
+    pub commit_stands : StandsFor m t home node (committed m bound cut share) (committed_ahead bound cut share ahead) new
+    unfolding behind front base own_events log_of
     commit_stands =
         let B : List Event → Type 0 = Each (λ (e : Event). e.key.stamp < end_stamp t.end) in
         let O : List Event → Type 0 = IsAscending in
@@ -201,15 +202,15 @@ module _ (g : ℕ) (cut : Option Key) where
         record {
           ordered = IsAscending-filter stays share.pending stands.ordered;
           homed = Each-filter (IsAtHome m home node) stays share.pending stands.homed;
-          cells = λ object at. replay-lawful m object (share.states object) (take (c object) (evs object)) laws at.0 (stands.cells object at);
+          cells = λ object at. replay-lawful m object (share.states object) (take (due_at object) (own_events object)) laws at.0 (stands.cells object at);
           early = λ object at. record {
-            whole = ap taken (next_log object at) ∙ taken-rest m object (base object) (take (c object) (evs object)) (behind object) (front_whole object at) (whole_log object at).0 ∙ (whole_log object at).1;
-            below = subst B (sym (ap (take (ahead object - c object)) (next_events object)))
-                (Each-back (λ (e : Event). e.key.stamp < end_stamp t.end) (take (c object) (evs object)) (behind object) (subst B (split object at) (stands.early object at).below));
+            whole = ap taken (next_log object at) ∙ taken-rest m object (base object) (take (due_at object) (own_events object)) (behind object) (front_whole object at) (whole_log object at).0 ∙ (whole_log object at).1;
+            below = subst B (sym (ap (take (ahead object - due_at object)) (next_events object)))
+                (Each-back (λ (e : Event). e.key.stamp < end_stamp t.end) (take (due_at object) (own_events object)) (behind object) (subst B (split object at) (stands.early object at).below));
           };
           logs = λ object at.
               commit.logs object at
-              ∙ ap (without_first (c object)) (log_parts object at)
+              ∙ ap (without_first (due_at object)) (log_parts object at)
               ∙ ap (λ ds. record (replay m object (front object).state (behind object)) { done = ds })
               (ap (λ n. drop n ((front object).done ++ (replay m object (front object).state (behind object)).done)) (sym (front_long object at))
               ∙ drop-append_seam (front object).done (replay m object (front object).state (behind object)).done)
@@ -218,9 +219,9 @@ module _ (g : ℕ) (cut : Option Key) where
           waiting_homed = subst H (sym commit.waits) stands.waiting_homed;
           waiting = λ object at.
               ap (events_at object) commit.waits ∙ stands.waiting object at
-              ∙ (let le = due_ahead object at in let sum : ahead object ≡ c object + (ahead object - c object) = omega arith in ap (λ n. drop n (evs object)) sum)
-              ∙ sym (drop-drop (ahead object - c object) (c object) (evs object))
-              ∙ sym (ap (drop (ahead object - c object)) (next_events object));
+              ∙ (let le = due_ahead object at in let sum : ahead object ≡ due_at object + (ahead object - due_at object) = omega arith in ap (λ n. drop n (own_events object)) sum)
+              ∙ sym (drop-drop (ahead object - due_at object) (due_at object) (own_events object))
+              ∙ sym (ap (drop (ahead object - due_at object)) (next_events object));
         }
 
 pub commit_law : (m : Meaning) (t : Terms) → MeaningLaws m → CommitLaw m t

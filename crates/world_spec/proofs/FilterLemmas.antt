@@ -52,7 +52,7 @@ filter-swap p q (x ∷ xs) = by_tests (p x) (q x) refl refl (filter-swap p q xs)
     by_tests false true h k more = ap (λ c. cond c (x ∷ filter p (filter q xs)) (filter p (filter q xs))) h ∙ more
     by_tests false false h k more = more
 
--- what an order of tests leaves
+-- a test after a function, and a test after a test
 pub filter-map : {X Y : Type 0} (f : X → Y) (p : Y → Bool) (xs : List X) → filter p (map f xs) ≡ map f (filter (λ x. p (f x)) xs)
 filter-map f p [] = refl
 filter-map f p (x ∷ xs) =

@@ -17,7 +17,7 @@ use Rattle.sim_spec.proofs.EnqueueLemmas.{length-enqueue}
 use Rattle.world_spec.specs.Early.{is_before_all, leading}
 use Rattle.world_spec.proofs.MemberLemmas.{each-contains, first-or-later, is-first, is-later}
 
--- at the front
+-- those at the front are some of all, and each of them passes
 pub leading-le : (p : Event → Bool) (es : List Event) → leading p es ≤ length es
 unfolding leading
 leading-le p [] = omega arith
@@ -50,7 +50,7 @@ leading-both p q r (e ∷ es) same = ap (λ b. cond b (1 + leading r es) 0) (sam
         ∙ ap (λ n. leading q (take n (e ∷ es))) (let one : suc (leading p es) ≡ 1 + leading p es = omega arith in one)
     by_test false more = refl
 
--- before two lists of messages
+-- before the messages of two lists
 pub before_all-append : (xs ys : List Event) (e : Event) → is_before_all (xs ++ ys) e ≡ (is_before_all xs e && is_before_all ys e)
 unfolding is_before_all
 before_all-append xs ys e = list_all-append (λ (x : Event). key_lt e.key x.key) xs ys

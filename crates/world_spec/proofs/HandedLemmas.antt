@@ -23,10 +23,10 @@ own_at home node object (d ∷ ds) here = by_tests (eqb (home d.0.key.dest) node
   where
     by_tests : (a b : Bool) → eqb (home d.0.key.dest) node ≡ a → eqb d.0.key.dest object ≡ b → done_at object (done_of home node ds) ≡ done_at object ds
         → done_at object (cond a (d ∷ done_of home node ds) (done_of home node ds)) ≡ cond b (d ∷ done_at object ds) (done_at object ds)
-    by_tests true b h g more = ap (λ c. cond c (d ∷ done_at object (done_of home node ds)) (done_at object (done_of home node ds))) g ∙ ap (λ xs. cond b (d ∷ xs) xs) more
-    by_tests false false h g more = more
-    by_tests false true h g more =
-        let yes = eq-eqb (home d.0.key.dest) node (ap home (eqb-true d.0.key.dest object g) ∙ here) in
+    by_tests true b h bound more = ap (λ c. cond c (d ∷ done_at object (done_of home node ds)) (done_at object (done_of home node ds))) bound ∙ ap (λ xs. cond b (d ∷ xs) xs) more
+    by_tests false false h bound more = more
+    by_tests false true h bound more =
+        let yes = eq-eqb (home d.0.key.dest) node (ap home (eqb-true d.0.key.dest object bound) ∙ here) in
         absurd (cc)
 
 other_at : (home : ℕ → ℕ) (node object : ℕ) (ds : List (Event × Firing)) → (home object ≡ node → ⊥) → done_at object (done_of home node ds) ≡ []
@@ -36,9 +36,9 @@ other_at home node object (d ∷ ds) far = by_tests (eqb (home d.0.key.dest) nod
   where
     by_tests : (a b : Bool) → eqb (home d.0.key.dest) node ≡ a → eqb d.0.key.dest object ≡ b → done_at object (done_of home node ds) ≡ []
         → done_at object (cond a (d ∷ done_of home node ds) (done_of home node ds)) ≡ []
-    by_tests false b h g more = more
-    by_tests true true h g more = absurd (far (sym (ap home (eqb-true d.0.key.dest object g)) ∙ eqb-true (home d.0.key.dest) node h))
-    by_tests true false h g more = ap (λ c. cond c (d ∷ done_at object (done_of home node ds)) (done_at object (done_of home node ds))) g ∙ more
+    by_tests false b h bound more = more
+    by_tests true true h bound more = absurd (far (sym (ap home (eqb-true d.0.key.dest object bound)) ∙ eqb-true (home d.0.key.dest) node h))
+    by_tests true false h bound more = ap (λ c. cond c (d ∷ done_at object (done_of home node ds)) (done_at object (done_of home node ds))) bound ∙ more
 
 none_at : (P : Event → Type 0) (object : ℕ) (ds : List (Event × Firing)) → Each P (events_of ds) → ((e : Event) → P e → e.key.dest ≡ object → ⊥) → done_at object ds ≡ []
 unfolding done_at
@@ -47,12 +47,12 @@ none_at P object (d ∷ ds) all far =
     ap (λ b. cond b (d ∷ done_at object ds) (done_at object ds)) (ne_eqb d.0.key.dest object (far d.0 all.0)) ∙ none_at P object ds all.1 far
 
 -- what a node hands out is its part of the whole
-pub handed-is : (m : Meaning) (home : ℕ → ℕ) (node g : ℕ) (cut : Option Key) (held : NodeData) (handed ds : List (Event × Firing)) → IsHandedOut m home node g cut held handed
+pub handed-is : (m : Meaning) (home : ℕ → ℕ) (node bound : ℕ) (cut : Option Key) (held : NodeData) (handed ds : List (Event × Firing)) → IsHandedOut m home node bound cut held handed
     → IsAscending (events_of ds) → Each (λ (e : Event). e.key.dest < m.objects) (events_of ds)
-    → ((object : ℕ) → IsHome m home node object → filter (λ d. is_due g cut d.0.key) (held.log object).done ≡ done_at object ds)
+    → ((object : ℕ) → IsHome m home node object → filter (λ d. is_due bound cut d.0.key) (held.log object).done ≡ done_at object ds)
     → handed ≡ done_of home node ds
 unfolding done_at
-handed-is m home node g cut held handed ds out up dests parts =
+handed-is m home node bound cut held handed ds out up dests parts =
     by-objects (λ (d : Event × Firing). d.0.key) handed (done_of home node ds) (Ascends-done handed out.ordered)
     (Ascends-filter (λ (d : Event × Firing). d.0.key) (λ d. eqb (home d.0.key.dest) node) ds (Ascends-done ds up))
     (λ object. at_object object (ltb object m.objects) (eqb (home object) node) refl refl)

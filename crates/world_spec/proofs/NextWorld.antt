@@ -46,16 +46,16 @@ share-homed m t s home node lawful =
     (Each-filter (λ (e : Event). e.key.dest < m.objects) (is_at home node) s.pending (AllSound-dest m s.objects s.pending lawful.sound)) (filter-at home node s.pending)
 
 module _ (m : Meaning) (t : Terms) (laws : MeaningLaws m) (home : ℕ → ℕ) (nodes : ℕ) (s : State) (shares : ℕ → Share) (ahead : ℕ → ℕ) (world : WorldData)
-    (stands : WorldStands m t home nodes s shares ahead world) (g : ℕ)
-    (closed : WorldIsClosed m t home nodes world.node g) where
+    (stands : WorldStands m t home nodes s shares ahead world) (bound : ℕ)
+    (closed : WorldIsClosed m t home nodes world.node bound) where
   runs : RunsAhead m t s ahead
   runs = world-runs m t home nodes s shares ahead world stands
 
-  idle : IsClosed m t s ahead g
-  idle = world-closed m t home nodes s shares ahead world stands g closed
+  idle : IsClosed m t s ahead bound
+  idle = world-closed m t home nodes s shares ahead world stands bound closed
 
-  abbrev d : List (Event × Firing)
-  d = committed_events m t s
+  abbrev happened : List (Event × Firing)
+  happened = committed_events m t s
 
   abbrev rest : List Event
   rest = left_of m t s
@@ -63,96 +63,96 @@ module _ (m : Meaning) (t : Terms) (laws : MeaningLaws m) (home : ℕ → ℕ) (
   abbrev cut : Option Key
   cut = cut_key m t s
 
-  not_due : Each (λ (e : Event). is_due g cut e.key ≡ false) rest
-  not_due = (due_parts m t s ahead g stands.lawful runs idle).1
+  not_due : Each (λ (e : Event). is_due bound cut e.key ≡ false) rest
+  not_due = (due_parts m t s ahead bound stands.lawful runs idle).1
 
-  processed : (object : ℕ) → object < m.objects → IsProcessed m t s d rest object (ahead object)
-  processed = committed_processed m t s ahead g stands.lawful runs idle
+  processed : (object : ℕ) → object < m.objects → IsProcessed m t s happened rest object (ahead object)
+  processed = committed_processed m t s ahead bound stands.lawful runs idle
 
   -- the premise of a commit holds at each node
-  pub due_done : (node : ℕ) → node < nodes → IsDueDone m home node g cut (world.node node)
+  pub due_done : (node : ℕ) → node < nodes → IsDueDone m home node bound cut (world.node node)
   due_done node inside =
       let here = stands.stands node inside in
       let own = stands.shares_of node inside in
       record {
-        waiting = each-object (λ (e : Event). is_due g cut e.key ≡ false) m home node (world.node node).unprocessed here.waiting_homed (λ object at.
+        waiting = each-object (λ (e : Event). is_due bound cut e.key ≡ false) m home node (world.node node).unprocessed here.waiting_homed (λ object at.
             let p = processed object at.0 in
-            let upto : length (done_at object d) ≤ ahead object = p.upto in
-            let A = events_at object (events_of d) in
-            let long : length A ≡ length (done_at object d) = ap length (events_at-events_of object d) ∙ length-events_of (done_at object d) in
+            let upto : length (done_at object happened) ≤ ahead object = p.upto in
+            let A = events_at object (events_of happened) in
+            let long : length A ≡ length (done_at object happened) = ap length (events_at-events_of object happened) ∙ length-events_of (done_at object happened) in
             let q = ahead object - length A in
             let sum : ahead object ≡ length A + q = omega arith in
             let waits : events_at object (world.node node).unprocessed ≡ drop q (events_at object rest) =
             here.waiting object at
-            ∙ ap (drop (ahead object)) (share-events m home s node (shares node) own object at ∙ ap (events_at object) p.goes_first.pending ∙ events_at-append object (events_of d) rest)
+            ∙ ap (drop (ahead object)) (share-events m home s node (shares node) own object at ∙ ap (events_at object) p.goes_first.pending ∙ events_at-append object (events_of happened) rest)
             ∙ ap (λ n. drop n (A ++ events_at object rest)) sum
             ∙ sym (drop-drop q (length A) (A ++ events_at object rest))
             ∙ ap (drop q) (drop-append_seam A (events_at object rest)) in
-            let P : List Event → Type 0 = Each (λ (e : Event). is_due g cut e.key ≡ false) in
-            subst P (sym waits) (Each-drop (λ (e : Event). is_due g cut e.key ≡ false) q (events_at object rest) (Each-events_at (λ (e : Event). is_due g cut e.key ≡ false) object rest not_due)));
+            let P : List Event → Type 0 = Each (λ (e : Event). is_due bound cut e.key ≡ false) in
+            subst P (sym waits) (Each-drop (λ (e : Event). is_due bound cut e.key ≡ false) q (events_at object rest) (Each-events_at (λ (e : Event). is_due bound cut e.key ≡ false) object rest not_due)));
         faults = λ object at fault is_fault.
             let p = processed object at.0 in
-            let log : (world.node node).log object ≡ replay_after (done_at object d) (replay m object (object_at (objects_after s.objects d) object) (further_events m t s d rest object (ahead object))) =
-            here.logs object at ∙ share-log m home s node (shares node) own object (ahead object) at ∙ replay-split m t s d rest object (ahead object) p in
-            replay-fault (λ k. is_due g cut k ≡ false) m object (object_at (objects_after s.objects d) object) (further_events m t s d rest object (ahead object))
-            (Each-take (λ (e : Event). is_due g cut e.key ≡ false) (ahead object - length (done_at object d)) (events_at object rest) (Each-events_at (λ (e : Event). is_due g cut e.key ≡ false) object rest not_due))
+            let log : (world.node node).log object ≡ replay_after (done_at object happened) (replay m object (object_at (objects_after s.objects happened) object) (further_events m t s happened rest object (ahead object))) =
+            here.logs object at ∙ share-log m home s node (shares node) own object (ahead object) at ∙ replay-split m t s happened rest object (ahead object) p in
+            replay-fault (λ k. is_due bound cut k ≡ false) m object (object_at (objects_after s.objects happened) object) (further_events m t s happened rest object (ahead object))
+            (Each-take (λ (e : Event). is_due bound cut e.key ≡ false) (ahead object - length (done_at object happened)) (events_at object rest) (Each-events_at (λ (e : Event). is_due bound cut e.key ≡ false) object rest not_due))
             fault (ap (λ (r : Replay). r.fault) (sym log) ∙ is_fault);
       }
 
-  dests : Each (λ (e : Event). e.key.dest < m.objects) (events_of d)
+  dests : Each (λ (e : Event). e.key.dest < m.objects) (events_of happened)
   dests =
       let P : List Event → Type 0 = Each (λ (e : Event). e.key.dest < m.objects) in
-      Each-front (λ (e : Event). e.key.dest < m.objects) (events_of d) rest (subst P (pending_is m t s stands.lawful) (AllSound-dest m s.objects s.pending stands.lawful.sound))
+      Each-front (λ (e : Event). e.key.dest < m.objects) (events_of happened) rest (subst P (pending_is m t s stands.lawful) (AllSound-dest m s.objects s.pending stands.lawful.sound))
 
-  placed : Each (λ (x : Event × Firing). home x.0.key.dest < nodes) d
-  placed = each_placed d dests
+  placed : Each (λ (x : Event × Firing). home x.0.key.dest < nodes) happened
+  placed = each_placed happened dests
     where
       each_placed : (ds : List (Event × Firing)) → Each (λ (e : Event). e.key.dest < m.objects) (events_of ds) → Each (λ (x : Event × Firing). home x.0.key.dest < nodes) ds
       each_placed [] all = tt
       each_placed (x ∷ xs) all = (stands.homes x.0.key.dest all.0, each_placed xs all.1)
 
-  ordered : IsAscending (events_of d)
-  ordered = let U : List Event → Type 0 = IsAscending in IsAscending-front (events_of d) rest (subst U (pending_is m t s stands.lawful) stands.lawful.ordered)
+  ordered : IsAscending (events_of happened)
+  ordered = let U : List Event → Type 0 = IsAscending in IsAscending-front (events_of happened) rest (subst U (pending_is m t s stands.lawful) stands.lawful.ordered)
 
   -- what a node hands out is its part of the bucket
-  handed : (node : ℕ) → node < nodes → (done : List (Event × Firing)) → IsHandedOut m home node g cut (world.node node) done → done ≡ done_of home node d
+  handed : (node : ℕ) → node < nodes → (done : List (Event × Firing)) → IsHandedOut m home node bound cut (world.node node) done → done ≡ done_of home node happened
   handed node inside done out =
-      handed-is m home node g cut (world.node node) done d out ordered dests (λ object at.
-      ap (λ (r : Replay). filter (λ x. is_due g cut x.0.key) r.done) ((stands.stands node inside).logs object at ∙ share-log m home s node (shares node) (stands.shares_of node inside) object (ahead object) at)
-      ∙ (cycle_law m t laws s ahead g stands.lawful runs idle).committed object at.0)
+      handed-is m home node bound cut (world.node node) done happened out ordered dests (λ object at.
+      ap (λ (r : Replay). filter (λ x. is_due bound cut x.0.key) r.done) ((stands.stands node inside).logs object at ∙ share-log m home s node (shares node) (stands.shares_of node inside) object (ahead object) at)
+      ∙ (cycle_law m t laws s ahead bound stands.lawful runs idle).committed object at.0)
 
   next_lawful : Lawful m t (after m t s)
   next_lawful = (bucket_law m t laws s stands.lawful).lawful
 
-  pub arrived : (es : ℕ → List Event) → ((node : ℕ) → node < nodes → IsPermutation (parcels home d node nodes) (es node)) → (node : ℕ) → node < nodes
-      → IsPermutation (filter (is_at home node) (emissions_of d)) (es node)
-  arrived es arrivals node inside = IsPermutation-trans (filter (is_at home node) (emissions_of d)) (parcels home d node nodes) (es node) (parcels-permutation home node nodes d placed) (arrivals node inside)
+  pub arrived : (es : ℕ → List Event) → ((node : ℕ) → node < nodes → IsPermutation (parcels home happened node nodes) (es node)) → (node : ℕ) → node < nodes
+      → IsPermutation (filter (is_at home node) (emissions_of happened)) (es node)
+  arrived es arrivals node inside = IsPermutation-trans (filter (is_at home node) (emissions_of happened)) (parcels home happened node nodes) (es node) (parcels-permutation home node nodes happened placed) (arrivals node inside)
 
-  pub share_next : (es : ℕ → List Event) → ((node : ℕ) → node < nodes → IsPermutation (parcels home d node nodes) (es node)) → (node : ℕ) → node < nodes
-      → IsNextShare m t home s ahead g node (shares node) (es node)
-  share_next es arrivals node inside = shares-law m t laws home s ahead g node (shares node) (es node) stands.lawful runs idle (stands.shares_of node inside) (arrived es arrivals node inside)
+  pub share_next : (es : ℕ → List Event) → ((node : ℕ) → node < nodes → IsPermutation (parcels home happened node nodes) (es node)) → (node : ℕ) → node < nodes
+      → IsNextShare m t home s ahead bound node (shares node) (es node)
+  share_next es arrivals node inside = shares-law m t laws home s ahead bound node (shares node) (es node) stands.lawful runs idle (stands.shares_of node inside) (arrived es arrivals node inside)
 
   -- the pending events of the next share are in order, and at the node
-  pub next_ordered : (es : ℕ → List Event) → ((node : ℕ) → node < nodes → IsPermutation (parcels home d node nodes) (es node)) → (node : ℕ) → node < nodes
-      → IsAscending (next_share m t s g (shares node) (es node)).pending
+  pub next_ordered : (es : ℕ → List Event) → ((node : ℕ) → node < nodes → IsPermutation (parcels home happened node nodes) (es node)) → (node : ℕ) → node < nodes
+      → IsAscending (next_share m t s bound (shares node) (es node)).pending
   next_ordered es arrivals node inside =
       let P : List Event → Type 0 = IsAscending in
       subst P (sym (share_next es arrivals node inside).share_of.pending) (IsAscending-filter (is_at home node) (after m t s).pending next_lawful.ordered)
 
-  pub next_homed : (es : ℕ → List Event) → ((node : ℕ) → node < nodes → IsPermutation (parcels home d node nodes) (es node)) → (node : ℕ) → node < nodes
-      → Each (IsAtHome m home node) (next_share m t s g (shares node) (es node)).pending
+  pub next_homed : (es : ℕ → List Event) → ((node : ℕ) → node < nodes → IsPermutation (parcels home happened node nodes) (es node)) → (node : ℕ) → node < nodes
+      → Each (IsAtHome m home node) (next_share m t s bound (shares node) (es node)).pending
   next_homed es arrivals node inside =
       let H : List Event → Type 0 = Each (IsAtHome m home node) in
       subst H (sym (share_next es arrivals node inside).share_of.pending) (share-homed m t (after m t s) home node next_lawful)
 
   -- after its commit a node stands for the share without what was due
-  pub commit_stands : (mid : ℕ → NodeData) → ((node : ℕ) → node < nodes → IsCommit m home node g cut (shares node) (world.node node) (mid node)) → (node : ℕ) → node < nodes
-      → StandsFor m t home node (committed m g cut (shares node)) (committed_ahead g cut (shares node) ahead) (mid node)
+  pub commit_stands : (mid : ℕ → NodeData) → ((node : ℕ) → node < nodes → IsCommit m home node bound cut (shares node) (world.node node) (mid node)) → (node : ℕ) → node < nodes
+      → StandsFor m t home node (committed m bound cut (shares node)) (committed_ahead bound cut (shares node) ahead) (mid node)
   commit_stands mid commits node inside =
-      commit_law m t laws home node g cut (shares node) ahead (world.node node) (mid node) (stands.stands node inside) (due_done node inside) (commits node inside)
+      commit_law m t laws home node bound cut (shares node) ahead (world.node node) (mid node) (stands.stands node inside) (due_done node inside) (commits node inside)
 
-  next_world : (es : ℕ → List Event) (new : WorldData) → EndsCycle m t home nodes s shares ahead g es world new
-      → WorldStands m t home nodes (after m t s) (λ node. next_share m t s g (shares node) (es node)) (kept s d ahead) new
+  next_world : (es : ℕ → List Event) (new : WorldData) → EndsCycle m t home nodes s shares ahead bound es world new
+      → WorldStands m t home nodes (after m t s) (λ node. next_share m t s bound (shares node) (es node)) (kept s happened ahead) new
   unfolding after state_with_done
   next_world es new ends = record {
     lawful = next_lawful;
@@ -160,19 +160,19 @@ module _ (m : Meaning) (t : Terms) (laws : MeaningLaws m) (home : ℕ → ℕ) (
     made = λ node inside. let P : Setting → Type 0 = IsMadeFor m t home nodes in subst P (sym (ends.made node inside)) (stands.made node inside);
     shares_of = λ node inside. (share_next es ends.arrivals node inside).share_of;
     stands = λ node inside.
-        stands-same m t home node (next_share m t s g (shares node) (es node)) _ (kept s d ahead) (new.node node) (share_next es ends.arrivals node inside).ahead_is
-        (receipt_law m t home node (es node) (committed m g cut (shares node)) (committed_ahead g cut (shares node) ahead) (ends.mid node) (new.node node)
+        stands-same m t home node (next_share m t s bound (shares node) (es node)) _ (kept s happened ahead) (new.node node) (share_next es ends.arrivals node inside).ahead_is
+        (receipt_law m t home node (es node) (committed m bound cut (shares node)) (committed_ahead bound cut (shares node) ahead) (ends.mid node) (new.node node)
         (commit_stands ends.mid ends.commits node inside) (next_ordered es ends.arrivals node inside) (next_homed es ends.arrivals node inside) (ends.receipts node inside));
-    count = ends.count ∙ ap (λ n. n + length d) stands.count;
+    count = ends.count ∙ ap (λ n. n + length happened) stands.count;
     fault = λ fault is_fault. (bucket_law m t laws s stands.lawful).fault fault (sym ends.fault ∙ is_fault);
   }
 
-  world_cycle : IsCycle m t home nodes s shares ahead world g
+  world_cycle : IsCycle m t home nodes s shares ahead world bound
   world_cycle = record {
-    bucket = cycle_law m t laws s ahead g stands.lawful runs idle;
+    bucket = cycle_law m t laws s ahead bound stands.lawful runs idle;
     due = due_done;
     handed = handed;
-    records = λ merged moves sorted. merged-is home nodes d merged placed ordered moves sorted;
+    records = λ merged moves sorted. merged-is home nodes happened merged placed ordered moves sorted;
     next = next_world;
   }
 

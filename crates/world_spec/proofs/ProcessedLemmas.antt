@@ -30,7 +30,7 @@ pub record IsProcessed (m : Meaning) (t : Terms) (s : State) (done : List (Event
   pub upto : length (done_at object done) ≤ n
 
 module _ (m : Meaning) (t : Terms) (s : State) (done : List (Event × Firing)) (rest : List Event) (object n : ℕ) where
-  -- what it has processed behind them, and the state from which it goes on
+  -- what it has processed behind them
   abbrev pub further_events : List Event
   further_events = take (n - length (done_at object done)) (events_at object rest)
 

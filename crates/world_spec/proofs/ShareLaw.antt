@@ -39,106 +39,106 @@ pub record IsNextShare (m : Meaning) (t : Terms) (home : ℕ → ℕ) (s : State
   pub ahead_is : (object : ℕ) → IsHome m home node object
       → received_ahead es (committed m bound (cut_key m t s) share) (committed_ahead bound (cut_key m t s) share ahead) object ≡ kept s (committed_events m t s) ahead object
 
-module _ (m : Meaning) (t : Terms) (laws : MeaningLaws m) (home : ℕ → ℕ) (s : State) (ahead : ℕ → ℕ) (g node : ℕ) (share : Share) (es : List Event)
-    (lawful : Lawful m t s) (runs : RunsAhead m t s ahead) (closed : IsClosed m t s ahead g) (own : IsShareOf m home s node share)
+module _ (m : Meaning) (t : Terms) (laws : MeaningLaws m) (home : ℕ → ℕ) (s : State) (ahead : ℕ → ℕ) (bound node : ℕ) (share : Share) (es : List Event)
+    (lawful : Lawful m t s) (runs : RunsAhead m t s ahead) (closed : IsClosed m t s ahead bound) (own : IsShareOf m home s node share)
     (moves : IsPermutation (filter (is_at home node) (emissions_of (committed_events m t s))) es) where
-  abbrev d : List (Event × Firing)
-  d = committed_events m t s
+  abbrev happened : List (Event × Firing)
+  happened = committed_events m t s
 
   abbrev rest : List Event
   rest = left_of m t s
 
   abbrev due : Event → Bool
-  due e = is_due g (cut_key m t s) e.key
+  due e = is_due bound (cut_key m t s) e.key
 
   abbrev here : Event → Bool
   here = is_at home node
 
-  parts : Each (λ (e : Event). due e ≡ true) (events_of d) × Each (λ (e : Event). due e ≡ false) rest
-  parts = due_parts m t s ahead g lawful runs closed
+  parts : Each (λ (e : Event). due e ≡ true) (events_of happened) × Each (λ (e : Event). due e ≡ false) rest
+  parts = due_parts m t s ahead bound lawful runs closed
 
-  after_up : IsAscending (enqueue_all (emissions_of d) (drop (length d) s.pending))
+  after_up : IsAscending (enqueue_all (emissions_of happened) (drop (length happened) s.pending))
   unfolding after state_with_done
   after_up = (bucket_law m t laws s lawful).lawful.ordered
 
-  split : s.pending ≡ events_of d ++ rest
+  split : s.pending ≡ events_of happened ++ rest
   split = pending_is m t s lawful
 
-  dropped : drop (length d) s.pending ≡ rest
-  dropped = ap (drop (length d)) split ∙ drop-front d rest
+  dropped : drop (length happened) s.pending ≡ rest
+  dropped = ap (drop (length happened)) split ∙ drop-front happened rest
 
-  processed : (object : ℕ) → object < m.objects → IsProcessed m t s d rest object (ahead object)
-  processed = committed_processed m t s ahead g lawful runs closed
+  processed : (object : ℕ) → object < m.objects → IsProcessed m t s happened rest object (ahead object)
+  processed = committed_processed m t s ahead bound lawful runs closed
 
-  parts_is : share.pending ≡ filter here (events_of d) ++ filter here rest
-  parts_is = own.pending ∙ ap (filter here) split ∙ filter-append here (events_of d) rest
+  parts_is : share.pending ≡ filter here (events_of happened) ++ filter here rest
+  parts_is = own.pending ∙ ap (filter here) split ∙ filter-append here (events_of happened) rest
 
   -- what is left of the node's pending events
   left_is : filter (λ (e : Event). not (due e)) share.pending ≡ filter here rest
   left_is =
       ap (filter (λ (e : Event). not (due e))) parts_is
-      ∙ filter-append (λ (e : Event). not (due e)) (filter here (events_of d)) (filter here rest)
+      ∙ filter-append (λ (e : Event). not (due e)) (filter here (events_of happened)) (filter here rest)
       ∙ ap (λ xs. xs ++ filter (λ (e : Event). not (due e)) (filter here rest))
-      (filter-none (λ (e : Event). not (due e)) (filter here (events_of d)) (Each-filter (λ (e : Event). not (due e) ≡ false) here (events_of d) (Each-map (λ (e : Event). due e ≡ true) (λ (e : Event). not (due e) ≡ false) (events_of d) (λ e h. not_from_true (due e) h) parts.0)))
+      (filter-none (λ (e : Event). not (due e)) (filter here (events_of happened)) (Each-filter (λ (e : Event). not (due e) ≡ false) here (events_of happened) (Each-map (λ (e : Event). due e ≡ true) (λ (e : Event). not (due e) ≡ false) (events_of happened) (λ e h. not_from_true (due e) h) parts.0)))
       ∙ filter-all (λ (e : Event). not (due e)) (filter here rest) (Each-filter (λ (e : Event). not (due e) ≡ true) here rest (Each-map (λ (e : Event). due e ≡ false) (λ (e : Event). not (due e) ≡ true) rest (λ e h. not_from_false (due e) h) parts.1))
 
   events_is : (object : ℕ) → IsHome m home node object → events_at object share.pending ≡ events_at object s.pending
   events_is object at = ap (events_at object) own.pending ∙ at-home home node object s.pending at.1
 
-  events_parts : (object : ℕ) → IsHome m home node object → events_at object share.pending ≡ events_at object (events_of d) ++ events_at object rest
-  events_parts object at = events_is object at ∙ ap (events_at object) (processed object at.0).goes_first.pending ∙ events_at-append object (events_of d) rest
+  events_parts : (object : ℕ) → IsHome m home node object → events_at object share.pending ≡ events_at object (events_of happened) ++ events_at object rest
+  events_parts object at = events_is object at ∙ ap (events_at object) (processed object at.0).goes_first.pending ∙ events_at-append object (events_of happened) rest
 
-  due_is : (object : ℕ) → IsHome m home node object → due_count g (cut_key m t s) share object ≡ length (done_at object d)
+  due_is : (object : ℕ) → IsHome m home node object → due_count bound (cut_key m t s) share object ≡ length (done_at object happened)
   unfolding due_count
   due_is object at =
       ap (λ xs. length (filter due xs)) (events_parts object at)
-      ∙ ap length (filter-append due (events_at object (events_of d)) (events_at object rest))
-      ∙ ap (λ xs. length (filter due (events_at object (events_of d)) ++ xs)) (filter-none due (events_at object rest) (Each-events_at (λ (e : Event). due e ≡ false) object rest parts.1))
-      ∙ ap length (append-nil (filter due (events_at object (events_of d))))
-      ∙ ap length (filter-all due (events_at object (events_of d)) (Each-events_at (λ (e : Event). due e ≡ true) object (events_of d) parts.0))
-      ∙ ap length (events_at-events_of object d) ∙ length-events_of (done_at object d)
+      ∙ ap length (filter-append due (events_at object (events_of happened)) (events_at object rest))
+      ∙ ap (λ xs. length (filter due (events_at object (events_of happened)) ++ xs)) (filter-none due (events_at object rest) (Each-events_at (λ (e : Event). due e ≡ false) object rest parts.1))
+      ∙ ap length (append-nil (filter due (events_at object (events_of happened))))
+      ∙ ap length (filter-all due (events_at object (events_of happened)) (Each-events_at (λ (e : Event). due e ≡ true) object (events_of happened) parts.0))
+      ∙ ap length (events_at-events_of object happened) ∙ length-events_of (done_at object happened)
 
-  state_is : (object : ℕ) → IsHome m home node object → (log_of m share object (due_count g (cut_key m t s) share object)).state ≡ object_at (objects_after s.objects d) object
+  state_is : (object : ℕ) → IsHome m home node object → (log_of m share object (due_count bound (cut_key m t s) share object)).state ≡ object_at (objects_after s.objects happened) object
   unfolding log_of
   state_is object at =
       let p = processed object at.0 in
-      let long : length (events_at object (events_of d)) ≡ length (done_at object d) = ap length (events_at-events_of object d) ∙ length-events_of (done_at object d) in
-      let front : ahead_events share object (due_count g (cut_key m t s) share object) ≡ events_at object (events_of d) =
-      ap (λ xs. take (due_count g (cut_key m t s) share object) xs) (events_parts object at)
-      ∙ ap (λ n. take n (events_at object (events_of d) ++ events_at object rest)) (due_is object at ∙ sym long)
-      ∙ take-append_seam (events_at object (events_of d)) (events_at object rest) in
+      let long : length (events_at object (events_of happened)) ≡ length (done_at object happened) = ap length (events_at-events_of object happened) ∙ length-events_of (done_at object happened) in
+      let front : ahead_events share object (due_count bound (cut_key m t s) share object) ≡ events_at object (events_of happened) =
+      ap (λ xs. take (due_count bound (cut_key m t s) share object) xs) (events_parts object at)
+      ∙ ap (λ n. take n (events_at object (events_of happened) ++ events_at object rest)) (due_is object at ∙ sym long)
+      ∙ take-append_seam (events_at object (events_of happened)) (events_at object rest) in
       ap (λ xs. (replay m object (share.states object) xs).state) front
-      ∙ ap (λ x. (replay m object x (events_at object (events_of d))).state) (own.states object at)
-      ∙ ap (λ (r : Replay). r.state) (in-turn-replay m object s.objects d p.inside p.goes_first.turn)
+      ∙ ap (λ x. (replay m object x (events_at object (events_of happened))).state) (own.states object at)
+      ∙ ap (λ (r : Replay). r.state) (in-turn-replay m object s.objects happened p.inside p.goes_first.turn)
 
-  next_pending : enqueue_all es (filter (λ (e : Event). not (due e)) share.pending) ≡ filter here (enqueue_all (emissions_of d) (drop (length d) s.pending))
+  next_pending : enqueue_all es (filter (λ (e : Event). not (due e)) share.pending) ≡ filter here (enqueue_all (emissions_of happened) (drop (length happened) s.pending))
   next_pending =
-      let P : List Event → Type 0 = λ xs. IsAscending (enqueue_all (emissions_of d) xs) in
-      let up : IsAscending (enqueue_all (emissions_of d) rest) = subst P dropped after_up in
-      let whole : filter here (enqueue_all (emissions_of d) rest) ≡ enqueue_all (filter here (emissions_of d)) (filter here rest) = filter-enqueue_all here (emissions_of d) rest up in
+      let P : List Event → Type 0 = λ xs. IsAscending (enqueue_all (emissions_of happened) xs) in
+      let up : IsAscending (enqueue_all (emissions_of happened) rest) = subst P dropped after_up in
+      let whole : filter here (enqueue_all (emissions_of happened) rest) ≡ enqueue_all (filter here (emissions_of happened)) (filter here rest) = filter-enqueue_all here (emissions_of happened) rest up in
       let Q : List Event → Type 0 = IsAscending in
-      let part_up : IsAscending (enqueue_all (filter here (emissions_of d)) (filter here rest)) = subst Q whole (IsAscending-filter here (enqueue_all (emissions_of d) rest) up) in
+      let part_up : IsAscending (enqueue_all (filter here (emissions_of happened)) (filter here rest)) = subst Q whole (IsAscending-filter here (enqueue_all (emissions_of happened) rest) up) in
       ap (enqueue_all es) left_is
-      ∙ arrival (filter here (emissions_of d)) es (filter here rest) moves (IsAscending-filter here rest (IsAscending-without_all (emissions_of d) rest up)) part_up
+      ∙ arrival (filter here (emissions_of happened)) es (filter here rest) moves (IsAscending-filter here rest (IsAscending-without_all (emissions_of happened) rest up)) part_up
       ∙ sym whole
-      ∙ ap (λ xs. filter here (enqueue_all (emissions_of d) xs)) (sym dropped)
+      ∙ ap (λ xs. filter here (enqueue_all (emissions_of happened) xs)) (sym dropped)
 
   next_ahead : (object : ℕ) → IsHome m home node object
-      → received_ahead es (committed m g (cut_key m t s) share) (committed_ahead g (cut_key m t s) share ahead) object ≡ kept s d ahead object
+      → received_ahead es (committed m bound (cut_key m t s) share) (committed_ahead bound (cut_key m t s) share ahead) object ≡ kept s happened ahead object
   unfolding received_ahead kept
   next_ahead object at =
-      let xs = further_events m t s d rest object (ahead object) in
-      let front : take (ahead object - due_count g (cut_key m t s) share object) (events_at object (filter (λ (e : Event). not (due e)) share.pending)) ≡ xs =
+      let xs = further_events m t s happened rest object (ahead object) in
+      let front : take (ahead object - due_count bound (cut_key m t s) share object) (events_at object (filter (λ (e : Event). not (due e)) share.pending)) ≡ xs =
       ap (λ n. take (ahead object - n) (events_at object (filter (λ (e : Event). not (due e)) share.pending))) (due_is object at)
-      ∙ ap (λ ys. take (ahead object - length (done_at object d)) (events_at object ys)) left_is
-      ∙ ap (take (ahead object - length (done_at object d))) (at-home home node object rest at.1) in
-      let same : (x : Event) → is_before_all (events_at object es) x ≡ is_before_all (events_at object (emissions_of d)) x =
-      λ x. before-permutation object (filter here (emissions_of d)) es x moves ∙ ap (λ ms. is_before_all ms x) (at-home home node object (emissions_of d) at.1) in
+      ∙ ap (λ ys. take (ahead object - length (done_at object happened)) (events_at object ys)) left_is
+      ∙ ap (take (ahead object - length (done_at object happened))) (at-home home node object rest at.1) in
+      let same : (x : Event) → is_before_all (events_at object es) x ≡ is_before_all (events_at object (emissions_of happened)) x =
+      λ x. before-permutation object (filter here (emissions_of happened)) es x moves ∙ ap (λ ms. is_before_all ms x) (at-home home node object (emissions_of happened) at.1) in
       ap (leading (is_before_all (events_at object es))) front
-      ∙ leading-same (is_before_all (events_at object es)) (is_before_all (events_at object (emissions_of d))) xs same
-      ∙ sym (ap (leading (is_before_all (events_at object (emissions_of d)))) (further-is m t s d rest object (ahead object) (processed object at.0)))
+      ∙ leading-same (is_before_all (events_at object es)) (is_before_all (events_at object (emissions_of happened))) xs same
+      ∙ sym (ap (leading (is_before_all (events_at object (emissions_of happened)))) (further-is m t s happened rest object (ahead object) (processed object at.0)))
 
-  next_share_is : IsNextShare m t home s ahead g node share es
+  next_share_is : IsNextShare m t home s ahead bound node share es
   unfolding after state_with_done
   next_share_is = record {
     share_of = record { states = state_is; pending = next_pending };

@@ -51,8 +51,8 @@ module _ (m : Meaning) (t : Terms) (home : ℕ → ℕ) (nodes : ℕ) (s : State
   past_is node inside key past =
       (past.0, past.1.0, past.2, ap (λ (r : Replay). r.fault) (sym (log_is node past.0 inside past.1)) ∙ past.3, past.4)
 
-  pub world-closed : (g : ℕ) → WorldIsClosed m t home nodes world.node g → IsClosed m t s ahead g
-  world-closed g closed = record {
+  pub world-closed : (bound : ℕ) → WorldIsClosed m t home nodes world.node bound → IsClosed m t s ahead bound
+  world-closed bound closed = record {
     reached = elim closed.reached [
       | inl same ↦ inl same
       | inr h ↦ (let P : Replay → Type 0 = λ r. Contains (emissions_of r.done) h.4 in inr (h.2, h.3.0, h.4, subst P (log_is h.0 h.2 h.1 h.3) h.5, h.6))
@@ -61,16 +61,16 @@ module _ (m : Meaning) (t : Terms) (home : ℕ → ℕ) (nodes : ℕ) (s : State
     held = λ object below.
         let node = home object in
         let inside : node < nodes = stands.homes object below in
-        let P : Replay → Type 0 = λ r. EmitsFrom g r.done in
+        let P : Replay → Type 0 = λ r. EmitsFrom bound r.done in
         subst P (log_is node object inside (below, refl)) (closed.holds node object inside (below, refl));
     waiting = λ object below.
         let node = home object in
         let inside : node < nodes = stands.homes object below in
         let at : IsHome m home node object = (below, refl) in
-        let W : Event → Type 0 = λ (e : Event). (g ≤ e.key.stamp) ⊎ IsPastFault m s ahead e.key in
+        let W : Event → Type 0 = λ (e : Event). (bound ≤ e.key.stamp) ⊎ IsPastFault m s ahead e.key in
         let P : List Event → Type 0 = Each W in
         let waits : events_at object (world.node node).unprocessed ≡ drop (ahead object) (events_at object s.pending) =
         (stands.stands node inside).waiting object at ∙ ap (drop (ahead object)) (share-events m home s node (shares node) (stands.shares_of node inside) object at) in
-        subst P waits (Each-events_at W object (world.node node).unprocessed (Each-map (λ (e : Event). (g ≤ e.key.stamp) ⊎ IsPastFaultOf m home node (world.node node) e.key) W (world.node node).unprocessed
+        subst P waits (Each-events_at W object (world.node node).unprocessed (Each-map (λ (e : Event). (bound ≤ e.key.stamp) ⊎ IsPastFaultOf m home node (world.node node) e.key) W (world.node node).unprocessed
         (λ e h. elim h [ inl late ↦ inl late | inr past ↦ inr (past_is node inside e.key past) ]) (closed.idle node inside)));
   }
