@@ -1,0 +1,46 @@
+-- A replay leaves lawful cells.
+use Rattle.std.proofs.Common.{Bool, List, [], cond, false, length, refl, subst, true, ℕ, ◌+◌, ◌<◌, ◌∷◌, ◌≡◌}
+use Rattle.std.specs.Prelude.{IsTrue}
+use Rattle.delta_exchange.specs.Changes.{cells_after_all, inverses_of}
+use Rattle.model_core.specs.Meaning.{Meaning, MeaningLaws, OutcomeLaws}
+use Rattle.model_core.specs.declared.effect.Outcome.{Outcome}
+use Rattle.model_core.specs.declared.effect.Outcome.TheVariants.{Fails, Goes}
+use Rattle.model_core.specs.declared.event.Event.{Event}
+use Rattle.sim_spec.specs.Firing.{Fired, Firing, ObjectState, emissions, fails, fire, fired_by, goes, has_chain}
+use Rattle.sim_spec.specs.Replay.{replay, replay_fired}
+
+-- what fires leaves lawful cells
+fired_lawful : (m : Meaning) (object : ℕ) (state : ObjectState) (e : Event) (o : Outcome) (x : Firing) → OutcomeLaws m object state.cells o → fired_by object state e o ≡ goes x → IsTrue (m.lawful object x.state.cells)
+unfolding fired_by
+fired_lawful m object state e (Fails code) x laws is_x = absurd (cc)
+fired_lawful m object state e (Goes y) x laws is_x =
+    let new : Firing = record {
+      state = record { cells = cells_after_all y.changes state.cells; sent = state.sent + length y.sends };
+      events = emissions e.key.stamp object state.sent y.sends;
+      undo = inverses_of y.changes state.cells;
+      note = y.note;
+    } in
+    let P : Firing → Type 0 = λ x. IsTrue (m.lawful object x.state.cells) in
+    subst P (chosen (has_chain e.key.stamp y.sends) new x is_x) laws.lawful
+  where
+    goes_is : (x y : Firing) → goes x ≡ goes y → x ≡ y
+    goes_is x y h = cc
+
+    chosen : (b : Bool) (x y : Firing) → cond b (fails 1) (goes x) ≡ goes y → x ≡ y
+    chosen true x y h = absurd (cc)
+    chosen false x y h = goes_is x y h
+
+lawful_on : (m : Meaning) (object : ℕ) (state : ObjectState) (e : Event) (es : List Event) (f : Fired) → IsTrue (m.lawful object state.cells) → ((x : Firing) → f ≡ goes x → IsTrue (m.lawful object x.state.cells))
+    → ((s : ObjectState) → IsTrue (m.lawful object s.cells) → IsTrue (m.lawful object (replay m object s es).state.cells))
+    → IsTrue (m.lawful object (replay_fired state e (λ x. replay m object x.state es) f).state.cells)
+unfolding replay_fired
+lawful_on m object state e es (fails code) lawful gives more = lawful
+lawful_on m object state e es (goes x) lawful gives more = more x.state (gives x refl)
+
+pub replay-lawful : (m : Meaning) (object : ℕ) (state : ObjectState) (es : List Event) → MeaningLaws m → object < m.objects → IsTrue (m.lawful object state.cells) → IsTrue (m.lawful object (replay m object state es).state.cells)
+unfolding replay fire
+replay-lawful m object state [] laws below lawful = lawful
+replay-lawful m object state (e ∷ es) laws below lawful =
+    lawful_on m object state e es (fired_by object state e (m.effect object state.cells e)) lawful
+    (λ x is_x. fired_lawful m object state e (m.effect object state.cells e) x (laws.outcome object state.cells e below lawful) is_x)
+    (λ s h. replay-lawful m object s es laws below h)
