@@ -1,0 +1,12 @@
+pub mod Counting
+pub mod FreshLemmas
+pub mod HeadLemmas
+pub mod InOrder
+pub mod LeastLemmas
+pub mod Merging
+pub mod Placing
+pub mod PopLemmas
+pub mod QueueLemmas
+pub mod RunLemmas
+pub mod SlotLemmas
+pub mod Sorting

@@ -1,0 +1,91 @@
+//! Sorted runs in slots: where a run goes, and which of them begins with the least event.
+ghost use Rattle.std.specs.Prelude.{◌≡◌, ℕ, ◌+◌, ◌<◌, ◌≤◌, ◌^◌, [], ◌∷◌, ◌++◌, List, length, IsPermutation, slice_index_or, slice_set};
+ghost use Rattle.model_core.specs.declared.event.Event.{Event};
+ghost use Rattle.sim_spec.specs.Pending.{IsAscending};
+ghost use Rattle.speedes_queue.specs.Keys.{KeysDiffer};
+ghost use Rattle.speedes_queue.specs.Slots.{joined, AllAscending, IsEmptyFrom};
+ghost use Rattle.speedes_queue.specs.Heads.{IsHead};
+
+use crate::head::Head;
+use crate::merge::merged;
+use event_chain::{Cell, Chain};
+use model_core::Event;
+use std::mem;
+
+/// One for each length of a run that a chain may have, by powers of two.
+pub const SLOTS: usize = 60;
+
+/// The slot of a run of this length: that of the greatest power of two that it reaches.
+fn slot_of(len: usize) -> usize
+    requires some { 0 < len }
+    requires room { len < 2 ^ 60 }
+    ensures { result < 60 }
+{
+    len.ilog2() as usize
+}
+
+/// Takes the run of a slot.
+fn take_run(slots: &mut [Chain<Event>; SLOTS], slot: usize) -> Chain<Event>
+    requires { slot < length slots.old }
+    ensures run { result ≡ slice_index_or slots.old slot [] }
+    ensures others { slots.new ≡ slice_set slots.old slot [] }
+{
+    mem::replace(&mut slots[slot], Chain::new())
+}
+
+/// Puts a run into the slot of its length, merged with the runs that stand in its way. Answers that slot.
+pub fn place(slots: &mut [Chain<Event>; SLOTS], run: Chain<Event>) -> usize
+    requires slots { AllAscending slots.old }
+    requires run { IsAscending run }
+    requires some { 0 < length run }
+    requires distinct { KeysDiffer (run ++ joined slots.old) }
+    requires room { length run + length (joined slots.old) < 2 ^ 60 }
+    ensures slot { result < 60 }
+    ensures ascending { AllAscending slots.new }
+    ensures same { IsPermutation (run ++ joined slots.old) (joined slots.new) }
+    ensures rest { (used : ℕ) → IsEmptyFrom used slots.old → result < used → IsEmptyFrom used slots.new }
+{
+    let mut run = run;
+    loop {
+        let slot = slot_of(run.len());
+        let old = take_run(slots, slot);
+        if old.len() == 0 {
+            slots[slot] = run;
+            return slot;
+        }
+        run = merged(run, old);
+    }
+}
+
+/// The slot of the least event, and its key.
+pub fn head_of(slots: &[Chain<Event>; SLOTS], used: usize) -> Option<Head>
+    requires ascending { AllAscending slots.now }
+    requires used { used ≤ 60 }
+    requires rest { IsEmptyFrom used slots.now }
+    ensures { IsHead result slots.now }
+{
+    let mut head: Option<Head> = None;
+    for slot in 0..used {
+        let Some(event) = slots[slot].front() else {
+            continue;
+        };
+        let key = event.key;
+        match head {
+            Some(least) if least.key.is_before(&key) => {}
+            _ => head = Some(Head { slot, key }),
+        }
+    }
+    head
+}
+
+/// Takes the first cell of a slot.
+pub fn take_first(slots: &mut [Chain<Event>; SLOTS], slot: usize) -> Cell<Event>
+    requires slot { slot < length slots.old }
+    requires some { 0 < length (slice_index_or slots.old slot []) }
+    ensures { (rest : List Event) × (slice_index_or slots.old slot [] ≡ result ∷ rest) × (slots.new ≡ slice_set slots.old slot rest) }
+{
+    let Some(cell) = slots[slot].pop_front() else {
+        unreachable!()
+    };
+    cell
+}
