@@ -121,10 +121,10 @@ pub differ : (xs : List Event) → Apart xs → KeysDiffer xs
 differ [] h = λ i j d lt below. absurd (omega arith)
 differ (x ∷ xs) h = AllPairs-cons (λ a b. a.key ≢ b.key) x xs (differ_from x xs (others x xs h)) (differ xs (Apart-right (x ∷ []) xs h))
 
-first_differs : (x : Event) (xs : List Event) → KeysDiffer (x ∷ xs) → IsNewKey x.key xs
+pub first_differs : (x : Event) (xs : List Event) → KeysDiffer (x ∷ xs) → IsNewKey x.key xs
 first_differs x xs h k d below = λ same. h 0 (suc k) d (omega arith) (omega arith) (sym same)
 
-rest_differ : (x : Event) (xs : List Event) → KeysDiffer (x ∷ xs) → KeysDiffer xs
+pub rest_differ : (x : Event) (xs : List Event) → KeysDiffer (x ∷ xs) → KeysDiffer xs
 rest_differ x xs h i j d lt below = h (suc i) (suc j) d (omega arith) (omega arith)
 
 pub apart : (xs : List Event) → KeysDiffer xs → Apart xs

@@ -4,7 +4,7 @@ use Rattle.std.specs.Prelude.{Option, Some, None}
 use Rattle.std.proofs.lemmas.Bool.{cases_lt}
 use Rattle.event_key.specs.declared.key.Key.{Key}
 use Rattle.event_key.specs.Keys.{key_lt}
-use Rattle.event_key.proofs.Order.{key_lt-trans, key_lt-apart, key_lt-stamp, stamp-le}
+use Rattle.event_key.proofs.Order.{key_lt-trans, key_lt-apart, key_lt-stamp}
 use Rattle.model_core.specs.declared.event.Event.{Event}
 use Rattle.sim_spec.specs.Pending.{enqueue, enqueue_all, AllAfter}
 use Rattle.sim_spec.proofs.PendingLemmas.{enqueue_all-append}
@@ -72,3 +72,16 @@ pub least_stamp-pushed : (h : ℕ) (es : List Event) (e : Event) → least_stamp
 unfolding least_stamp
 least_stamp-pushed h [] e = refl
 least_stamp-pushed h (x ∷ es) e = least_stamp-pushed (min h x.key.stamp) es e
+
+-- for callers: an event with a stamp below the least of others comes before them
+least_stamp-le : (h : ℕ) (es : List Event) → least_stamp h es ≤ h
+unfolding least_stamp
+least_stamp-le h [] = omega arith
+least_stamp-le h (e ∷ es) = let le = least_stamp-le (min h e.key.stamp) es in omega arith
+
+pub after_least : (h : ℕ) (k : Key) (es : List Event) → k.stamp < least_stamp h es → AllAfter k es
+unfolding least_stamp AllAfter
+after_least h k [] lt = tt
+after_least h k (e ∷ es) lt =
+    let le = least_stamp-le (min h e.key.stamp) es in
+    (key_lt-stamp k e.key (omega arith), after_least (min h e.key.stamp) k es lt)

@@ -8,9 +8,9 @@ use Rattle.event_key.proofs.Order.{key_lt-irrefl, key_lt-trans}
 use Rattle.model_core.specs.declared.event.Event.{Event}
 use Rattle.sim_spec.specs.Pending.{enqueue, enqueue_all, AllAfter, IsAscending}
 use Rattle.sim_spec.proofs.PendingLemmas.{false_from}
-use Rattle.speedes_queue.specs.Keys.{KeysDiffer, in_order, first_key}
+use Rattle.speedes_queue.specs.Keys.{IsNewKey, KeysDiffer, in_order, first_key}
 use Rattle.speedes_queue.specs.Queues.{QueueView, pending_of, IsAhead, IsOrderly}
-use Rattle.speedes_queue.proofs.Counting.{Apart, Apart-right, apart, differ}
+use Rattle.speedes_queue.proofs.Counting.{Apart, Apart-right, apart, differ, first_differs}
 use Rattle.speedes_queue.proofs.InOrder.{AllAfter-permutation, enqueue_all-permutation, in_order-permutation, in_order-ascending, length-in_order}
 use Rattle.speedes_queue.proofs.Merging.{before_all}
 use Rattle.speedes_queue.proofs.SlotLemmas.{none_left}
@@ -104,6 +104,13 @@ orderly-popped primary fresh now spare None h none some =
     let P : List Event → Type 0 = λ w. IsOrderly (view w fresh spare) in
     subst P (none.0 ∙ sym none.1) h
 orderly-popped primary fresh now spare (Some e) h none some = without primary fresh now spare e h some
+
+-- the key of the first event is free again
+pub new-popped : (primary fresh now : List Event) (spare : ℕ) (first : Option Event) → IsOrderly (view primary fresh spare) → IfSome first (λ e. primary ≡ e ∷ now) → IfSome first (λ e. IsNewKey e.key (now ++ fresh))
+new-popped primary fresh now spare None h some = tt
+new-popped primary fresh now spare (Some e) h some =
+    let P : List Event → Type 0 = λ w. KeysDiffer (w ++ fresh) in
+    first_differs e (now ++ fresh) (subst P some h.distinct)
 
 -- what came before the first event was taken: a merge, or nothing where the primary list is ahead
 pub record IsMerged (old mid : QueueView) : Type 0 where

@@ -63,6 +63,7 @@ impl Queue {
         ensures primary { self.new.primary ≡ self.old.primary }
         ensures fresh { self.new.fresh ≡ self.old.fresh ++ cell ∷ [] }
         ensures spare { self.new.spare + 1 ≡ self.old.spare }
+        ensures orderly { IsOrderly self.new }
     {
         self.fresh.push(cell);
     }
@@ -75,6 +76,7 @@ impl Queue {
         ensures primary { self.new.primary ≡ enqueue_all events self.old.primary }
         ensures fresh { self.new.fresh ≡ self.old.fresh }
         ensures spare { self.new.spare ≡ self.old.spare }
+        ensures orderly { IsOrderly self.new }
     {
         self.primary.add(events);
     }
@@ -123,6 +125,8 @@ impl Queue {
         ensures least { IfSome result (λ cell. pending_of self.old ≡ cell ∷ pending_of self.new) }
         ensures ahead { IsAhead self.old.primary self.old.fresh → IfSome result (λ cell. (self.old.primary ≡ cell ∷ self.new.primary) × (self.new.fresh ≡ self.old.fresh) × (self.new.spare ≡ self.old.spare)) }
         ensures merged { ¬ IsAhead self.old.primary self.old.fresh → (self.new.fresh ≡ []) × (self.new.spare ≡ self.old.spare + length self.old.fresh) }
+        ensures gone { IfSome result (λ cell. IsNewKey cell.key (self.new.primary ++ self.new.fresh)) }
+        ensures orderly { IsOrderly self.new }
     {
         if !self.is_ahead() {
             self.merge();

@@ -1,7 +1,7 @@
 use Rattle.std.proofs.Common.{refl, sym, ◌∙◌, ap}
 use Rattle.speedes_queue.specs.Queues.{QueueView}
 use Rattle.speedes_queue.proofs.QueueLemmas.{view}
-use Rattle.speedes_queue.proofs.PopLemmas.{orderly-popped, IsMerged, IsPopped, none-merged, none-ahead, least-merged, least-ahead}
+use Rattle.speedes_queue.proofs.PopLemmas.{orderly-popped, new-popped, IsMerged, IsPopped, none-merged, none-ahead, least-merged, least-ahead}
 use Rattle.speedes_queue.proofs.queue.Queue.pop.Goals as goal
 use Rattle.speedes_queue.proofs.queue.Queue.pop.Goals.{then-not-is_ahead, else-not-is_ahead}
 
@@ -41,3 +41,9 @@ returns-clause-least c =
           popped
       | else-not-is_ahead w ↦ least-ahead c.args.self.now mid now c.pop.result (c.is_ahead.ensures.0 w.if-not-is_ahead.false) (c.self-2.view_is ∙ w.self-is) popped
     ]
+
+pub returns-clause-gone : goal.returns-clause-gone
+returns-clause-gone c = new-popped _ _ _ _ c.pop.result c.self-2.invariant c.pop.ensures.some
+
+pub returns-clause-orderly : goal.returns-clause-orderly
+returns-clause-orderly c = orderly-popped _ _ _ _ c.pop.result c.self-2.invariant c.pop.ensures.none c.pop.ensures.some
