@@ -6,7 +6,8 @@ use Rattle.event_key.specs.declared.key.Key.{Key}
 use Rattle.event_key.specs.declared.stamp.TheConstants.{NO_STAMP}
 use Rattle.model_core.specs.declared.event.Event.{Event}
 use Rattle.sim_spec.specs.Pending.{enqueue_all}
-use Rattle.speedes_queue.specs.Keys.{in_order, first_key, lesser, least_stamp}
+use Rattle.sim_spec.specs.Horizon.{least_stamp}
+use Rattle.speedes_queue.specs.Keys.{in_order, first_key, lesser}
 use Rattle.speedes_queue.specs.Fresh.{events_of, HaveRoom, AreFresh}
 use Rattle.speedes_queue.proofs.LeastLemmas.{first_key-pushed, least_stamp-pushed}
 

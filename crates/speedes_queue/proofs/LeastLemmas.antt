@@ -8,7 +8,9 @@ use Rattle.event_key.proofs.Order.{key_lt-trans, key_lt-apart, key_lt-stamp}
 use Rattle.model_core.specs.declared.event.Event.{Event}
 use Rattle.sim_spec.specs.Pending.{enqueue, enqueue_all, AllAfter}
 use Rattle.sim_spec.proofs.PendingLemmas.{enqueue_all-append}
-use Rattle.speedes_queue.specs.Keys.{in_order, first_key, lesser_key, lesser, least_stamp}
+use Rattle.sim_spec.proofs.StampLemmas.{least_stamp-le}
+use Rattle.sim_spec.specs.Horizon.{least_stamp}
+use Rattle.speedes_queue.specs.Keys.{in_order, first_key, lesser_key, lesser}
 
 pub first_key-enqueue : (e : Event) (xs : List Event) → first_key (enqueue e xs) ≡ lesser (first_key xs) (Some e.key)
 unfolding enqueue
@@ -74,11 +76,6 @@ least_stamp-pushed h [] e = refl
 least_stamp-pushed h (x ∷ es) e = least_stamp-pushed (min h x.key.stamp) es e
 
 -- for callers: an event with a stamp below the least of others comes before them
-least_stamp-le : (h : ℕ) (es : List Event) → least_stamp h es ≤ h
-unfolding least_stamp
-least_stamp-le h [] = omega arith
-least_stamp-le h (e ∷ es) = let le = least_stamp-le (min h e.key.stamp) es in omega arith
-
 pub after_least : (h : ℕ) (k : Key) (es : List Event) → k.stamp < least_stamp h es → AllAfter k es
 unfolding least_stamp AllAfter
 after_least h k [] lt = tt

@@ -4,9 +4,11 @@ pub mod HeadLemmas
 pub mod InOrder
 pub mod LeastLemmas
 pub mod Merging
+pub mod PairLemmas
 pub mod Placing
 pub mod PopLemmas
 pub mod QueueLemmas
 pub mod RunLemmas
 pub mod SlotLemmas
 pub mod Sorting
+pub mod TwoHeads

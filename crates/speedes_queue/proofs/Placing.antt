@@ -1,104 +1,187 @@
 -- A run on its way to its slot.
 use Rattle.std.proofs.Common.{◌≡◌, ℕ, ◌+◌, ◌<◌, ◌^◌, List, [], ◌∷◌, ◌++◌, length, length-append, length-set, append_assoc, append-nil, sym, ap, ◌∙◌, subst, arith}
 use Rattle.std.specs.Prelude.{IsPermutation, slice_set, slice_index_or}
-use Rattle.std.proofs.lemmas.List.{set-set}
+use Rattle.std.proofs.lemmas.List.{set-get_or}
 use Rattle.std.proofs.lemmas.List.Elements.{All-set}
 use Rattle.std.proofs.lemmas.List.Sorted.{IsPermutation-refl, IsPermutation-sym, IsPermutation-trans, IsPermutation-append_left, IsPermutation-append_right, length_permutation}
 use Rattle.model_core.specs.declared.event.Event.{Event}
 use Rattle.sim_spec.specs.Pending.{IsAscending}
 use Rattle.speedes_queue.specs.Keys.{KeysDiffer, in_order}
 use Rattle.speedes_queue.specs.Slots.{joined, AllAscending, IsEmptyFrom}
-use Rattle.speedes_queue.proofs.Counting.{Apart, Apart-permutation, Apart-left, apart, differ}
-use Rattle.speedes_queue.proofs.InOrder.{in_order-permutation, in_order-ascending, length-in_order}
+use Rattle.speedes_queue.proofs.Counting.{Apart, Apart-permutation, Apart-left, Apart-right, apart, differ}
+use Rattle.speedes_queue.proofs.InOrder.{in_order-permutation, in_order-ascending}
 use Rattle.speedes_queue.proofs.SlotLemmas.{slot_first, slot_out, empty-emptied, empty-filled, length-joined}
 
--- the run on its way and the slots as they are, the slots as they were, and all events
-pub record Placing (run : List Event) (slots first : List (List Event)) (whole : List Event) : Type 0 where
-  pub long : length slots ≡ 60
+-- events on their way, the slots as they are and as they were, and all events
+pub record InHand (hand : List Event) (slots first : List (List Event)) (whole : List Event) : Type 0 where
+  pub long : length slots ≡ 90
   pub ascending : AllAscending slots
-  pub run_up : IsAscending run
-  pub some : 0 < length run
   pub apart : Apart whole
   pub few : length whole < 2 ^ 60
-  pub same : IsPermutation whole (run ++ joined slots)
+  pub same : IsPermutation whole (hand ++ joined slots)
   pub rest : (used : ℕ) → IsEmptyFrom used first → IsEmptyFrom used slots
 
-pub begins : (run : List Event) (slots : List (List Event)) → length slots ≡ 60 → AllAscending slots → IsAscending run → 0 < length run → KeysDiffer (run ++ joined slots)
-    → length run + length (joined slots) < 2 ^ 60 → Placing run slots slots (run ++ joined slots)
-begins run slots long ascending run_up some differ room = record {
-  long = long;
-  ascending = ascending;
-  run_up = run_up;
-  some = some;
-  apart = apart (run ++ joined slots) differ;
-  few = (let sum = length-append run (joined slots) in omega arith);
-  same = IsPermutation-refl (run ++ joined slots);
-  rest = λ used empty. empty;
-}
+pub hand_apart : (hand : List Event) (slots first : List (List Event)) (whole : List Event) → InHand hand slots first whole → Apart hand
+hand_apart hand slots first whole h = Apart-left hand (joined slots) (Apart-permutation whole (hand ++ joined slots) h.same h.apart)
 
-pub run_few : (run : List Event) (slots first : List (List Event)) (whole : List Event) → Placing run slots first whole → length run < 2 ^ 60
-run_few run slots first whole p =
-    let long = length_permutation whole (run ++ joined slots) p.same in
-    let sum = length-append run (joined slots) in
-    let few = p.few in
+pub hand_few : (hand : List Event) (slots first : List (List Event)) (whole : List Event) → InHand hand slots first whole → length hand < 2 ^ 60
+hand_few hand slots first whole h =
+    let long = length_permutation whole (hand ++ joined slots) h.same in
+    let sum = length-append hand (joined slots) in
+    let few = h.few in
     omega arith
 
--- the run of a slot on the way
-pub record Meets (slots : List (List Event)) (slot : ℕ) (old : List Event) : Type 0 where
-  pub below : slot < 60
+-- the run that is taken from a slot
+pub record Takes (slots now : List (List Event)) (slot : ℕ) (old : List Event) : Type 0 where
+  pub below : slot < 90
   pub is : old ≡ slice_index_or slots slot []
+  pub now_is : now ≡ slice_set slots slot []
 
-in_range : (run : List Event) (slots first : List (List Event)) (whole : List Event) (slot : ℕ) (old : List Event) → Placing run slots first whole → Meets slots slot old → slot < length slots
-in_range run slots first whole slot old p m = let long = p.long in let below = m.below in omega arith
-
-old_out : (run : List Event) (slots first : List (List Event)) (whole : List Event) (slot : ℕ) (old : List Event) → Placing run slots first whole → Meets slots slot old
-    → IsPermutation whole ((run ++ old) ++ joined (slice_set slots slot []))
-old_out run slots first whole slot old p m =
-    let P : List Event → Type 0 = λ w. IsPermutation (joined slots) (w ++ joined (slice_set slots slot [])) in
-    rw (append_assoc run old (joined (slice_set slots slot [])))
-    (IsPermutation-trans whole (run ++ joined slots) (run ++ (old ++ joined (slice_set slots slot []))) p.same
-    (IsPermutation-append_right run (joined slots) (old ++ joined (slice_set slots slot [])) (subst P (sym m.is) (slot_out slots slot (in_range run slots first whole slot old p m)))))
-
-pair_apart : (run : List Event) (slots first : List (List Event)) (whole : List Event) (slot : ℕ) (old : List Event) → Placing run slots first whole → Meets slots slot old → Apart (run ++ old)
-pair_apart run slots first whole slot old p m =
-    Apart-left (run ++ old) (joined (slice_set slots slot [])) (Apart-permutation whole _ (old_out run slots first whole slot old p m) p.apart)
-
-pub pair_differs : (run : List Event) (slots first : List (List Event)) (whole : List Event) (slot : ℕ) (old : List Event) → Placing run slots first whole → Meets slots slot old → KeysDiffer (run ++ old)
-pair_differs run slots first whole slot old p m = differ (run ++ old) (pair_apart run slots first whole slot old p m)
-
-pub pair_room : (run : List Event) (slots first : List (List Event)) (whole : List Event) (slot : ℕ) (old : List Event) → Placing run slots first whole → Meets slots slot old → length run + length old < 2 ^ 60
-pair_room run slots first whole slot old p m =
-    let long = length_permutation whole ((run ++ old) ++ joined (slice_set slots slot [])) (old_out run slots first whole slot old p m) in
-    let few = p.few in
-    grind (arith, length-append {A = Event})
-
-pub old_ascending : (run : List Event) (slots first : List (List Event)) (whole : List Event) (slot : ℕ) (old : List Event) → Placing run slots first whole → Meets slots slot old → IsAscending old
-old_ascending run slots first whole slot old p m = subst IsAscending (sym m.is) (p.ascending slot [] (in_range run slots first whole slot old p m))
-
--- the run is merged with that of a slot, and goes on
-pub joins : (run : List Event) (slots first : List (List Event)) (whole : List Event) (slot : ℕ) (old : List Event) → Placing run slots first whole → Meets slots slot old
-    → Placing (in_order (run ++ old)) (slice_set slots slot []) first whole
+pub takes : (hand : List Event) (slots now first : List (List Event)) (whole : List Event) (slot : ℕ) (old : List Event) → InHand hand slots first whole → Takes slots now slot old → InHand (hand ++ old) now first whole
 unfolding IsAscending
-joins run slots first whole slot old p m =
-    let below = in_range run slots first whole slot old p m in
-    record {
-      long = length-set slots slot [] ∙ p.long;
-      ascending = All-set IsAscending slots slot [] tt p.ascending;
-      run_up = in_order-ascending (run ++ old) (pair_apart run slots first whole slot old p m);
-      some = (let same = length-in_order (run ++ old) in let sum = length-append run old in let some = p.some in omega arith);
-      apart = p.apart;
-      few = p.few;
-      same = IsPermutation-trans whole ((run ++ old) ++ joined (slice_set slots slot [])) (in_order (run ++ old) ++ joined (slice_set slots slot []))
-          (old_out run slots first whole slot old p m)
-          (IsPermutation-append_left (joined (slice_set slots slot [])) (run ++ old) (in_order (run ++ old)) (in_order-permutation (run ++ old)));
-      rest = λ used empty. empty-emptied slots slot below used (p.rest used empty);
-    }
+takes hand slots now first whole slot old h t =
+    let below : slot < length slots = (let long = h.long in let lt = t.below in omega arith) in
+    let emptied : List (List Event) = slice_set slots slot [] in
+    let P : List Event → Type 0 = λ w. IsPermutation (joined slots) (w ++ joined emptied) in
+    let Q : List (List Event) → Type 0 = λ w. InHand (hand ++ old) w first whole in
+    let up : IsAscending [] = tt in
+    let out : InHand (hand ++ old) emptied first whole = record {
+      long = length-set slots slot [] ∙ h.long;
+      ascending = All-set IsAscending slots slot [] up h.ascending;
+      apart = h.apart;
+      few = h.few;
+      same = rw (append_assoc hand old (joined emptied))
+          (IsPermutation-trans whole (hand ++ joined slots) (hand ++ (old ++ joined emptied)) h.same
+          (IsPermutation-append_right hand (joined slots) (old ++ joined emptied) (subst P (sym t.is) (slot_out slots slot below))));
+      rest = λ used empty. empty-emptied slots slot below used (h.rest used empty);
+    } in
+    subst Q (sym t.now_is) out
 
-pub fewer_left : (run : List Event) (slots first : List (List Event)) (whole : List Event) (slot : ℕ) (old : List Event) → Placing run slots first whole → Meets slots slot old
-    → 0 < length old → length (joined (slice_set slots slot [])) < length (joined slots)
-fewer_left run slots first whole slot old p m some =
-    let sum = length-joined slots slot (in_range run slots first whole slot old p m) in
-    let same = ap length m.is in
+pub old_ascending : (hand : List Event) (slots now first : List (List Event)) (whole : List Event) (slot : ℕ) (old : List Event) → InHand hand slots first whole → Takes slots now slot old → IsAscending old
+old_ascending hand slots now first whole slot old h t =
+    subst IsAscending (sym t.is) (h.ascending slot [] (let long = h.long in let lt = t.below in omega arith))
+
+pub fewer_left : (hand : List Event) (slots now first : List (List Event)) (whole : List Event) (slot : ℕ) (old : List Event) → InHand hand slots first whole → Takes slots now slot old
+    → length (joined slots) ≡ length old + length (joined now)
+fewer_left hand slots now first whole slot old h t =
+    let below : slot < length slots = (let long = h.long in let lt = t.below in omega arith) in
+    let same = ap length t.is in
+    let now_same = ap (λ w. length (joined w)) t.now_is in
+    let sum = length-joined slots slot below in
+    omega arith
+
+-- a sorted run on its way
+pub record Placing (run : List Event) (slots first : List (List Event)) (whole : List Event) : Type 0 where
+  pub hand : InHand run slots first whole
+  pub up : IsAscending run
+  pub some : 0 < length run
+
+pub begins : (run : List Event) (slots : List (List Event)) → length slots ≡ 90 → AllAscending slots → IsAscending run → 0 < length run → KeysDiffer (run ++ joined slots)
+    → length run + length (joined slots) < 2 ^ 60 → Placing run slots slots (run ++ joined slots)
+begins run slots long ascending up some differ room = record {
+  hand = record {
+    long = long;
+    ascending = ascending;
+    apart = apart (run ++ joined slots) differ;
+    few = (let sum = length-append run (joined slots) in omega arith);
+    same = IsPermutation-refl (run ++ joined slots);
+    rest = λ used empty. empty;
+  };
+  up = up;
+  some = some;
+}
+
+-- the runs of a level, one after another
+pub record TakesLevel (run : List Event) (slots one two now first : List (List Event)) (whole : List Event) (slot : ℕ) (a b c : List Event) : Type 0 where
+  pub placing : Placing run slots first whole
+  pub take_a : Takes slots one slot a
+  pub take_b : Takes one two (slot + 1) b
+  pub take_c : Takes two now (slot + 2) c
+
+after_a : (run : List Event) (slots one two now first : List (List Event)) (whole : List Event) (slot : ℕ) (a b c : List Event) → TakesLevel run slots one two now first whole slot a b c → InHand (run ++ a) one first whole
+after_a run slots one two now first whole slot a b c t = takes run slots one first whole slot a t.placing.hand t.take_a
+
+after_b : (run : List Event) (slots one two now first : List (List Event)) (whole : List Event) (slot : ℕ) (a b c : List Event) → TakesLevel run slots one two now first whole slot a b c → InHand ((run ++ a) ++ b) two first whole
+after_b run slots one two now first whole slot a b c t = takes (run ++ a) one two first whole (slot + 1) b (after_a run slots one two now first whole slot a b c t) t.take_b
+
+after_c : (run : List Event) (slots one two now first : List (List Event)) (whole : List Event) (slot : ℕ) (a b c : List Event) → TakesLevel run slots one two now first whole slot a b c → InHand (((run ++ a) ++ b) ++ c) now first whole
+after_c run slots one two now first whole slot a b c t = takes ((run ++ a) ++ b) two now first whole (slot + 2) c (after_b run slots one two now first whole slot a b c t) t.take_c
+
+pub first_pair : (run : List Event) (slots one two now first : List (List Event)) (whole : List Event) (slot : ℕ) (a b c : List Event) → TakesLevel run slots one two now first whole slot a b c
+    → IsAscending a × KeysDiffer (run ++ a)
+first_pair run slots one two now first whole slot a b c t = (
+  old_ascending run slots one first whole slot a t.placing.hand t.take_a,
+  differ (run ++ a) (hand_apart (run ++ a) one first whole (after_a run slots one two now first whole slot a b c t)),
+)
+
+all_four : (run a b c : List Event) → IsPermutation (((run ++ a) ++ b) ++ c) (in_order (run ++ a) ++ in_order (b ++ c))
+all_four run a b c =
+    let P : List Event → Type 0 = λ w. IsPermutation w (in_order (run ++ a) ++ in_order (b ++ c)) in
+    subst P (sym (append_assoc (run ++ a) b c))
+    (IsPermutation-trans ((run ++ a) ++ (b ++ c)) (in_order (run ++ a) ++ (b ++ c)) (in_order (run ++ a) ++ in_order (b ++ c))
+    (IsPermutation-append_left (b ++ c) (run ++ a) (in_order (run ++ a)) (in_order-permutation (run ++ a)))
+    (IsPermutation-append_right (in_order (run ++ a)) (b ++ c) (in_order (b ++ c)) (in_order-permutation (b ++ c))))
+
+four_apart : (run : List Event) (slots one two now first : List (List Event)) (whole : List Event) (slot : ℕ) (a b c : List Event) → TakesLevel run slots one two now first whole slot a b c
+    → Apart (((run ++ a) ++ b) ++ c)
+four_apart run slots one two now first whole slot a b c t = hand_apart (((run ++ a) ++ b) ++ c) now first whole (after_c run slots one two now first whole slot a b c t)
+
+pub second_pair : (run : List Event) (slots one two now first : List (List Event)) (whole : List Event) (slot : ℕ) (a b c : List Event) → TakesLevel run slots one two now first whole slot a b c
+    → IsAscending b × IsAscending c × KeysDiffer (b ++ c)
+second_pair run slots one two now first whole slot a b c t = (
+  old_ascending (run ++ a) one two first whole (slot + 1) b (after_a run slots one two now first whole slot a b c t) t.take_b,
+  old_ascending ((run ++ a) ++ b) two now first whole (slot + 2) c (after_b run slots one two now first whole slot a b c t) t.take_c,
+  differ (b ++ c) (Apart-right (run ++ a) (b ++ c) (subst Apart (append_assoc (run ++ a) b c) (four_apart run slots one two now first whole slot a b c t))),
+)
+
+pub pairs_differ : (run : List Event) (slots one two now first : List (List Event)) (whole : List Event) (slot : ℕ) (a b c : List Event) → TakesLevel run slots one two now first whole slot a b c
+    → KeysDiffer (in_order (run ++ a) ++ in_order (b ++ c))
+pairs_differ run slots one two now first whole slot a b c t =
+    differ (in_order (run ++ a) ++ in_order (b ++ c)) (Apart-permutation (((run ++ a) ++ b) ++ c) (in_order (run ++ a) ++ in_order (b ++ c)) (all_four run a b c) (four_apart run slots one two now first whole slot a b c t))
+
+pub pairs_few : (run : List Event) (slots one two now first : List (List Event)) (whole : List Event) (slot : ℕ) (a b c : List Event) → TakesLevel run slots one two now first whole slot a b c
+    → length (in_order (run ++ a)) + length (in_order (b ++ c)) < 2 ^ 60
+pairs_few run slots one two now first whole slot a b c t =
+    let few = hand_few (((run ++ a) ++ b) ++ c) now first whole (after_c run slots one two now first whole slot a b c t) in
+    let long = length_permutation (((run ++ a) ++ b) ++ c) (in_order (run ++ a) ++ in_order (b ++ c)) (all_four run a b c) in
+    let sum = length-append (in_order (run ++ a)) (in_order (b ++ c)) in
+    omega arith
+
+pub joins : (run : List Event) (slots one two now first : List (List Event)) (whole : List Event) (slot : ℕ) (a b c next : List Event) → TakesLevel run slots one two now first whole slot a b c
+    → next ≡ in_order (in_order (run ++ a) ++ in_order (b ++ c)) → Placing next now first whole
+joins run slots one two now first whole slot a b c next t is =
+    let four : List Event = ((run ++ a) ++ b) ++ c in
+    let pairs : List Event = in_order (run ++ a) ++ in_order (b ++ c) in
+    let h = after_c run slots one two now first whole slot a b c t in
+    let moves : IsPermutation four (in_order pairs) = IsPermutation-trans four pairs (in_order pairs) (all_four run a b c) (in_order-permutation pairs) in
+    let P : List Event → Type 0 = λ w. Placing w now first whole in
+    let out : Placing (in_order pairs) now first whole = record {
+      hand = record {
+        long = h.long;
+        ascending = h.ascending;
+        apart = h.apart;
+        few = h.few;
+        same = IsPermutation-trans whole (four ++ joined now) (in_order pairs ++ joined now) h.same (IsPermutation-append_left (joined now) four (in_order pairs) moves);
+        rest = h.rest;
+      };
+      up = in_order-ascending pairs (Apart-permutation four pairs (all_four run a b c) (hand_apart four now first whole h));
+      some = (
+          let long = length_permutation four (in_order pairs) moves in
+          let s = t.placing.some in
+          let sum_c = length-append ((run ++ a) ++ b) c in
+          let sum_b = length-append (run ++ a) b in
+          let sum_a = length-append run a in
+          omega arith);
+    } in
+    subst P (sym is) out
+
+pub fewer_joined : (run : List Event) (slots one two now first : List (List Event)) (whole : List Event) (slot : ℕ) (a b c : List Event) → TakesLevel run slots one two now first whole slot a b c
+    → 0 < length (slice_index_or slots slot []) → length (joined now) < length (joined slots)
+fewer_joined run slots one two now first whole slot a b c t some =
+    let without_a = fewer_left run slots one first whole slot a t.placing.hand t.take_a in
+    let without_b = fewer_left (run ++ a) one two first whole (slot + 1) b (after_a run slots one two now first whole slot a b c t) t.take_b in
+    let without_c = fewer_left ((run ++ a) ++ b) two now first whole (slot + 2) c (after_b run slots one two now first whole slot a b c t) t.take_c in
+    let same = ap length t.take_a.is in
     omega arith
 
 -- the run stays in a slot that was empty
@@ -107,16 +190,15 @@ pub record Placed (whole : List Event) (first now : List (List Event)) (slot : �
   pub same : IsPermutation whole (joined now)
   pub rest : (used : ℕ) → IsEmptyFrom used first → slot < used → IsEmptyFrom used now
 
-pub stays : (run : List Event) (slots first : List (List Event)) (whole : List Event) (slot : ℕ) (old : List Event) → Placing run slots first whole → Meets slots slot old → old ≡ []
+pub stays : (run : List Event) (slots first : List (List Event)) (whole : List Event) (slot : ℕ) → Placing run slots first whole → slot < 90 → slice_index_or slots slot [] ≡ []
     → Placed whole first (slice_set slots slot run) slot
-stays run slots first whole slot old p m none =
-    let below = in_range run slots first whole slot old p m in
-    let P : List Event → Type 0 = λ w. IsPermutation whole ((run ++ w) ++ joined (slice_set slots slot [])) in
-    let Q : List Event → Type 0 = λ w. IsPermutation whole (w ++ joined (slice_set slots slot [])) in
+stays run slots first whole slot p lt none =
+    let below : slot < length slots = (let long = p.hand.long in omega arith) in
+    let same : slice_set slots slot [] ≡ slots = ap (slice_set slots slot) (sym none) ∙ set-get_or slots slot [] in
+    let P : List (List Event) → Type 0 = λ w. IsPermutation (joined (slice_set slots slot run)) (run ++ joined w) in
     record {
-      ascending = All-set IsAscending slots slot run p.run_up p.ascending;
-      same = IsPermutation-trans whole (run ++ joined (slice_set slots slot [])) (joined (slice_set slots slot run))
-          (subst Q (append-nil run) (subst P none (old_out run slots first whole slot old p m)))
-          (IsPermutation-sym (joined (slice_set slots slot run)) (run ++ joined (slice_set slots slot [])) (slot_first slots slot run below));
-      rest = λ used empty lt. empty-filled slots slot run used lt (p.rest used empty);
+      ascending = All-set IsAscending slots slot run p.up p.hand.ascending;
+      same = IsPermutation-trans whole (run ++ joined slots) (joined (slice_set slots slot run)) p.hand.same
+          (IsPermutation-sym (joined (slice_set slots slot run)) (run ++ joined slots) (subst P same (slot_first slots slot run below)));
+      rest = λ used empty used_more. empty-filled slots slot run used used_more (p.hand.rest used empty);
     }

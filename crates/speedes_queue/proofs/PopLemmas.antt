@@ -9,10 +9,11 @@ use Rattle.model_core.specs.declared.event.Event.{Event}
 use Rattle.sim_spec.specs.Pending.{enqueue, enqueue_all, AllAfter, IsAscending}
 use Rattle.sim_spec.proofs.PendingLemmas.{false_from}
 use Rattle.speedes_queue.specs.Keys.{IsNewKey, KeysDiffer, in_order, first_key}
-use Rattle.speedes_queue.specs.Queues.{QueueView, pending_of, IsAhead, IsOrderly}
+use Rattle.speedes_queue.specs.Pairs.{IsAhead}
+use Rattle.speedes_queue.specs.Queues.{QueueView, pending_of, IsOrderly}
 use Rattle.speedes_queue.proofs.Counting.{Apart, Apart-right, apart, differ, first_differs}
 use Rattle.speedes_queue.proofs.InOrder.{AllAfter-permutation, enqueue_all-permutation, in_order-permutation, in_order-ascending, length-in_order}
-use Rattle.speedes_queue.proofs.Merging.{before_all}
+use Rattle.speedes_queue.proofs.TwoHeads.{before_all, never_ahead}
 use Rattle.speedes_queue.proofs.SlotLemmas.{none_left}
 use Rattle.speedes_queue.proofs.QueueLemmas.{view, fresh_differ}
 
@@ -139,10 +140,6 @@ unchanged old mid now m mid_none now_none fresh_same spare_same =
 pub none-merged : (old mid now : QueueView) (first : Option Event) → IsMerged old mid → IsPopped mid now first → IfNone first (IsUnchanged old now)
 none-merged old mid now None m p = unchanged old mid now m p.none.0 p.none.1 p.fresh p.spare
 none-merged old mid now (Some e) m p = tt
-
-never_ahead : (primary fresh : List Event) → IsAhead primary fresh → primary ≡ [] → ⊥
-never_ahead [] fresh ahead none = ahead
-never_ahead (x ∷ xs) fresh ahead none = absurd (cc)
 
 pub none-ahead : (old mid now : QueueView) (first : Option Event) → IsAhead old.primary old.fresh → mid ≡ old → IsPopped mid now first → IfNone first (IsUnchanged old now)
 none-ahead old mid now None ahead same p = absurd (never_ahead old.primary old.fresh ahead (sym (ap (λ (q : QueueView). q.primary) same) ∙ p.none.0))

@@ -189,7 +189,7 @@ pub record Adds (run : List Event) (slots now : List (List Event)) (used new_use
   pub differ : KeysDiffer (run ++ in_order (joined slots))
   pub ascending : AllAscending now
   pub same : IsPermutation (run ++ joined slots) (joined now)
-  pub few_used : new_used ≤ 60
+  pub few_used : new_used ≤ 90
   pub rest : IsEmptyFrom new_used now
   pub next_is : IsHead next now
 

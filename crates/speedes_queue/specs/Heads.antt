@@ -25,7 +25,7 @@ IsHead head runs =
 pub record AreRuns (slots : List (List Event)) (used : ℕ) (head : Option Head) (len : ℕ) : Type 0 where
   pub ascending : AllAscending slots
   pub distinct : KeysDiffer (joined slots)
-  pub few_used : used ≤ 60
+  pub few_used : used ≤ 90
   pub rest : IsEmptyFrom used slots
   pub head_is : IsHead head slots
   pub len_is : len ≡ length (joined slots)

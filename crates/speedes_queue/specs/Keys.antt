@@ -1,5 +1,5 @@
 -- The keys of events: which of them comes first, and which of them differ.
-use Rattle.std.specs.Prelude.{◌≡◌, ◌≢◌, ℕ, min, List, [], ◌∷◌, Option, Some, None, if◌then◌else◌, All, AllPairs}
+use Rattle.std.specs.Prelude.{◌≡◌, ◌≢◌, List, [], ◌∷◌, Option, Some, None, if◌then◌else◌, All, AllPairs}
 use Rattle.event_key.specs.declared.key.Key.{Key}
 use Rattle.event_key.specs.Keys.{key_lt}
 use Rattle.model_core.specs.declared.event.Event.{Event}
@@ -31,8 +31,3 @@ abbrev pub lesser : Option Key → Option Key → Option Key
 lesser None k = k
 lesser (Some j) None = Some j
 lesser (Some j) (Some k) = Some (lesser_key j k)
-
--- the least of h and the stamps of these events
-unfoldable pub least_stamp : ℕ → List Event → ℕ
-least_stamp h [] = h
-least_stamp h (e ∷ es) = least_stamp (min h e.key.stamp) es

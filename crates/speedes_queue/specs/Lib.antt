@@ -1,5 +1,6 @@
 pub mod Fresh
 pub mod Heads
 pub mod Keys
+pub mod Pairs
 pub mod Queues
 pub mod Slots

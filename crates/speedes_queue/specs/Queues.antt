@@ -1,7 +1,7 @@
 -- What contracts see of a queue.
-use Rattle.std.specs.Prelude.{ℕ, ◌+◌, ◌<◌, ◌^◌, List, [], ◌∷◌, ◌++◌, length}
+use Rattle.std.specs.Prelude.{ℕ, ◌+◌, ◌<◌, ◌^◌, List, ◌++◌, length}
 use Rattle.model_core.specs.declared.event.Event.{Event}
-use Rattle.sim_spec.specs.Pending.{AllAfter, IsAscending, enqueue_all}
+use Rattle.sim_spec.specs.Pending.{IsAscending, enqueue_all}
 use Rattle.speedes_queue.specs.Keys.{KeysDiffer}
 
 -- the events in the order of their keys, the events that have come since, and how many more may come
@@ -13,11 +13,6 @@ pub record QueueView : Type 0 where
 -- all events that wait, in the order of their keys
 abbrev pub pending_of : QueueView → List Event
 pending_of q = enqueue_all q.fresh q.primary
-
--- a list begins with an event that comes before all of the other list
-abbrev pub IsAhead : List Event → List Event → Type 0
-IsAhead [] others = ⊥
-IsAhead (e ∷ es) others = AllAfter e.key others
 
 -- what each queue keeps
 pub record IsOrderly (q : QueueView) : Type 0 where

@@ -1,6 +1,7 @@
 //! The events that have come since the last merge.
 ghost use Rattle.std.specs.Prelude.{◌≡◌, ◌+◌, ◌<◌, ◌≤◌, ◌^◌, [], ◌∷◌, ◌++◌, length, OnOk, vec_len, vec_capacity};
-ghost use Rattle.speedes_queue.specs.Keys.{KeysDiffer, first_key, in_order, least_stamp};
+ghost use Rattle.sim_spec.specs.Horizon.{least_stamp};
+ghost use Rattle.speedes_queue.specs.Keys.{KeysDiffer, first_key, in_order};
 
 use crate::least::lesser;
 use delta_exchange::OutOfMemory;

@@ -10,6 +10,7 @@ mod fresh;
 mod head;
 mod least;
 mod merge;
+mod pair;
 mod queue;
 mod runs;
 mod slots;

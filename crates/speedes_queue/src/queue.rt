@@ -1,8 +1,10 @@
 //! The queue of two lists.
 ghost use Rattle.std.specs.Prelude.{◌≡◌, ◌+◌, ◌<◌, ◌≤◌, ◌^◌, ◌↔◌, [], ◌∷◌, ◌++◌, length, IsTrue, IsNone, IfSome, IfNone, OnOk, All};
 ghost use Rattle.sim_spec.specs.Pending.{IsAscending, enqueue_all};
-ghost use Rattle.speedes_queue.specs.Keys.{IsNewKey, first_key, least_stamp};
-ghost use Rattle.speedes_queue.specs.Queues.{pending_of, IsAhead, IsOrderly};
+ghost use Rattle.sim_spec.specs.Horizon.{least_stamp};
+ghost use Rattle.speedes_queue.specs.Keys.{IsNewKey, first_key};
+ghost use Rattle.speedes_queue.specs.Pairs.{IsAhead};
+ghost use Rattle.speedes_queue.specs.Queues.{pending_of, IsOrderly};
 
 use crate::fresh::Fresh;
 use crate::least::lesser;

@@ -1,36 +1,79 @@
-use Rattle.std.proofs.Common.{◌∙◌, sym, rules, arith}
-use Rattle.std.proofs.lemmas.List.{set-set}
-use Rattle.speedes_queue.proofs.Placing.{begins, run_few, pair_differs, pair_room, joins, stays, fewer_left}
-use Rattle.speedes_queue.proofs.SlotLemmas.{none_left}
+use Rattle.std.proofs.Common.{◌++◌, sym, rules, arith}
+use Rattle.speedes_queue.specs.Slots.{joined}
+use Rattle.speedes_queue.proofs.Placing.{TakesLevel, begins, hand_few, stays, first_pair, second_pair, pairs_differ, pairs_few, joins, fewer_joined}
 use Rattle.speedes_queue.proofs.slots.place.Goals as goal
 
-pub loop-run-init : goal.loop-run-init
-loop-run-init c = begins _ _ (search rules) c.requires.slots c.requires.run c.requires.some c.requires.distinct c.requires.room
+pub loop-slot-init : goal.loop-slot-init
+loop-slot-init c = begins _ _ (search rules) c.requires.slots c.requires.run c.requires.some c.requires.distinct c.requires.room
 
-pub slot_of-slot-requires-clause-room : goal.slot_of-slot-requires-clause-room
-slot_of-slot-requires-clause-room c = rw c.len.ensures (run_few _ _ _ _ c.loop-run.invariant)
+pub first_slot-first-requires-clause-room : goal.first_slot-first-requires-clause-room
+first_slot-first-requires-clause-room c = rw c.len.ensures (hand_few _ _ _ _ c.loop-slot.invariant.hand)
 
-pub returns-then-len-eq0-clause-same : goal.returns-then-len-eq0-clause-same
-returns-then-len-eq0-clause-same c =
-    rw (c.take_run-old.ensures.others, set-set)
-    (stays _ _ _ _ _ _ c.loop-run.invariant record { below = c.slot_of-slot.ensures; is = c.take_run-old.ensures.run }
-    (none_left _ (sym c.len-in-loop-run.ensures ∙ c.if-len-eq0.true))).same
+pub returns-in-Some-clause-same : goal.returns-in-Some-clause-same
+returns-in-Some-clause-same c = (stays _ _ _ _ _ c.loop-slot.invariant c.in-Some.ensures.some.0 c.in-Some.ensures.some.1).same
+
+pub new-requires-clause-distinct : goal.new-requires-clause-distinct
+new-requires-clause-distinct c =
+    let level : TakesLevel c.loop-slot.run c.loop-slot.slots c.take_run-second.new.slots c.take_run-third.new.slots c.take_run-fourth.new.slots c.args.slots.now (c.args.run ++ joined c.args.slots.now)
+        c.first_slot-first.result c.take_run-second.result c.take_run-third.result c.take_run-fourth.result = record {
+      placing = c.loop-slot.invariant;
+      take_a = record { below = omega (arith, c.first_slot-first.ensures); is = c.take_run-second.ensures.run; now_is = c.take_run-second.ensures.others };
+      take_b = record { below = omega (arith, c.first_slot-first.ensures); is = c.take_run-third.ensures.run; now_is = c.take_run-third.ensures.others };
+      take_c = record { below = omega (arith, c.first_slot-first.ensures); is = c.take_run-fourth.ensures.run; now_is = c.take_run-fourth.ensures.others };
+    } in
+    (first_pair _ _ _ _ _ _ _ _ _ _ _ level).1
+
+pub new-requires-in-loop-slot-clause-distinct : goal.new-requires-in-loop-slot-clause-distinct
+new-requires-in-loop-slot-clause-distinct c =
+    let level : TakesLevel c.loop-slot.run c.loop-slot.slots c.take_run-second.new.slots c.take_run-third.new.slots c.take_run-fourth.new.slots c.args.slots.now (c.args.run ++ joined c.args.slots.now)
+        c.first_slot-first.result c.take_run-second.result c.take_run-third.result c.take_run-fourth.result = record {
+      placing = c.loop-slot.invariant;
+      take_a = record { below = omega (arith, c.first_slot-first.ensures); is = c.take_run-second.ensures.run; now_is = c.take_run-second.ensures.others };
+      take_b = record { below = omega (arith, c.first_slot-first.ensures); is = c.take_run-third.ensures.run; now_is = c.take_run-third.ensures.others };
+      take_c = record { below = omega (arith, c.first_slot-first.ensures); is = c.take_run-fourth.ensures.run; now_is = c.take_run-fourth.ensures.others };
+    } in
+    (second_pair _ _ _ _ _ _ _ _ _ _ _ level).2
 
 pub merged-run-requires-clause-distinct : goal.merged-run-requires-clause-distinct
 merged-run-requires-clause-distinct c =
-    pair_differs _ _ _ _ _ _ c.loop-run.invariant record { below = c.slot_of-slot.ensures; is = c.take_run-old.ensures.run }
+    let level : TakesLevel c.loop-slot.run c.loop-slot.slots c.take_run-second.new.slots c.take_run-third.new.slots c.take_run-fourth.new.slots c.args.slots.now (c.args.run ++ joined c.args.slots.now)
+        c.first_slot-first.result c.take_run-second.result c.take_run-third.result c.take_run-fourth.result = record {
+      placing = c.loop-slot.invariant;
+      take_a = record { below = omega (arith, c.first_slot-first.ensures); is = c.take_run-second.ensures.run; now_is = c.take_run-second.ensures.others };
+      take_b = record { below = omega (arith, c.first_slot-first.ensures); is = c.take_run-third.ensures.run; now_is = c.take_run-third.ensures.others };
+      take_c = record { below = omega (arith, c.first_slot-first.ensures); is = c.take_run-fourth.ensures.run; now_is = c.take_run-fourth.ensures.others };
+    } in
+    rw (c.new.ensures.events, c.new-in-loop-slot.ensures.events) (pairs_differ _ _ _ _ _ _ _ _ _ _ _ level)
 
 pub merged-run-requires-clause-room : goal.merged-run-requires-clause-room
 merged-run-requires-clause-room c =
-    pair_room _ _ _ _ _ _ c.loop-run.invariant record { below = c.slot_of-slot.ensures; is = c.take_run-old.ensures.run }
+    let level : TakesLevel c.loop-slot.run c.loop-slot.slots c.take_run-second.new.slots c.take_run-third.new.slots c.take_run-fourth.new.slots c.args.slots.now (c.args.run ++ joined c.args.slots.now)
+        c.first_slot-first.result c.take_run-second.result c.take_run-third.result c.take_run-fourth.result = record {
+      placing = c.loop-slot.invariant;
+      take_a = record { below = omega (arith, c.first_slot-first.ensures); is = c.take_run-second.ensures.run; now_is = c.take_run-second.ensures.others };
+      take_b = record { below = omega (arith, c.first_slot-first.ensures); is = c.take_run-third.ensures.run; now_is = c.take_run-third.ensures.others };
+      take_c = record { below = omega (arith, c.first_slot-first.ensures); is = c.take_run-fourth.ensures.run; now_is = c.take_run-fourth.ensures.others };
+    } in
+    rw (c.new.ensures.events, c.new-in-loop-slot.ensures.events) (pairs_few _ _ _ _ _ _ _ _ _ _ _ level)
 
-pub loop-run-smaller : goal.loop-run-smaller
-loop-run-smaller c =
-    rw c.take_run-old.ensures.others
-    (fewer_left _ _ _ _ _ _ c.loop-run.invariant record { below = c.slot_of-slot.ensures; is = c.take_run-old.ensures.run }
-    (omega (arith, c.len-in-loop-run.ensures, c.if-len-eq0.false)))
+pub loop-slot-smaller : goal.loop-slot-smaller
+loop-slot-smaller c =
+    let level : TakesLevel c.loop-slot.run c.loop-slot.slots c.take_run-second.new.slots c.take_run-third.new.slots c.take_run-fourth.new.slots c.args.slots.now (c.args.run ++ joined c.args.slots.now)
+        c.first_slot-first.result c.take_run-second.result c.take_run-third.result c.take_run-fourth.result = record {
+      placing = c.loop-slot.invariant;
+      take_a = record { below = omega (arith, c.first_slot-first.ensures); is = c.take_run-second.ensures.run; now_is = c.take_run-second.ensures.others };
+      take_b = record { below = omega (arith, c.first_slot-first.ensures); is = c.take_run-third.ensures.run; now_is = c.take_run-third.ensures.others };
+      take_c = record { below = omega (arith, c.first_slot-first.ensures); is = c.take_run-fourth.ensures.run; now_is = c.take_run-fourth.ensures.others };
+    } in
+    fewer_joined _ _ _ _ _ _ _ _ _ _ _ level c.in_default.ensures.none
 
-pub loop-run-preserved : goal.loop-run-preserved
-loop-run-preserved c =
-    rw (c.take_run-old.ensures.others, c.merged-run.ensures)
-    (joins _ _ _ _ _ _ c.loop-run.invariant record { below = c.slot_of-slot.ensures; is = c.take_run-old.ensures.run })
+pub loop-slot-preserved : goal.loop-slot-preserved
+loop-slot-preserved c =
+    let level : TakesLevel c.loop-slot.run c.loop-slot.slots c.take_run-second.new.slots c.take_run-third.new.slots c.take_run-fourth.new.slots c.args.slots.now (c.args.run ++ joined c.args.slots.now)
+        c.first_slot-first.result c.take_run-second.result c.take_run-third.result c.take_run-fourth.result = record {
+      placing = c.loop-slot.invariant;
+      take_a = record { below = omega (arith, c.first_slot-first.ensures); is = c.take_run-second.ensures.run; now_is = c.take_run-second.ensures.others };
+      take_b = record { below = omega (arith, c.first_slot-first.ensures); is = c.take_run-third.ensures.run; now_is = c.take_run-third.ensures.others };
+      take_c = record { below = omega (arith, c.first_slot-first.ensures); is = c.take_run-fourth.ensures.run; now_is = c.take_run-fourth.ensures.others };
+    } in
+    joins _ _ _ _ _ _ _ _ _ _ _ _ level (rw (c.new.ensures.events, c.new-in-loop-slot.ensures.events) at c.merged-run.ensures)

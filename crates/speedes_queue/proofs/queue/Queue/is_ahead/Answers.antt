@@ -1,6 +1,7 @@
 use Rattle.std.proofs.Common.{Bool, refl, sym, ◌∙◌, subst}
 use Rattle.std.specs.Prelude.{IsTrue, ◌↔◌}
-use Rattle.speedes_queue.specs.Queues.{QueueView, IsAhead}
+use Rattle.speedes_queue.specs.Pairs.{IsAhead}
+use Rattle.speedes_queue.specs.Queues.{QueueView}
 use Rattle.speedes_queue.proofs.PopLemmas.{ahead-some, ahead-all}
 use Rattle.speedes_queue.proofs.queue.Queue.is_ahead.Goals as goal
 
