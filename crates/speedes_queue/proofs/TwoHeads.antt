@@ -24,14 +24,14 @@ other_head x y xs ys apart not_lt =
     one_first (key_lt x.key y.key) (key_lt y.key x.key) (All-head (IsOther x.key) y ys (all_right (IsOther x.key) xs (y ∷ ys) (others x (xs ++ y ∷ ys) apart))) not_lt
 
 -- where a list is ahead its first event is the first of both
-pub left_first : (left right : List Event) (e : Event) (rest : List Event) → IsPair left right → IsAhead left right → left ≡ e ∷ rest → in_order (left ++ right) ≡ e ∷ in_order (rest ++ right)
+pub left_first : (left right : List Event) (e : Event) (rest : List Event) → IsAscending left → Apart (left ++ right) → IsAhead left right → left ≡ e ∷ rest → in_order (left ++ right) ≡ e ∷ in_order (rest ++ right)
 unfolding IsAscending
-left_first left right e rest p ahead is =
+left_first left right e rest left_up h ahead is =
     let P : List Event → Type 0 = λ w. IsAhead w right in
     let Q : List Event → Type 0 = λ w. Apart (w ++ right) in
-    let up : IsAscending (e ∷ rest) = subst IsAscending is p.left_up in
+    let up : IsAscending (e ∷ rest) = subst IsAscending is left_up in
     ap (λ w. in_order (w ++ right)) is
-    ∙ in_order-first e (e ∷ (rest ++ right)) (rest ++ right) (IsPermutation-refl _) (AllAfter-append e.key rest right up.0 (subst P is ahead)) (subst Q is (apart (left ++ right) p.distinct))
+    ∙ in_order-first e (e ∷ (rest ++ right)) (rest ++ right) (IsPermutation-refl _) (AllAfter-append e.key rest right up.0 (subst P is ahead)) (subst Q is h)
 
 -- and where it is not, that of the other list
 behind : (left : List Event) (e : Event) (rest : List Event) → IsAscending left → IsAscending (e ∷ rest) → Apart (left ++ e ∷ rest) → ¬ IsAhead left (e ∷ rest) → AllAfter e.key left
@@ -39,16 +39,16 @@ unfolding AllAfter
 behind [] e rest left_up right_up h not_ahead = tt
 behind (x ∷ xs) e rest left_up right_up h not_ahead = before_all e x xs (other_head x e xs rest h (false_from (key_lt x.key e.key) (λ lt. not_ahead (before_all x e rest lt right_up)))) left_up
 
-pub right_first : (left right : List Event) (e : Event) (rest : List Event) → IsPair left right → ¬ IsAhead left right → right ≡ e ∷ rest → in_order (left ++ right) ≡ e ∷ in_order (left ++ rest)
+pub right_first : (left right : List Event) (e : Event) (rest : List Event) → IsAscending left → IsAscending right → Apart (left ++ right) → ¬ IsAhead left right → right ≡ e ∷ rest → in_order (left ++ right) ≡ e ∷ in_order (left ++ rest)
 unfolding IsAscending
-right_first left right e rest p not_ahead is =
+right_first left right e rest left_up right_up all_apart not_ahead is =
     let P : List Event → Type 0 = λ w. ¬ IsAhead left w in
     let Q : List Event → Type 0 = λ w. Apart (left ++ w) in
-    let up : IsAscending (e ∷ rest) = subst IsAscending is p.right_up in
-    let h : Apart (left ++ e ∷ rest) = subst Q is (apart (left ++ right) p.distinct) in
+    let up : IsAscending (e ∷ rest) = subst IsAscending is right_up in
+    let h : Apart (left ++ e ∷ rest) = subst Q is all_apart in
     ap (λ w. in_order (left ++ w)) is
     ∙ in_order-first e (left ++ e ∷ rest) (left ++ rest) (IsPermutation-middle left e rest)
-    (AllAfter-append e.key left rest (behind left e rest p.left_up up h (subst P is not_ahead)) up.0) h
+    (AllAfter-append e.key left rest (behind left e rest left_up up h (subst P is not_ahead)) up.0) h
 
 pub never_ahead : (left right : List Event) → IsAhead left right → left ≡ [] → ⊥
 never_ahead [] right ahead none = ahead

@@ -14,6 +14,8 @@ use std::marker::Model;
 pub struct Pair {
     left: Chain<Event>,
     right: Chain<Event>,
+    // whether the first event is that of the left chain
+    left_first: bool,
 }
 
 impl Model for Pair {
@@ -26,7 +28,7 @@ impl Model for Pair {
 
     ghost view = { λ pair. in_order (pair.left ++ pair.right) };
 
-    ghost invariant = { λ pair. IsPair pair.left pair.right };
+    ghost invariant = { λ pair. IsPair pair.left pair.right pair.left_first };
 }
 
 impl Pair {
@@ -38,7 +40,12 @@ impl Pair {
         ensures events { result ≡ in_order (left ++ right) }
         ensures ascending { IsAscending result }
     {
-        Pair { left, right }
+        let left_first = is_ahead(&left, &right);
+        Pair {
+            left,
+            right,
+            left_first,
+        }
     }
 
     /// The first event.
@@ -46,7 +53,7 @@ impl Pair {
         ensures none { IfNone result (self.now ≡ []) }
         ensures some { IfSome result (λ first. (rest : List Event) × (self.now ≡ first.now ∷ rest)) }
     {
-        if is_ahead(&self.left, &self.right) {
+        if self.left_first {
             self.left.front()
         } else {
             self.right.front()
@@ -58,10 +65,14 @@ impl Pair {
         ensures none { IfNone result ((self.old ≡ []) × (self.new ≡ [])) }
         ensures some { IfSome result (λ cell. self.old ≡ cell ∷ self.new) }
     {
-        if is_ahead(&self.left, &self.right) {
-            self.left.pop_front()
+        if self.left_first {
+            let first = self.left.pop_front();
+            self.left_first = is_ahead(&self.left, &self.right);
+            first
         } else {
-            self.right.pop_front()
+            let first = self.right.pop_front();
+            self.left_first = is_ahead(&self.left, &self.right);
+            first
         }
     }
 
