@@ -9,6 +9,7 @@ pub mod Placing
 pub mod PopLemmas
 pub mod QueueLemmas
 pub mod RunLemmas
+pub mod SerialLemmas
 pub mod SlotLemmas
 pub mod Sorting
 pub mod TwoHeads

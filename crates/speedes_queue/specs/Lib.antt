@@ -3,4 +3,5 @@ pub mod Heads
 pub mod Keys
 pub mod Pairs
 pub mod Queues
+pub mod Serials
 pub mod Slots

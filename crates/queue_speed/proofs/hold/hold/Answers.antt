@@ -1,4 +1,4 @@
-use Rattle.queue_speed.proofs.SerialLemmas.{below_popped}
+use Rattle.speedes_queue.proofs.SerialLemmas.{below_popped}
 use Rattle.queue_speed.proofs.hold.hold.Goals as goal
 
 pub push-requires-in-loop-serial-2-clause-below : goal.push-requires-in-loop-serial-2-clause-below

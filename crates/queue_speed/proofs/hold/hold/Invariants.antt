@@ -1,4 +1,4 @@
-use Rattle.queue_speed.specs.Serials.{HasSerialsBelow}
+use Rattle.speedes_queue.specs.Serials.{HasSerialsBelow}
 use Rattle.queue_speed.proofs.hold.hold.Given as goal
 
 abbrev pub invariant-loop-serial : goal.invariant-loop-serial

@@ -1,6 +1,6 @@
 use Rattle.std.proofs.Common.{◌∙◌, ap}
 use Rattle.model_core.specs.declared.event.Event.{Event}
-use Rattle.queue_speed.proofs.SerialLemmas.{below_pushed, below_same}
+use Rattle.speedes_queue.proofs.SerialLemmas.{below_pushed, below_same}
 use Rattle.queue_speed.proofs.hold.push.Goals as goal
 
 pub returns : goal.returns

@@ -8,7 +8,7 @@ use Rattle.model_core.specs.declared.event.Event.{Event}
 use Rattle.speedes_queue.specs.Keys.{IsNewKey}
 use Rattle.speedes_queue.specs.Queues.{QueueView, pending_of}
 use Rattle.speedes_queue.proofs.InOrder.{enqueue_all-permutation}
-use Rattle.queue_speed.specs.Serials.{HasSerialsBelow}
+use Rattle.speedes_queue.specs.Serials.{HasSerialsBelow}
 
 abbrev pub IsBelow : ℕ → Event → Type 0
 IsBelow serial e = e.key.serial < serial
