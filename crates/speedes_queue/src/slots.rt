@@ -87,10 +87,14 @@ pub fn head_of(slots: &[Chain<Event>; SLOTS], used: usize) -> Option<Head>
         let Some(event) = slots[slot].front() else {
             continue;
         };
-        let key = event.key;
         match head {
-            Some(least) if least.key.is_before(&key) => {}
-            _ => head = Some(Head { slot, key }),
+            Some(least) if least.key.is_before(&event.key) => {}
+            _ => {
+                head = Some(Head {
+                    slot,
+                    key: event.key,
+                })
+            }
         }
     }
     head
