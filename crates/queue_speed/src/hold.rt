@@ -66,7 +66,12 @@ pub fn hold(alloc: Global, pending: u32, steps: u32) -> Result<u64, OutOfMemory>
         };
         let stamp = cell.into_inner().key.stamp;
         checksum = checksum.wrapping_mul(31).wrapping_add(stamp);
-        push(alloc, &mut queue, stamp.saturating_add(delay(&mut random)), serial)?;
+        push(
+            alloc,
+            &mut queue,
+            stamp.saturating_add(delay(&mut random)),
+            serial,
+        )?;
     }
     Ok(checksum)
 }

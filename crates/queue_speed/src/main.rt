@@ -13,7 +13,10 @@ fn main(rt: HostRuntime) -> io::Result<()> {
     let (Some(pending), Some(steps)) = (words.nth(1), words.next()) else {
         return println!(rt; "usage: queue_speed PENDING STEPS");
     };
-    let (Ok(pending), Ok(steps)) = (pending.as_str().parse::<u32>(), steps.as_str().parse::<u32>()) else {
+    let (Ok(pending), Ok(steps)) = (
+        pending.as_str().parse::<u32>(),
+        steps.as_str().parse::<u32>(),
+    ) else {
         return println!(rt; "not two numbers: {pending} {steps}");
     };
     match hold(rt.alloc(), pending, steps) {

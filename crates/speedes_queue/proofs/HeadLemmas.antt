@@ -96,9 +96,11 @@ keeps head next least slots i e s is same before h =
     let Q : Option Head → Type 0 = λ w. IsHeadBelow w slots (i + 1) in
     let R : List Event → Type 0 = λ w. NoneBefore least.key w in
     let old : IsHeadBelow (Some least) slots i = subst P is h in
-    let now : IsHeadBelow (Some least) slots (i + 1) =
-    (let below = old.0 in omega arith, old.1,
-     subst R (sym (grown slots i e s)) (All-append (IsNotBefore least.key) (joined (take i slots)) (e ∷ s.rest) old.2 (none_before_run least.key e s.rest s.up before))) in
+    let now : IsHeadBelow (Some least) slots (i + 1) = (
+      let below = old.0 in omega arith,
+      old.1,
+      subst R (sym (grown slots i e s)) (All-append (IsNotBefore least.key) (joined (take i slots)) (e ∷ s.rest) old.2 (none_before_run least.key e s.rest s.up before)),
+    ) in
     subst Q (sym (same ∙ is)) now
 
 pub changes : (head next : Option Head) (least : Head) (slots : List (List Event)) (i : ℕ) (e : Event) → Sees slots i e → head ≡ Some least → next ≡ Some (record { slot = i; key = e.key })
@@ -108,10 +110,12 @@ changes head next least slots i e s is new not_before h =
     let Q : Option Head → Type 0 = λ w. IsHeadBelow w slots (i + 1) in
     let R : List Event → Type 0 = λ w. NoneBefore e.key w in
     let old : IsHeadBelow (Some least) slots i = subst P is h in
-    let now : IsHeadBelow (Some (record { slot = i; key = e.key })) slots (i + 1) =
-    (omega arith, (e, s.rest, s.is, refl),
-     subst R (sym (grown slots i e s))
-     (All-append (IsNotBefore e.key) (joined (take i slots)) (e ∷ s.rest) (none_before-less least.key e.key (joined (take i slots)) old.2 not_before) (none_before_head e s.rest s.up))) in
+    let now : IsHeadBelow (Some (record { slot = i; key = e.key })) slots (i + 1) = (
+      omega arith,
+      (e, s.rest, s.is, refl),
+      subst R (sym (grown slots i e s))
+          (All-append (IsNotBefore e.key) (joined (take i slots)) (e ∷ s.rest) (none_before-less least.key e.key (joined (take i slots)) old.2 not_before) (none_before_head e s.rest s.up)),
+    ) in
     subst Q (sym new) now
 
 pub starts : (head next : Option Head) (slots : List (List Event)) (i : ℕ) (e : Event) → Sees slots i e → head ≡ None → next ≡ Some (record { slot = i; key = e.key })
@@ -121,9 +125,11 @@ starts head next slots i e s is new h =
     let Q : Option Head → Type 0 = λ w. IsHeadBelow w slots (i + 1) in
     let R : List Event → Type 0 = λ w. NoneBefore e.key w in
     let none : joined (take i slots) ≡ [] = subst P is h in
-    let now : IsHeadBelow (Some (record { slot = i; key = e.key })) slots (i + 1) =
-    (omega arith, (e, s.rest, s.is, refl),
-     subst R (sym (grown slots i e s ∙ ap (λ w. w ++ e ∷ s.rest) none)) (none_before_head e s.rest s.up)) in
+    let now : IsHeadBelow (Some (record { slot = i; key = e.key })) slots (i + 1) = (
+      omega arith,
+      (e, s.rest, s.is, refl),
+      subst R (sym (grown slots i e s ∙ ap (λ w. w ++ e ∷ s.rest) none)) (none_before_head e s.rest s.up),
+    ) in
     subst Q (sym new) now
 
 -- nothing is behind the slots that are used

@@ -82,9 +82,11 @@ put_at : (e x : Event) (xs : List Event) → IsAscending (x ∷ xs) → All (IsO
     → (b : Bool) → key_lt e.key x.key ≡ b → IsAscending (cond b (e ∷ x ∷ xs) (x ∷ enqueue e xs))
 unfolding IsAscending AllAfter
 put_at e x xs up other more true is = ((is, AllAfter-trans e.key x.key xs is up.0), up)
-put_at e x xs up other more false is =
-    (AllAfter-permutation x.key (e ∷ xs) (enqueue e xs) (enqueue-permutation e xs)
-    (one_first (key_lt e.key x.key) (key_lt x.key e.key) (All-head (IsOther e.key) x xs other) is, up.0), more)
+put_at e x xs up other more false is = (
+  AllAfter-permutation x.key (e ∷ xs) (enqueue e xs) (enqueue-permutation e xs)
+      (one_first (key_lt e.key x.key) (key_lt x.key e.key) (All-head (IsOther e.key) x xs other) is, up.0),
+  more,
+)
 
 enqueue-ascending : (e : Event) (xs : List Event) → IsAscending xs → All (IsOther e.key) xs → IsAscending (enqueue e xs)
 unfolding enqueue IsAscending AllAfter

@@ -36,11 +36,10 @@ ahead_of x es [] l h is none = absurd (cc)
 ahead_of x es (m ∷ ms) l h is first =
     let same : m.key ≡ l = cc in
     let P : Key → Type 0 = λ w. key_lt x.key w ≡ true in
-    let Q : List Event → Type 0 = λ w. AllAfter x.key w in
-    (
+    let Q : List Event → Type 0 = λ w. AllAfter x.key w in (
       (λ lt. AllAfter-permutation x.key (in_order es) es (IsPermutation-sym es (in_order es) (in_order-permutation es))
           (subst Q (sym is) (before_all x m ms (subst P (sym same) lt) (subst IsAscending is (in_order-ascending es h))))),
-      (λ all. let after : AllAfter x.key (m ∷ ms) = subst Q is (AllAfter-permutation x.key es (in_order es) (in_order-permutation es) all) in subst P same after.0)
+      (λ all. let after : AllAfter x.key (m ∷ ms) = subst Q is (AllAfter-permutation x.key es (in_order es) (in_order-permutation es) all) in subst P same after.0),
     )
 
 pub ahead-some : (primary fresh : List Event) (spare : ℕ) (k l : Key) → IsOrderly (view primary fresh spare) → first_key primary ≡ Some k → first_key (in_order fresh) ≡ Some l
@@ -81,10 +80,9 @@ nothing primary fresh no_primary no_fresh = ap (enqueue_all fresh) no_primary �
 pub none_pending : (primary fresh : List Event) (least : Option Key) → least ≡ first_key (enqueue_all fresh primary) → IsNone least ↔ (primary ≡ []) × (fresh ≡ [])
 none_pending primary fresh least is =
     let P : Option Key → Type 0 = λ w. IsNone w in
-    let Q : List Event → Type 0 = λ w. IsNone (first_key w) in
-    (
+    let Q : List Event → Type 0 = λ w. IsNone (first_key w) in (
       (λ none. both_empty primary fresh (none_of_first (enqueue_all fresh primary) (subst P is none))),
-      (λ empty. subst P (sym is) (subst Q (sym (nothing primary fresh empty.0 empty.1)) refl))
+      (λ empty. subst P (sym is) (subst Q (sym (nothing primary fresh empty.0 empty.1)) refl)),
     )
 
 -- a queue without its first event

@@ -114,7 +114,7 @@ merged_is primary fresh run spare h is =
     ∙ enqueue_all-is (in_order fresh) primary (enqueue_all fresh primary)
     (Apart-permutation (fresh ++ primary) (in_order fresh ++ primary) (sorted_first primary fresh) first) h.ascending
     (IsPermutation-trans (in_order fresh ++ primary) (fresh ++ primary) (enqueue_all fresh primary)
-     (IsPermutation-sym (fresh ++ primary) (in_order fresh ++ primary) (sorted_first primary fresh)) (enqueue_all-permutation fresh primary))
+    (IsPermutation-sym (fresh ++ primary) (in_order fresh ++ primary) (sorted_first primary fresh)) (enqueue_all-permutation fresh primary))
     (enqueue_all-ascending fresh primary first h.ascending)
 
 pub orderly-merged : (primary fresh now left : List Event) (spare more : ℕ) → IsOrderly (view primary fresh spare) → now ≡ enqueue_all fresh primary → left ≡ [] → IsOrderly (view now left more)

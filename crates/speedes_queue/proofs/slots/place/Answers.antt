@@ -15,7 +15,7 @@ returns-in-Some-clause-same c = (stays _ _ _ _ _ c.loop-slot.invariant c.in-Some
 pub new-requires-clause-distinct : goal.new-requires-clause-distinct
 new-requires-clause-distinct c =
     let level : TakesLevel c.loop-slot.run c.loop-slot.slots c.take_run-second.new.slots c.take_run-third.new.slots c.take_run-fourth.new.slots c.args.slots.now (c.args.run ++ joined c.args.slots.now)
-        c.first_slot-first.result c.take_run-second.result c.take_run-third.result c.take_run-fourth.result = record {
+    c.first_slot-first.result c.take_run-second.result c.take_run-third.result c.take_run-fourth.result = record {
       placing = c.loop-slot.invariant;
       take_a = record { below = omega (arith, c.first_slot-first.ensures); is = c.take_run-second.ensures.run; now_is = c.take_run-second.ensures.others };
       take_b = record { below = omega (arith, c.first_slot-first.ensures); is = c.take_run-third.ensures.run; now_is = c.take_run-third.ensures.others };
@@ -26,7 +26,7 @@ new-requires-clause-distinct c =
 pub new-requires-in-loop-slot-clause-distinct : goal.new-requires-in-loop-slot-clause-distinct
 new-requires-in-loop-slot-clause-distinct c =
     let level : TakesLevel c.loop-slot.run c.loop-slot.slots c.take_run-second.new.slots c.take_run-third.new.slots c.take_run-fourth.new.slots c.args.slots.now (c.args.run ++ joined c.args.slots.now)
-        c.first_slot-first.result c.take_run-second.result c.take_run-third.result c.take_run-fourth.result = record {
+    c.first_slot-first.result c.take_run-second.result c.take_run-third.result c.take_run-fourth.result = record {
       placing = c.loop-slot.invariant;
       take_a = record { below = omega (arith, c.first_slot-first.ensures); is = c.take_run-second.ensures.run; now_is = c.take_run-second.ensures.others };
       take_b = record { below = omega (arith, c.first_slot-first.ensures); is = c.take_run-third.ensures.run; now_is = c.take_run-third.ensures.others };
@@ -37,7 +37,7 @@ new-requires-in-loop-slot-clause-distinct c =
 pub merged-run-requires-clause-distinct : goal.merged-run-requires-clause-distinct
 merged-run-requires-clause-distinct c =
     let level : TakesLevel c.loop-slot.run c.loop-slot.slots c.take_run-second.new.slots c.take_run-third.new.slots c.take_run-fourth.new.slots c.args.slots.now (c.args.run ++ joined c.args.slots.now)
-        c.first_slot-first.result c.take_run-second.result c.take_run-third.result c.take_run-fourth.result = record {
+    c.first_slot-first.result c.take_run-second.result c.take_run-third.result c.take_run-fourth.result = record {
       placing = c.loop-slot.invariant;
       take_a = record { below = omega (arith, c.first_slot-first.ensures); is = c.take_run-second.ensures.run; now_is = c.take_run-second.ensures.others };
       take_b = record { below = omega (arith, c.first_slot-first.ensures); is = c.take_run-third.ensures.run; now_is = c.take_run-third.ensures.others };
@@ -48,7 +48,7 @@ merged-run-requires-clause-distinct c =
 pub merged-run-requires-clause-room : goal.merged-run-requires-clause-room
 merged-run-requires-clause-room c =
     let level : TakesLevel c.loop-slot.run c.loop-slot.slots c.take_run-second.new.slots c.take_run-third.new.slots c.take_run-fourth.new.slots c.args.slots.now (c.args.run ++ joined c.args.slots.now)
-        c.first_slot-first.result c.take_run-second.result c.take_run-third.result c.take_run-fourth.result = record {
+    c.first_slot-first.result c.take_run-second.result c.take_run-third.result c.take_run-fourth.result = record {
       placing = c.loop-slot.invariant;
       take_a = record { below = omega (arith, c.first_slot-first.ensures); is = c.take_run-second.ensures.run; now_is = c.take_run-second.ensures.others };
       take_b = record { below = omega (arith, c.first_slot-first.ensures); is = c.take_run-third.ensures.run; now_is = c.take_run-third.ensures.others };
@@ -59,7 +59,7 @@ merged-run-requires-clause-room c =
 pub loop-slot-smaller : goal.loop-slot-smaller
 loop-slot-smaller c =
     let level : TakesLevel c.loop-slot.run c.loop-slot.slots c.take_run-second.new.slots c.take_run-third.new.slots c.take_run-fourth.new.slots c.args.slots.now (c.args.run ++ joined c.args.slots.now)
-        c.first_slot-first.result c.take_run-second.result c.take_run-third.result c.take_run-fourth.result = record {
+    c.first_slot-first.result c.take_run-second.result c.take_run-third.result c.take_run-fourth.result = record {
       placing = c.loop-slot.invariant;
       take_a = record { below = omega (arith, c.first_slot-first.ensures); is = c.take_run-second.ensures.run; now_is = c.take_run-second.ensures.others };
       take_b = record { below = omega (arith, c.first_slot-first.ensures); is = c.take_run-third.ensures.run; now_is = c.take_run-third.ensures.others };
@@ -70,7 +70,7 @@ loop-slot-smaller c =
 pub loop-slot-preserved : goal.loop-slot-preserved
 loop-slot-preserved c =
     let level : TakesLevel c.loop-slot.run c.loop-slot.slots c.take_run-second.new.slots c.take_run-third.new.slots c.take_run-fourth.new.slots c.args.slots.now (c.args.run ++ joined c.args.slots.now)
-        c.first_slot-first.result c.take_run-second.result c.take_run-third.result c.take_run-fourth.result = record {
+    c.first_slot-first.result c.take_run-second.result c.take_run-third.result c.take_run-fourth.result = record {
       placing = c.loop-slot.invariant;
       take_a = record { below = omega (arith, c.first_slot-first.ensures); is = c.take_run-second.ensures.run; now_is = c.take_run-second.ensures.others };
       take_b = record { below = omega (arith, c.first_slot-first.ensures); is = c.take_run-third.ensures.run; now_is = c.take_run-third.ensures.others };
