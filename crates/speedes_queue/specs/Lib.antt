@@ -1,0 +1,7 @@
+pub mod Fresh
+pub mod Heads
+pub mod Keys
+pub mod Pairs
+pub mod Queues
+pub mod Serials
+pub mod Slots

@@ -1,0 +1,146 @@
+//! The queue of two lists.
+ghost use Rattle.std.specs.Prelude.{◌≡◌, ◌+◌, ◌<◌, ◌≤◌, ◌^◌, ◌↔◌, [], ◌∷◌, ◌++◌, length, IsTrue, IsNone, IfSome, IfNone, OnOk, All};
+ghost use Rattle.sim_spec.specs.Pending.{IsAscending, enqueue_all};
+ghost use Rattle.sim_spec.specs.Horizon.{least_stamp};
+ghost use Rattle.speedes_queue.specs.Keys.{IsNewKey, first_key};
+ghost use Rattle.speedes_queue.specs.Pairs.{IsAhead};
+ghost use Rattle.speedes_queue.specs.Queues.{pending_of, IsOrderly};
+
+use crate::fresh::Fresh;
+use crate::least::lesser;
+use crate::runs::Runs;
+use delta_exchange::OutOfMemory;
+use event_chain::{Cell, Chain};
+use event_key::{Key, NO_STAMP};
+use model_core::Event;
+use std::alloc::Global;
+use std::marker::Model;
+
+/// The pending events. Contracts see two lists and a number: `primary`, in the order of the keys, `fresh`,
+/// in the order of arrival, and `spare`, how many more events may be pushed. All keys differ.
+#[derive(Drop)]
+pub struct Queue {
+    primary: Runs,
+    fresh: Fresh,
+}
+
+impl Model for Queue {
+    ghost use Rattle.speedes_queue.specs.Queues.{QueueView, IsOrderly};
+
+    ghost Value = { QueueView };
+
+    ghost view = { λ queue. record { primary = queue.primary; fresh = queue.fresh.events; spare = queue.fresh.spare } };
+
+    ghost invariant = { λ queue. IsOrderly (record { primary = queue.primary; fresh = queue.fresh.events; spare = queue.fresh.spare }) };
+}
+
+impl Queue {
+    /// No events, and no room for any.
+    pub fn new() -> Queue
+        ensures primary { result.primary ≡ [] }
+        ensures fresh { result.fresh ≡ [] }
+        ensures spare { result.spare ≡ 0 }
+    {
+        Queue {
+            primary: Runs::new(),
+            fresh: Fresh::new(),
+        }
+    }
+
+    /// Makes room for n more events to be pushed.
+    pub fn reserve(&mut self, alloc: Global, n: usize) -> Result<(), OutOfMemory>
+        ensures ok { OnOk result (n ≤ self.new.spare) }
+        ensures none_fell { self.old.spare ≤ self.new.spare }
+        ensures primary { self.new.primary ≡ self.old.primary }
+        ensures fresh { self.new.fresh ≡ self.old.fresh }
+    {
+        self.fresh.reserve(alloc, n)
+    }
+
+    /// Adds an event to the fresh ones.
+    pub fn push(&mut self, cell: Cell<Event>)
+        requires spare { 1 ≤ self.old.spare }
+        requires new_key { IsNewKey cell.key (self.old.primary ++ self.old.fresh) }
+        requires room { length self.old.primary + length self.old.fresh + 1 < 2 ^ 60 }
+        ensures primary { self.new.primary ≡ self.old.primary }
+        ensures fresh { self.new.fresh ≡ self.old.fresh ++ cell ∷ [] }
+        ensures spare { self.new.spare + 1 ≡ self.old.spare }
+        ensures orderly { IsOrderly self.new }
+    {
+        self.fresh.push(cell);
+    }
+
+    /// Puts events back into their places in the primary list.
+    pub fn give_back(&mut self, events: Chain<Event>)
+        requires ascending { IsAscending events }
+        requires new_keys { All (λ e. IsNewKey e.key (self.old.primary ++ self.old.fresh)) events }
+        requires room { length events + length self.old.primary + length self.old.fresh < 2 ^ 60 }
+        ensures primary { self.new.primary ≡ enqueue_all events self.old.primary }
+        ensures fresh { self.new.fresh ≡ self.old.fresh }
+        ensures spare { self.new.spare ≡ self.old.spare }
+        ensures orderly { IsOrderly self.new }
+    {
+        self.primary.add(events);
+    }
+
+    /// The least key of all events.
+    pub fn least(&self) -> Option<Key>
+        ensures least { result ≡ first_key (pending_of self.now) }
+        ensures none { IsNone result ↔ (self.now.primary ≡ []) × (self.now.fresh ≡ []) }
+        ensures orderly { IsOrderly self.now }
+    {
+        lesser(self.primary.first(), self.fresh.least())
+    }
+
+    /// The least stamp of the fresh events, or `NO_STAMP` where there is none.
+    pub fn fresh_least(&self) -> u64
+        ensures { result ≡ least_stamp NO_STAMP self.now.fresh }
+    {
+        self.fresh.least_stamp()
+    }
+
+    /// Sorts the fresh events and puts them into their places in the primary list.
+    pub fn merge(&mut self)
+        ensures primary { self.new.primary ≡ pending_of self.old }
+        ensures fresh { self.new.fresh ≡ [] }
+        ensures spare { self.new.spare ≡ self.old.spare + length self.old.fresh }
+        ensures orderly { IsOrderly self.new }
+    {
+        let run = self.fresh.take_sorted();
+        self.primary.add(run);
+    }
+
+    /// Whether the primary list begins with an event that comes before all fresh ones.
+    fn is_ahead(&self) -> bool
+        ensures { IsTrue result ↔ IsAhead self.now.primary self.now.fresh }
+    {
+        match (self.primary.first(), self.fresh.least()) {
+            (Some(first), Some(least)) => first.is_before(&least),
+            (Some(_), None) => true,
+            (None, _) => false,
+        }
+    }
+
+    /// Takes the event of least key. Merges first, unless the primary list begins with it.
+    pub fn pop(&mut self) -> Option<Cell<Event>>
+        ensures none { IfNone result ((self.old.primary ≡ []) × (self.old.fresh ≡ []) × (self.new ≡ self.old)) }
+        ensures least { IfSome result (λ cell. pending_of self.old ≡ cell ∷ pending_of self.new) }
+        ensures ahead { IsAhead self.old.primary self.old.fresh → IfSome result (λ cell. (self.old.primary ≡ cell ∷ self.new.primary) × (self.new.fresh ≡ self.old.fresh) × (self.new.spare ≡ self.old.spare)) }
+        ensures merged { ¬ IsAhead self.old.primary self.old.fresh → (self.new.fresh ≡ []) × (self.new.spare ≡ self.old.spare + length self.old.fresh) }
+        ensures gone { IfSome result (λ cell. IsNewKey cell.key (self.new.primary ++ self.new.fresh)) }
+        ensures orderly { IsOrderly self.new }
+    {
+        if !self.is_ahead() {
+            self.merge();
+        }
+        self.primary.pop()
+    }
+
+    /// How many events there are.
+    pub fn len(&self) -> usize
+        ensures len { result ≡ length self.now.primary + length self.now.fresh }
+        ensures orderly { IsOrderly self.now }
+    {
+        self.primary.len() + self.fresh.len()
+    }
+}
