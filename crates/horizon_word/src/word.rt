@@ -5,7 +5,7 @@ ghost use Rattle.horizon_word.specs.Views.{FindsWord, IsSeatOf, new_seat, seat_a
 use crate::note::{Note, Opening};
 use crate::rule::{Copied, Falling, Lower, Read};
 use atomic_table::{Seat, Table};
-use delta_exchange::OutOfMemory;
+use event_chain::OutOfMemory;
 use std::alloc::Global;
 use std::marker::Model;
 
