@@ -2,9 +2,8 @@
 ghost use Rattle.std.specs.Prelude.{◌≡◌, ◌+◌, ◌<◌, ◌≤◌, ◌^◌, ◌↔◌, [], ◌∷◌, ◌++◌, length, IsTrue, IsNone, IfSome, IfNone, OnOk, All};
 ghost use Rattle.sim_spec.specs.Pending.{IsAscending, enqueue_all};
 ghost use Rattle.sim_spec.specs.Horizon.{least_stamp};
-ghost use Rattle.speedes_queue.specs.Keys.{IsNewKey, first_key};
-ghost use Rattle.speedes_queue.specs.Pairs.{IsAhead};
-ghost use Rattle.speedes_queue.specs.Queues.{pending_of, IsOrderly};
+ghost use Rattle.speedes_queue.specs.Keys.{IsNewKey, IsAhead, first_key};
+ghost use Rattle.speedes_queue.specs.Queues.{pending_of, IsEmpty, IsOrderly, TakesPrimary, HasMerged};
 
 use crate::fresh::Fresh;
 use crate::least::lesser;
@@ -25,13 +24,13 @@ pub struct Queue {
 }
 
 impl Model for Queue {
-    ghost use Rattle.speedes_queue.specs.Queues.{QueueView, IsOrderly};
+    ghost use Rattle.speedes_queue.specs.Queues.{QueueView, view_of, IsOrderly};
 
     ghost Value = { QueueView };
 
-    ghost view = { λ queue. record { primary = queue.primary; fresh = queue.fresh.events; spare = queue.fresh.spare } };
+    ghost view = { λ queue. view_of queue.primary queue.fresh };
 
-    ghost invariant = { λ queue. IsOrderly (record { primary = queue.primary; fresh = queue.fresh.events; spare = queue.fresh.spare }) };
+    ghost invariant = { λ queue. IsOrderly (view_of queue.primary queue.fresh) };
 }
 
 impl Queue {
@@ -86,7 +85,7 @@ impl Queue {
     /// The least key of all events.
     pub fn least(&self) -> Option<Key>
         ensures least { result ≡ first_key (pending_of self.now) }
-        ensures none { IsNone result ↔ (self.now.primary ≡ []) × (self.now.fresh ≡ []) }
+        ensures none { IsNone result ↔ IsEmpty self.now }
         ensures orderly { IsOrderly self.now }
     {
         lesser(self.primary.first(), self.fresh.least())
@@ -123,10 +122,15 @@ impl Queue {
 
     /// Takes the event of least key. Merges first, unless the primary list begins with it.
     pub fn pop(&mut self) -> Option<Cell<Event>>
-        ensures none { IfNone result ((self.old.primary ≡ []) × (self.old.fresh ≡ []) × (self.new ≡ self.old)) }
         ensures least { IfSome result (λ cell. pending_of self.old ≡ cell ∷ pending_of self.new) }
-        ensures ahead { IsAhead self.old.primary self.old.fresh → IfSome result (λ cell. (self.old.primary ≡ cell ∷ self.new.primary) × (self.new.fresh ≡ self.old.fresh) × (self.new.spare ≡ self.old.spare)) }
-        ensures merged { ¬ IsAhead self.old.primary self.old.fresh → (self.new.fresh ≡ []) × (self.new.spare ≡ self.old.spare + length self.old.fresh) }
+        ensures none { IsNone result ↔ IsEmpty self.old }
+        ensures unchanged { IfNone result (self.new ≡ self.old) }
+
+        // Where the primary list is ahead it alone loses an event. Else the fresh events were merged.
+        ensures ahead { IsAhead self.old.primary self.old.fresh → IfSome result (TakesPrimary self.old self.new) }
+        ensures merged { ¬ IsAhead self.old.primary self.old.fresh → HasMerged self.old self.new }
+
+        // What was popped may come again.
         ensures gone { IfSome result (λ cell. IsNewKey cell.key (self.new.primary ++ self.new.fresh)) }
         ensures orderly { IsOrderly self.new }
     {
