@@ -7,4 +7,5 @@ pub mod Laws
 pub mod Pending
 pub mod Replay
 pub mod Run
+pub mod Standing
 pub mod State

@@ -1,0 +1,47 @@
+-- Where an engine stands in a simulation, when it has nothing left to do, and what a cycle of it does.
+use Rattle.std.specs.Prelude.{◌≡◌, ℕ, Option, Some, None, Result, Ok, Err}
+use Rattle.event_key.specs.declared.key.Key.{Key}
+use Rattle.delta_exchange.specs.declared.memory.OutOfMemory.{OutOfMemory}
+use Rattle.model_core.specs.Meaning.{Meaning}
+use Rattle.sim_spec.specs.declared.bucket.Bucket.{Bucket}
+use Rattle.sim_spec.specs.declared.stop.Stop.{Stop}
+use Rattle.sim_spec.specs.declared.stop.Stop.TheVariants.{End, Limit, Fault}
+use Rattle.sim_spec.specs.declared.terms.Terms.{Terms}
+use Rattle.sim_spec.specs.State.{State, Lawful}
+use Rattle.sim_spec.specs.Run.{Next, stops, does, next}
+use Rattle.sim_spec.specs.Cut.{cut, after}
+
+-- an engine stands at a state, with the fault of its last bucket, or nowhere once memory has run out
+pub data Standing : Type 0 where
+  stands : State → Option (Key × ℕ) → Standing
+  spent : Standing
+
+-- the end or the limit, where it is next: a fault is told by the bucket that meets it
+unfoldable pub end_or_limit : Next → Option Stop
+end_or_limit (stops End) = Some End
+end_or_limit (stops Limit) = Some Limit
+end_or_limit (stops (Fault key code)) = None
+end_or_limit (does told later) = None
+
+-- why no cycle comes any more, where none does
+unfoldable pub ended : Meaning → Terms → Standing → Option Stop
+ended m t spent = None
+ended m t (stands s (Some fault)) = Some (Fault fault.0 fault.1)
+ended m t (stands s None) = end_or_limit (next m t s)
+
+-- the state is one that a simulation can meet
+unfoldable pub IsLawfulStanding : Meaning → Terms → Standing → Type 0
+IsLawfulStanding m t spent = Unit {0}
+IsLawfulStanding m t (stands s fault) = Lawful m t s
+
+-- a cycle from a state answers its bucket and leaves the state after it, with the bucket's fault
+pub record IsCycle (m : Meaning) (t : Terms) (old : Standing) (bucket : Bucket) (new : Standing) : Type 0 where
+  pub state : State
+  pub begins : old ≡ stands state None
+  pub bucket_is : bucket ≡ cut m t state
+  pub ends : new ≡ stands (after m t state) bucket.fault
+
+-- what a cycle answers and leaves; where memory runs out, the engine is spent
+unfoldable pub CycleGives : Meaning → Terms → Standing → Result Bucket OutOfMemory → Standing → Type 0
+CycleGives m t old (Ok bucket) new = IsCycle m t old bucket new
+CycleGives m t old (Err refused) new = new ≡ spent
