@@ -1,2 +1,3 @@
+pub mod CycleTextLemmas
 pub mod TextLemmas
 pub mod TransferLemmas

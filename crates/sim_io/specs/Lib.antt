@@ -1,4 +1,5 @@
 pub mod Causes
+pub mod CycleTexts
 pub mod Memory
 pub mod Texts
 pub mod Transfers

@@ -3,6 +3,7 @@
 
 mod clean;
 mod failed;
+pub mod laws;
 mod lines;
 mod mem_sink;
 mod mem_source;
@@ -17,7 +18,7 @@ mod writing;
 
 pub use clean::{CleanSink, CleanSource};
 pub use failed::Failed;
-pub use lines::{put_done, put_stop};
+pub use lines::{put_cycle, put_done, put_stop};
 pub use mem_sink::MemSink;
 pub use mem_source::MemSource;
 pub use reading::{MOST_BYTES, ReadEnd, read_all};

@@ -2,12 +2,13 @@
 ghost use Rattle.std.specs.Prelude.{◌≡◌, ◌<◌, ◌++◌, OnOk, OnErr, take};
 ghost use Rattle.std.specs.Io.{StartsWith};
 ghost use Rattle.sim_io.specs.Texts.{part_line, event_lines, stop_line, IsAtObject};
+ghost use Rattle.sim_io.specs.CycleTexts.{IsWhole, cycle_line};
 
-use crate::text_parts::{put_fault, put_number, put_part, put_place};
+use crate::text_parts::{put_fault, put_number, put_part, put_place, put_stamp};
 use event_key::Key;
 use model_core::model::Model;
 use model_core::{Note, OutOfMemory, Part};
-use sim_spec::{Stop, Terms};
+use sim_spec::{Bucket, Stop, Terms};
 use std::alloc::Global;
 
 #[tactic(auto, unfolding(crate::specs::Texts::part_line))]
@@ -76,6 +77,33 @@ pub fn put_done<M: Model>(
 {
     let before = into.len();
     let outcome = put_lines(alloc, model, key, note, into);
+    cut_back(outcome, before, into)
+}
+
+#[tactic(auto, unfolding(crate::specs::CycleTexts::cycle_line))]
+fn put_summary(number: u64, bucket: &Bucket, into: &mut Vec<u8>) -> Result<(), OutOfMemory>
+    ensures ok { OnOk result (into.new.items ≡ into.old.items ++ cycle_line number bucket.now) }
+    ensures front { StartsWith into.new.items into.old.items }
+{
+    into.extend_from_slice(b"cycle ")?;
+    put_number(number, into)?;
+    into.extend_from_slice(b" horizon ")?;
+    put_stamp(bucket.horizon, into)?;
+    into.extend_from_slice(b" events ")?;
+    put_number(bucket.done.as_slice().len() as u64, into)?;
+    into.push(b'\n')?;
+    Ok(())
+}
+
+/// Appends the line of a cycle with this number, whose bucket met neither a fault nor the limit. A refusal leaves what
+/// was there.
+pub fn put_cycle(number: u64, bucket: &Bucket, into: &mut Vec<u8>) -> Result<(), OutOfMemory>
+    requires { IsWhole bucket.now }
+    ensures ok { OnOk result (into.new.items ≡ into.old.items ++ cycle_line number bucket.now) }
+    ensures err { OnErr result (into.new.items ≡ into.old.items) }
+{
+    let before = into.len();
+    let outcome = put_summary(number, bucket, into);
     cut_back(outcome, before, into)
 }
 

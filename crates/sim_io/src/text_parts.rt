@@ -28,8 +28,9 @@ fn put_next_number(number: u64, into: &mut Vec<u8>) -> Result<(), OutOfMemory>
     put_number(number, into)
 }
 
+/// A stamp, as its time and its step.
 #[tactic(auto, unfolding(crate::specs::Texts::stamp_text))]
-fn put_stamp(stamp: u64, into: &mut Vec<u8>) -> Result<(), OutOfMemory>
+pub fn put_stamp(stamp: u64, into: &mut Vec<u8>) -> Result<(), OutOfMemory>
     ensures ok { OnOk result (into.new.items ≡ into.old.items ++ stamp_text stamp) }
     ensures front { StartsWith into.new.items into.old.items }
 {

@@ -1,5 +1,5 @@
 //! The words of the command line.
-ghost use Rattle.std.specs.Prelude.{◌≡◌};
+ghost use Rattle.std.specs.Prelude.{◌≡◌, false, string_bytes};
 
 use thiserror::Error;
 
@@ -44,26 +44,40 @@ impl WordFault {
 /// What is to be done.
 #[derive(Clone, Copy, Debug, PartialEq, Eq)]
 pub enum Settings {
-    /// A simulation whose text is printed.
-    Run,
+    /// A simulation whose text is printed, with a line for each cycle where these are asked for.
+    Run { cycles: bool },
+    /// The same, by the engine for one thread.
+    One { cycles: bool },
 }
 
-ghost use Rattle.sim_io.specs.Words.{after_run, settings, texts_of};
+ghost use Rattle.sim_io.specs.Words.{stray_word, cycles_asked, settings, texts_of};
 
-/// What follows `run`: it takes no word.
-fn after_run(words: &[String]) -> Result<Settings, WordFault>
-    ensures { result ≡ after_run (texts_of words.now) }
+/// What is wrong with a word that stands for nothing.
+fn stray_word(word: &String) -> WordFault
+    ensures { result ≡ stray_word (string_bytes word.now) }
 {
-    match words {
-        [] => Ok(Settings::Run),
-        [word, ..] => {
-            if word.as_bytes().starts_with(b"-") {
-                Err(WordFault::UnknownOption)
-            } else {
-                Err(WordFault::ExtraWord)
-            }
-        }
+    if word.as_bytes().starts_with(b"-") {
+        WordFault::UnknownOption
+    } else {
+        WordFault::ExtraWord
     }
+}
+
+/// Whether the words after a command ask for the cycles. They take no other option, and none twice.
+fn cycles_asked(words: &[String]) -> Result<bool, WordFault>
+    ensures { result ≡ cycles_asked false (texts_of words.now) }
+{
+    let mut asked = false;
+    for word in words {
+        if word.as_str() != "--cycles" {
+            return Err(stray_word(word));
+        }
+        if asked {
+            return Err(WordFault::RepeatedOption);
+        }
+        asked = true;
+    }
+    Ok(asked)
 }
 
 /// Reads the words that follow the program's name.
@@ -71,14 +85,18 @@ fn after_run(words: &[String]) -> Result<Settings, WordFault>
 pub fn read_words(words: &Vec<String>) -> Result<Settings, WordFault>
     ensures { result ≡ settings (texts_of words.now.items) }
 {
-    match words.as_slice() {
-        [] => Err(WordFault::NoCommand),
-        [command, rest @ ..] => {
-            if command.as_str() == "run" {
-                after_run(rest)
-            } else {
-                Err(WordFault::UnknownCommand)
-            }
+    let [command, options @ ..] = words.as_slice() else {
+        return Err(WordFault::NoCommand);
+    };
+    match command.as_str() {
+        "run" => {
+            let cycles = cycles_asked(options)?;
+            Ok(Settings::Run { cycles })
         }
+        "one" => {
+            let cycles = cycles_asked(options)?;
+            Ok(Settings::One { cycles })
+        }
+        _ => Err(WordFault::UnknownCommand),
     }
 }

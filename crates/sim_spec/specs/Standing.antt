@@ -29,6 +29,11 @@ ended m t spent = None
 ended m t (stands s (Some fault)) = Some (Fault fault.0 fault.1)
 ended m t (stands s None) = end_or_limit (next m t s)
 
+-- so many events are done
+unfoldable pub IsCountAt : Standing → ℕ → Type 0
+IsCountAt spent count = Unit {0}
+IsCountAt (stands s fault) count = count ≡ s.count
+
 -- the state is one that a simulation can meet
 unfoldable pub IsLawfulStanding : Meaning → Terms → Standing → Type 0
 IsLawfulStanding m t spent = Unit {0}

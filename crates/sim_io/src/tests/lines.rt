@@ -1,10 +1,10 @@
 ghost use Rattle.std.specs.Prelude.{◌≡◌, ◌<◌, ◌≤◌, ◌^◌};
 
 use super::named::Named;
-use crate::{put_done, put_stop};
+use crate::{put_cycle, put_done, put_stop};
 use event_key::{INITIAL, Key, stamp_of};
-use model_core::{Note, Part};
-use sim_spec::{Stop, Terms};
+use model_core::{Note, Part, Sequence};
+use sim_spec::{Bucket, Stop, Terms};
 use std::test::Fail;
 
 fn key(time: u64, step: u32, dest: u32) -> Key
@@ -88,6 +88,29 @@ fn a_line_for_each_part(rt: HostRuntime) -> Result<(), Fail> {
     let wanted =
         "70368744177663.65535 p8 wait 2 1\n70368744177663.65535 p8 take 18446744073709551615 0\n";
     assert_eq!(rt; text.as_slice(), wanted.as_bytes());
+    Ok(())
+}
+
+#[test]
+fn a_cycle_with_its_horizon(rt: HostRuntime) -> Result<(), Fail> {
+    let alloc = rt.alloc();
+    let told = Note::of(Part {
+        word: 1,
+        a: 5,
+        b: 1,
+    });
+    let bucket = Bucket {
+        done: Sequence::new(vec![in alloc; (key(5, 0, 0), told), (key(5, 0, 2), told)]?),
+        horizon: stamp_of(10, 1),
+        fault: None,
+        limited: false,
+    };
+    let mut text = Vec::new(alloc);
+    put_cycle(2, &bucket, &mut text)?;
+    assert_eq!(rt;
+        text.as_slice(),
+        "cycle 2 horizon 10.1 events 2\n".as_bytes()
+    );
     Ok(())
 }
 

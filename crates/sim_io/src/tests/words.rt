@@ -11,43 +11,45 @@ fn list_of(alloc: Global, words: &[&str]) -> Result<Vec<String>, Fail> {
 }
 
 #[test]
-fn only_run_is_a_command(rt: HostRuntime) -> Result<(), Fail> {
+fn a_command_and_its_option(rt: HostRuntime) -> Result<(), Fail> {
     let alloc = rt.alloc();
-    assert_eq!(rt;
-        read_words(&list_of(alloc, &[])?),
-        Err(WordFault::NoCommand)
-    );
-    assert_eq!(rt; read_words(&list_of(alloc, &["run"])?), Ok(Settings::Run));
-    assert_eq!(rt;
-        read_words(&list_of(alloc, &["go"])?),
-        Err(WordFault::UnknownCommand)
-    );
-    assert_eq!(rt;
-        read_words(&list_of(alloc, &["go", "run"])?),
-        Err(WordFault::UnknownCommand)
-    );
+    for (words, settings) in [
+        (["run"].as_slice(), Settings::Run { cycles: false }),
+        (
+            ["run", "--cycles"].as_slice(),
+            Settings::Run { cycles: true },
+        ),
+        (["one"].as_slice(), Settings::One { cycles: false }),
+        (
+            ["one", "--cycles"].as_slice(),
+            Settings::One { cycles: true },
+        ),
+    ] {
+        assert_eq!(rt; read_words(&list_of(alloc, words)?), Ok(settings));
+    }
     Ok(())
 }
 
 #[test]
-fn the_first_word_after_run_is_judged(rt: HostRuntime) -> Result<(), Fail> {
+fn the_first_faulty_word_is_judged(rt: HostRuntime) -> Result<(), Fail> {
     let alloc = rt.alloc();
-    assert_eq!(rt;
-        read_words(&list_of(alloc, &["run", "--nodes=2"])?),
-        Err(WordFault::UnknownOption)
-    );
-    assert_eq!(rt;
-        read_words(&list_of(alloc, &["run", "run"])?),
-        Err(WordFault::ExtraWord)
-    );
-    assert_eq!(rt;
-        read_words(&list_of(alloc, &["run", "-", "x"])?),
-        Err(WordFault::UnknownOption)
-    );
-    assert_eq!(rt;
-        read_words(&list_of(alloc, &["run", "x", "-"])?),
-        Err(WordFault::ExtraWord)
-    );
+    for (words, fault) in [
+        ([].as_slice(), WordFault::NoCommand),
+        (["go"].as_slice(), WordFault::UnknownCommand),
+        (["go", "run"].as_slice(), WordFault::UnknownCommand),
+        (["run", "--nodes=2"].as_slice(), WordFault::UnknownOption),
+        (["run", "-", "x"].as_slice(), WordFault::UnknownOption),
+        (["one", "x", "-"].as_slice(), WordFault::ExtraWord),
+        (["run", "run"].as_slice(), WordFault::ExtraWord),
+        (
+            ["run", "--cycles", "--cycles"].as_slice(),
+            WordFault::RepeatedOption,
+        ),
+        (["one", "--cycles", "x"].as_slice(), WordFault::ExtraWord),
+        (["one", "--cycles=1"].as_slice(), WordFault::UnknownOption),
+    ] {
+        assert_eq!(rt; read_words(&list_of(alloc, words)?), Err(fault));
+    }
     Ok(())
 }
 
