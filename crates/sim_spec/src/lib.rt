@@ -5,12 +5,14 @@
 #![tactic(auto)]
 
 mod bucket;
+mod engine;
 pub mod laws;
 mod placement;
 mod stop;
 mod terms;
 
 pub use bucket::Bucket;
+pub use engine::Engine;
 pub use placement::Placement;
 pub use stop::Stop;
 pub use terms::Terms;

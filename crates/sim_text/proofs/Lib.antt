@@ -1,0 +1,4 @@
+pub mod GatheringLemmas
+pub mod RecordLemmas
+pub mod Rest
+pub mod UnderWay

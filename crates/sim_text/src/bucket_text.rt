@@ -1,0 +1,61 @@
+//! What a bucket tells.
+ghost use Rattle.std.specs.Prelude.{◌≡◌, ◌++◌, OnOk, All, ◌<◌};
+ghost use Rattle.sim_io.specs.Texts.{record_lines};
+ghost use Rattle.sim_io.specs.CycleTexts.{told_cycle, bucket_lines};
+ghost use Rattle.sim_text.specs.Rest.{AllAtObjects};
+
+use event_key::Key;
+use model_core::model::Model;
+use model_core::{Note, OutOfMemory};
+use sim_io::{put_cycle, put_done};
+use sim_spec::Bucket;
+use std::alloc::Global;
+
+/// Appends the lines of records.
+fn put_records<M: Model>(
+    alloc: Global,
+    model: &M,
+    records: &[(Key, Note)],
+    into: &mut Vec<u8>,
+) -> Result<(), OutOfMemory>
+    requires { AllAtObjects (M.meaning model.now) records.now }
+    ensures { OnOk result (into.new.items ≡ into.old.items ++ record_lines (M.meaning model.now) records.now) }
+{
+    for (key, note) in records {
+        put_done(alloc, model, key, note, into)?;
+    }
+    Ok(())
+}
+
+/// Appends the line of a cycle where it is told and whole.
+#[tactic(auto, unfolding(sim_io::specs::CycleTexts::told_cycle))]
+fn put_told_cycle(
+    told: bool,
+    number: u64,
+    bucket: &Bucket,
+    into: &mut Vec<u8>,
+) -> Result<(), OutOfMemory>
+    ensures { OnOk result (into.new.items ≡ into.old.items ++ told_cycle told number bucket.now bucket.now.fault bucket.now.limited) }
+{
+    if told && bucket.fault.is_none() && !bucket.limited {
+        put_cycle(number, bucket, into)?;
+    }
+    Ok(())
+}
+
+/// Appends what a bucket tells: its records, and the line of its cycle where cycles are told and it is whole.
+#[tactic(auto, unfolding(sim_io::specs::CycleTexts::bucket_lines))]
+pub fn put_bucket<M: Model>(
+    alloc: Global,
+    model: &M,
+    told: bool,
+    number: u64,
+    bucket: &Bucket,
+    into: &mut Vec<u8>,
+) -> Result<(), OutOfMemory>
+    requires { AllAtObjects (M.meaning model.now) bucket.now.done }
+    ensures { OnOk result (into.new.items ≡ into.old.items ++ bucket_lines (M.meaning model.now) told number bucket.now) }
+{
+    put_records(alloc, model, bucket.done.as_slice(), into)?;
+    put_told_cycle(told, number, bucket, into)
+}

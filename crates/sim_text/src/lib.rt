@@ -1,0 +1,10 @@
+//! The text of a simulation, from any engine that goes cycle by cycle.
+#![tactic(auto)]
+
+mod bucket_text;
+mod gathering;
+mod simulation;
+mod unfinished;
+
+pub use simulation::simulate;
+pub use unfinished::Unfinished;
