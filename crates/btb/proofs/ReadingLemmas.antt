@@ -21,20 +21,20 @@ model_of-take bytes = by_length (ltb 1048576 (length bytes)) refl
     by_length true h = rw (long h, h) refl
     by_length false h = ap model_of (take_all 1048577 bytes (omega (arith, ltb-false _ _ h)))
 
-module _ (old new : Option (List ℕ)) (taken slice : List ℕ) where
+module _ (old new : Option (List ℕ)) (taken slice : List ℕ) (cycles : Bool) where
   -- a fact about the answer to what was read is one about the answer to the input
-  pub answers_all : (Q : Answer → Type 0) (read : Checked ModelOf) → TakesUpTo 1048577 old new taken → slice ≡ taken → model_of slice ≡ read → Q (answer_to_model read)
-      → IfSome old (λ bytes. Q (answer_to_model (model_of bytes)))
+  pub answers_all : (Q : Answer → Type 0) (read : Checked ModelOf) → TakesUpTo 1048577 old new taken → slice ≡ taken → model_of slice ≡ read → Q (answer_to_model cycles read)
+      → IfSome old (λ bytes. Q (answer_to_model cycles (model_of bytes)))
   answers_all Q read took is_slice is_read fact = by_left old took
     where
-      by_left : (left : Option (List ℕ)) → TakesUpTo 1048577 left new taken → IfSome left (λ bytes. Q (answer_to_model (model_of bytes)))
+      by_left : (left : Option (List ℕ)) → TakesUpTo 1048577 left new taken → IfSome left (λ bytes. Q (answer_to_model cycles (model_of bytes)))
       by_left None took = tt
       by_left (Some bytes) took = from_new new took
         where
-          from_new : (rest : Option (List ℕ)) → TakesUpTo 1048577 (Some bytes) rest taken → Q (answer_to_model (model_of bytes))
+          from_new : (rest : Option (List ℕ)) → TakesUpTo 1048577 (Some bytes) rest taken → Q (answer_to_model cycles (model_of bytes))
           from_new None took = absurd took
           from_new (Some rest) took =
-              let R : Checked ModelOf → Type 0 = λ read. Q (answer_to_model read) in
+              let R : Checked ModelOf → Type 0 = λ read. Q (answer_to_model cycles read) in
               subst R (sym is_read ∙ ap model_of (is_slice ∙ took.0) ∙ model_of-take bytes) fact
 
   -- what is left is what comes behind

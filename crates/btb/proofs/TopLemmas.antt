@@ -1,13 +1,12 @@
 -- From how a command ends to what the program answers.
-use Rattle.std.proofs.Common.{◌≡◌, ◌≢◌, ◌⊎◌, ℕ, List, [], Option, Some, None, Result, Ok, Err, sym, refl, ap, ◌∙◌, subst, inl, inr, arith}
+use Rattle.std.proofs.Common.{◌≡◌, ◌≢◌, ◌⊎◌, ℕ, Bool, List, [], Option, Some, None, Result, Ok, Err, sym, refl, ap, ◌∙◌, subst, inl, inr, arith}
 use Rattle.std.specs.Prelude.{IfSome, IsOk, OnOk, OnErr}
 use Rattle.std.specs.Io.KnownBytes.{Appends}
 use Rattle.sim_io.specs.declared.words.WordFault.{WordFault}
 use Rattle.sim_io.specs.declared.words.Settings.{Settings}
-use Rattle.sim_io.specs.declared.words.Settings.TheVariants.{Run}
 use Rattle.sim_io.specs.Causes.{Rose, HasCause}
 use Rattle.sim_io.specs.Transfers.{AppendsFront}
-use Rattle.sim_io.specs.Words.{settings}
+use Rattle.sim_io.specs.Words.{settings, are_cycles_told}
 use Rattle.model_text.specs.ModelTexts.{model_of}
 use Rattle.sim_spec.specs.declared.stop.Stop.TheVariants.{End, Limit, Fault}
 use Rattle.btb.specs.declared.ending.Ending.{Ending}
@@ -28,7 +27,7 @@ whole_or_rose a b line before now (Err e) whole cause = inr cause.failed
 -- a status with which the answer is whole comes of an ending that answers
 pub answered : (e : Ending) (status : ℕ) → status ≡ status_of_ending e → IsAnswering status → IsAnswered e
 answered (Stopped stop) status is answering = tt
-answered Refused status is answering = tt
+answered (Refused line) status is answering = tt
 answered ReadFault status is answering = answering.0 is
 answered WriteFault status is answering = answering.1 is
 answered OutOfMemory status is answering = answering.2 is
@@ -38,7 +37,7 @@ noted : (e : Ending) (notes : List ℕ) → (IsAnswered e → line_of_ending e �
 noted (Stopped End) notes h = h tt
 noted (Stopped (Fault key code)) notes h = h tt
 noted (Stopped Limit) notes h = h tt
-noted Refused notes h = h tt
+noted (Refused line) notes h = h tt
 noted ReadFault notes h = refl
 noted WriteFault notes h = refl
 noted OutOfMemory notes h = refl
@@ -46,7 +45,7 @@ noted OutOfMemory notes h = refl
 completes : (e : Ending) (status target : ℕ) (read_fault write_fault : Type 0) → status ≡ status_of_ending e → (IsAnswered e → status_of_ending e ≡ target)
     → (e ≡ ReadFault → read_fault) → (e ≡ WriteFault → write_fault) → IsComplete status target read_fault write_fault
 completes (Stopped stop) status target rf wf is h r w = inl (is ∙ h tt)
-completes Refused status target rf wf is h r w = inl (is ∙ h tt)
+completes (Refused line) status target rf wf is h r w = inl (is ∙ h tt)
 completes ReadFault status target rf wf is h r w = inr (inl (r refl))
 completes WriteFault status target rf wf is h r w = inr (inr (inl (w refl)))
 completes OutOfMemory status target rf wf is h r w = inr (inr (inr is))
@@ -54,11 +53,11 @@ completes OutOfMemory status target rf wf is h r w = inr (inr (inr is))
 module _ (ws : List (List ℕ)) where
   refused : (fault : WordFault) → settings ws ≡ Err fault → (bytes : List ℕ) → answer ws bytes ≡ record { output = []; notes = words_line fault; status = 2 }
   unfolding answer answer_to_settings
-  refused fault h bytes = ap (λ s. answer_to_settings s bytes) h
+  refused fault h bytes = ap (λ r. answer_to_settings r bytes) h
 
-  runs : (s : Settings) → settings ws ≡ Ok s → (bytes : List ℕ) → answer ws bytes ≡ answer_to_model (model_of bytes)
+  runs : (s : Settings) (cycles : Bool) → settings ws ≡ Ok s → cycles ≡ are_cycles_told s → (bytes : List ℕ) → answer ws bytes ≡ answer_to_model cycles (model_of bytes)
   unfolding answer answer_to_settings
-  runs Run h bytes = ap (λ s. answer_to_settings s bytes) h
+  runs s cycles h told bytes = ap (λ r. answer_to_settings r bytes) h ∙ ap (λ b. answer_to_model b (model_of bytes)) (sym told)
 
   -- a fact about the answer to refused words
   pub refused_fact : (left : Option (List ℕ)) (fault : WordFault) → settings ws ≡ Err fault → (Q : Answer → Type 0) → Q (record { output = []; notes = words_line fault; status = 2 })
@@ -67,27 +66,27 @@ module _ (ws : List (List ℕ)) where
   refused_fact (Some bytes) fault h Q fact = subst Q (sym (refused fault h bytes)) fact
 
   -- a fact about the answer to a model that is run
-  pub runs_fact : (left : Option (List ℕ)) (s : Settings) → settings ws ≡ Ok s → (Q : Answer → Type 0) → IfSome left (λ bytes. Q (answer_to_model (model_of bytes))) → IfSome left (λ bytes. Q (answer ws bytes))
-  runs_fact None s h Q fact = tt
-  runs_fact (Some bytes) s h Q fact = subst Q (sym (runs s h bytes)) fact
+  pub runs_fact : (left : Option (List ℕ)) (s : Settings) (cycles : Bool) → settings ws ≡ Ok s → cycles ≡ are_cycles_told s → (Q : Answer → Type 0) → IfSome left (λ bytes. Q (answer_to_model cycles (model_of bytes))) → IfSome left (λ bytes. Q (answer ws bytes))
+  runs_fact None s cycles h told Q fact = tt
+  runs_fact (Some bytes) s cycles h told Q fact = subst Q (sym (runs s cycles h told bytes)) fact
 
-  pub status_fact : (left : Option (List ℕ)) (s : Settings) → settings ws ≡ Ok s → (e : Ending) (status : ℕ) → status ≡ status_of_ending e
-      → IfSome left (λ bytes. status_of_ending e ≡ (answer_to_model (model_of bytes)).status) → IfSome left (λ bytes. status ≡ (answer ws bytes).status)
-  status_fact None s h e status is fact = tt
-  status_fact (Some bytes) s h e status is fact = is ∙ fact ∙ ap (λ (a : Answer). a.status) (sym (runs s h bytes))
+  pub status_fact : (left : Option (List ℕ)) (s : Settings) (cycles : Bool) → settings ws ≡ Ok s → cycles ≡ are_cycles_told s → (e : Ending) (status : ℕ) → status ≡ status_of_ending e
+      → IfSome left (λ bytes. status_of_ending e ≡ (answer_to_model cycles (model_of bytes)).status) → IfSome left (λ bytes. status ≡ (answer ws bytes).status)
+  status_fact None s cycles h told e status is fact = tt
+  status_fact (Some bytes) s cycles h told e status is fact = is ∙ fact ∙ ap (λ (a : Answer). a.status) (sym (runs s cycles h told bytes))
 
   -- a fact about the line of an ending is one about what is noted
-  pub notes_fact : (left : Option (List ℕ)) (s : Settings) → settings ws ≡ Ok s → (e : Ending) (status : ℕ) → status ≡ status_of_ending e
-      → (IsAnswered e → IfSome left (λ bytes. line_of_ending e ≡ (answer_to_model (model_of bytes)).notes))
+  pub notes_fact : (left : Option (List ℕ)) (s : Settings) (cycles : Bool) → settings ws ≡ Ok s → cycles ≡ are_cycles_told s → (e : Ending) (status : ℕ) → status ≡ status_of_ending e
+      → (IsAnswered e → IfSome left (λ bytes. line_of_ending e ≡ (answer_to_model cycles (model_of bytes)).notes))
       → (Q : List ℕ → Type 0) (line : List ℕ) → line ≡ line_of_ending e → Q line → IfSome left (λ bytes. Q (noted_line status (answer ws bytes).notes))
-  notes_fact None s h e status is fact Q line is_line q = tt
-  notes_fact (Some bytes) s h e status is fact Q line is_line q =
-      let same = noted e (answer_to_model (model_of bytes)).notes fact in
-      subst Q (is_line ∙ same ∙ ap (λ (a : Answer). noted_line (status_of_ending e) a.notes) (sym (runs s h bytes)) ∙ ap (λ n. noted_line n (answer ws bytes).notes) (sym is)) q
+  notes_fact None s cycles h told e status is fact Q line is_line q = tt
+  notes_fact (Some bytes) s cycles h told e status is fact Q line is_line q =
+      let same = noted e (answer_to_model cycles (model_of bytes)).notes fact in
+      subst Q (is_line ∙ same ∙ ap (λ (a : Answer). noted_line (status_of_ending e) a.notes) (sym (runs s cycles h told bytes)) ∙ ap (λ n. noted_line n (answer ws bytes).notes) (sym is)) q
 
-  pub complete_fact : (left : Option (List ℕ)) (s : Settings) → settings ws ≡ Ok s → (e : Ending) (status : ℕ) (read_fault write_fault : Type 0) → status ≡ status_of_ending e
-      → (IsAnswered e → IfSome left (λ bytes. status_of_ending e ≡ (answer_to_model (model_of bytes)).status)) → (e ≡ ReadFault → read_fault) → (e ≡ WriteFault → write_fault)
+  pub complete_fact : (left : Option (List ℕ)) (s : Settings) (cycles : Bool) → settings ws ≡ Ok s → cycles ≡ are_cycles_told s → (e : Ending) (status : ℕ) (read_fault write_fault : Type 0) → status ≡ status_of_ending e
+      → (IsAnswered e → IfSome left (λ bytes. status_of_ending e ≡ (answer_to_model cycles (model_of bytes)).status)) → (e ≡ ReadFault → read_fault) → (e ≡ WriteFault → write_fault)
       → IfSome left (λ bytes. IsOk (model_of bytes) → IsComplete status (answer ws bytes).status read_fault write_fault)
-  complete_fact None s h e status rf wf is fact r w = tt
-  complete_fact (Some bytes) s h e status rf wf is fact r w = λ accepted.
-      completes e status (answer ws bytes).status rf wf is (λ done. fact done ∙ ap (λ (a : Answer). a.status) (sym (runs s h bytes))) r w
+  complete_fact None s cycles h told e status rf wf is fact r w = tt
+  complete_fact (Some bytes) s cycles h told e status rf wf is fact r w = λ accepted.
+      completes e status (answer ws bytes).status rf wf is (λ done. fact done ∙ ap (λ (a : Answer). a.status) (sym (runs s cycles h told bytes))) r w

@@ -1,5 +1,6 @@
 -- What the program writes, what it notes, and the status with which it ends.
-use Rattle.std.specs.Prelude.{ℕ, List, [], ◌++◌, Result, Ok, Err, codes}
+use Rattle.std.specs.Prelude.{ℕ, Bool, List, [], ◌++◌, Result, Ok, Err, codes, decimal}
+use Rattle.model_text.specs.Causes.{code_name}
 use Rattle.model_text.specs.Checks.{Checked}
 use Rattle.model_text.specs.ModelTexts.{ModelOf, model_of}
 use Rattle.sim_spec.specs.declared.stop.Stop.{Stop}
@@ -8,9 +9,8 @@ use Rattle.sim_spec.specs.State.{initial_state}
 use Rattle.sim_spec.specs.Run.{run}
 use Rattle.sim_io.specs.declared.words.WordFault.{WordFault}
 use Rattle.sim_io.specs.declared.words.Settings.{Settings}
-use Rattle.sim_io.specs.declared.words.Settings.TheVariants.{Run}
-use Rattle.sim_io.specs.Words.{settings, fault_name}
-use Rattle.sim_io.specs.Texts.{run_text}
+use Rattle.sim_io.specs.Words.{settings, fault_name, are_cycles_told}
+use Rattle.sim_io.specs.CycleTexts.{text}
 
 pub record Answer : Type 0 where
   pub output : List ℕ
@@ -26,22 +26,23 @@ status_of_stop Limit = 7
 abbrev pub words_line : WordFault → List ℕ
 words_line fault = codes "words: " ++ (fault_name fault ++ codes "\n")
 
--- the line for a model that is refused: as yet each refusal is told as one of the model as a whole
-abbrev pub refusal_line : List ℕ
-refusal_line = codes "model: 5 BadValue item 0\n"
+-- the line for a model that is refused: the code and the name of the cause, and the item where it was met
+unfoldable pub refusal_line : ℕ → ℕ → List ℕ
+refusal_line code item = codes "model: " ++ (decimal code ++ (codes " " ++ (code_name code ++ (codes " item " ++ (decimal item ++ codes "\n")))))
 
--- the answer to a model that was read, or refused
-unfoldable pub answer_to_model : Checked ModelOf → Answer
-answer_to_model (Err refused) = record { output = []; notes = refusal_line; status = 3 }
-answer_to_model (Ok model) = record {
-  output = run_text model.meaning model.terms (initial_state model.meaning);
+-- the answer to a model that was read, or refused, with or without a line for each cycle
+unfoldable pub answer_to_model : Bool → Checked ModelOf → Answer
+answer_to_model cycles (Err refused) = record { output = []; notes = refusal_line refused.code refused.item; status = 3 }
+answer_to_model cycles (Ok model) = record {
+  output = text model.meaning model.terms cycles (initial_state model.meaning);
   notes = [];
   status = status_of_stop (run model.meaning model.terms (initial_state model.meaning)).stop;
 }
 
+-- the commands tell one text, whatever engine runs the simulation
 unfoldable pub answer_to_settings : Result Settings WordFault → List ℕ → Answer
 answer_to_settings (Err fault) bytes = record { output = []; notes = words_line fault; status = 2 }
-answer_to_settings (Ok Run) bytes = answer_to_model (model_of bytes)
+answer_to_settings (Ok chosen) bytes = answer_to_model (are_cycles_told chosen) (model_of bytes)
 
 -- the answer to words and to the bytes of the input
 unfoldable pub answer : List (List ℕ) → List ℕ → Answer

@@ -2,18 +2,18 @@
 use Rattle.std.specs.Prelude.{◌≡◌, ◌≢◌, ◌⊎◌, ◌==◌, if◌then◌else◌, ℕ, List, [], codes}
 use Rattle.btb.specs.declared.ending.Ending.{Ending}
 use Rattle.btb.specs.declared.ending.Ending.TheVariants.{Stopped, Refused, ReadFault, WriteFault, OutOfMemory}
-use Rattle.btb.specs.Answer.{status_of_stop, refusal_line}
+use Rattle.btb.specs.Answer.{status_of_stop}
 
 abbrev pub status_of_ending : Ending → ℕ
 status_of_ending (Stopped stop) = status_of_stop stop
-status_of_ending Refused = 3
+status_of_ending (Refused line) = 3
 status_of_ending ReadFault = 4
 status_of_ending WriteFault = 5
 status_of_ending OutOfMemory = 6
 
 abbrev pub line_of_ending : Ending → List ℕ
 line_of_ending (Stopped stop) = []
-line_of_ending Refused = refusal_line
+line_of_ending (Refused line) = line.items
 line_of_ending ReadFault = codes "read failed\n"
 line_of_ending WriteFault = codes "write failed\n"
 line_of_ending OutOfMemory = codes "out of memory\n"
@@ -21,7 +21,7 @@ line_of_ending OutOfMemory = codes "out of memory\n"
 -- the simulation stopped, or the model was refused: the answer is whole
 abbrev pub IsAnswered : Ending → Type 0
 IsAnswered (Stopped stop) = Unit {0}
-IsAnswered Refused = Unit {0}
+IsAnswered (Refused line) = Unit {0}
 IsAnswered ReadFault = ⊥
 IsAnswered WriteFault = ⊥
 IsAnswered OutOfMemory = ⊥

@@ -1,25 +1,89 @@
-//! The command `run`.
-ghost use Rattle.std.specs.Prelude.{◌≡◌, ◌≤◌, IfSome, Some, drop};
+//! The commands that run a model.
+ghost use Rattle.std.specs.Prelude.{◌≡◌, ◌≢◌, ◌≤◌, IfOk, IfSome, OnOk, OnErr, IsErrOf, Some, None, drop};
 ghost use Rattle.std.specs.Io.KnownBytes.{Appends};
+ghost use Rattle.std.specs.Arc.{arc_value};
+ghost use Rattle.sim_spec.specs.Run.{run};
+ghost use Rattle.sim_spec.specs.Standing.{stands};
+ghost use Rattle.sim_spec.specs.State.{initial_state};
 ghost use Rattle.sim_io.specs.Causes.{Rose};
+ghost use Rattle.sim_io.specs.CycleTexts.{text};
 ghost use Rattle.sim_io.specs.Transfers.{AppendsFront};
+ghost use Rattle.sim_text.specs.declared.unfinished.Unfinished.TheVariants.{WriteFault};
 ghost use Rattle.model_text.specs.ModelTexts.{model_of};
-ghost use Rattle.btb.specs.Answer.{answer_to_model};
+ghost use Rattle.btb.specs.Answer.{answer_to_model, refusal_line};
 ghost use Rattle.btb.specs.Endings.{status_of_ending, line_of_ending, IsAnswered};
 
 use crate::ending::Ending;
-use list_engine::{Unfinished, simulate};
+use crate::notes::refusal_line;
+use model_core::OutOfMemory;
+use model_core::model::Model;
 use model_text::{Refusal, read_model};
+use one_thread::OneThread;
 use sim_io::{MOST_BYTES, ReadEnd, Sink, Source, read_all};
+use sim_spec::{Stop, Terms};
+use sim_text::{Unfinished, simulate};
 use std::alloc::Global;
+use std::sync::Arc;
 
-/// Reads a model and writes the text of its simulation.
-pub fn run_command<S: Source, K: Sink>(alloc: Global, source: &mut S, out: &mut K) -> Ending
-    ensures output { IsAnswered result → IfSome (S.left source.old) (λ bytes. Appends (K.told out.old) (K.told out.new) (answer_to_model (model_of bytes)).output) }
-    ensures status { IsAnswered result → IfSome (S.left source.old) (λ bytes. status_of_ending result ≡ (answer_to_model (model_of bytes)).status) }
-    ensures line { IsAnswered result → IfSome (S.left source.old) (λ bytes. line_of_ending result ≡ (answer_to_model (model_of bytes)).notes) }
+/// An engine at the start of a model, and the model itself, which names what the engine tells.
+fn engine_of<M: Model>(
+    alloc: Global,
+    model: M,
+    terms: Terms,
+) -> Result<(Arc<M>, OneThread<M>), OutOfMemory>
+    ensures named { IfOk result (λ both. arc_value both.0 ≡ model) }
+    ensures model { IfOk result (λ both. both.1.model ≡ model) }
+    ensures terms { IfOk result (λ both. both.1.terms ≡ terms) }
+    ensures begins { IfOk result (λ both. both.1.standing ≡ stands (initial_state (M.meaning model)) None) }
+{
+    let model = Arc::new(alloc, model)?;
+    let engine = OneThread::new(alloc, model.clone()?, terms)?;
+    Ok((model, engine))
+}
+
+/// Runs a model on one thread, and writes the text of its simulation.
+fn run_model<M: Model, K: Sink>(
+    alloc: Global,
+    model: M,
+    terms: Terms,
+    cycles: bool,
+    out: &mut K,
+) -> Result<Stop, Unfinished>
+    ensures whole { OnOk result (Appends (K.told out.old) (K.told out.new) (text (M.meaning model) terms cycles (initial_state (M.meaning model)))) }
+    ensures stop { IfOk result (λ stop. stop ≡ (run (M.meaning model) terms (initial_state (M.meaning model))).stop) }
+    ensures front { OnErr result (AppendsFront (K.told out.old) (K.told out.new) (text (M.meaning model) terms cycles (initial_state (M.meaning model)))) }
+    ensures fault { IsErrOf result WriteFault → Rose (K.faults out.old) (K.faults out.new) }
+    ensures later { K.faults out.old ≤ K.faults out.new }
+{
+    let (model, mut engine) = engine_of(alloc, model, terms)?;
+    simulate(alloc, &*model, &terms, &mut engine, cycles, out)
+}
+
+/// The ending of a model that is refused with this code at this item.
+fn refused(alloc: Global, code: u8, item: u32) -> Ending
+    ensures status { IsAnswered result → status_of_ending result ≡ 3 }
+    ensures line { IsAnswered result → line_of_ending result ≡ refusal_line code item }
+    ensures read { result ≢ Ending.ReadFault }
+    ensures write { result ≢ Ending.WriteFault }
+{
+    match refusal_line(alloc, code, item) {
+        Ok(line) => Ending::Refused { line },
+        Err(_) => Ending::OutOfMemory,
+    }
+}
+
+/// Reads a model and writes the text of its simulation, with a line for each cycle where these are asked for.
+pub fn run_command<S: Source, K: Sink>(
+    alloc: Global,
+    cycles: bool,
+    source: &mut S,
+    out: &mut K,
+) -> Ending
+    ensures output { IsAnswered result → IfSome (S.left source.old) (λ bytes. Appends (K.told out.old) (K.told out.new) (answer_to_model cycles (model_of bytes)).output) }
+    ensures status { IsAnswered result → IfSome (S.left source.old) (λ bytes. status_of_ending result ≡ (answer_to_model cycles (model_of bytes)).status) }
+    ensures line { IsAnswered result → IfSome (S.left source.old) (λ bytes. line_of_ending result ≡ (answer_to_model cycles (model_of bytes)).notes) }
     ensures read { IsAnswered result → IfSome (S.left source.old) (λ bytes. S.left source.new ≡ Some (drop MOST_BYTES bytes)) }
-    ensures front { IfSome (S.left source.old) (λ bytes. AppendsFront (K.told out.old) (K.told out.new) (answer_to_model (model_of bytes)).output) }
+    ensures front { IfSome (S.left source.old) (λ bytes. AppendsFront (K.told out.old) (K.told out.new) (answer_to_model cycles (model_of bytes)).output) }
     ensures read_fault { result ≡ Ending.ReadFault → Rose (S.faults source.old) (S.faults source.new) }
     ensures unwritten { result ≡ Ending.ReadFault → out.new ≡ out.old }
     ensures write_fault { result ≡ Ending.WriteFault → Rose (K.faults out.old) (K.faults out.new) }
@@ -30,12 +94,12 @@ pub fn run_command<S: Source, K: Sink>(alloc: Global, source: &mut S, out: &mut 
         Err(ReadEnd::OutOfMemory) => return Ending::OutOfMemory,
     };
     match read_model(alloc, bytes.as_slice()) {
-        Ok((model, terms)) => match simulate(alloc, &model, &terms, out) {
+        Ok((model, terms)) => match run_model(alloc, model, terms, cycles, out) {
             Ok(stop) => Ending::Stopped(stop),
             Err(Unfinished::WriteFault) => Ending::WriteFault,
             Err(Unfinished::OutOfMemory) => Ending::OutOfMemory,
         },
-        Err(Refusal::At { .. }) => Ending::Refused,
+        Err(Refusal::At { code, item }) => refused(alloc, code, item),
         Err(Refusal::OutOfMemory) => Ending::OutOfMemory,
     }
 }

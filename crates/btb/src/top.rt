@@ -11,7 +11,7 @@ ghost use Rattle.btb.specs.Endings.{IsAnswering, noted_line, IsComplete};
 use crate::gate::Gate;
 use crate::notes::words_line;
 use crate::running::run_command;
-use sim_io::{MOST_BYTES, Settings, Sink, Source, read_words, write_all};
+use sim_io::{MOST_BYTES, Sink, Source, read_words, write_all};
 use std::alloc::AllocGlobal;
 use std::thread::Threads;
 
@@ -66,8 +66,8 @@ pub fn btb<R: AllocGlobal + Threads + Sync, S: Source, K: Sink, N: Sink, G: Gate
             let _told = write_all(notes, words_line(fault));
             2
         }
-        Ok(Settings::Run) => {
-            let ending = run_command(rt.alloc(), source, out);
+        Ok(settings) => {
+            let ending = run_command(rt.alloc(), settings.cycles(), source, out);
             let _told = write_all(notes, ending.line());
             ending.status()
         }

@@ -23,6 +23,11 @@ abbrev pub command_with : (Bool → Settings) → Result Bool WordFault → Resu
 command_with command (Ok cycles) = Ok (command cycles)
 command_with command (Err fault) = Err fault
 
+-- whether a line is told for each cycle
+abbrev pub are_cycles_told : Settings → Bool
+are_cycles_told (Run cycles) = cycles
+are_cycles_told (One cycles) = cycles
+
 -- the first word is the command, and the others are its options
 unfoldable pub settings : List (List ℕ) → Result Settings WordFault
 settings [] = Err NoCommand

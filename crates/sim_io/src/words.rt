@@ -50,6 +50,19 @@ pub enum Settings {
     One { cycles: bool },
 }
 
+impl Settings {
+    ghost use Rattle.sim_io.specs.Words.{are_cycles_told};
+
+    /// Whether a line is told for each cycle.
+    pub fn cycles(self) -> bool
+        ensures { result ≡ are_cycles_told self }
+    {
+        match self {
+            Settings::Run { cycles } | Settings::One { cycles } => cycles,
+        }
+    }
+}
+
 ghost use Rattle.sim_io.specs.Words.{stray_word, cycles_asked, settings, texts_of};
 
 /// What is wrong with a word that stands for nothing.

@@ -30,37 +30,37 @@ returns-in-Err-clause-notes_whole g c =
     let P : List ℕ → Type 0 = λ line. Appends (g.N.Sink.told c.args.notes.now) (g.N.Sink.told c.write_all-told.new.sink) line ⊎ Rose (g.N.Sink.faults c.args.notes.now) (g.N.Sink.faults c.write_all-told.new.sink) in
     refused_fact (texts_of c.args.words.now.items) _ c.in-Err.fault (sym c.read_words.ensures ∙ c.in-Err.is) (λ answer. P answer.notes) (subst P c.words_line.ensures told)
 
-pub returns-in-Ok-Run-clause-output : goal.returns-in-Ok-Run-clause-output
-returns-in-Ok-Run-clause-output g c = λ answering.
-    runs_fact (texts_of c.args.words.now.items) _ c.in-Ok-Run.field-0 (sym c.read_words.ensures ∙ c.in-Ok-Run.is)
+pub returns-in-Ok-clause-output : goal.returns-in-Ok-clause-output
+returns-in-Ok-clause-output g c = λ answering.
+    runs_fact (texts_of c.args.words.now.items) _ c.in-Ok.settings c.cycles.result (sym c.read_words.ensures ∙ c.in-Ok.is) c.cycles.ensures
     (λ answer. Appends (g.K.Sink.told c.args.out.now) (g.K.Sink.told c.run_command-ending.new.out) answer.output)
     (c.run_command-ending.ensures.output (answered c.run_command-ending.result c.status.result c.status.ensures answering))
 
-pub returns-in-Ok-Run-clause-status : goal.returns-in-Ok-Run-clause-status
-returns-in-Ok-Run-clause-status g c = λ answering.
-    status_fact (texts_of c.args.words.now.items) _ c.in-Ok-Run.field-0 (sym c.read_words.ensures ∙ c.in-Ok-Run.is) c.run_command-ending.result c.status.result c.status.ensures
+pub returns-in-Ok-clause-status : goal.returns-in-Ok-clause-status
+returns-in-Ok-clause-status g c = λ answering.
+    status_fact (texts_of c.args.words.now.items) _ c.in-Ok.settings c.cycles.result (sym c.read_words.ensures ∙ c.in-Ok.is) c.cycles.ensures c.run_command-ending.result c.status.result c.status.ensures
     (c.run_command-ending.ensures.status (answered c.run_command-ending.result c.status.result c.status.ensures answering))
 
-pub returns-in-Ok-Run-clause-front : goal.returns-in-Ok-Run-clause-front
-returns-in-Ok-Run-clause-front g c =
-    runs_fact (texts_of c.args.words.now.items) _ c.in-Ok-Run.field-0 (sym c.read_words.ensures ∙ c.in-Ok-Run.is)
+pub returns-in-Ok-clause-front : goal.returns-in-Ok-clause-front
+returns-in-Ok-clause-front g c =
+    runs_fact (texts_of c.args.words.now.items) _ c.in-Ok.settings c.cycles.result (sym c.read_words.ensures ∙ c.in-Ok.is) c.cycles.ensures
     (λ answer. AppendsFront (g.K.Sink.told c.args.out.now) (g.K.Sink.told c.run_command-ending.new.out) answer.output) c.run_command-ending.ensures.front
 
-pub returns-in-Ok-Run-clause-notes_front : goal.returns-in-Ok-Run-clause-notes_front
-returns-in-Ok-Run-clause-notes_front g c =
-    let told = front_of_write _ _ _ c.write_all-told-in-Ok-Run.result c.write_all-told-in-Ok-Run.ensures.all c.write_all-told-in-Ok-Run.ensures.front in
-    notes_fact (texts_of c.args.words.now.items) _ c.in-Ok-Run.field-0 (sym c.read_words.ensures ∙ c.in-Ok-Run.is) c.run_command-ending.result c.status.result c.status.ensures
-    c.run_command-ending.ensures.line (AppendsFront (g.N.Sink.told c.args.notes.now) (g.N.Sink.told c.write_all-told-in-Ok-Run.new.sink)) c.line.result.now c.line.ensures told
+pub returns-in-Ok-clause-notes_front : goal.returns-in-Ok-clause-notes_front
+returns-in-Ok-clause-notes_front g c =
+    let told = front_of_write _ _ _ c.write_all-told-in-Ok.result c.write_all-told-in-Ok.ensures.all c.write_all-told-in-Ok.ensures.front in
+    notes_fact (texts_of c.args.words.now.items) _ c.in-Ok.settings c.cycles.result (sym c.read_words.ensures ∙ c.in-Ok.is) c.cycles.ensures c.run_command-ending.result c.status.result c.status.ensures
+    c.run_command-ending.ensures.line (AppendsFront (g.N.Sink.told c.args.notes.now) (g.N.Sink.told c.write_all-told-in-Ok.new.sink)) c.line.result.now c.line.ensures told
 
-pub returns-in-Ok-Run-clause-notes_whole : goal.returns-in-Ok-Run-clause-notes_whole
-returns-in-Ok-Run-clause-notes_whole g c =
-    let told = whole_or_rose _ _ _ _ _ c.write_all-told-in-Ok-Run.result c.write_all-told-in-Ok-Run.ensures.all c.write_all-told-in-Ok-Run.ensures.cause in
-    notes_fact (texts_of c.args.words.now.items) _ c.in-Ok-Run.field-0 (sym c.read_words.ensures ∙ c.in-Ok-Run.is) c.run_command-ending.result c.status.result c.status.ensures
+pub returns-in-Ok-clause-notes_whole : goal.returns-in-Ok-clause-notes_whole
+returns-in-Ok-clause-notes_whole g c =
+    let told = whole_or_rose _ _ _ _ _ c.write_all-told-in-Ok.result c.write_all-told-in-Ok.ensures.all c.write_all-told-in-Ok.ensures.cause in
+    notes_fact (texts_of c.args.words.now.items) _ c.in-Ok.settings c.cycles.result (sym c.read_words.ensures ∙ c.in-Ok.is) c.cycles.ensures c.run_command-ending.result c.status.result c.status.ensures
     c.run_command-ending.ensures.line
-    (λ line. Appends (g.N.Sink.told c.args.notes.now) (g.N.Sink.told c.write_all-told-in-Ok-Run.new.sink) line ⊎ Rose (g.N.Sink.faults c.args.notes.now) (g.N.Sink.faults c.write_all-told-in-Ok-Run.new.sink))
+    (λ line. Appends (g.N.Sink.told c.args.notes.now) (g.N.Sink.told c.write_all-told-in-Ok.new.sink) line ⊎ Rose (g.N.Sink.faults c.args.notes.now) (g.N.Sink.faults c.write_all-told-in-Ok.new.sink))
     c.line.result.now c.line.ensures told
 
-pub returns-in-Ok-Run-clause-complete : goal.returns-in-Ok-Run-clause-complete
-returns-in-Ok-Run-clause-complete g c = λ _.
-    complete_fact (texts_of c.args.words.now.items) _ c.in-Ok-Run.field-0 (sym c.read_words.ensures ∙ c.in-Ok-Run.is) c.run_command-ending.result c.status.result _ _ c.status.ensures
+pub returns-in-Ok-clause-complete : goal.returns-in-Ok-clause-complete
+returns-in-Ok-clause-complete g c = λ _.
+    complete_fact (texts_of c.args.words.now.items) _ c.in-Ok.settings c.cycles.result (sym c.read_words.ensures ∙ c.in-Ok.is) c.cycles.ensures c.run_command-ending.result c.status.result _ _ c.status.ensures
     c.run_command-ending.ensures.status c.run_command-ending.ensures.read_fault c.run_command-ending.ensures.write_fault
