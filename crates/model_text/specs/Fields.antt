@@ -76,3 +76,8 @@ each_from check k (item d ds) = check k d >>= (λ first. each_from check (k + 1)
 -- each entry of an array by one check
 abbrev pub each : {A : Type 0} → (Data → Checked A) → Items → Checked (List A)
 each check ds = each_from (λ k. check) 0 ds
+
+-- each element of a list by the check of its item, with items from k on
+abbrev pub each_of : {X A : Type 0} → (ℕ → X → Checked A) → ℕ → List X → Checked (List A)
+each_of check k [] = Ok []
+each_of check k (x ∷ xs) = check k x >>= (λ first. each_of check (k + 1) xs >>= (λ others. Ok (first ∷ others)))

@@ -1,5 +1,5 @@
 -- Pass two: the objects in order, each with the objects that it names.
-use Rattle.std.specs.Prelude.{ℕ, ◌+◌, List, [], ◌∷◌, Option, Some, None, Ok, if◌then◌else◌}
+use Rattle.std.specs.Prelude.{ℕ, List, Option, Some, None, Ok, if◌then◌else◌}
 use Rattle.random_streams.specs.declared.law.Law.TheVariants.{Choice}
 use Rattle.queue_models.specs.declared.object.Object.{Object}
 use Rattle.queue_models.specs.declared.object.Role.{Role}
@@ -10,6 +10,7 @@ use Rattle.model_text.specs.declared.named.NamedKind.{NamedKind}
 use Rattle.model_text.specs.declared.named.NamedKind.TheVariants.{Source, Station, Delay, Router, Sink}
 use Rattle.model_text.specs.declared.refusal.Cause.TheVariants.{BadLink}
 use Rattle.model_text.specs.Checks.{Checked, refusal, ◌>>=◌}
+use Rattle.model_text.specs.Fields.{each_of}
 use Rattle.model_text.specs.Names.{Finder}
 
 abbrev pub found_link : Option Place → ℕ → Checked ℕ
@@ -21,8 +22,7 @@ abbrev pub link : Finder → ℕ → List ℕ → Checked ℕ
 link find at name = found_link (find name) at
 
 abbrev pub links : Finder → ℕ → List (List ℕ) → Checked (List ℕ)
-links find at [] = Ok []
-links find at (name ∷ names) = link find at name >>= (λ first. links find at names >>= (λ others. Ok (first ∷ others)))
+links find at names = each_of (λ k. link find at) 0 names
 
 abbrev pub linked_role : Finder → ℕ → NamedKind → Checked Role
 linked_role find at (Source first every count next) = link find at next >>= (λ number. Ok (Makes (record { first = first; every = every; count = count; next = number })))
@@ -37,5 +37,4 @@ linked_object find at object = linked_role find at object.kind >>= (λ role. Ok 
 
 -- the objects one after another, with items from k on
 abbrev pub linked_from : Finder → ℕ → List NamedItem → Checked (List Object)
-linked_from find k [] = Ok []
-linked_from find k (object ∷ objects) = linked_object find k object >>= (λ first. linked_from find (k + 1) objects >>= (λ others. Ok (first ∷ others)))
+linked_from find k objects = each_of (linked_object find) k objects
