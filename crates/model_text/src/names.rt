@@ -1,5 +1,6 @@
 //! Names of objects.
 ghost use Rattle.std.specs.Prelude.{◌≡◌, IfOk, IsTrue, None};
+ghost use Rattle.std.specs.List.{list_all};
 ghost use Rattle.toml.specs.View.{view, table_view};
 ghost use Rattle.queue_models.specs.Parts.{is_name_byte};
 ghost use Rattle.model_text.specs.Checks.{Gives};
@@ -23,13 +24,16 @@ fn is_name_byte(byte: u8) -> bool
     matches!(byte, b'A'..=b'Z' | b'a'..=b'z' | b'0'..=b'9' | b'_' | b'-')
 }
 
+fn has_name_bytes(name: &str) -> bool
+    ensures { result ≡ list_all is_name_byte name.now }
+{
+    name.as_bytes().iter().all(|byte| is_name_byte(*byte))
+}
+
 fn is_name(name: &str) -> bool
     ensures { result ≡ is_name name.now }
 {
-    let bytes = name.as_bytes();
-    !bytes.is_empty()
-        && bytes.len() <= MOST_NAME_BYTES
-        && bytes.iter().all(|byte| is_name_byte(*byte))
+    !name.is_empty() && name.len() <= MOST_NAME_BYTES && has_name_bytes(name)
 }
 
 /// A name that no object before has.

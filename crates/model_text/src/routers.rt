@@ -1,12 +1,13 @@
 //! The arrays of a router.
-ghost use Rattle.std.specs.Prelude.{◌≡◌, ◌≤◌, ℕ, length, sum, replicate, All, IfOk, IsTrue};
+ghost use Rattle.std.specs.Prelude.{◌≡◌, ◌≤◌, nat_le, length, sum, replicate, IfOk, IsTrue};
+ghost use Rattle.std.specs.List.{list_all};
 ghost use Rattle.toml.specs.View.{view, items_view, table_view};
 ghost use Rattle.random_streams.specs.Laws.{is_choice};
 ghost use Rattle.model_text.specs.Checks.{Gives};
 ghost use Rattle.model_text.specs.Fields.{number, text, each, required, optional};
 ghost use Rattle.model_text.specs.Routers.{ways, weights};
 
-use crate::fields::{array_of, entries_of, field, number, text};
+use crate::fields::{array_of, entries_of, field, item_count, number, text};
 use crate::label::{Label, Labels};
 use crate::refusal::{Cause, Refusal};
 use random_streams::Weights;
@@ -38,7 +39,7 @@ fn ways(alloc: Global, value: &Value, item: u32) -> Result<Labels, Refusal>
     ensures few { IfOk result (λ names. length names ≤ 64) }
 {
     let values = array_of(value, item, MOST_WAYS)?;
-    if values.is_empty() {
+    if item_count(values) == 0 {
         return Err(Cause::BadValue.at(item));
     }
     Ok(Labels::new(labels(alloc, values, item)?))
@@ -63,7 +64,7 @@ pub(crate) fn required_ways(
 fn numbers(alloc: Global, values: &[Value], item: u32) -> Result<Vec<u32>, Refusal>
     ensures read { Gives (λ numbers. numbers.items) result (each (number item 0 65535) (items_view values.now)) }
     ensures count { IfOk result (λ numbers. length numbers.items ≡ length values.now) }
-    ensures small { IfOk result (λ numbers. All (λ n. n ≤ 65535) numbers.items) }
+    ensures small { IfOk result (λ numbers. IsTrue (list_all (λ n. nat_le n 65535) numbers.items)) }
 {
     let mut numbers = Vec::new(alloc);
     for value in values {
@@ -80,7 +81,7 @@ fn total(weights: &[u32]) -> u64
 }
 
 /// As many weights as there are ways, not all of them 0.
-#[tactic(auto, unfolding(crate::specs::Routers::weights))]
+#[tactic(auto, unfolding(crate::specs::Routers::weights, random_streams::specs::Laws::is_choice))]
 fn weights(alloc: Global, value: &Value, item: u32, count: usize) -> Result<Weights, Refusal>
     requires some { 1 ≤ count }
     requires few { count ≤ 64 }
@@ -89,7 +90,7 @@ fn weights(alloc: Global, value: &Value, item: u32, count: usize) -> Result<Weig
     ensures choice { IfOk result (λ list. IsTrue (is_choice list)) }
 {
     let values = entries_of(value, item)?;
-    if values.len() != count {
+    if item_count(values) != count {
         return Err(Cause::BadValue.at(item));
     }
     let list = numbers(alloc, values, item)?;
