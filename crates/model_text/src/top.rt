@@ -79,9 +79,7 @@ fn body(alloc: Global, table: &Table, kind: ModelKind, seed: u64) -> Result<AnyM
     ensures { Gives (λ model. meaning_of model) result (body kind seed (table_view table.now)) }
 {
     match kind {
-        ModelKind::Phold => Ok(AnyModel::Phold(required_phold(
-            alloc, table, "phold", seed,
-        )?)),
+        ModelKind::Phold => Ok(AnyModel::Phold(required_phold(alloc, table, "phold", seed)?)),
         ModelKind::Network => Ok(AnyModel::Network(network(alloc, table, seed)?)),
     }
 }
