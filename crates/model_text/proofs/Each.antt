@@ -1,11 +1,11 @@
 -- Reading elements one after the other, as a loop does.
 use Rattle.std.proofs.Common.{◌≡◌, ℕ, ◌+◌, ◌<◌, List, [], ◌∷◌, ◌++◌, length, drop, get_or, Ok, Err, refl, sym, ap, ◌∙◌, append_assoc, arith}
-use Rattle.std.proofs.lemmas.List.{append-nil}
+use Rattle.std.proofs.lemmas.List.{append-nil, drop_more}
 use Rattle.std.proofs.Math.Seq.{drop-length}
 use Rattle.model_text.specs.Checks.{Checked, ◌>>=◌, Fails}
 use Rattle.model_text.specs.declared.refusal.Refusal.{Refusal}
 use Rattle.model_text.specs.declared.refusal.Refusal.TheVariants.{At, OutOfMemory}
-use Rattle.model_text.specs.Fields.{each_from, item_count}
+use Rattle.model_text.specs.Fields.{each_from, each_of, item_count}
 use Rattle.toml.specs.Data.{Data, item}
 use Rattle.toml.specs.View.{view, items_view}
 use Rattle.toml.specs.declared.value.Value.{Value}
@@ -44,3 +44,26 @@ is_done read front k vs total so_far =
 pub item_count-items : (vs : List Value) → length vs ≡ item_count (items_view vs)
 item_count-items [] = refl
 item_count-items (v ∷ vs) = rw (← item_count-items vs) (grind arith)
+
+-- the same over a list
+pub list_goes_on : {X A : Type 0} (read : ℕ → X → Checked A) (front : List A) (k i : ℕ) (xs : List X) (x : X) (a : A) (total : Checked (List A))
+    → i < length xs → x ≡ get_or xs i x → read k x ≡ Ok a
+    → with_front front (each_of read k (drop i xs)) ≡ total → with_front (front ++ a ∷ []) (each_of read (k + 1) (drop (i + 1) xs)) ≡ total
+list_goes_on read front k i xs x a total lt same h so_far =
+    let split : drop i xs ≡ x ∷ drop (i + 1) xs = drop_more xs i x lt ∙ ap (λ y. y ∷ drop (i + 1) xs) (sym same) in
+    let one : with_front front (each_of read k (drop i xs)) ≡ with_front (front ++ a ∷ []) (each_of read (k + 1) (drop (i + 1) xs)) = rw (split, h) (regroup front a (each_of read (k + 1) (drop (i + 1) xs))) in
+    sym one ∙ so_far
+
+pub list_ends : {X A : Type 0} (read : ℕ → X → Checked A) (e : Refusal) (front : List A) (k i : ℕ) (xs : List X) (x : X) (total : Checked (List A))
+    → i < length xs → x ≡ get_or xs i x → Fails e (read k x)
+    → with_front front (each_of read k (drop i xs)) ≡ total → Fails e total
+list_ends read OutOfMemory front k i xs x total lt same h so_far = tt
+list_ends read (At code place) front k i xs x total lt same h so_far =
+    let split : drop i xs ≡ x ∷ drop (i + 1) xs = drop_more xs i x lt ∙ ap (λ y. y ∷ drop (i + 1) xs) (sym same) in
+    let one : with_front front (each_of read k (drop i xs)) ≡ Err (record { code = code; item = place }) = rw (split, h) refl in
+    sym so_far ∙ one
+
+pub list_is_done : {X A : Type 0} (read : ℕ → X → Checked A) (front : List A) (k : ℕ) (xs : List X) (total : Checked (List A))
+    → with_front front (each_of read k (drop (length xs) xs)) ≡ total → total ≡ Ok front
+list_is_done read front k xs total so_far =
+    sym so_far ∙ rw drop-length (ap (λ ys. Ok ys) (append-nil front))

@@ -2,7 +2,7 @@
 use Rattle.std.specs.Prelude.{ℕ, ◌+◌, ◌==◌, pos, Bool, true, not, ◌&&◌, List, [], ◌∷◌, Option, Some, None, Ok, nat_lt, if◌then◌else◌}
 use Rattle.std.specs.List.{list_any}
 use Rattle.std.specs.Str.{bytes_eq}
-use Rattle.toml.specs.Data.{Data, string, integer, array, table, Items, no_items, item, Members, no_members, member, get_member}
+use Rattle.toml.specs.Data.{Data, string, integer, boolean, array, table, Items, no_items, item, Members, no_members, member, get_member}
 use Rattle.model_text.specs.declared.refusal.Cause.TheVariants.{Missing, Unknown, BadValue, Limit}
 use Rattle.model_text.specs.Checks.{Checked, refusal, refusal_where, ◌>>=◌}
 
@@ -21,6 +21,10 @@ abbrev pub text : ℕ → Data → Checked (List ℕ)
 text at (string s) = Ok s
 text at _ = refusal BadValue at
 
+abbrev pub truth : ℕ → Data → Checked Bool
+truth at (boolean b) = Ok b
+truth at _ = refusal BadValue at
+
 abbrev pub table_of : ℕ → Data → Checked Members
 table_of at (table ms) = Ok ms
 table_of at _ = refusal BadValue at
@@ -28,6 +32,11 @@ table_of at _ = refusal BadValue at
 abbrev pub item_count : Items → ℕ
 item_count no_items = 0
 item_count (item d ds) = 1 + item_count ds
+
+-- an array of any length
+abbrev pub entries_of : ℕ → Data → Checked Items
+entries_of at (array ds) = Ok ds
+entries_of at _ = refusal BadValue at
 
 -- an array with a greatest number of entries
 abbrev pub array_of : ℕ → ℕ → Data → Checked Items
@@ -63,3 +72,12 @@ only at known ms = refusal_where (not (has_only known ms)) Unknown at
 abbrev pub each_from : {A : Type 0} → (ℕ → Data → Checked A) → ℕ → Items → Checked (List A)
 each_from check k no_items = Ok []
 each_from check k (item d ds) = check k d >>= (λ first. each_from check (k + 1) ds >>= (λ others. Ok (first ∷ others)))
+
+-- each entry of an array by one check
+abbrev pub each : {A : Type 0} → (Data → Checked A) → Items → Checked (List A)
+each check ds = each_from (λ k. check) 0 ds
+
+-- each element of a list by the check of its item, with items from k on
+abbrev pub each_of : {X A : Type 0} → (ℕ → X → Checked A) → ℕ → List X → Checked (List A)
+each_of check k [] = Ok []
+each_of check k (x ∷ xs) = check k x >>= (λ first. each_of check (k + 1) xs >>= (λ others. Ok (first ∷ others)))

@@ -1,13 +1,16 @@
 -- The model of a text: the checks in the order in which the first refusal counts.
-use Rattle.std.specs.Prelude.{ℕ, not, List, [], ◌∷◌, length, Option, Some, None, Ok, codes, nat_lt, if◌then◌else◌}
+use Rattle.std.specs.Prelude.{ℕ, List, [], ◌∷◌, length, Option, Some, None, Ok, codes, nat_lt, if◌then◌else◌}
 use Rattle.std.specs.Str.{bytes_eq, is_utf8}
 use Rattle.toml.specs.Data.{Members}
 use Rattle.toml.specs.Parse.{parse_document}
 use Rattle.model_core.specs.Meaning.{Meaning}
 use Rattle.sim_spec.specs.declared.terms.Terms.{Terms}
+use Rattle.model_text.specs.declared.top.ModelKind.{ModelKind}
+use Rattle.model_text.specs.declared.top.ModelKind.TheVariants.{Phold, Network}
 use Rattle.model_text.specs.declared.refusal.Cause.TheVariants.{TooLong, NotToml, BadValue}
 use Rattle.model_text.specs.Checks.{Checked, refusal, refusal_where, ◌>>=◌}
 use Rattle.model_text.specs.Fields.{number, only_number, text, required, optional, only}
+use Rattle.model_text.specs.Networks.{network}
 use Rattle.model_text.specs.Phold.{phold}
 use Rattle.model_text.specs.TermsOf.{terms_of}
 
@@ -16,17 +19,32 @@ pub record ModelOf : Type 0 where
   pub meaning : Meaning
   pub terms : Terms
 
+abbrev pub kind_of : List ℕ → Checked ModelKind
+kind_of name =
+    if bytes_eq name (codes "phold") then Ok Phold
+    else if bytes_eq name (codes "network") then Ok Network
+    else refusal BadValue 0
+
+-- the keys of the body
+abbrev pub body_keys : ModelKind → List (List ℕ)
+body_keys Phold = codes "phold" ∷ []
+body_keys Network = codes "object" ∷ codes "job" ∷ []
+
+abbrev pub body : ModelKind → ℕ → Members → Checked Meaning
+body Phold seed ms = required 0 (phold seed) (codes "phold") ms
+body Network seed ms = network seed ms
+
 -- the top table, and then the body of the model
 unfoldable pub top : Members → Checked ModelOf
 top ms = do
   format ← required 0 (only_number 0 1) (codes "format") ms
   name ← required 0 (text 0) (codes "model") ms
-  named ← refusal_where (not (bytes_eq name (codes "phold"))) BadValue 0
+  kind ← kind_of name
   end ← required 0 (number 0 0 70368744177663) (codes "end") ms
   seed ← optional 0 (number 0 0 9223372036854775807) (codes "seed") ms
   limit ← optional 10000000 (number 0 1 1000000000) (codes "limit") ms
-  known ← only 0 (codes "format" ∷ codes "model" ∷ codes "end" ∷ codes "seed" ∷ codes "limit" ∷ codes "phold" ∷ []) ms
-  meaning ← required 0 (phold seed) (codes "phold") ms
+  known ← only 0 (codes "format" ∷ codes "model" ∷ codes "end" ∷ codes "seed" ∷ codes "limit" ∷ body_keys kind) ms
+  meaning ← body kind seed ms
   Ok (record { meaning = meaning; terms = terms_of end limit })
 
 -- what TOML makes of the bytes, where they are a document

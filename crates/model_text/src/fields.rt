@@ -6,7 +6,7 @@ ghost use Rattle.std.specs.BTreeMap.{keys};
 ghost use Rattle.toml.specs.Data.{get_member, no_items};
 ghost use Rattle.toml.specs.View.{view, table_view, items_view};
 ghost use Rattle.model_text.specs.Checks.{Gives};
-ghost use Rattle.model_text.specs.Fields.{number, only_number, text, table_of, item_count, array_of, required, optional, has_only, only};
+ghost use Rattle.model_text.specs.Fields.{number, only_number, text, truth, table_of, item_count, entries_of, array_of, required, optional, has_only, only};
 
 use crate::refusal::{Cause, Refusal};
 use toml::{Table, Value};
@@ -59,6 +59,15 @@ pub(crate) fn text(value: &Value, item: u32) -> Result<&str, Refusal>
     }
 }
 
+fn truth(value: &Value, item: u32) -> Result<bool, Refusal>
+    ensures { Gives (λ answer. answer) result (truth item (view value.now)) }
+{
+    match value.as_bool() {
+        Some(answer) => Ok(answer),
+        None => Err(Cause::BadValue.at(item)),
+    }
+}
+
 pub(crate) fn table_of(value: &Value, item: u32) -> Result<&Table, Refusal>
     ensures { Gives (λ table. table_view table.now) result (table_of item (view value.now)) }
 {
@@ -68,11 +77,21 @@ pub(crate) fn table_of(value: &Value, item: u32) -> Result<&Table, Refusal>
     }
 }
 
-fn item_count(values: &[Value]) -> usize
+pub(crate) fn item_count(values: &[Value]) -> usize
     ensures count { result ≡ item_count (items_view values.now) }
     ensures length { result ≡ length values.now }
 {
     values.len()
+}
+
+/// An array of any length.
+pub(crate) fn entries_of(value: &Value, item: u32) -> Result<&[Value], Refusal>
+    ensures { Gives (λ values. items_view values.now) result (entries_of item (view value.now)) }
+{
+    match value.as_array() {
+        Some(array) => Ok(array.as_slice()),
+        None => Err(Cause::BadValue.at(item)),
+    }
 }
 
 /// An array of at most so many entries.
@@ -130,6 +149,20 @@ pub(crate) fn optional_number(
 {
     match field(table, key) {
         Some(value) => number(value, item, least, most),
+        None => Ok(default),
+    }
+}
+
+pub(crate) fn optional_truth(
+    table: &Table,
+    key: &str,
+    item: u32,
+    default: bool,
+) -> Result<bool, Refusal>
+    ensures { Gives (λ answer. answer) result (optional default (truth item) key.now (table_view table.now)) }
+{
+    match field(table, key) {
+        Some(value) => truth(value, item),
         None => Ok(default),
     }
 }

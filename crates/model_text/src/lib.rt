@@ -2,11 +2,21 @@
 //! fails.
 #![tactic(auto)]
 
+mod directory;
 mod fields;
+mod jobs;
+mod kinds;
+mod label;
 mod laws;
+mod links;
 mod model;
+mod named;
+mod names;
+mod network;
+mod objects;
 mod phold;
 mod refusal;
+mod routers;
 mod starts;
 mod top;
 

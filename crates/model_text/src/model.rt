@@ -3,12 +3,14 @@ use delta_exchange::{Cells, OutOfMemory};
 use model_core::model::Model as SimulationModel;
 use model_core::{Event, Outcome, Start};
 use phold_model::Phold;
+use queue_models::Network;
 use std::alloc::Global;
 
 /// A model of any kind that a text can describe.
 #[derive(Debug, Drop)]
 pub enum AnyModel {
     Phold(Phold),
+    Network(Network),
 }
 
 impl SimulationModel for AnyModel {
@@ -21,30 +23,35 @@ impl SimulationModel for AnyModel {
     fn objects(&self) -> u32 {
         match self {
             AnyModel::Phold(phold) => phold.objects(),
+            AnyModel::Network(network) => network.objects(),
         }
     }
 
     fn starts(&self) -> u32 {
         match self {
             AnyModel::Phold(phold) => phold.starts(),
+            AnyModel::Network(network) => network.starts(),
         }
     }
 
     fn start(&self, i: u32) -> Start {
         match self {
             AnyModel::Phold(phold) => phold.start(i),
+            AnyModel::Network(network) => network.start(i),
         }
     }
 
     fn first_cells(&self, alloc: Global, object: u32) -> Result<Cells, OutOfMemory> {
         match self {
             AnyModel::Phold(phold) => phold.first_cells(alloc, object),
+            AnyModel::Network(network) => network.first_cells(alloc, object),
         }
     }
 
     fn is_lawful(&self, object: u32, cells: &Cells) -> bool {
         match self {
             AnyModel::Phold(phold) => phold.is_lawful(object, cells),
+            AnyModel::Network(network) => network.is_lawful(object, cells),
         }
     }
 
@@ -57,12 +64,14 @@ impl SimulationModel for AnyModel {
     ) -> Result<Outcome, OutOfMemory> {
         match self {
             AnyModel::Phold(phold) => phold.react(alloc, object, cells, event),
+            AnyModel::Network(network) => network.react(alloc, object, cells, event),
         }
     }
 
     fn put_name(&self, alloc: Global, object: u32, into: &mut Vec<u8>) -> Result<(), OutOfMemory> {
         match self {
             AnyModel::Phold(phold) => phold.put_name(alloc, object, into),
+            AnyModel::Network(network) => network.put_name(alloc, object, into),
         }
     }
 }

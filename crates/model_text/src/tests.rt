@@ -1,3 +1,5 @@
+mod networks;
+
 use super::*;
 use model_core::Start;
 use model_core::model::Model;
@@ -68,6 +70,7 @@ fn the_first_check_that_fails_is_told(rt: HostRuntime) {
         (b"end = 9223372036854775808", (2, 0)),
         (b"end = 1\nend = 1", (2, 0)),
         (b"a = \"\xFF\"\n", (2, 0)),
+        (b"\xFF", (2, 0)),
         (b"format = 2\n", (5, 0)),
         (b"format = 1.0\n", (5, 0)),
         (b"format = -1\n", (5, 0)),
@@ -207,4 +210,25 @@ fn a_cause_has_a_code_and_a_name(rt: HostRuntime) {
         assert_eq!(rt; cause.name(), name);
         assert_eq!(rt; Cause::of_code(code), Some(cause));
     }
+}
+
+#[test]
+fn one_object_is_read_or_refused(rt: HostRuntime) -> Result<(), Fail> {
+    for (objects, low, high, at, want) in [
+        ("1", "1", "10", "0", (0u8, 0u32)),
+        ("1", "5", "4", "0", (5, 0)),
+        ("1", "1", "4294967297", "0", (7, 0)),
+        ("65537", "1", "10", "0", (7, 0)),
+        ("1", "1", "10", "1", (6, 1)),
+    ] {
+        let text = format!(in rt.alloc();
+            "format = 1\nmodel = \"phold\"\nend = 8\nseed = 0\n\n[phold]\nobjects = {objects}\ndelay = {{ law = \"uniform\", low = {low}, high = {high} }}\nto = \"uniform\"\nstart = [ {{ time = 0, at = {at} }} ]\n"
+        )?;
+        assert_eq!(rt;
+            refusal_of(rt.alloc(), text.as_bytes()),
+            Some(want),
+            "{text}"
+        );
+    }
+    Ok(())
 }

@@ -15,7 +15,7 @@ abbrev pub role_of : Kind → Role
 role_of (Source first every count next) = Makes (record { first = first; every = every; count = count; next = next })
 role_of (Station servers service line strict next) = Serves (record { servers = servers; service = service; line = line; strict = strict; next = next })
 role_of (Delay delay next) = Holds (record { delay = delay; next = next })
-role_of (Router next weights) = Routes (record { next = next; choice = Choice weights })
+role_of (Router next weights) = Routes (record { next = next.items; choice = Choice weights })
 role_of (Sink due) = Ends (record { due = due })
 
 abbrev pub object_of : Item → Object

@@ -49,8 +49,8 @@ pub record IsDelay (objects : List Object) (d : Delay) : Type 0 where
   pub next : IsLink objects d.next
 
 pub record IsRouter (objects : List Object) (router : Router) : Type 0 where
-  pub next : All (IsLink objects) router.next.items
-  pub choice : IsChoiceOf router.next.items router.choice
+  pub next : All (IsLink objects) router.next
+  pub choice : IsChoiceOf router.next router.choice
 
 abbrev pub IsSink : Sink → Type 0
 IsSink sink = ForSome sink.due (λ due. due < 2 ^ 46)

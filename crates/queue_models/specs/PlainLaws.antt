@@ -71,13 +71,13 @@ pub router_keeps : (objects : List Object) (site : Site) (router : Router) (cell
 unfolding router_effect
 router_keeps objects site router cells event fine here lawful =
     let way = (drawn_at site cells router.choice).0 in
-    let within : way < length router.next.items =
+    let within : way < length router.next =
     omega (
       arith,
-      draw-within site.seed site.object (place_of cells) router.choice (choice_can_be_drawn router.next.items router.choice fine.choice),
-      choice_within router.next.items router.choice fine.choice,
+      draw-within site.seed site.object (place_of cells) router.choice (choice_can_be_drawn router.next router.choice fine.choice),
+      choice_within router.next router.choice fine.choice,
     ) in
-    let link : IsLink objects (slice_index router.next.items way) = fine.next way 0 within in
+    let link : IsLink objects (slice_index router.next way) = fine.next way 0 within in
     record {
       changes = place_keeps cells (drawn_at site cells router.choice).1 lawful;
       few_sends = omega arith;

@@ -19,7 +19,7 @@ abbrev pub RoleCanDraw : Role → Type 0
 RoleCanDraw (Makes source) = IsTrue (is_drawable source.every)
 RoleCanDraw (Serves station) = IsTrue (is_drawable station.service)
 RoleCanDraw (Holds delay) = IsTrue (is_drawable delay.delay)
-RoleCanDraw (Routes router) = IsChoiceOf router.next.items router.choice
+RoleCanDraw (Routes router) = IsChoiceOf router.next router.choice
 RoleCanDraw (Ends sink) = Unit {0}
 
 abbrev pub is_lawful : Role → CellData → Bool

@@ -21,7 +21,7 @@ IsChoiceOf next (Choice weights) = (length weights ≡ length next) × IsTrue (i
 unfoldable pub router_effect : Site → Router → CellData → Event → Outcome
 router_effect site router cells event =
     let way = drawn_at site cells router.choice in
-    let dest = slice_index router.next.items way.0 in
+    let dest = slice_index router.next way.0 in
     Goes (record {
       changes = place_changes (place_of cells) way.1;
       sends = job_to site dest 0 event.a event.b ∷ [];

@@ -5,7 +5,7 @@ ghost use Rattle.queue_models.specs.Roles.{RoleCanDraw, is_lawful, effect_at, fi
 
 use crate::delay::Delay;
 use crate::kind::{Item, Kind};
-use crate::router::Router;
+use crate::router::{Router, Ways};
 use crate::sink::Sink;
 use crate::site::Site;
 use crate::source::Source;
@@ -64,7 +64,7 @@ impl Role {
             }),
             Kind::Delay { delay, next } => Role::Holds(Delay { delay, next }),
             Kind::Router { next, weights } => Role::Routes(Router {
-                next,
+                next: Ways::new(next),
                 choice: Law::Choice { weights },
             }),
             Kind::Sink { due } => Role::Ends(Sink { due }),

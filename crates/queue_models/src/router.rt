@@ -7,14 +7,46 @@ use crate::site::{Site, place_changes, told};
 use model_core::{Cells, Effect, Event, OutOfMemory, Outcome, Sequence};
 use random_streams::{Law, draw};
 use std::alloc::Global;
+use std::marker::Model;
 
 /// The word that tells of a job that is routed.
 const ROUTED_WORD: u32 = 8;
 
+/// The objects to which a router sends.
+#[derive(Debug, Drop)]
+pub struct Ways {
+    numbers: Vec<u32>,
+}
+
+impl Model for Ways {
+    ghost use Rattle.std.specs.Prelude.{List, ℕ};
+
+    ghost Value = { List ℕ };
+
+    ghost view = { λ ways. ways.numbers.items };
+}
+
+impl Ways {
+    /// The objects with these numbers.
+    pub fn new(numbers: Vec<u32>) -> Ways
+        ensures { result ≡ numbers.items }
+    {
+        Ways { numbers }
+    }
+
+    /// The object at a place.
+    fn at(&self, place: usize) -> u32
+        requires { place < length self.now }
+        ensures { result ≡ slice_index self.now place }
+    {
+        self.numbers[place]
+    }
+}
+
 /// Sends each job at once to one of several objects, drawn by a choice with a weight for each.
 #[derive(Debug, Drop)]
 pub struct Router {
-    pub next: Vec<u32>,
+    pub next: Ways,
     pub choice: Law,
 }
 
@@ -28,7 +60,7 @@ impl Router {
         cells: &Cells,
         event: &Event,
     ) -> Result<Outcome, OutOfMemory>
-        requires choice { IsChoiceOf self.now.next.items self.now.choice }
+        requires choice { IsChoiceOf self.now.next self.now.choice }
         requires cells { IsTrue (is_plain_cells cells.now.contents) }
         ensures { IfOk result (λ outcome. outcome ≡ router_effect site self.now cells.now.contents event.now) }
     {
@@ -46,9 +78,9 @@ impl Router {
 
     /// The object that is chosen by its place.
     fn chosen(&self, way: u64) -> u32
-        requires { way < length self.now.next.items }
-        ensures { result ≡ slice_index self.now.next.items way }
+        requires { way < length self.now.next }
+        ensures { result ≡ slice_index self.now.next way }
     {
-        self.next[way as usize]
+        self.next.at(way as usize)
     }
 }

@@ -1,0 +1,27 @@
+-- The check of the body of a network: both arrays, and then three passes.
+use Rattle.std.specs.Prelude.{ℕ, ◌+◌, List, length, Ok, codes}
+use Rattle.toml.specs.Data.{Members, Items, no_items}
+use Rattle.model_core.specs.Meaning.{Meaning}
+use Rattle.queue_models.specs.Objects.{network_of}
+use Rattle.queue_models.specs.Meaning.{network_meaning}
+use Rattle.model_text.specs.declared.named.NamedItem.{NamedItem}
+use Rattle.model_text.specs.Checks.{Checked, ◌>>=◌}
+use Rattle.model_text.specs.Fields.{array_of, optional}
+use Rattle.model_text.specs.Jobs.{jobs_from}
+use Rattle.model_text.specs.Links.{linked_from}
+use Rattle.model_text.specs.Names.{place_in}
+use Rattle.model_text.specs.Objects.{objects}
+
+-- passes two and three, after pass one; the items of the objects begin with 1, and those of the jobs follow them
+unfoldable pub linked_network : ℕ → List NamedItem → Items → Checked Meaning
+linked_network seed named entries = do
+  linked ← linked_from (place_in named) 1 named
+  jobs ← jobs_from (place_in named) (length named + 1) entries
+  Ok (network_meaning (network_of seed linked jobs))
+
+unfoldable pub network : ℕ → Members → Checked Meaning
+network seed ms = do
+  tables ← optional no_items (array_of 0 65536) (codes "object") ms
+  entries ← optional no_items (array_of 0 65536) (codes "job") ms
+  named ← objects tables
+  linked_network seed named entries

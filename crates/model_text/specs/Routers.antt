@@ -1,0 +1,22 @@
+-- The check of a router's arrays: the objects to which it sends, and their weights.
+use Rattle.std.specs.Prelude.{ℕ, ◌==◌, not, List, sum, Ok}
+use Rattle.toml.specs.Data.{Data}
+use Rattle.model_text.specs.declared.refusal.Cause.TheVariants.{BadValue}
+use Rattle.model_text.specs.Checks.{Checked, refusal_where, ◌>>=◌}
+use Rattle.model_text.specs.Fields.{number, text, item_count, entries_of, array_of, each}
+
+-- 1 to 64 texts
+unfoldable pub ways : ℕ → Data → Checked (List (List ℕ))
+ways at d = do
+  ds ← array_of at 64 d
+  some ← refusal_where (item_count ds == 0) BadValue at
+  each (text at) ds
+
+-- so many numbers, not all of them 0
+unfoldable pub weights : ℕ → ℕ → Data → Checked (List ℕ)
+weights at count d = do
+  ds ← entries_of at d
+  matched ← refusal_where (not (item_count ds == count)) BadValue at
+  numbers ← each (number at 0 65535) ds
+  some ← refusal_where (sum numbers == 0) BadValue at
+  Ok numbers

@@ -1,0 +1,51 @@
+//! Pass three: the jobs.
+ghost use Rattle.std.specs.Prelude.{◌≡◌, ◌≤◌, length, All, IfOk};
+ghost use Rattle.toml.specs.View.{view, items_view};
+ghost use Rattle.model_text.specs.Checks.{Gives};
+ghost use Rattle.model_text.specs.Directories.{finder};
+ghost use Rattle.model_text.specs.Jobs.{job, jobs_from};
+ghost use Rattle.model_text.specs.Linked.{IsLinkedJob};
+
+use crate::directory::Directory;
+use crate::fields::{only, required_number, required_text, table_of};
+use crate::kinds::MOST_TIME;
+use crate::links::link;
+use crate::refusal::Refusal;
+use model_core::Entry;
+use std::alloc::Global;
+use toml::Value;
+
+#[tactic(auto, unfolding(crate::specs::Jobs::job))]
+fn job(value: &Value, directory: &Directory, item: u32) -> Result<Entry, Refusal>
+    ensures read { Gives (λ job. job) result (job (finder directory.now) item (view value.now)) }
+    ensures linked { IfOk result (IsLinkedJob (finder directory.now)) }
+{
+    let table = table_of(value, item)?;
+    let time = required_number(table, "time", item, 0, MOST_TIME)?;
+    let name = required_text(table, "at", item)?;
+    only(table, &["time", "at"], item)?;
+    let at = link(directory, name, item)?;
+    Ok(Entry { time, at, rank: 0 })
+}
+
+/// The jobs one after another, with items from the first on.
+pub(crate) fn jobs(
+    alloc: Global,
+    values: &[Value],
+    directory: &Directory,
+    first_item: u32,
+) -> Result<Vec<Entry>, Refusal>
+    requires objects { first_item ≤ 65537 }
+    requires few { length values.now ≤ 65536 }
+    ensures read { Gives (λ jobs. jobs.items) result (jobs_from (finder directory.now) first_item (items_view values.now)) }
+    ensures count { IfOk result (λ jobs. length jobs.items ≡ length values.now) }
+    ensures linked { IfOk result (λ jobs. All (IsLinkedJob (finder directory.now)) jobs.items) }
+{
+    let mut jobs = Vec::new(alloc);
+    let mut item = first_item;
+    for value in values {
+        jobs.push(job(value, directory, item)?)?;
+        item += 1;
+    }
+    Ok(jobs)
+}

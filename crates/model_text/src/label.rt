@@ -1,0 +1,70 @@
+//! Names that a text gives.
+ghost use Rattle.std.specs.Prelude.{◌≡◌, IfOk};
+
+use model_core::Name;
+use std::alloc::{AllocError, Global};
+use std::marker::Model;
+
+/// The name of an object.
+#[derive(Debug, Drop)]
+pub(crate) struct Label {
+    text: String,
+}
+
+impl Model for Label {
+    ghost use Rattle.std.specs.Prelude.{ℕ, List, string_bytes};
+
+    ghost Value = { List ℕ };
+
+    ghost view = { λ label. string_bytes label.text };
+}
+
+impl Label {
+    pub(crate) fn new(alloc: Global, text: &str) -> Result<Label, AllocError>
+        ensures { IfOk result (λ label. label ≡ text.now) }
+    {
+        let text = String::from_str(alloc, text)?;
+        Ok(Label { text })
+    }
+
+    pub(crate) fn as_str(&self) -> &str
+        ensures { result.now ≡ self.now }
+    {
+        self.text.as_str()
+    }
+
+    /// The name as a model keeps it.
+    pub(crate) fn into_name(self) -> Name
+        ensures { result ≡ self }
+    {
+        Name::new(self.text.into_bytes())
+    }
+}
+
+/// The names of several objects.
+#[derive(Debug, Drop)]
+pub(crate) struct Labels {
+    list: Vec<Label>,
+}
+
+impl Model for Labels {
+    ghost use Rattle.std.specs.Prelude.{ℕ, List};
+
+    ghost Value = { List (List ℕ) };
+
+    ghost view = { λ labels. labels.list.items };
+}
+
+impl Labels {
+    pub(crate) fn new(list: Vec<Label>) -> Labels
+        ensures { result ≡ list.items }
+    {
+        Labels { list }
+    }
+
+    pub(crate) fn as_slice(&self) -> &[Label]
+        ensures { result.now ≡ self.now }
+    {
+        &self.list
+    }
+}

@@ -1,0 +1,121 @@
+//! The arrays of a router.
+ghost use Rattle.std.specs.Prelude.{◌≡◌, ◌≤◌, nat_le, length, sum, replicate, IfOk, IsTrue};
+ghost use Rattle.std.specs.List.{list_all};
+ghost use Rattle.toml.specs.View.{view, items_view, table_view};
+ghost use Rattle.random_streams.specs.Laws.{is_choice};
+ghost use Rattle.model_text.specs.Checks.{Gives};
+ghost use Rattle.model_text.specs.Fields.{number, text, each, required, optional};
+ghost use Rattle.model_text.specs.Routers.{ways, weights};
+
+use crate::fields::{array_of, entries_of, field, item_count, number, text};
+use crate::label::{Label, Labels};
+use crate::refusal::{Cause, Refusal};
+use random_streams::Weights;
+use std::alloc::Global;
+use toml::{Table, Value};
+
+/// To how many objects a router sends at most.
+const MOST_WAYS: usize = 64;
+
+/// The greatest weight.
+const MOST_WEIGHT: u64 = 65_535;
+
+fn labels(alloc: Global, values: &[Value], item: u32) -> Result<Vec<Label>, Refusal>
+    ensures read { Gives (λ labels. labels.items) result (each (text item) (items_view values.now)) }
+    ensures count { IfOk result (λ labels. length labels.items ≡ length values.now) }
+{
+    let mut labels = Vec::new(alloc);
+    for value in values {
+        labels.push(Label::new(alloc, text(value, item)?)?)?;
+    }
+    Ok(labels)
+}
+
+/// The names of the objects to which a router sends.
+#[tactic(auto, unfolding(crate::specs::Routers::ways))]
+fn ways(alloc: Global, value: &Value, item: u32) -> Result<Labels, Refusal>
+    ensures read { Gives (λ names. names) result (ways item (view value.now)) }
+    ensures some { IfOk result (λ names. 1 ≤ length names) }
+    ensures few { IfOk result (λ names. length names ≤ 64) }
+{
+    let values = array_of(value, item, MOST_WAYS)?;
+    if item_count(values) == 0 {
+        return Err(Cause::BadValue.at(item));
+    }
+    Ok(Labels::new(labels(alloc, values, item)?))
+}
+
+pub(crate) fn required_ways(
+    alloc: Global,
+    table: &Table,
+    key: &str,
+    item: u32,
+) -> Result<Labels, Refusal>
+    ensures read { Gives (λ names. names) result (required item (ways item) key.now (table_view table.now)) }
+    ensures some { IfOk result (λ names. 1 ≤ length names) }
+    ensures few { IfOk result (λ names. length names ≤ 64) }
+{
+    match field(table, key) {
+        Some(value) => ways(alloc, value, item),
+        None => Err(Cause::Missing.at(item)),
+    }
+}
+
+fn numbers(alloc: Global, values: &[Value], item: u32) -> Result<Vec<u32>, Refusal>
+    ensures read { Gives (λ numbers. numbers.items) result (each (number item 0 65535) (items_view values.now)) }
+    ensures count { IfOk result (λ numbers. length numbers.items ≡ length values.now) }
+    ensures small { IfOk result (λ numbers. IsTrue (list_all (λ n. nat_le n 65535) numbers.items)) }
+{
+    let mut numbers = Vec::new(alloc);
+    for value in values {
+        numbers.push(number(value, item, 0, MOST_WEIGHT)? as u32)?;
+    }
+    Ok(numbers)
+}
+
+fn total(weights: &[u32]) -> u64
+    requires { length weights.now ≤ 64 }
+    ensures { result ≡ sum weights.now }
+{
+    weights.iter().map(|weight| u64::from(*weight)).sum()
+}
+
+/// As many weights as there are ways, not all of them 0.
+#[tactic(auto, unfolding(crate::specs::Routers::weights, random_streams::specs::Laws::is_choice))]
+fn weights(alloc: Global, value: &Value, item: u32, count: usize) -> Result<Weights, Refusal>
+    requires some { 1 ≤ count }
+    requires few { count ≤ 64 }
+    ensures read { Gives (λ list. list) result (weights item count (view value.now)) }
+    ensures count { IfOk result (λ list. length list ≡ count) }
+    ensures choice { IfOk result (λ list. IsTrue (is_choice list)) }
+{
+    let values = entries_of(value, item)?;
+    if item_count(values) != count {
+        return Err(Cause::BadValue.at(item));
+    }
+    let list = numbers(alloc, values, item)?;
+    if total(&list) == 0 {
+        return Err(Cause::BadValue.at(item));
+    }
+    Ok(Weights::new(list))
+}
+
+/// The weights, all 1 where they are absent.
+pub(crate) fn optional_weights(
+    alloc: Global,
+    table: &Table,
+    key: &str,
+    item: u32,
+    count: usize,
+) -> Result<Weights, Refusal>
+    requires some { 1 ≤ count }
+    requires few { count ≤ 64 }
+    ensures read { Gives (λ list. list) result (optional (replicate count 1) (weights item count) key.now (table_view table.now)) }
+    ensures count { IfOk result (λ list. length list ≡ count) }
+    ensures choice { IfOk result (λ list. IsTrue (is_choice list)) }
+{
+    match field(table, key) {
+        Some(value) => weights(alloc, value, item, count),
+        None => Ok(Weights::new(vec![in alloc; 1; count]?)),
+    }
+}
