@@ -1,10 +1,10 @@
 -- Lists of places that hold values.
 use Rattle.std.proofs.Common.{◌≡◌, ◌+◌, ◌<◌, List, [], ◌∷◌, ◌++◌, ◌^◌, length, length-append, refl, ap, sym, ◌∙◌, subst, arith}
-use Rattle.std.specs.Prelude.{Option, Some, None, All, IsSome}
+use Rattle.std.specs.Prelude.{Option, Some, None, All, IsSome, true}
 use Rattle.std.proofs.lemmas.List.Elements.{All-tail, All-head, All-append}
 use Rattle.std.proofs.lemmas.Bool.{false≢true}
 use Rattle.std.proofs.lemmas.Option.{none-some, same_Some}
-use Rattle.event_chain.specs.Places.{values, places_of}
+use Rattle.event_chain.specs.Places.{holds_one, values, places_of}
 
 values-append : {T : Type 0} (xs ys : List (Option T)) → values (xs ++ ys) ≡ values xs ++ values ys
 values-append [] ys = refl
@@ -41,3 +41,10 @@ full-joined xs ys zs us vs j room front back =
 
 pub values-joined : {T : Type 0} (xs ys zs : List (Option T)) (us vs : List T) → AreJoined xs ys zs us vs → values zs ≡ us ++ vs
 values-joined xs ys zs us vs j = ap values j.is ∙ values-append xs ys ∙ ap (λ w. w ++ values ys) j.front ∙ ap (λ w. us ++ w) j.back
+
+-- the place of a cell
+pub one_place : {T : Type 0} (xs : List (Option T)) → holds_one xs ≡ true → length xs ≡ 1
+one_place [] h = absurd (false≢true h)
+one_place (None ∷ xs) h = absurd (false≢true h)
+one_place (Some x ∷ []) h = refl
+one_place (Some x ∷ y ∷ xs) h = absurd (false≢true h)

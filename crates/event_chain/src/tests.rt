@@ -44,6 +44,26 @@ fn a_chain_is_its_values_in_order(rt: HostRuntime) -> Result<(), Fail> {
 }
 
 #[test]
+fn a_pool_hands_out_the_cells_that_it_gets_back(rt: HostRuntime) -> Result<(), Fail> {
+    let mut pool = CellPool::new();
+    assert_eq!(rt; pool.spare(), 0);
+    match pool.reserve(rt.alloc(), 2) {
+        Ok(()) => {}
+        Err(OutOfMemory) => return Err(Fail::from("no memory")),
+    }
+    assert_eq!(rt; pool.spare(), 2);
+    let first: Cell<u64> = pool.fill(7);
+    let second = pool.fill(8);
+    assert_eq!(rt; pool.spare(), 0);
+    assert_eq!(rt; pool.recycle(first), 7);
+    let third = pool.fill(9);
+    assert_eq!(rt; pool.recycle(second), 8);
+    assert_eq!(rt; pool.recycle(third), 9);
+    assert_eq!(rt; pool.spare(), 2);
+    Ok(())
+}
+
+#[test]
 fn cells_cross_threads(rt: HostRuntime) -> Result<(), Fail> {
     let mut chain = Chain::new();
     chain.push_back(cell(rt.alloc(), 5)?);

@@ -1,0 +1,284 @@
+//! The log of one object.
+ghost use Rattle.std.specs.Prelude.{◌≡◌, ◌≢◌, ◌<◌, ◌≤◌, ◌+◌, ◌^◌, ◌∷◌, ◌++◌, [], List, length, min, IfOk, IfErr, OnOk, OnErr, IsTrue, true, false, Some, None, slice_get};
+ghost use Rattle.std.specs.List.{AllByRecursion};
+ghost use Rattle.event_key.specs.Keys.{key_lt};
+ghost use Rattle.event_key.specs.Stamps.{time_part};
+ghost use Rattle.event_key.specs.declared.stamp.TheConstants.{NO_STAMP};
+ghost use Rattle.model_core.specs.Meaning.{Meaning};
+ghost use Rattle.sim_spec.specs.Firing.{fire};
+ghost use Rattle.sim_spec.specs.Horizon.{least_stamp};
+ghost use Rattle.sim_spec.specs.Pending.{IsAscending};
+ghost use Rattle.sim_spec.specs.Replay.{replay};
+ghost use Rattle.world_spec.specs.Early.{taken, is_due};
+ghost use Rattle.object_log.specs.declared.done.Done.{Done};
+ghost use Rattle.object_log.specs.Logs.{LogView, before, undone, events_of, keys_of, held_of, fault_of};
+ghost use Rattle.object_log.specs.Parts.{before_key, from_key, due_of, left_of, newest_is_from, oldest_is_due};
+ghost use Rattle.object_log.specs.Replays.{IsLogOf, IsOneMore, replay_of};
+
+use crate::done::{Done, Verdict};
+use crate::entries::Entries;
+use crate::firing::{Kept, go, prepare, recycle_all};
+use event_chain::{Cell, CellPool, Chain};
+use event_key::{Key, NO_STAMP};
+use model_core::model::{Model as SimulationModel, keeps_laws};
+use model_core::{Cells, Event, OutOfMemory, Outcome};
+use std::alloc::Global;
+use std::marker::Model;
+
+/// An object's cells, how many events it has sent, and the events that it has processed and not yet committed, the
+/// oldest first. Each has a greater key than those before it, and only the newest may have faulted.
+#[derive(Drop)]
+pub struct ObjectLog {
+    object: u32,
+    cells: Cells,
+    sent: u64,
+    processed: Entries,
+}
+
+impl Model for ObjectLog {
+    ghost use Rattle.object_log.specs.Logs.{LogView};
+    ghost use Rattle.object_log.specs.Keeping.{Keeps};
+
+    ghost Value = { LogView };
+
+    ghost view = { λ log. record { object = log.object; state = record { cells = log.cells.contents; sent = log.sent }; done = log.processed.done } };
+
+    ghost invariant = { λ log. Keeps log.cells log.sent log.processed.done };
+}
+
+impl ObjectLog {
+    /// The log of an object that has sent and processed nothing yet.
+    pub fn new(object: u32, cells: Cells) -> ObjectLog
+        ensures { result ≡ record { object = object; state = record { cells = cells.contents; sent = 0 }; done = [] } }
+    {
+        ObjectLog::with(object, cells, 0)
+    }
+
+    /// The log of an object that has sent so many events, and has processed nothing that isn't committed.
+    pub fn with(object: u32, cells: Cells, sent: u64) -> ObjectLog
+        ensures { result ≡ record { object = object; state = record { cells = cells.contents; sent = sent }; done = [] } }
+    {
+        ObjectLog {
+            object,
+            cells,
+            sent,
+            processed: Entries::new(),
+        }
+    }
+
+    /// The cells, after all that it has processed.
+    pub fn cells(&self) -> &Cells
+        ensures { result.now.contents ≡ self.now.state.cells }
+    {
+        &self.cells
+    }
+
+    /// How many events it has sent, held ones among them.
+    pub fn sent(&self) -> u64
+        ensures { result ≡ self.now.state.sent }
+    {
+        self.sent
+    }
+
+    /// How many processed events there are.
+    pub fn len(&self) -> usize
+        ensures value { result ≡ length self.now.done }
+        ensures ordered { IsAscending (events_of self.now.done) }
+        ensures whole { taken (replay_of self.now.state self.now.done) ≡ length self.now.done }
+    {
+        let _ = &self.sent;
+        self.processed.len()
+    }
+
+    /// The key of the processed event at a place, the oldest at place 0, in constant time.
+    pub fn key_at(&self, place: usize) -> Key
+        requires { place < length self.now.done }
+        ensures { slice_get (keys_of self.now.done) place ≡ Some result }
+    {
+        self.processed.at(place).event.get().key
+    }
+
+    /// The least stamp of the messages that it holds, or `NO_STAMP`, in time linear in how many events are processed.
+    pub fn held_least(&self) -> u64
+        ensures { result ≡ least_stamp NO_STAMP (held_of self.now.done) }
+    {
+        self.processed.held_least()
+    }
+
+    /// The key and the code of the processed event that faulted, if one did, in constant time.
+    pub fn faulted(&self) -> Option<(Key, u32)>
+        ensures { result ≡ fault_of self.now.done }
+    {
+        let len = self.processed.len();
+        if len == 0 {
+            return None;
+        }
+        let newest = self.processed.at(len - 1);
+        match newest.verdict {
+            Verdict::Noted(_) => None,
+            Verdict::Failed(code) => Some((newest.event.get().key, code)),
+        }
+    }
+
+    /// Fires an event and keeps what takes it back. Answers the least stamp that it sends, or `NO_STAMP`. Where no
+    /// memory is left, the event comes back.
+    pub fn process<M: SimulationModel>(
+        &mut self,
+        alloc: Global,
+        model: &M,
+        pool: &mut CellPool<Event>,
+        event: Cell<Event>,
+    ) -> Result<u64, (OutOfMemory, Cell<Event>)>
+        requires object { self.old.object < (M.meaning model.now).objects }
+        requires lawful { IsTrue ((M.meaning model.now).lawful self.old.object self.old.state.cells) }
+        requires dest { event.key.dest ≡ self.old.object }
+        requires above { AllByRecursion (λ key. key_lt key event.key ≡ true) (keys_of self.old.done) }
+        requires time { time_part event.key.stamp < 2 ^ 46 }
+        requires went { fault_of self.old.done ≡ None }
+        requires sent { self.old.state.sent < 2 ^ 60 }
+        requires few { length self.old.done + 1 < 2 ^ 60 }
+        ensures ok { IfOk result (λ least. IsOneMore (M.meaning model.now) self.old self.new event least) }
+        ensures replay { OnOk result (IsLogOf (M.meaning model.now) self.old → IsLogOf (M.meaning model.now) self.new) }
+        ensures lawful { OnOk result (IsTrue ((M.meaning model.now).lawful self.new.object self.new.state.cells)) }
+        ensures err { OnErr result (self.new ≡ self.old) }
+        ensures back { IfErr result (λ refused. refused.1 ≡ event) }
+        ensures spare { pool.old + self.old.state.sent ≤ pool.new + self.new.state.sent }
+    {
+        keeps_laws(model);
+        let prepared = prepare(
+            alloc,
+            model,
+            self.object,
+            &mut self.cells,
+            &mut self.processed,
+            pool,
+            event.get(),
+        );
+        match prepared {
+            Err(refusal) => Err((refusal, event)),
+            Ok(Outcome::Fails(code)) => {
+                let done = Done {
+                    event,
+                    undo: Vec::new(alloc),
+                    sends: Chain::new(),
+                    verdict: Verdict::Failed(code),
+                };
+                self.processed.push(done, NO_STAMP);
+                Ok(NO_STAMP)
+            }
+            Ok(Outcome::Goes(effect)) => {
+                let Kept { done, least } = go(&mut self.cells, self.sent, pool, event, effect);
+                self.sent += done.sends.len() as u64;
+                self.processed.push(done, least);
+                Ok(least)
+            }
+        }
+    }
+
+    /// Undoes each processed event whose key isn't below `key`, the newest first, and puts them into `into` in the order
+    /// of their keys. Answers how many there were. The cells of what they hold go to the pool.
+    pub fn back_to(
+        &mut self,
+        key: Key,
+        pool: &mut CellPool<Event>,
+        into: &mut Chain<Event>,
+    ) -> u64
+        requires { into.old ≡ [] }
+        ensures left { self.new.done ≡ before_key key self.old.done }
+        ensures parts { self.old.done ≡ before_key key self.old.done ++ from_key key self.old.done }
+        ensures state { self.new.state ≡ undone self.old.state (from_key key self.old.done) }
+        ensures object { self.new.object ≡ self.old.object }
+        ensures events { into.new ≡ events_of (from_key key self.old.done) }
+        ensures count { result ≡ length (from_key key self.old.done) }
+        ensures spare { pool.new ≡ min (pool.old + length (held_of (from_key key self.old.done))) (2 ^ 60) }
+        ensures replay { (m : Meaning) → IsLogOf m self.old → IsLogOf m self.new }
+    {
+        let _ = &self.sent;
+        prove!(pool.spare() <= 1 << 60);
+        let mut count = 0;
+        while self.newest_is_from(&key) {
+            into.push_front(self.undo_newest(pool));
+            count += 1;
+        }
+        count
+    }
+
+    /// Whether the newest processed event doesn't come before a key.
+    fn newest_is_from(&self, key: &Key) -> bool
+        ensures { result ≡ newest_is_from key.now self.now.done }
+    {
+        let len = self.processed.len();
+        len > 0 && !self.processed.at(len - 1).event.get().key.is_before(key)
+    }
+
+    /// Undoes the newest processed event.
+    fn undo_newest(&mut self, pool: &mut CellPool<Event>) -> Cell<Event>
+        requires { 0 < length self.old.done }
+        ensures { (d : Done) × (self.old.done ≡ self.new.done ++ d ∷ []) × (self.new.state ≡ before self.old.state d)
+            × (self.new.object ≡ self.old.object) × (result ≡ d.event) × (pool.new ≡ min (pool.old + length d.sends) (2 ^ 60)) }
+    {
+        let Done {
+            event,
+            mut undo,
+            sends,
+            verdict: _,
+        } = self.processed.pop_newest();
+        self.cells.undo(undo.as_mut_slice());
+        self.sent -= sends.len() as u64;
+        recycle_all(pool, sends);
+        event
+    }
+
+    /// Moves each processed event that is due to the back of `into`, the oldest first: its stamp is below the horizon,
+    /// and its key is below the cut where there is one.
+    pub fn commit_front(&mut self, horizon: u64, cut: Option<Key>, into: &mut Chain<Done>)
+        requires went { fault_of (due_of horizon cut self.old.done) ≡ None }
+        requires room { length into.old + length self.old.done < 2 ^ 60 }
+        ensures due { into.new ≡ into.old ++ due_of horizon cut self.old.done }
+        ensures left { self.new.done ≡ left_of horizon cut self.old.done }
+        ensures parts { self.old.done ≡ due_of horizon cut self.old.done ++ left_of horizon cut self.old.done }
+        ensures state { self.new.state ≡ self.old.state }
+        ensures object { self.new.object ≡ self.old.object }
+        ensures replay { (m : Meaning) → IsLogOf m self.old → IsLogOf m self.new }
+    {
+        let _ = &self.sent;
+        while self.oldest_is_due(horizon, &cut) {
+            into.push_back(self.commit_oldest());
+        }
+    }
+
+    /// Whether the oldest processed event is due.
+    #[tactic(auto, unfolding(world_spec::specs::Early::is_due, crate::specs::Parts::oldest_is_due))]
+    fn oldest_is_due(&self, horizon: u64, cut: &Option<Key>) -> bool
+        ensures { result ≡ oldest_is_due horizon cut.now self.now.done }
+    {
+        if self.processed.len() == 0 {
+            return false;
+        }
+        let key = self.processed.at(0).event.get().key;
+        key.stamp < horizon
+            && match cut {
+                Some(cut) => key.is_before(cut),
+                None => true,
+            }
+    }
+
+    /// Takes the oldest processed event out, which stays done.
+    fn commit_oldest(&mut self) -> Cell<Done>
+        requires { 0 < length self.old.done }
+        ensures done { self.old.done ≡ result ∷ self.new.done }
+        ensures state { self.new.state ≡ self.old.state }
+        ensures object { self.new.object ≡ self.old.object }
+    {
+        self.processed.pop_oldest()
+    }
+
+    /// A log of a model tells the replay of its processed events from the state that undoing them gives.
+    pub fn tells_replay<M: SimulationModel>(&self, model: &M)
+        requires { IsLogOf (M.meaning model.now) self.now }
+        ensures { replay (M.meaning model.now) self.now.object (undone self.now.state self.now.done) (events_of self.now.done) ≡ replay_of self.now.state self.now.done }
+    {
+        let _ = &self.sent;
+        let _ = model;
+    }
+}
