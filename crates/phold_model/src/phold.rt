@@ -3,6 +3,7 @@ ghost use Rattle.std.specs.Prelude.{◌≡◌, ◌<◌, IsOkAnd, IfOk};
 ghost use Rattle.phold_model.specs.Parts.{IsPhold, phold_parts};
 ghost use Rattle.phold_model.specs.Meaning.{phold_meaning, hop_start, place_changes};
 
+use itoa::Buffer;
 use model_core::model::Model as SimulationModel;
 use model_core::{
     Cells, Change, Effect, Entry, Event, Note, OutOfMemory, Outcome, Part, Send, Sequence, Start,
@@ -190,9 +191,15 @@ impl SimulationModel for Phold {
         }))
     }
 
-    fn put_name(&self, alloc: Global, object: u32, into: &mut Vec<u8>) -> Result<(), OutOfMemory> {
-        let name = format!(in alloc; "p{object}")?;
-        into.extend_from_slice(name.as_bytes())?;
+    fn put_name(&self, _alloc: Global, object: u32, into: &mut Vec<u8>) -> Result<(), OutOfMemory> {
+        let before = into.len();
+        into.push(b'p')?;
+        let mut buffer = Buffer::new();
+        let outcome = into.extend_from_slice(buffer.format(object).as_bytes());
+        if outcome.is_err() {
+            into.truncate(before);
+        }
+        outcome?;
         Ok(())
     }
 }
