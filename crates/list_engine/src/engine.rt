@@ -10,10 +10,10 @@ ghost use Rattle.sim_spec.specs.Run.{next};
 ghost use Rattle.sim_spec.proofs.SerialLemmas.{SerialsBelow};
 ghost use Rattle.list_engine.specs.Steps.{next_of_step, StaysAtStop, state_past};
 
-use crate::beginning::{first_events, first_objects};
-use crate::object::Object;
+use crate::beginning::first_events;
 use crate::pending::Pending;
-use crate::sending::{has_chain, send_all};
+use crate::sending::send_all;
+use event_firing::{Object, first_objects, has_chain};
 use event_key::{Key, end_bound};
 use model_core::model::{Model as SimulationModel, keeps_laws};
 use model_core::{Change, Effect, Event, Note, OutOfMemory, Outcome, Send};

@@ -3,7 +3,6 @@
 
 mod beginning;
 mod engine;
-mod object;
 mod pending;
 mod sending;
 mod simulation;

@@ -1,4 +1,4 @@
-//! What an event sends, and the initial events.
+//! What an event sends.
 ghost use Rattle.std.specs.Prelude.{◌≡◌, ◌<◌, ◌+◌, ◌^◌, length, OnOk, false};
 ghost use Rattle.event_key.specs.Stamps.{time_part};
 ghost use Rattle.model_core.specs.Meaning.{SendsInRange};
@@ -7,18 +7,9 @@ ghost use Rattle.sim_spec.specs.Pending.{enqueue_all};
 ghost use Rattle.sim_spec.proofs.SerialLemmas.{SerialsBelow};
 
 use crate::pending::Pending;
-use event_key::{Key, later, step_of};
-use model_core::{Event, OutOfMemory, Send};
-
-/// Whether something is sent without delay from the last step of a tick.
-#[tactic(auto, unfolding(sim_spec::specs::Firing::has_chain, event_key::specs::Stamps::has_no_step))]
-pub fn has_chain(stamp: u64, sends: &[Send]) -> bool
-    ensures { result ≡ has_chain_of stamp sends.now }
-{
-    sends
-        .iter()
-        .any(|send| send.delay == 0 && step_of(stamp) == 65535)
-}
+use event_firing::sent_event;
+use event_key::Key;
+use model_core::{OutOfMemory, Send};
 
 /// Puts what an event at an object sends at its places, with serials from this one on.
 pub fn send_all(
@@ -37,22 +28,7 @@ pub fn send_all(
 {
     let mut next_serial = serial;
     for send in sends {
-        let Some(stamp) = later(cause.stamp, send.delay) else {
-            unreachable!()
-        };
-        let key = Key {
-            stamp,
-            rank: send.rank,
-            dest: send.dest,
-            src: cause.dest,
-            serial: next_serial,
-        };
-        pending.insert(Event {
-            key,
-            kind: send.kind,
-            a: send.a,
-            b: send.b,
-        })?;
+        pending.insert(sent_event(cause, next_serial, send))?;
         next_serial += 1;
     }
     Ok(())

@@ -5,7 +5,7 @@ use Rattle.delta_exchange.specs.Changes.{CellData, AllFit}
 use Rattle.delta_exchange.specs.Spares.{NameLines}
 use Rattle.delta_exchange.proofs.Room.{fitting_names_lines}
 use Rattle.sim_spec.specs.Firing.{ObjectState}
-use Rattle.list_engine.proofs.object.Object.take_effect.Goals as goal
+use Rattle.event_firing.proofs.object.Object.take_effect.Goals as goal
 
 pub room-requires : goal.room-requires
 room-requires c =

@@ -5,7 +5,7 @@ use Rattle.std.proofs.lemmas.List.FromFn.{map-range_with_len_more}
 use Rattle.delta_exchange.specs.Changes.{CellData}
 use Rattle.sim_spec.specs.Firing.{ObjectState}
 use Rattle.sim_spec.specs.State.{first_object}
-use Rattle.list_engine.proofs.beginning.first_objects.Goals as goal
+use Rattle.event_firing.proofs.beginning.first_objects.Goals as goal
 
 pub loop-object-preserved : goal.loop-object-preserved
 loop-object-preserved g c =
