@@ -7,7 +7,7 @@ ghost use Rattle.one_thread.specs.Engines.{state_of};
 use crate::course::Course;
 use crate::turn::Turn;
 use event_key::Key;
-use model_core::model::Model;
+use model_core::model::{Model, keeps_laws};
 use model_core::{Note, OutOfMemory, Sequence};
 use sim_spec::{Bucket, Terms};
 use std::alloc::Global;
@@ -47,6 +47,7 @@ pub fn fire_bucket<M: Model>(
     ensures bucket { IfOk result (λ bucket. bucket ≡ cut (M.meaning model.now) terms.now (state_of course.old)) }
     ensures after { OnOk result (state_of course.new ≡ after (M.meaning model.now) terms.now (state_of course.old)) }
 {
+    keeps_laws(model);
     course.merge();
     let mut done = Vec::new(alloc);
     'turns: loop {

@@ -91,9 +91,11 @@ impl Course {
         ensures { IfOk result (λ turn. IsTurn (M.meaning model.now) terms.now self.old turn self.new) }
     {
         let horizon = self.queue.fresh_least().min(end_bound(terms.end));
-        match self.queue.first() {
-            Some(key) if key.stamp < horizon => {}
-            _ => return Ok(Turn::Ends(horizon)),
+        let Some(key) = self.queue.first() else {
+            return Ok(Turn::Ends(horizon));
+        };
+        if key.stamp >= horizon {
+            return Ok(Turn::Ends(horizon));
         }
         if self.count == terms.limit {
             return Ok(Turn::Limit);
