@@ -1,29 +1,27 @@
 -- A bucket by its events so far: what is done, and the bucket from here.
-use Rattle.std.proofs.Common.{◌≡◌, ◌≢◌, ℕ, suc, ◌+◌, ◌-◌, ◌<◌, ◌≤◌, min, Bool, true, false, cond, ◌&&◌, ◌||◌, List, [], ◌∷◌, ◌++◌, length, take, drop, map, sym, refl, ap, ◌∙◌, subst, arith, eqb, ltb, eq-eqb, lt-ltb, le-ltb, ne_eqb, length-append, append_assoc}
+use Rattle.std.proofs.Common.{◌≡◌, ℕ, ◌+◌, min, List, [], ◌∷◌, ◌++◌, length, sym, refl, ap, ◌∙◌, subst, arith, length-append, append_assoc}
 use Rattle.std.proofs.lemmas.List.{append-nil}
-use Rattle.std.specs.Prelude.{slice_set, Option, Some, None, is_some}
+use Rattle.std.specs.Prelude.{slice_set}
 use Rattle.event_key.specs.declared.key.Key.{Key}
 use Rattle.event_key.specs.Stamps.{end_stamp}
 use Rattle.model_core.specs.declared.event.Event.{Event}
 use Rattle.model_core.specs.declared.note.Note.{Note}
 use Rattle.model_core.specs.Meaning.{Meaning, MeaningLaws}
-use Rattle.sim_spec.specs.declared.bucket.Bucket.{Bucket}
 use Rattle.sim_spec.specs.declared.terms.Terms.{Terms}
-use Rattle.sim_spec.specs.Firing.{ObjectState, Firing, Fired, goes, fails, fire}
+use Rattle.sim_spec.specs.Firing.{ObjectState, Firing}
 use Rattle.sim_spec.specs.Pending.{enqueue_all}
-use Rattle.sim_spec.specs.State.{State, Lawful, object_at}
-use Rattle.sim_spec.specs.Run.{next, next_fired, does}
-use Rattle.sim_spec.specs.Horizon.{HorizonBucket, empty_bucket, bucket_with, bucket_below, horizon_bucket, least_stamp}
-use Rattle.sim_spec.specs.Cut.{events_of, records_of, emissions_of, objects_after, state_with_done, is_limited, committed_events, cut, after}
-use Rattle.sim_spec.proofs.BucketInduction.{fire_at, bucket-late, bucket-fails, bucket-goes}
-use Rattle.sim_spec.proofs.InTurnLemmas.{drop-front}
+use Rattle.sim_spec.specs.State.{State, Lawful}
+use Rattle.sim_spec.specs.Run.{next_fired}
+use Rattle.sim_spec.specs.Horizon.{HorizonBucket, bucket_with, bucket_below, horizon_bucket, least_stamp}
+use Rattle.sim_spec.specs.Cut.{events_of, records_of, emissions_of, objects_after}
+use Rattle.sim_spec.proofs.BucketInduction.{bucket-goes}
 use Rattle.sim_spec.proofs.LawfulLemmas.{next-lawful}
 use Rattle.sim_spec.proofs.PartLemmas.{events_of-append}
 use Rattle.sim_spec.proofs.PendingLemmas.{enqueue_all-append}
 use Rattle.sim_spec.proofs.RunLemmas.{next-fires}
 use Rattle.sim_spec.proofs.StampLemmas.{enqueue_all-behind, NoneBelow-least_stamp, least_stamp-le}
 use Rattle.one_thread.specs.Engines.{Course, state_of}
-use Rattle.one_thread.specs.Turns.{horizon_of, NoneDue, IsDue, IsDone, IsFailed, IsFull}
+use Rattle.one_thread.specs.Turns.{horizon_of, IsDone}
 
 -- a bucket behind events that are done
 abbrev pub behind : List (Event × Firing) → HorizonBucket → HorizonBucket

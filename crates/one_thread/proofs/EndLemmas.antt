@@ -2,7 +2,7 @@
 use Rattle.std.proofs.Common.{◌≡◌, ◌⊎◌, ℕ, ◌+◌, ◌-◌, ◌<◌, ◌≤◌, Bool, true, false, cond, ◌&&◌, ◌||◌, List, [], ◌∷◌, ◌++◌, length, take, drop, sym, refl, ap, ◌∙◌, subst, inl, inr, arith, eqb, ltb, eq-eqb, lt-ltb, le-ltb, ltb-false, ne_eqb, length-append}
 use Rattle.std.proofs.lemmas.List.{append-nil, take_all}
 use Rattle.std.proofs.Math.Seq.{take-append_seam}
-use Rattle.std.specs.Prelude.{Option, Some, None, is_some, if◌then◌else◌}
+use Rattle.std.specs.Prelude.{Some, None, is_some, if◌then◌else◌}
 use Rattle.event_key.specs.declared.key.Key.{Key}
 use Rattle.model_core.specs.declared.event.Event.{Event}
 use Rattle.model_core.specs.declared.note.Note.{Note}
@@ -11,9 +11,9 @@ use Rattle.sim_spec.specs.declared.bucket.Bucket.{Bucket}
 use Rattle.sim_spec.specs.declared.terms.Terms.{Terms}
 use Rattle.sim_spec.specs.Firing.{Firing, Fired, goes, fails}
 use Rattle.sim_spec.specs.Pending.{enqueue_all}
-use Rattle.sim_spec.specs.State.{State}
+use Rattle.sim_spec.specs.State.{State, Lawful}
 use Rattle.sim_spec.specs.Horizon.{HorizonBucket, empty_bucket, bucket_below, horizon_bucket}
-use Rattle.sim_spec.specs.Cut.{events_of, records_of, emissions_of, objects_after, state_with_done, is_limited, committed_events, cut, after}
+use Rattle.sim_spec.specs.Cut.{records_of, state_with_done, is_limited, committed_events, cut, after}
 use Rattle.sim_spec.proofs.BucketInduction.{fire_at, bucket-late, bucket-fails, bucket-goes}
 use Rattle.sim_spec.proofs.InTurnLemmas.{drop-front}
 use Rattle.one_thread.specs.Engines.{Course, state_of}
@@ -123,6 +123,7 @@ cut_at m t s b is_b = ap (cut_of (t.limit - s.count)) is_b
 pub record Ends (m : Meaning) (t : Terms) (s : State) (bucket : Bucket) (c : Course) : Type 0 where
   pub is_cut : bucket ≡ cut m t s
   pub is_after : state_of c ≡ after m t s
+  pub lawful : Lawful m t (state_of c)
 
 ends : (m : Meaning) (t : Terms) (s : State) (told : List (Key × Note)) (c : Course) (so_far : InBucket m t s told c) (b : HorizonBucket) (limited : Bool) (bucket : Bucket)
     → horizon_bucket m t s ≡ b → ComesTo (t.limit - s.count) b so_far.done limited
@@ -131,6 +132,7 @@ ends : (m : Meaning) (t : Terms) (s : State) (told : List (Key × Note)) (c : Co
 ends m t s told c so_far b limited bucket is_b comes is_bucket = record {
   is_cut = is_bucket ∙ sym (cut_as (t.limit - s.count) b so_far.done limited comes) ∙ sym (cut_at m t s b is_b);
   is_after = ends_at m t s told c so_far b limited is_b comes;
+  lawful = so_far.lawful;
 }
 
 nothing_left : (m : Meaning) (t : Terms) (c : Course) (h : ℕ) → h ≡ horizon_of t c → NoneDue h c.primary → rest_of m t c ≡ empty_bucket h

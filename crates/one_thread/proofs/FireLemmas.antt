@@ -1,5 +1,5 @@
 -- What is known of the event that is due, and what its firing leaves.
-use Rattle.std.proofs.Common.{◌≡◌, ℕ, zero, suc, ◌+◌, ◌*◌, ◌^◌, ◌<◌, ◌≤◌, true, false, cond, List, [], ◌∷◌, ◌++◌, length, get_or, sym, refl, ap, ◌∙◌, subst, arith}
+use Rattle.std.proofs.Common.{◌≡◌, ℕ, zero, suc, ◌+◌, ◌^◌, ◌<◌, ◌≤◌, true, false, cond, List, [], ◌∷◌, ◌++◌, length, get_or, sym, refl, ap, ◌∙◌, subst, arith}
 use Rattle.std.specs.Prelude.{IsTrue, slice_set}
 use Rattle.std.proofs.lemmas.List.{set-get_or}
 use Rattle.event_key.specs.Keys.{key_lt}
@@ -8,10 +8,10 @@ use Rattle.model_core.specs.declared.event.Event.{Event}
 use Rattle.model_core.specs.declared.event.Send.{Send}
 use Rattle.model_core.specs.Meaning.{Meaning, MeaningLaws, SendsInRange}
 use Rattle.sim_spec.specs.declared.terms.Terms.{Terms}
-use Rattle.sim_spec.specs.Firing.{ObjectState, Firing, goes, fails, fire, emissions}
+use Rattle.sim_spec.specs.Firing.{ObjectState, fails, fire, emissions}
 use Rattle.sim_spec.specs.Pending.{enqueue, enqueue_all, AllAfter, IsAscending}
 use Rattle.sim_spec.specs.Horizon.{least_stamp}
-use Rattle.sim_spec.specs.State.{State, Lawful, AllSound, object_at, no_object}
+use Rattle.sim_spec.specs.State.{Lawful, AllSound, object_at, no_object}
 use Rattle.sim_spec.proofs.AscendingLemmas.{IsAscending-without_all}
 use Rattle.sim_spec.proofs.EnqueueLemmas.{length-enqueue_all}
 use Rattle.sim_spec.proofs.LawfulLemmas.{time_early}

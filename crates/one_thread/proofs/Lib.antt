@@ -4,3 +4,4 @@ pub mod FireLemmas
 pub mod QueueLemmas
 pub mod TurnLemmas
 pub mod EndLemmas
+pub mod EngineLemmas

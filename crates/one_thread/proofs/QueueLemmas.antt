@@ -1,5 +1,5 @@
 -- Keys of events on their way to the queue.
-use Rattle.std.proofs.Common.{◌≡◌, ℕ, ◌+◌, ◌<◌, ◌≤◌, List, [], ◌∷◌, ◌++◌, length, get_or, drop, sym, refl, ap, ◌∙◌, subst, arith, append_assoc}
+use Rattle.std.proofs.Common.{◌≡◌, ℕ, ◌+◌, ◌<◌, ◌≤◌, List, [], ◌∷◌, ◌++◌, length, get_or, drop, sym, ap, ◌∙◌, subst, arith, append_assoc}
 use Rattle.std.proofs.lemmas.List.{drop_more, append-nil}
 use Rattle.std.proofs.Math.ListN.{drop_of_length-le}
 use Rattle.std.proofs.lemmas.List.Elements.{All-nil, All-cons}
@@ -7,7 +7,6 @@ use Rattle.event_key.specs.declared.key.Key.{Key}
 use Rattle.model_core.specs.declared.event.Event.{Event}
 use Rattle.model_core.specs.declared.event.Send.{Send}
 use Rattle.sim_spec.specs.Firing.{emission, emissions}
-use Rattle.sim_spec.specs.Pending.{enqueue_all}
 use Rattle.sim_spec.proofs.SerialLemmas.{SerialsBelow, SerialsBelow-le}
 use Rattle.speedes_queue.specs.Keys.{IsNewKey}
 
@@ -59,3 +58,7 @@ pub sent_all : (stamp object serial : ℕ) (ss : List Send) (i : ℕ) (fresh all
 unfolding emissions
 sent_all stamp object serial ss i fresh all past is_all =
     sym (append-nil fresh) ∙ ap (λ ys. fresh ++ emissions stamp object serial ys) (sym (drop_of_length-le ss past)) ∙ is_all
+
+pub none_below : (object n : ℕ) (es : List Event) → es ≡ [] → SerialsBelow object n es
+unfolding SerialsBelow
+none_below object n es is = let P : List Event → Type 0 = SerialsBelow object n in subst P (sym is) tt

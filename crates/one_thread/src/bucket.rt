@@ -45,6 +45,7 @@ pub fn fire_bucket<M: Model>(
 ) -> Result<Bucket, OutOfMemory>
     requires { Lawful (M.meaning model.now) terms.now (state_of course.old) }
     ensures bucket { IfOk result (λ bucket. bucket ≡ cut (M.meaning model.now) terms.now (state_of course.old)) }
+    ensures lawful { OnOk result (Lawful (M.meaning model.now) terms.now (state_of course.new)) }
     ensures after { OnOk result (state_of course.new ≡ after (M.meaning model.now) terms.now (state_of course.old)) }
 {
     keeps_laws(model);

@@ -9,7 +9,8 @@ use crate::bucket::fire_bucket;
 use crate::course::Course;
 use event_key::Key;
 use model_core::OutOfMemory;
-use model_core::model::{Model as SimulationModel, keeps_laws};
+use model_core::model::Model as SimulationModel;
+use sim_spec::laws::law_initial;
 use sim_spec::{Bucket, Stop, Terms};
 use std::alloc::Global;
 use std::marker::Model;
@@ -44,6 +45,7 @@ impl<M: SimulationModel> OneThread<M> {
         ensures terms { IfOk result (λ engine. engine.terms ≡ terms) }
         ensures standing { IfOk result (λ engine. engine.standing ≡ stands (initial_state (M.meaning (arc_value model))) None) }
     {
+        law_initial(&*model, &terms);
         let course = Course::begin(alloc, &*model)?;
         Ok(OneThread {
             model,
@@ -82,7 +84,9 @@ impl<M: SimulationModel> OneThread<M> {
     pub fn ended(&self) -> Option<Stop>
         ensures { result ≡ ended (M.meaning self.now.model) self.now.terms self.now.standing }
     {
-        let course = self.course.as_ref()?;
+        let Some(course) = &self.course else {
+            return None;
+        };
         match self.fault {
             Some((key, code)) => Some(Stop::Fault { key, code }),
             None => course.end_or_limit(&*self.model, &self.terms),

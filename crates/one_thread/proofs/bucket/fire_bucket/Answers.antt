@@ -1,6 +1,7 @@
 -- The bucket grows event by event, and ends as the definition ends it.
-use Rattle.std.proofs.Common.{◌≡◌, ◌∙◌, ap, subst}
-use Rattle.one_thread.specs.Engines.{state_of}
+use Rattle.std.proofs.Common.{◌∙◌, ap, subst, sym}
+use Rattle.sim_spec.specs.State.{Lawful}
+use Rattle.one_thread.specs.Engines.{Course, state_of}
 use Rattle.one_thread.specs.Turns.{IsTurn}
 use Rattle.one_thread.specs.declared.turn.Turn.{Turn}
 use Rattle.one_thread.specs.declared.turn.Turn.TheVariants.{Does, Ends, Limit, Fault}
@@ -61,3 +62,27 @@ returns-in-Fault-clause-after g c =
     let turn : P (Fault c.in-Fault.key c.in-Fault.code) = subst P c.in-Fault.is c.in_ok-key.ensures in
     let ends = ends_faulted (g.M.Model.meaning c.args.model.now) c.args.terms.now (state_of c.args.course.now) c.turns.done.items c.turns.course c.in-Fault.key c.in-Fault.code c.partial-in-Fault.result c.turns.invariant turn.0 c.partial-in-Fault.ensures in
     ap state_of turn.1 ∙ ends.is_after
+
+pub returns-in-Ends-clause-lawful : goal.returns-in-Ends-clause-lawful
+returns-in-Ends-clause-lawful g c =
+    let P : Turn → Type 0 = λ turn. IsTurn (g.M.Model.meaning c.args.model.now) c.args.terms.now c.turns.course turn c.turn.new.self in
+    let turn : P (Ends c.in-Ends.horizon) = subst P c.in-Ends.is c.in_ok-key.ensures in
+    let ends = ends_whole (g.M.Model.meaning c.args.model.now) c.args.terms.now (state_of c.args.course.now) c.turns.done.items c.turns.course c.in-Ends.horizon c.whole.result c.turns.invariant turn.0 turn.1 c.whole.ensures in
+    let Q : Course → Type 0 = λ after. Lawful (g.M.Model.meaning c.args.model.now) c.args.terms.now (state_of after) in
+    subst Q (sym turn.2) ends.lawful
+
+pub returns-in-Limit-clause-lawful : goal.returns-in-Limit-clause-lawful
+returns-in-Limit-clause-lawful g c =
+    let P : Turn → Type 0 = λ turn. IsTurn (g.M.Model.meaning c.args.model.now) c.args.terms.now c.turns.course turn c.turn.new.self in
+    let turn : P (Limit) = subst P c.in-Limit.is c.in_ok-key.ensures in
+    let ends = ends_limited (g.M.Model.meaning c.args.model.now) c.args.terms.now (state_of c.args.course.now) c.turns.done.items c.turns.course c.partial.result c.turns.invariant turn.0 c.partial.ensures in
+    let Q : Course → Type 0 = λ after. Lawful (g.M.Model.meaning c.args.model.now) c.args.terms.now (state_of after) in
+    subst Q (sym turn.1) ends.lawful
+
+pub returns-in-Fault-clause-lawful : goal.returns-in-Fault-clause-lawful
+returns-in-Fault-clause-lawful g c =
+    let P : Turn → Type 0 = λ turn. IsTurn (g.M.Model.meaning c.args.model.now) c.args.terms.now c.turns.course turn c.turn.new.self in
+    let turn : P (Fault c.in-Fault.key c.in-Fault.code) = subst P c.in-Fault.is c.in_ok-key.ensures in
+    let ends = ends_faulted (g.M.Model.meaning c.args.model.now) c.args.terms.now (state_of c.args.course.now) c.turns.done.items c.turns.course c.in-Fault.key c.in-Fault.code c.partial-in-Fault.result c.turns.invariant turn.0 c.partial-in-Fault.ensures in
+    let Q : Course → Type 0 = λ after. Lawful (g.M.Model.meaning c.args.model.now) c.args.terms.now (state_of after) in
+    subst Q (sym turn.1) ends.lawful

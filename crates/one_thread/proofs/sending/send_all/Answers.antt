@@ -1,5 +1,5 @@
 -- The sends so far are among the fresh events, and the next one has a key of its own.
-use Rattle.std.proofs.Common.{◌≡◌, ◌+◌, ◌++◌, ◌∷◌, [], length, length-append, drop, get_or, arith, sym, ap, ◌∙◌}
+use Rattle.std.proofs.Common.{◌++◌, ◌∷◌, [], length, length-append, arith, ap, ◌∙◌}
 use Rattle.model_core.specs.declared.event.Send.{Send}
 use Rattle.model_core.specs.declared.event.Event.{Event}
 use Rattle.event_firing.proofs.SendLemmas.{chain_at, ranged_more}

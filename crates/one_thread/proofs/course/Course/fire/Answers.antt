@@ -1,8 +1,8 @@
 -- The event that is due is fired as the definition fires it.
-use Rattle.std.proofs.Common.{◌≡◌, ◌+◌, ◌++◌, ◌∷◌, [], List, length, sym, refl, ap, ◌∙◌, subst, arith}
+use Rattle.std.proofs.Common.{◌+◌, ◌++◌, ◌∷◌, [], List, length, ap, ◌∙◌, subst, arith}
 use Rattle.std.specs.Prelude.{slice_set}
 use Rattle.model_core.specs.declared.event.Event.{Event}
-use Rattle.sim_spec.specs.Firing.{ObjectState, emissions, has_chain}
+use Rattle.sim_spec.specs.Firing.{ObjectState, has_chain}
 use Rattle.event_firing.specs.declared.reaction.Reaction.{Reaction}
 use Rattle.event_firing.specs.declared.reaction.Reaction.TheVariants.{Goes, Fails}
 use Rattle.event_firing.specs.Reactions.{IsReaction}

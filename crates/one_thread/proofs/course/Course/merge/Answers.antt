@@ -1,6 +1,6 @@
 -- What came since is in its place, and nothing is pending beside it.
-use Rattle.std.proofs.Common.{◌≡◌, ap, ◌∙◌}
-use Rattle.one_thread.specs.Engines.{Course, state_of}
+use Rattle.std.proofs.Common.{ap, ◌∙◌}
+use Rattle.one_thread.specs.Engines.{state_of}
 use Rattle.one_thread.proofs.CourseLemmas.{merged}
 use Rattle.one_thread.proofs.course.Course.merge.Goals as goal
 

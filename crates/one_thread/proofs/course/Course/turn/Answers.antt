@@ -1,9 +1,8 @@
 -- The first event in order is below the horizon, or nothing is.
-use Rattle.std.proofs.Common.{◌≡◌, refl, sym, ap, ◌∙◌, subst, arith, List}
-use Rattle.model_core.specs.declared.event.Event.{Event}
+use Rattle.std.proofs.Common.{refl, sym, ap, ◌∙◌, arith}
 use Rattle.speedes_queue.specs.Keys.{first_key}
 use Rattle.one_thread.specs.Engines.{Course}
-use Rattle.one_thread.specs.Turns.{horizon_of, NoneDue}
+use Rattle.one_thread.specs.Turns.{horizon_of}
 use Rattle.one_thread.proofs.TurnLemmas.{horizon_is, nothing_due, late_due, is_due, is_full}
 use Rattle.one_thread.proofs.course.Course.turn.Goals as goal
 
