@@ -104,10 +104,15 @@ impl Fresh {
             return Ok(());
         }
         match &mut self.cells {
-            Some(cells) => cells.reserve(n)?,
-            None => self.cells = Some(Vec::with_capacity(alloc, n)?),
+            Some(cells) => {
+                cells.reserve(n)?;
+                self.spare = cells.capacity() - cells.len();
+            }
+            None => {
+                self.cells = Some(Vec::with_capacity(alloc, n)?);
+                self.spare = n;
+            }
         }
-        self.spare = n;
         Ok(())
     }
 

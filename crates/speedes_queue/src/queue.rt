@@ -91,6 +91,13 @@ impl Queue {
         lesser(self.primary.first(), self.fresh.least())
     }
 
+    /// The key of the first event of the primary list.
+    pub fn first(&self) -> Option<Key>
+        ensures { result ≡ first_key self.now.primary }
+    {
+        self.primary.first()
+    }
+
     /// The least stamp of the fresh events, or `NO_STAMP` where there is none.
     pub fn fresh_least(&self) -> u64
         ensures { result ≡ least_stamp NO_STAMP self.now.fresh }

@@ -1,0 +1,2 @@
+pub mod ReactionLemmas
+pub mod SendLemmas

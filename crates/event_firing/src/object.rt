@@ -1,0 +1,105 @@
+//! An object as an engine keeps it.
+ghost use Rattle.std.specs.Prelude.{◌≡◌, ◌+◌, ◌<◌, ◌^◌, IfOk, OnOk, OnErr, IsTrue};
+ghost use Rattle.delta_exchange.specs.Changes.{AllFit, cells_after_all};
+ghost use Rattle.event_key.specs.Stamps.{time_part};
+ghost use Rattle.event_firing.specs.Reactions.{IsReaction};
+
+use crate::reaction::{Reaction, Sending};
+use crate::sending::has_chain;
+use model_core::model::{Model as SimulationModel, keeps_laws};
+use model_core::{Cells, Change, Effect, Event, OutOfMemory, Outcome};
+use std::alloc::Global;
+use std::marker::Model;
+
+/// The code of an event that sends without delay at the last step of a tick.
+const CHAIN: u32 = 1;
+
+/// An object's cells, and how many events it has sent.
+#[derive(Drop)]
+pub struct Object {
+    cells: Cells,
+    sent: u64,
+}
+
+impl Model for Object {
+    ghost use Rattle.sim_spec.specs.Firing.{ObjectState};
+
+    ghost Value = { ObjectState };
+
+    ghost view = { λ object. record { cells = object.cells.contents; sent = object.sent } };
+}
+
+impl Object {
+    /// An object that has sent nothing yet.
+    pub fn new(cells: Cells) -> Object
+        ensures { result ≡ record { cells = cells.contents; sent = 0 } }
+    {
+        Object { cells, sent: 0 }
+    }
+
+    /// Its cells.
+    pub fn cells(&self) -> &Cells
+        ensures { result.now.contents ≡ self.now.cells }
+    {
+        &self.cells
+    }
+
+    /// How many events it has sent.
+    pub fn sent(&self) -> u64
+        ensures { result ≡ self.now.sent }
+    {
+        self.sent
+    }
+
+    /// Does the changes of an event that sends so many events, or nothing where no memory is left.
+    pub fn take_effect(&mut self, changes: Vec<Change>, sends: u64) -> Result<(), OutOfMemory>
+        requires fits { AllFit changes.items self.old.cells }
+        requires sends { self.old.sent + sends < 2 ^ 64 }
+        ensures ok { OnOk result (self.new ≡ record { cells = cells_after_all changes.items self.old.cells; sent = self.old.sent + sends }) }
+        ensures err { OnErr result (self.new ≡ self.old) }
+    {
+        let mut changes = changes;
+        self.cells.room(changes.as_slice())?;
+        self.cells.apply(changes.as_mut_slice());
+        self.sent += sends;
+        Ok(())
+    }
+
+    /// Fires an event at this object. After a refusal the object is as it was.
+    pub fn fire<M: SimulationModel>(
+        &mut self,
+        alloc: Global,
+        model: &M,
+        event: &Event,
+    ) -> Result<Reaction, OutOfMemory>
+        requires object { event.now.key.dest < (M.meaning model.now).objects }
+        requires lawful { IsTrue ((M.meaning model.now).lawful event.now.key.dest self.old.cells) }
+        requires time { time_part event.now.key.stamp < 2 ^ 46 }
+        requires sent { self.old.sent < 2 ^ 60 }
+        ensures ok { IfOk result (λ reaction. IsReaction (M.meaning model.now) self.old event.now reaction self.new) }
+        ensures err { OnErr result (self.new ≡ self.old) }
+    {
+        keeps_laws(model);
+        match model.react(alloc, event.key.dest, self.cells(), event)? {
+            Outcome::Fails(code) => Ok(Reaction::Fails(code)),
+            Outcome::Goes(
+                Effect {
+                    changes,
+                    sends,
+                    note,
+                },
+            ) => {
+                if has_chain(event.key.stamp, sends.as_slice()) {
+                    return Ok(Reaction::Fails(CHAIN));
+                }
+                let serial = self.sent();
+                self.take_effect(changes.into_vec(), sends.as_slice().len() as u64)?;
+                Ok(Reaction::Goes(Sending {
+                    serial,
+                    sends,
+                    note,
+                }))
+            }
+        }
+    }
+}

@@ -1,0 +1,10 @@
+use Rattle.std.proofs.Common.{◌-◌}
+use Rattle.one_thread.specs.Engines.{state_of}
+use Rattle.one_thread.proofs.BucketLemmas.{InBucket}
+use Rattle.one_thread.proofs.bucket.fire_bucket.Given as goal
+
+abbrev pub invariant-turns : goal.invariant-turns
+invariant-turns g l = InBucket (g.M.Model.meaning l.model) l.terms (state_of l.fn.course) l.done.items l.course
+
+abbrev pub decreases-turns : goal.decreases-turns
+decreases-turns g l = l.terms.limit - l.course.count

@@ -1,0 +1,72 @@
+-- What an engine does next within a bucket.
+use Rattle.std.specs.Prelude.{◌≡◌, ℕ, ◌+◌, ◌<◌, ◌≤◌, List, [], ◌∷◌, ◌++◌, slice_set}
+use Rattle.event_key.specs.declared.key.Key.{Key}
+use Rattle.event_key.specs.Stamps.{end_stamp}
+use Rattle.model_core.specs.declared.event.Event.{Event}
+use Rattle.model_core.specs.declared.note.Note.{Note}
+use Rattle.model_core.specs.Meaning.{Meaning}
+use Rattle.sim_spec.specs.declared.terms.Terms.{Terms}
+use Rattle.sim_spec.specs.Firing.{Firing, goes, fails, fire}
+use Rattle.sim_spec.specs.State.{object_at}
+use Rattle.sim_spec.specs.Horizon.{least_stamp}
+use Rattle.one_thread.specs.Engines.{Course}
+use Rattle.one_thread.specs.declared.turn.Turn.{Turn}
+use Rattle.one_thread.specs.declared.turn.Turn.TheVariants.{Does, Ends, Limit, Fault}
+
+-- the horizon: the least stamp of what was sent in this bucket, or the end
+abbrev pub horizon_of : Terms → Course → ℕ
+horizon_of t c = least_stamp (end_stamp t.end) c.fresh
+
+-- no event in order is below the horizon
+abbrev pub NoneDue : ℕ → List Event → Type 0
+NoneDue h [] = Unit {0}
+NoneDue h (e ∷ rest) = h ≤ e.key.stamp
+
+-- an event is due: the first one in order, below the horizon
+pub record IsDue (t : Terms) (c : Course) (e : Event) (rest : List Event) : Type 0 where
+  pub first : c.primary ≡ e ∷ rest
+  pub early : e.key.stamp < horizon_of t c
+
+-- some event is due
+abbrev pub HasDue : Terms → Course → Type 0
+HasDue t c = (e : Event) × (rest : List Event) × IsDue t c e rest
+
+-- the event that is due goes, and what it sends is fresh
+pub record IsDone (m : Meaning) (t : Terms) (old : Course) (key : Key) (note : Note) (new : Course) : Type 0 where
+  pub event : Event
+  pub rest : List Event
+  pub firing : Firing
+  pub due : IsDue t old event rest
+  pub free : old.count < t.limit
+  pub fires : fire m event.key.dest (object_at old.objects event.key.dest) event ≡ goes firing
+  pub key_is : key ≡ event.key
+  pub note_is : note ≡ firing.note
+  pub after : new ≡ record {
+    objects = slice_set old.objects event.key.dest firing.state;
+    primary = rest;
+    fresh = old.fresh ++ firing.events;
+    count = old.count + 1;
+  }
+
+-- the event that is due fails
+pub record IsFailed (m : Meaning) (t : Terms) (old : Course) (key : Key) (code : ℕ) : Type 0 where
+  pub event : Event
+  pub rest : List Event
+  pub due : IsDue t old event rest
+  pub free : old.count < t.limit
+  pub fires : fire m event.key.dest (object_at old.objects event.key.dest) event ≡ fails code
+  pub key_is : key ≡ event.key
+
+-- no more events may be done, but one is due
+pub record IsFull (t : Terms) (c : Course) : Type 0 where
+  pub event : Event
+  pub rest : List Event
+  pub due : IsDue t c event rest
+  pub full : c.count ≡ t.limit
+
+-- what a turn says and leaves
+abbrev pub IsTurn : Meaning → Terms → Course → Turn → Course → Type 0
+IsTurn m t old (Does key note) new = IsDone m t old key note new
+IsTurn m t old (Ends horizon) new = (horizon ≡ horizon_of t old) × NoneDue horizon old.primary × (new ≡ old)
+IsTurn m t old Limit new = IsFull t old × (new ≡ old)
+IsTurn m t old (Fault key code) new = IsFailed m t old key code × (new ≡ old)

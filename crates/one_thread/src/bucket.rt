@@ -1,0 +1,62 @@
+//! A bucket: the events below one event horizon.
+ghost use Rattle.std.specs.Prelude.{◌≡◌, IfOk, OnOk, is_none, false};
+ghost use Rattle.sim_spec.specs.Cut.{cut, after};
+ghost use Rattle.sim_spec.specs.State.{Lawful};
+ghost use Rattle.one_thread.specs.Engines.{state_of};
+
+use crate::course::Course;
+use crate::turn::Turn;
+use event_key::Key;
+use model_core::model::{Model, keeps_laws};
+use model_core::{Note, OutOfMemory, Sequence};
+use sim_spec::{Bucket, Terms};
+use std::alloc::Global;
+
+/// A whole bucket, up to its horizon.
+fn whole(done: Vec<(Key, Note)>, horizon: u64) -> Bucket
+    ensures { result ≡ record { done = done.items; horizon = horizon; fault = None; limited = false } }
+{
+    Bucket {
+        done: Sequence::new(done),
+        horizon,
+        fault: None,
+        limited: false,
+    }
+}
+
+/// A bucket that ended at a fault, or at the limit.
+fn partial(done: Vec<(Key, Note)>, fault: Option<(Key, u32)>) -> Bucket
+    ensures { result ≡ record { done = done.items; horizon = 0; fault = fault; limited = is_none fault } }
+{
+    Bucket {
+        done: Sequence::new(done),
+        horizon: 0,
+        limited: fault.is_none(),
+        fault,
+    }
+}
+
+/// Fires the events of one bucket in their order.
+pub fn fire_bucket<M: Model>(
+    course: &mut Course,
+    alloc: Global,
+    model: &M,
+    terms: &Terms,
+) -> Result<Bucket, OutOfMemory>
+    requires { Lawful (M.meaning model.now) terms.now (state_of course.old) }
+    ensures bucket { IfOk result (λ bucket. bucket ≡ cut (M.meaning model.now) terms.now (state_of course.old)) }
+    ensures lawful { OnOk result (Lawful (M.meaning model.now) terms.now (state_of course.new)) }
+    ensures after { OnOk result (state_of course.new ≡ after (M.meaning model.now) terms.now (state_of course.old)) }
+{
+    keeps_laws(model);
+    course.merge();
+    let mut done = Vec::new(alloc);
+    'turns: loop {
+        match course.turn(alloc, model, terms)? {
+            Turn::Does(key, note) => done.push((key, note))?,
+            Turn::Ends(horizon) => return Ok(whole(done, horizon)),
+            Turn::Limit => return Ok(partial(done, None)),
+            Turn::Fault(key, code) => return Ok(partial(done, Some((key, code)))),
+        }
+    }
+}

@@ -1,0 +1,117 @@
+//! The engine, as its callers see it.
+ghost use Rattle.std.specs.Prelude.{◌≡◌, ℕ, Option, IfOk};
+ghost use Rattle.std.specs.Arc.{arc_value};
+ghost use Rattle.event_key.specs.declared.key.Key.{Key};
+ghost use Rattle.sim_spec.specs.State.{State, initial_state};
+ghost use Rattle.sim_spec.specs.Standing.{stands, spent, ended, CycleGives};
+
+use crate::bucket::fire_bucket;
+use crate::course::Course;
+use event_key::Key;
+use model_core::OutOfMemory;
+use model_core::model::Model as SimulationModel;
+use sim_spec::laws::law_initial;
+use sim_spec::{Bucket, Stop, Terms};
+use std::alloc::Global;
+use std::marker::Model;
+use std::sync::Arc;
+
+/// A model, how far it goes, and the simulation, as far as it has come.
+#[derive(Drop)]
+pub struct OneThread<M: SimulationModel> {
+    model: Arc<M>,
+    terms: Terms,
+    // None once memory has run out
+    course: Option<Course>,
+    fault: Option<(Key, u32)>,
+}
+
+impl<M: SimulationModel> Model for OneThread<M> {
+    ghost use Rattle.std.specs.Arc.{arc_value};
+    ghost use Rattle.sim_spec.specs.Standing.{IsLawfulStanding};
+    ghost use Rattle.one_thread.specs.Engines.{EngineView, standing_of};
+
+    ghost Value = { EngineView M };
+
+    ghost view = { λ e. record { model = arc_value e.model; terms = e.terms; standing = standing_of e.course e.fault } };
+
+    ghost invariant = { λ e. IsLawfulStanding (M.meaning (arc_value e.model)) e.terms (standing_of e.course e.fault) };
+}
+
+impl<M: SimulationModel> OneThread<M> {
+    /// The engine at the start of a simulation.
+    pub fn new(alloc: Global, model: Arc<M>, terms: Terms) -> Result<OneThread<M>, OutOfMemory>
+        ensures model { IfOk result (λ engine. engine.model ≡ arc_value model) }
+        ensures terms { IfOk result (λ engine. engine.terms ≡ terms) }
+        ensures standing { IfOk result (λ engine. engine.standing ≡ stands (initial_state (M.meaning (arc_value model))) None) }
+    {
+        law_initial(&*model, &terms);
+        let course = Course::begin(alloc, &*model)?;
+        Ok(OneThread {
+            model,
+            terms,
+            course: Some(course),
+            fault: None,
+        })
+    }
+
+    /// The model.
+    pub fn model(&self) -> &M
+        ensures { result.now ≡ self.now.model }
+    {
+        &self.model
+    }
+
+    /// How far the simulation goes.
+    pub fn terms(&self) -> Terms
+        ensures { result ≡ self.now.terms }
+    {
+        self.terms
+    }
+
+    /// How many events are done: none, once memory has run out.
+    pub fn count(&self) -> u64
+        ensures standing { (s : State) (fault : Option (Key × ℕ)) → self.now.standing ≡ stands s fault → result ≡ s.count }
+        ensures spent { self.now.standing ≡ spent → result ≡ 0 }
+    {
+        match &self.course {
+            Some(course) => course.count(),
+            None => 0,
+        }
+    }
+
+    /// Why no bucket comes any more. There is no reason once memory has run out.
+    pub fn ended(&self) -> Option<Stop>
+        ensures { result ≡ ended (M.meaning self.now.model) self.now.terms self.now.standing }
+    {
+        let Some(course) = &self.course else {
+            return None;
+        };
+        match self.fault {
+            Some((key, code)) => Some(Stop::Fault { key, code }),
+            None => course.end_or_limit(&*self.model, &self.terms),
+        }
+    }
+
+    /// Fires the events of one bucket. After a refusal the engine is spent: each later call is refused too.
+    pub fn bucket(&mut self, alloc: Global) -> Result<Bucket, OutOfMemory>
+        requires { ended (M.meaning self.old.model) self.old.terms self.old.standing ≡ None }
+        ensures gives { CycleGives (M.meaning self.old.model) self.old.terms self.old.standing result self.new.standing }
+        ensures model { self.new.model ≡ self.old.model }
+        ensures terms { self.new.terms ≡ self.old.terms }
+    {
+        let Some(course) = &mut self.course else {
+            return Err(OutOfMemory);
+        };
+        match fire_bucket(course, alloc, &*self.model, &self.terms) {
+            Ok(bucket) => {
+                self.fault = bucket.fault;
+                Ok(bucket)
+            }
+            Err(refused) => {
+                self.course = None;
+                Err(refused)
+            }
+        }
+    }
+}
