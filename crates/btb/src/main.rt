@@ -2,6 +2,7 @@
 #![tactic(auto)]
 
 mod ending;
+mod engine;
 mod gate;
 mod notes;
 mod running;

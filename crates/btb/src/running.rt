@@ -9,49 +9,49 @@ ghost use Rattle.sim_io.specs.Causes.{Rose};
 ghost use Rattle.sim_io.specs.CycleTexts.{text};
 ghost use Rattle.sim_io.specs.Transfers.{AppendsFront};
 ghost use Rattle.sim_text.specs.declared.unfinished.Unfinished.TheVariants.{WriteFault};
+ghost use Rattle.model_text.specs.Meanings.{meaning_of};
 ghost use Rattle.model_text.specs.ModelTexts.{model_of};
 ghost use Rattle.btb.specs.Answer.{answer_to_model, refusal_line};
 ghost use Rattle.btb.specs.Endings.{status_of_ending, line_of_ending, IsAnswered};
 
 use crate::ending::Ending;
+use crate::engine::AnyEngine;
 use crate::notes::refusal_line;
 use model_core::OutOfMemory;
-use model_core::model::Model;
-use model_text::{Refusal, read_model};
-use one_thread::OneThread;
+use model_text::{AnyModel, Refusal, read_model};
 use sim_io::{MOST_BYTES, ReadEnd, Sink, Source, read_all};
 use sim_spec::{Stop, Terms};
 use sim_text::{Unfinished, simulate};
 use std::alloc::Global;
 use std::sync::Arc;
 
-/// An engine at the start of a model, and the model itself, which names what the engine tells.
-fn engine_of<M: Model>(
+/// A simulation at its start, and its model, which names what the simulation tells.
+fn engine_of(
     alloc: Global,
-    model: M,
+    model: AnyModel,
     terms: Terms,
-) -> Result<(Arc<M>, OneThread<M>), OutOfMemory>
+) -> Result<(Arc<AnyModel>, AnyEngine), OutOfMemory>
     ensures named { IfOk result (λ both. arc_value both.0 ≡ model) }
-    ensures model { IfOk result (λ both. both.1.model ≡ model) }
-    ensures terms { IfOk result (λ both. both.1.terms ≡ terms) }
-    ensures begins { IfOk result (λ both. both.1.standing ≡ stands (initial_state (M.meaning model)) None) }
+    ensures model { IfOk result (λ both. both.1.engine.model ≡ model) }
+    ensures terms { IfOk result (λ both. both.1.engine.terms ≡ terms) }
+    ensures begins { IfOk result (λ both. both.1.engine.standing ≡ stands (initial_state (meaning_of model)) None) }
 {
     let model = Arc::new(alloc, model)?;
-    let engine = OneThread::new(alloc, model.clone()?, terms)?;
+    let engine = AnyEngine::new(alloc, model.clone()?, terms)?;
     Ok((model, engine))
 }
 
 /// Runs a model on one thread, and writes the text of its simulation.
-fn run_model<M: Model, K: Sink>(
+fn run_model<K: Sink>(
     alloc: Global,
-    model: M,
+    model: AnyModel,
     terms: Terms,
     cycles: bool,
     out: &mut K,
 ) -> Result<Stop, Unfinished>
-    ensures whole { OnOk result (Appends (K.told out.old) (K.told out.new) (text (M.meaning model) terms cycles (initial_state (M.meaning model)))) }
-    ensures stop { IfOk result (λ stop. stop ≡ (run (M.meaning model) terms (initial_state (M.meaning model))).stop) }
-    ensures front { OnErr result (AppendsFront (K.told out.old) (K.told out.new) (text (M.meaning model) terms cycles (initial_state (M.meaning model)))) }
+    ensures whole { OnOk result (Appends (K.told out.old) (K.told out.new) (text (meaning_of model) terms cycles (initial_state (meaning_of model)))) }
+    ensures stop { IfOk result (λ stop. stop ≡ (run (meaning_of model) terms (initial_state (meaning_of model))).stop) }
+    ensures front { OnErr result (AppendsFront (K.told out.old) (K.told out.new) (text (meaning_of model) terms cycles (initial_state (meaning_of model)))) }
     ensures fault { IsErrOf result WriteFault → Rose (K.faults out.old) (K.faults out.new) }
     ensures later { K.faults out.old ≤ K.faults out.new }
 {
