@@ -8,17 +8,20 @@ use crate::reaction::{Reaction, Sending};
 use crate::sending::has_chain;
 use model_core::model::{Model as SimulationModel, keeps_laws};
 use model_core::{Cells, Change, Effect, Event, OutOfMemory, Outcome};
+use random_streams::Stream;
 use std::alloc::Global;
 use std::marker::Model;
 
 /// The code of an event that sends without delay at the last step of a tick.
 const CHAIN: u32 = 1;
 
-/// An object's cells, and how many events it has sent.
+/// An object's cells, and how many events it has sent. Its random words are kept from one event to the next, since
+/// they are made many at once.
 #[derive(Drop)]
 pub struct Object {
     cells: Cells,
     sent: u64,
+    words: Stream,
 }
 
 impl Model for Object {
@@ -34,7 +37,12 @@ impl Object {
     pub fn new(cells: Cells) -> Object
         ensures { result ≡ record { cells = cells.contents; sent = 0 } }
     {
-        Object { cells, sent: 0 }
+        let words = Stream::new(0, 0, 0);
+        Object {
+            cells,
+            sent: 0,
+            words,
+        }
     }
 
     /// Its cells.
@@ -65,6 +73,22 @@ impl Object {
         Ok(())
     }
 
+    /// What the model makes of an event here. The object stays as it is but for the words that it has at hand.
+    fn outcome_of<M: SimulationModel>(
+        &mut self,
+        alloc: Global,
+        model: &M,
+        event: &Event,
+    ) -> Result<Outcome, OutOfMemory>
+        requires object { event.now.key.dest < (M.meaning model.now).objects }
+        requires lawful { IsTrue ((M.meaning model.now).lawful event.now.key.dest self.old.cells) }
+        requires time { time_part event.now.key.stamp < 2 ^ 46 }
+        ensures same { self.new ≡ self.old }
+        ensures outcome { IfOk result (λ outcome. outcome ≡ (M.meaning model.now).effect event.now.key.dest self.old.cells event.now) }
+    {
+        model.react_with(alloc, &mut self.words, event.key.dest, &self.cells, event)
+    }
+
     /// Fires an event at this object. After a refusal the object is as it was.
     pub fn fire<M: SimulationModel>(
         &mut self,
@@ -80,7 +104,7 @@ impl Object {
         ensures err { OnErr result (self.new ≡ self.old) }
     {
         keeps_laws(model);
-        match model.react(alloc, event.key.dest, self.cells(), event)? {
+        match self.outcome_of(alloc, model, event)? {
             Outcome::Fails(code) => Ok(Reaction::Fails(code)),
             Outcome::Goes(
                 Effect {

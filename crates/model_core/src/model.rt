@@ -6,6 +6,7 @@ ghost use Rattle.model_core.specs.Meaning.{Meaning, MeaningLaws};
 use crate::effect::Outcome;
 use crate::event::{Event, Start};
 use delta_exchange::{Cells, OutOfMemory};
+use random_streams::Stream;
 use std::alloc::Global;
 
 /// A model: objects that change by events, each event at one object.
@@ -48,6 +49,25 @@ pub trait Model: std::marker::Send + Sync + Drop {
         requires lawful { IsTrue ((meaning self.now).lawful object cells.now.contents) }
         requires time { time_part event.now.key.stamp < 2 ^ 46 }
         ensures { IfOk result (λ outcome. outcome ≡ (meaning self.now).effect object cells.now.contents event.now) };
+
+    /// The same, by an engine that keeps a stream of words for each object from one of its events to the next, so that
+    /// the words that are at hand there needn't be made again.
+    fn react_with(
+        &self,
+        alloc: Global,
+        words: &mut Stream,
+        object: u32,
+        cells: &Cells,
+        event: &Event,
+    ) -> Result<Outcome, OutOfMemory>
+        requires object { object < (meaning self.now).objects }
+        requires lawful { IsTrue ((meaning self.now).lawful object cells.now.contents) }
+        requires time { time_part event.now.key.stamp < 2 ^ 46 }
+        ensures { IfOk result (λ outcome. outcome ≡ (meaning self.now).effect object cells.now.contents event.now) }
+    {
+        let _words = words;
+        self.react(alloc, object, cells, event)
+    }
 
     /// Appends the name of an object, or nothing where no memory is left.
     fn put_name(&self, alloc: Global, object: u32, into: &mut Vec<u8>) -> Result<(), OutOfMemory>

@@ -4,6 +4,7 @@ use model_core::model::Model as SimulationModel;
 use model_core::{Event, Outcome, Start};
 use phold_model::Phold;
 use queue_models::Network;
+use random_streams::Stream;
 use std::alloc::Global;
 
 /// A model of any kind that a text can describe.
@@ -65,6 +66,20 @@ impl SimulationModel for AnyModel {
         match self {
             AnyModel::Phold(phold) => phold.react(alloc, object, cells, event),
             AnyModel::Network(network) => network.react(alloc, object, cells, event),
+        }
+    }
+
+    fn react_with(
+        &self,
+        alloc: Global,
+        words: &mut Stream,
+        object: u32,
+        cells: &Cells,
+        event: &Event,
+    ) -> Result<Outcome, OutOfMemory> {
+        match self {
+            AnyModel::Phold(phold) => phold.react_with(alloc, words, object, cells, event),
+            AnyModel::Network(network) => network.react_with(alloc, words, object, cells, event),
         }
     }
 

@@ -101,15 +101,15 @@ impl Phold {
     ghost use Rattle.phold_model.specs.Meaning.{hop_delay, hop_dest, hop_next};
     ghost use Rattle.phold_model.specs.Views.{parts_of};
 
-    /// What an event draws at an object whose random place is this.
+    /// What an event draws at an object whose random place is this, by a stream that may have the words at hand.
     #[tactic(auto, unfolding(crate::specs::Meaning::hop_delay, crate::specs::Meaning::hop_dest, crate::specs::Meaning::hop_next))]
-    fn hop(&self, object: u32, place: u64) -> Hop
+    fn hop(&self, words: &mut Stream, object: u32, place: u64) -> Hop
         requires { object < self.now.objects }
         ensures delay { result.delay ≡ hop_delay (parts_of self.now) object place }
         ensures dest { result.dest ≡ hop_dest (parts_of self.now) object place }
         ensures next { result.next ≡ hop_next (parts_of self.now) object place }
     {
-        let mut words = Stream::new(self.seed, object, place);
+        words.move_to(self.seed, object, place);
         let delay = words.draw(&self.delay);
         let dest = if self.uniform {
             words.word() % self.objects
@@ -165,10 +165,22 @@ impl SimulationModel for Phold {
         alloc: Global,
         object: u32,
         cells: &Cells,
+        event: &Event,
+    ) -> Result<Outcome, OutOfMemory> {
+        let mut words = Stream::new(self.seed, object, cells.word(0));
+        self.react_with(alloc, &mut words, object, cells, event)
+    }
+
+    fn react_with(
+        &self,
+        alloc: Global,
+        words: &mut Stream,
+        object: u32,
+        cells: &Cells,
         _event: &Event,
     ) -> Result<Outcome, OutOfMemory> {
         let place = cells.word(0);
-        let hop = self.hop(object, place);
+        let hop = self.hop(words, object, place);
         let changes = place_changes(alloc, place, hop.next)?;
         let sends = vec![in alloc;
             Send {

@@ -6,7 +6,7 @@ ghost use Rattle.queue_models.specs.Delays.{delay_effect};
 
 use crate::site::{Site, place_changes, told};
 use model_core::{Cells, Effect, Event, OutOfMemory, Outcome, Sequence};
-use random_streams::{Law, draw};
+use random_streams::{Law, Stream, draw_by};
 use std::alloc::Global;
 
 /// The word that tells of a job that is held.
@@ -25,6 +25,7 @@ impl Delay {
     pub fn react(
         &self,
         alloc: Global,
+        words: &mut Stream,
         site: Site,
         cells: &Cells,
         event: &Event,
@@ -34,7 +35,7 @@ impl Delay {
         ensures { IfOk result (λ outcome. outcome ≡ delay_effect site self.now cells.now.contents event.now) }
     {
         let place = cells.word(0);
-        let (delay, next_place) = draw(site.seed, site.object, place, &self.delay);
+        let (delay, next_place) = draw_by(words, site.seed, site.object, place, &self.delay);
         let changes = place_changes(alloc, place, next_place)?;
         let sends = vec![in alloc; site.job_to(self.next, delay, event.a, event.b)]?;
         Ok(Outcome::Goes(Effect {

@@ -10,6 +10,7 @@ use crate::object::{Object, Role};
 use crate::site::{ARRIVE, MAKE, Site};
 use model_core::model::Model as SimulationModel;
 use model_core::{Cells, Entry, Event, OutOfMemory, Outcome, Start};
+use random_streams::Stream;
 use std::alloc::Global;
 
 /// Objects through which jobs go.
@@ -176,9 +177,21 @@ impl SimulationModel for Network {
         cells: &Cells,
         event: &Event,
     ) -> Result<Outcome, OutOfMemory> {
+        let mut words = Stream::new(self.seed, object, 0);
+        self.react_with(alloc, &mut words, object, cells, event)
+    }
+
+    fn react_with(
+        &self,
+        alloc: Global,
+        words: &mut Stream,
+        object: u32,
+        cells: &Cells,
+        event: &Event,
+    ) -> Result<Outcome, OutOfMemory> {
         let site = self.site(object);
         let role = self.role_of(object);
-        role.react(alloc, site, cells, event)
+        role.react(alloc, words, site, cells, event)
     }
 
     fn put_name(&self, _alloc: Global, object: u32, into: &mut Vec<u8>) -> Result<(), OutOfMemory> {

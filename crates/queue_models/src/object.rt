@@ -11,7 +11,7 @@ use crate::site::Site;
 use crate::source::Source;
 use crate::station::Station;
 use model_core::{Cells, Event, Name, OutOfMemory, Outcome};
-use random_streams::Law;
+use random_streams::{Law, Stream};
 use std::alloc::Global;
 
 /// What an object does, by its kind.
@@ -114,6 +114,7 @@ impl Role {
     pub fn react(
         &self,
         alloc: Global,
+        words: &mut Stream,
         site: Site,
         cells: &Cells,
         event: &Event,
@@ -123,10 +124,10 @@ impl Role {
         ensures { IfOk result (λ outcome. outcome ≡ effect_at site self.now cells.now.contents event.now) }
     {
         match self {
-            Role::Makes(source) => source.react(alloc, site, cells, event),
-            Role::Serves(station) => station.react(alloc, site, cells, event),
-            Role::Holds(delay) => delay.react(alloc, site, cells, event),
-            Role::Routes(router) => router.react(alloc, site, cells, event),
+            Role::Makes(source) => source.react(alloc, words, site, cells, event),
+            Role::Serves(station) => station.react(alloc, words, site, cells, event),
+            Role::Holds(delay) => delay.react(alloc, words, site, cells, event),
+            Role::Routes(router) => router.react(alloc, words, site, cells, event),
             Role::Ends(sink) => sink.react(alloc, event),
         }
     }

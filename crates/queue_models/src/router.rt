@@ -5,7 +5,7 @@ ghost use Rattle.queue_models.specs.Routers.{IsChoiceOf, router_effect};
 
 use crate::site::{Site, place_changes, told};
 use model_core::{Cells, Effect, Event, OutOfMemory, Outcome, Sequence};
-use random_streams::{Law, draw};
+use random_streams::{Law, Stream, draw_by};
 use std::alloc::Global;
 use std::marker::Model;
 
@@ -56,6 +56,7 @@ impl Router {
     pub fn react(
         &self,
         alloc: Global,
+        words: &mut Stream,
         site: Site,
         cells: &Cells,
         event: &Event,
@@ -65,7 +66,7 @@ impl Router {
         ensures { IfOk result (λ outcome. outcome ≡ router_effect site self.now cells.now.contents event.now) }
     {
         let place = cells.word(0);
-        let (way, next_place) = draw(site.seed, site.object, place, &self.choice);
+        let (way, next_place) = draw_by(words, site.seed, site.object, place, &self.choice);
         let dest = self.chosen(way);
         let changes = place_changes(alloc, place, next_place)?;
         let sends = vec![in alloc; site.job_to(dest, 0, event.a, event.b)]?;

@@ -7,7 +7,7 @@ ghost use Rattle.queue_models.specs.Sources.{is_source_cells, first_source_cells
 use crate::site::{MAKE, Site, place_changes, told};
 use event_key::time_of;
 use model_core::{Cells, Change, Effect, Event, OutOfMemory, Outcome, Send, Sequence};
-use random_streams::{Law, draw};
+use random_streams::{Law, Stream, draw_by};
 use std::alloc::Global;
 
 /// The word that tells of a job that was made.
@@ -50,6 +50,7 @@ impl Source {
     pub fn react(
         &self,
         alloc: Global,
+        words: &mut Stream,
         site: Site,
         cells: &Cells,
         event: &Event,
@@ -62,7 +63,7 @@ impl Source {
         let effect = match cells.word(2) {
             0 => self.idle(alloc, cells),
             1 => self.make_last(alloc, site, cells, time)?,
-            _ => self.make(alloc, site, cells, time)?,
+            _ => self.make(alloc, words, site, cells, time)?,
         };
         Ok(Outcome::Goes(effect))
     }
@@ -113,6 +114,7 @@ impl Source {
     fn make(
         &self,
         alloc: Global,
+        words: &mut Stream,
         site: Site,
         cells: &Cells,
         time: u64,
@@ -125,7 +127,7 @@ impl Source {
         let place = cells.word(0);
         let job = cells.word(1) + 1;
         let left = cells.word(2) - 1;
-        let (delay, next_place) = draw(site.seed, site.object, place, &self.every);
+        let (delay, next_place) = draw_by(words, site.seed, site.object, place, &self.every);
         let mut changes = place_changes(alloc, place, next_place)?;
         changes.push(Change::Set {
             word: 1,

@@ -5,7 +5,7 @@ ghost use Rattle.queue_models.specs.Stations.{is_station_cells, first_station_ce
 
 use crate::site::{DONE, Site, place_changes, told};
 use model_core::{Cells, Change, Effect, Event, OutOfMemory, Outcome, Send, Sequence};
-use random_streams::{Law, draw};
+use random_streams::{Law, Stream, draw_by};
 use std::alloc::Global;
 
 /// The words that tell of a job.
@@ -80,6 +80,7 @@ impl Station {
     pub fn react(
         &self,
         alloc: Global,
+        words: &mut Stream,
         site: Site,
         cells: &Cells,
         event: &Event,
@@ -89,8 +90,8 @@ impl Station {
         ensures { IfOk result (λ outcome. outcome ≡ station_effect site self.now cells.now.contents event.now) }
     {
         match event.kind {
-            DONE => Ok(Outcome::Goes(self.done(alloc, site, cells, event)?)),
-            _ => self.arrival(alloc, site, cells, event),
+            DONE => Ok(Outcome::Goes(self.done(alloc, words, site, cells, event)?)),
+            _ => self.arrival(alloc, words, site, cells, event),
         }
     }
 
@@ -99,6 +100,7 @@ impl Station {
     fn arrival(
         &self,
         alloc: Global,
+        words: &mut Stream,
         site: Site,
         cells: &Cells,
         event: &Event,
@@ -108,7 +110,7 @@ impl Station {
         ensures { IfOk result (λ outcome. outcome ≡ arrival_outcome site self.now cells.now.contents event.now) }
     {
         if cells.word(BUSY) < u64::from(self.servers) {
-            return Ok(Outcome::Goes(self.take(alloc, site, cells, event)?));
+            return Ok(Outcome::Goes(self.take(alloc, words, site, cells, event)?));
         }
         if cells.line_len(JOBS) < self.line as usize {
             return Ok(Outcome::Goes(self.wait(alloc, cells, event)?));
@@ -124,6 +126,7 @@ impl Station {
     fn take(
         &self,
         alloc: Global,
+        words: &mut Stream,
         site: Site,
         cells: &Cells,
         event: &Event,
@@ -133,7 +136,7 @@ impl Station {
         ensures { IfOk result (λ effect. effect ≡ take_effect site self.now cells.now.contents event.now) }
     {
         let place = cells.word(0);
-        let (service, next_place) = draw(site.seed, site.object, place, &self.service);
+        let (service, next_place) = draw_by(words, site.seed, site.object, place, &self.service);
         let mut changes = place_changes(alloc, place, next_place)?;
         changes.push(Change::Set {
             word: BUSY,
@@ -189,6 +192,7 @@ impl Station {
     fn done(
         &self,
         alloc: Global,
+        words: &mut Stream,
         site: Site,
         cells: &Cells,
         event: &Event,
@@ -198,7 +202,7 @@ impl Station {
         ensures { IfOk result (λ effect. effect ≡ done_effect site self.now cells.now.contents event.now) }
     {
         if cells.line_len(JOBS) > 0 {
-            self.serve(alloc, site, cells, event)
+            self.serve(alloc, words, site, cells, event)
         } else {
             self.free(alloc, site, cells, event)
         }
@@ -209,6 +213,7 @@ impl Station {
     fn serve(
         &self,
         alloc: Global,
+        words: &mut Stream,
         site: Site,
         cells: &Cells,
         event: &Event,
@@ -221,7 +226,7 @@ impl Station {
         let job = cells.line_at(JOBS, 0);
         let birth = cells.line_at(BIRTHS, 0);
         let place = cells.word(0);
-        let (service, next_place) = draw(site.seed, site.object, place, &self.service);
+        let (service, next_place) = draw_by(words, site.seed, site.object, place, &self.service);
         let mut changes = place_changes(alloc, place, next_place)?;
         changes.push(Change::Pop { line: JOBS })?;
         changes.push(Change::Pop { line: BIRTHS })?;

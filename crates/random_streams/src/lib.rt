@@ -11,7 +11,7 @@ mod law;
 mod stream;
 mod weights;
 
-pub use draws::draw;
+pub use draws::{draw, draw_by};
 pub use law::Law;
 pub use stream::Stream;
 pub use weights::Weights;

@@ -43,6 +43,16 @@ impl Stream {
         }
     }
 
+    /// Moves to a place of an object's words under a seed. Where it stands there already, the words that it has made
+    /// stay at hand.
+    pub fn move_to(&mut self, seed: u64, object: u32, place: u64)
+        ensures { self.new ≡ record { seed = seed; object = object; place = place } }
+    {
+        if self.seed != seed || self.object != object || self.place != place {
+            *self = Stream::new(seed, object, place);
+        }
+    }
+
     /// The place of the next word.
     pub fn place(&self) -> u64
         ensures { result ≡ self.now.place }

@@ -1,5 +1,5 @@
 -- What the model answers is what the definition fires.
-use Rattle.std.proofs.Common.{◌≡◌, List, sym, ap, ◌∙◌, refl}
+use Rattle.std.proofs.Common.{◌≡◌, ◌+◌, List, length, sym, ap, ◌∙◌, refl}
 use Rattle.delta_exchange.specs.declared.change.Change.{Change}
 use Rattle.delta_exchange.specs.Changes.{CellData, cells_after_all}
 use Rattle.model_core.specs.declared.event.Event.{Event}
@@ -12,16 +12,16 @@ use Rattle.event_firing.proofs.object.Object.fire.Goals as goal
 pub returns-in-Fails-clause-ok : goal.returns-in-Fails-clause-ok
 returns-in-Fails-clause-ok g c = (
   fire-fails (g.M.Model.meaning c.args.model.now) c.args.self.now c.args.event.now c.in-Fails.code
-      (outcome_of (g.M.Model.meaning c.args.model.now) c.args.self.now c.args.event.now _ _ _ c.in-Fails.is c.in_ok-code.ensures c.cells.ensures),
-  refl,
+      (outcome_of (g.M.Model.meaning c.args.model.now) c.args.self.now c.args.event.now _ _ _ c.in-Fails.is c.in_ok-code.ensures.outcome refl),
+  c.in_ok-code.ensures.same,
 )
 
 pub returns-then-has_chain-clause-ok : goal.returns-then-has_chain-clause-ok
 returns-then-has_chain-clause-ok g c = (
   fire-chain (g.M.Model.meaning c.args.model.now) c.args.self.now c.args.event.now c.in-Goes.field-0
-      (outcome_of (g.M.Model.meaning c.args.model.now) c.args.self.now c.args.event.now _ _ _ c.in-Goes.is c.in_ok-code.ensures c.cells.ensures)
+      (outcome_of (g.M.Model.meaning c.args.model.now) c.args.self.now c.args.event.now _ _ _ c.in-Goes.is c.in_ok-code.ensures.outcome refl)
       (ap (has_chain c.args.event.now.key.stamp) (sym c.as_slice.ensures) ∙ sym c.has_chain.ensures ∙ c.if-has_chain.true),
-  refl,
+  c.in_ok-code.ensures.same,
 )
 
 pub returns-in_ok-take_effect-in-Goes-clause-ok : goal.returns-in_ok-take_effect-in-Goes-clause-ok
@@ -30,15 +30,18 @@ returns-in_ok-take_effect-in-Goes-clause-ok g c =
     let e = c.args.event.now in
     let o = c.args.self.now in
     let x = c.in-Goes.field-0 in
-    let is_outcome = outcome_of m o e _ _ _ c.in-Goes.is c.in_ok-code.ensures c.cells.ensures in
+    let is_outcome = outcome_of m o e _ _ _ c.in-Goes.is c.in_ok-code.ensures.outcome refl in
+    let same = c.in_ok-code.ensures.same in
     let stepping = ap (has_chain e.key.stamp) (sym c.as_slice.ensures) ∙ sym c.has_chain.ensures ∙ c.if-has_chain.false in
     let laws = laws_of m o e x (c.keeps_laws.ensures.outcome e.key.dest o.cells e c.requires.object c.requires.lawful) is_outcome in
     record {
       firing = firing_of o e x;
       fires = fire-goes m o e x is_outcome stepping;
-      state = state_of o _ e x _ _ c.in_ok-take_effect-in-Goes.ensures.ok c.into_vec.ensures c.as_slice-in-Goes.ensures;
+      state = state_of o _ e x _ _
+        (c.in_ok-take_effect-in-Goes.ensures.ok ∙ ap (λ (s : ObjectState). record { cells = cells_after_all c.into_vec.result.items s.cells; sent = s.sent + length c.as_slice-in-Goes.result.now }) same)
+        c.into_vec.ensures c.as_slice-in-Goes.ensures;
       note = refl;
-      serial = c.sent-serial.ensures;
+      serial = c.sent-serial.ensures ∙ ap (λ (s : ObjectState). s.sent) same;
       events = refl;
       stepping = stepping;
       ranged = laws.sends;

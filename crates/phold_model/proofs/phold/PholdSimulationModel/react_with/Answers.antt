@@ -1,5 +1,5 @@
 use Rattle.phold_model.specs.Meaning.{phold_meaning, hop_effect}
-use Rattle.phold_model.proofs.phold.PholdSimulationModel.react.Goals as goal
+use Rattle.phold_model.proofs.phold.PholdSimulationModel.react_with.Goals as goal
 
 pub returns : goal.returns
 unfolding phold_meaning hop_effect
