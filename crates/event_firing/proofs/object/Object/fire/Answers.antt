@@ -1,11 +1,6 @@
 -- What the model answers is what the definition fires.
-use Rattle.std.proofs.Common.{◌≡◌, List, sym, ap, ◌∙◌, refl}
-use Rattle.delta_exchange.specs.declared.change.Change.{Change}
-use Rattle.delta_exchange.specs.Changes.{CellData, cells_after_all}
-use Rattle.model_core.specs.declared.event.Event.{Event}
-use Rattle.model_core.specs.declared.effect.Outcome.{Outcome}
-use Rattle.model_core.specs.Meaning.{Meaning}
-use Rattle.sim_spec.specs.Firing.{ObjectState, has_chain}
+use Rattle.std.proofs.Common.{sym, ap, ◌∙◌, refl}
+use Rattle.sim_spec.specs.Firing.{has_chain}
 use Rattle.event_firing.proofs.ReactionLemmas.{outcome_of, fire-fails, fire-chain, fire-goes, laws_of, firing_of, state_of}
 use Rattle.event_firing.proofs.object.Object.fire.Goals as goal
 
