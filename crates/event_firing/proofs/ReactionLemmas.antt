@@ -1,14 +1,13 @@
 -- What an outcome makes of an event.
-use Rattle.std.proofs.Common.{◌≡◌, ℕ, ◌+◌, Bool, true, false, cond, List, length, sym, refl, ap, ◌∙◌, subst}
-use Rattle.std.specs.Prelude.{IsTrue}
+use Rattle.std.proofs.Common.{◌≡◌, ℕ, ◌+◌, Bool, true, false, cond, List, length, sym, ap, ◌∙◌, subst}
 use Rattle.delta_exchange.specs.declared.change.Change.{Change}
-use Rattle.delta_exchange.specs.Changes.{CellData, AllFit, cells_after_all, inverses_of}
+use Rattle.delta_exchange.specs.Changes.{CellData, cells_after_all, inverses_of}
 use Rattle.model_core.specs.declared.event.Event.{Event}
 use Rattle.model_core.specs.declared.event.Send.{Send}
 use Rattle.model_core.specs.declared.effect.Effect.{Effect}
 use Rattle.model_core.specs.declared.effect.Outcome.{Outcome}
 use Rattle.model_core.specs.declared.effect.Outcome.TheVariants.{Goes, Fails}
-use Rattle.model_core.specs.Meaning.{Meaning, MeaningLaws, OutcomeLaws, EffectLaws}
+use Rattle.model_core.specs.Meaning.{Meaning, OutcomeLaws, EffectLaws}
 use Rattle.sim_spec.specs.Firing.{ObjectState, Firing, goes, fails, fire, fired_by, has_chain, emissions}
 
 -- what the laws say of the outcome at hand

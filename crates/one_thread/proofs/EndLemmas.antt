@@ -171,9 +171,6 @@ ends_faulted m t s told c key code bucket so_far failed is_bucket =
 more_due : (m : Meaning) (t : Terms) (c : Course) → IsFull t c → GoesOn (rest_of m t c)
 more_due m t c full = by_fired (fire_at m c.objects full.event) refl
   where
-
-
-
     by_fired : (f : Fired) → fire_at m c.objects full.event ≡ f → GoesOn (rest_of m t c)
     by_fired (fails code) is_f =
         let Q : HorizonBucket → Type 0 = GoesOn in

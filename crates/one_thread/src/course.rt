@@ -12,8 +12,8 @@ use crate::turn::Turn;
 use event_chain::Chain;
 use event_firing::{Object, Reaction, first_objects};
 use event_key::end_bound;
-use model_core::model::{Model as SimulationModel, keeps_laws};
 use model_core::OutOfMemory;
+use model_core::model::{Model as SimulationModel, keeps_laws};
 use sim_spec::{Stop, Terms};
 use speedes_queue::Queue;
 use std::alloc::Global;
@@ -125,7 +125,14 @@ impl Course {
         match object.fire(alloc, model, event)? {
             Reaction::Goes(sending) => {
                 drop(cell);
-                send_all(&mut self.queue, alloc, &key, sending.serial, sending.sends.as_slice(), model.objects())?;
+                send_all(
+                    &mut self.queue,
+                    alloc,
+                    &key,
+                    sending.serial,
+                    sending.sends.as_slice(),
+                    model.objects(),
+                )?;
                 self.count += 1;
                 Ok(Turn::Does(key, sending.note))
             }

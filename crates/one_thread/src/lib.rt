@@ -14,3 +14,5 @@ mod turn;
 
 pub use engine::OneThread;
 
+#[cfg(test)]
+mod tests;

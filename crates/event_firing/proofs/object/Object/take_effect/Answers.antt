@@ -1,7 +1,7 @@
 -- Changes that fit name lines that are there.
 use Rattle.std.proofs.Common.{List, sym, subst}
 use Rattle.delta_exchange.specs.declared.change.Change.{Change}
-use Rattle.delta_exchange.specs.Changes.{CellData, AllFit}
+use Rattle.delta_exchange.specs.Changes.{AllFit}
 use Rattle.delta_exchange.specs.Spares.{NameLines}
 use Rattle.delta_exchange.proofs.Room.{fitting_names_lines}
 use Rattle.sim_spec.specs.Firing.{ObjectState}
