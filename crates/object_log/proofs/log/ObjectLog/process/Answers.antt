@@ -16,7 +16,7 @@ use Rattle.object_log.specs.Outcomes.{settled}
 use Rattle.object_log.proofs.HeldLemmas.{least-start}
 use Rattle.object_log.proofs.KeepingLemmas.{keeps-more}
 use Rattle.object_log.proofs.OutcomeLemmas.{delays-in}
-use Rattle.object_log.proofs.ProcessLemmas.{CanTake, can-take, kept-laws, keeps-fails, keeps-goes, one-fails, one-goes, one-replay}
+use Rattle.object_log.proofs.ProcessLemmas.{CanTake, can-take, kept-laws, keeps-fails, keeps-goes, one-fails, one-goes, one-base, one-replay}
 use Rattle.object_log.proofs.log.ObjectLog.process.Goals as goal
 
 pub invariant_of-self : goal.invariant_of-self
@@ -120,3 +120,9 @@ returns-in-Ok-Goes-clause-ok g c =
 pub returns-in-Ok-Goes-clause-replay : goal.returns-in-Ok-Goes-clause-replay
 returns-in-Ok-Goes-clause-replay g c = λ is_log.
     one-replay (g.M.Model.meaning c.args.model.now) c.args.self.now _ c.args.event _ (returns-in-Ok-Goes-clause-ok g c) is_log
+
+pub returns-in-Ok-Fails-clause-base : goal.returns-in-Ok-Fails-clause-base
+returns-in-Ok-Fails-clause-base g c = one-base (g.M.Model.meaning c.args.model.now) c.args.self.now _ c.args.event _ (returns-in-Ok-Fails-clause-ok g c)
+
+pub returns-in-Ok-Goes-clause-base : goal.returns-in-Ok-Goes-clause-base
+returns-in-Ok-Goes-clause-base g c = one-base (g.M.Model.meaning c.args.model.now) c.args.self.now _ c.args.event _ (returns-in-Ok-Goes-clause-ok g c)
