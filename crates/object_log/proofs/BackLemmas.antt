@@ -14,7 +14,7 @@ use Rattle.object_log.specs.Logs.{LogView, before, undone, events_of, held_of}
 use Rattle.object_log.specs.Parts.{before_key, from_key, newest_is_from}
 use Rattle.object_log.specs.Replays.{IsLogOf, IsReplayed}
 use Rattle.object_log.proofs.PartLemmas.{newest-push, key-parts}
-use Rattle.object_log.proofs.ReplayLemmas.{replayed-front}
+use Rattle.object_log.proofs.ReplayLemmas.{undone-append, replayed-front}
 
 -- a log that has gone back so far, with the pool's spare, the events that were undone and their count
 pub record IsBack (old : LogView) (pool : ℕ) (key : Key) (now : LogView) (spare : ℕ) (into : List Event) (count : ℕ) : Type 0 where
@@ -107,6 +107,13 @@ back-end old pool key now spare into count all so_far same up stops =
       count_is = so_far.count_is ∙ ap length (sym parts.1);
       spare_is = so_far.spare_is ∙ ap (λ ds. min (pool + length (held_of ds)) (2 ^ 60)) (sym parts.1);
     }
+
+-- it begins where it began
+pub back-base : (old : LogView) (pool : ℕ) (key : Key) (now : LogView) (spare : ℕ) (into : List Event) (count : ℕ) → IsBack old pool key now spare into count → undone now.state now.done ≡ undone old.state old.done
+back-base old pool key now spare into count so_far =
+    ap (λ o. undone o now.done) so_far.state
+    ∙ sym (undone-append old.state now.done so_far.gone)
+    ∙ ap (undone old.state) (sym so_far.split)
 
 -- and it is still the log of a model
 pub back-replay : (m : Meaning) (old : LogView) (pool : ℕ) (key : Key) (now : LogView) (spare : ℕ) (into : List Event) (count : ℕ) → IsBack old pool key now spare into count → IsLogOf m old → IsLogOf m now

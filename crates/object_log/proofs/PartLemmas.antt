@@ -13,7 +13,7 @@ use Rattle.world_spec.specs.Early.{is_due}
 use Rattle.world_spec.proofs.CommitLaw.{due-down}
 use Rattle.world_spec.proofs.FilterLemmas.{filter-none, filter-all, filter-front}
 use Rattle.object_log.specs.declared.done.Done.{Done}
-use Rattle.object_log.specs.Logs.{events_of}
+use Rattle.object_log.specs.Logs.{events_of, keys_of}
 use Rattle.object_log.specs.Parts.{before_key, from_key, due_of, left_of, newest_is_from, oldest_is_due}
 
 -- the newest event is at the last place
@@ -104,3 +104,18 @@ due-parts horizon cut all gone left is up never due =
           (Each-map (λ d. is_due horizon cut d.event.key ≡ true) (λ d. not (is_due horizon cut d.event.key) ≡ false) gone (λ d yes. ap not yes) due)
           (Each-map (λ d. is_due horizon cut d.event.key ≡ false) (λ d. not (is_due horizon cut d.event.key) ≡ true) left (λ d idle. ap not idle) stay),
     )
+
+-- where the newest key comes before another, all do
+pub keys_below : (key newest : Key) (ds : List Done) (k : ℕ) → IsAscending (events_of ds) → k + 1 ≡ length ds → slice_get (keys_of ds) k ≡ Some newest → key_lt newest key ≡ true
+    → Each (λ (k : Key). key_lt k key ≡ true) (keys_of ds)
+unfolding IsAscending AllAfter
+keys_below key newest [] k up last is lt = tt
+keys_below key newest (d ∷ []) zero up last is lt = let P : Key → Type 0 = λ k. key_lt k key ≡ true in (subst P (inside newest d.event.key (sym is)) lt, tt)
+  where
+    inside : (x y : Key) → Some x ≡ Some y → x ≡ y
+    inside x y is = cc
+keys_below key newest (d ∷ []) (suc k) up last is lt = absurd (omega arith)
+keys_below key newest (d ∷ e ∷ ds) zero up last is lt = absurd (omega arith)
+keys_below key newest (d ∷ e ∷ ds) (suc k) up last is lt =
+    let more = keys_below key newest (e ∷ ds) k up.1 (omega arith) is lt in
+    (key_lt-trans d.event.key e.event.key key up.0.0 more.0, more)

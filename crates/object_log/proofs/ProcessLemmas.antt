@@ -20,13 +20,13 @@ use Rattle.object_log.specs.declared.done.Done.{Done}
 use Rattle.object_log.specs.declared.done.Verdict.{Verdict}
 use Rattle.object_log.specs.declared.done.Verdict.TheVariants.{Noted, Failed}
 use Rattle.object_log.specs.Keeping.{CanUndo, Keeps}
-use Rattle.object_log.specs.Logs.{LogView, before, keys_of, fault_of}
+use Rattle.object_log.specs.Logs.{LogView, before, undone, keys_of, fault_of}
 use Rattle.object_log.specs.Outcomes.{settled}
 use Rattle.object_log.specs.Replays.{IsTold, IsReplayed, IsLogOf, IsOneMore, firing_of}
 use Rattle.object_log.proofs.HeldLemmas.{least-start}
 use Rattle.object_log.proofs.KeepingLemmas.{CanKeep, keeps-more, keeps-push}
 use Rattle.object_log.proofs.OutcomeLemmas.{settled-fails, settled-laws, fire-goes, firing_by}
-use Rattle.object_log.proofs.ReplayLemmas.{replayed-push}
+use Rattle.object_log.proofs.ReplayLemmas.{undone-append, replayed-push}
 
 -- nothing is changed, so nothing is undone
 undo_nothing : (cells : CellsView) (d : Done) → d.undo.items ≡ [] → CanUndo cells d × (view_after_all (reverse d.undo.items) cells ≡ cells)
@@ -137,7 +137,15 @@ one-goes m old new e x d mid later least is done event object kept cells same re
       least_is = least_is;
     }
 
--- is the log of the model
+-- begins where it began
+pub one-base : (m : Meaning) (old new : LogView) (e : Event) (least : ℕ) → IsOneMore m old new e least → undone new.state new.done ≡ undone old.state old.done
+unfolding undone
+one-base m old new e least one =
+    ap (undone new.state) one.done
+    ∙ undone-append new.state old.done (one.entry ∷ [])
+    ∙ ap (λ o. undone o old.done) one.undoes
+
+-- and is the log of the model
 pub one-replay : (m : Meaning) (old new : LogView) (e : Event) (least : ℕ) → IsOneMore m old new e least → IsLogOf m old → IsLogOf m new
 one-replay m old new e least one is_log =
     let d = one.entry in

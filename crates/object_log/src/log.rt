@@ -66,6 +66,13 @@ impl ObjectLog {
         }
     }
 
+    /// Which object it is.
+    pub fn object(&self) -> u32
+        ensures { result ≡ self.now.object }
+    {
+        self.object
+    }
+
     /// The cells, after all that it has processed.
     pub fn cells(&self) -> &Cells
         ensures { result.now.contents ≡ self.now.state.cells }
@@ -138,6 +145,7 @@ impl ObjectLog {
         requires sent { self.old.state.sent < 2 ^ 60 }
         requires few { length self.old.done + 1 < 2 ^ 60 }
         ensures ok { IfOk result (λ least. IsOneMore (M.meaning model.now) self.old self.new event least) }
+        ensures base { OnOk result (undone self.new.state self.new.done ≡ undone self.old.state self.old.done) }
         ensures replay { OnOk result (IsLogOf (M.meaning model.now) self.old → IsLogOf (M.meaning model.now) self.new) }
         ensures lawful { OnOk result (IsTrue ((M.meaning model.now).lawful self.new.object self.new.state.cells)) }
         ensures err { OnErr result (self.new ≡ self.old) }
@@ -191,6 +199,7 @@ impl ObjectLog {
         ensures events { into.new ≡ events_of (from_key key self.old.done) }
         ensures count { result ≡ length (from_key key self.old.done) }
         ensures spare { pool.new ≡ min (pool.old + length (held_of (from_key key self.old.done))) (2 ^ 60) }
+        ensures base { undone self.new.state self.new.done ≡ undone self.old.state self.old.done }
         ensures replay { (m : Meaning) → IsLogOf m self.old → IsLogOf m self.new }
     {
         let _ = &self.sent;

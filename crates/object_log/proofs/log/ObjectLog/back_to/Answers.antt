@@ -2,7 +2,7 @@
 use Rattle.std.proofs.Common.{sym, ap, ◌∙◌, arith, subst, ◌<◌, ◌^◌, List, length, false}
 use Rattle.object_log.specs.declared.done.Done.{Done}
 use Rattle.object_log.specs.Logs.{LogView}
-use Rattle.object_log.proofs.BackLemmas.{back-start, back-step, back-room, back-end, back-replay}
+use Rattle.object_log.proofs.BackLemmas.{back-start, back-step, back-room, back-end, back-base, back-replay}
 use Rattle.object_log.proofs.log.ObjectLog.back_to.Goals as goal
 
 pub loop-key-init : goal.loop-key-init
@@ -46,3 +46,6 @@ returns-clause-spare c = (back-end c.args.self.now c.args.pool.now c.args.key c.
 
 pub returns-clause-replay : goal.returns-clause-replay
 returns-clause-replay c = λ m is_log. back-replay m c.args.self.now c.args.pool.now c.args.key c.loop-key.self c.loop-key.pool c.loop-key.into c.loop-key.count c.loop-key.invariant is_log
+
+pub returns-clause-base : goal.returns-clause-base
+returns-clause-base c = back-base c.args.self.now c.args.pool.now c.args.key c.loop-key.self c.loop-key.pool c.loop-key.into c.loop-key.count c.loop-key.invariant

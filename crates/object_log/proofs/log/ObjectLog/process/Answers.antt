@@ -16,7 +16,7 @@ use Rattle.object_log.specs.Outcomes.{settled}
 use Rattle.object_log.proofs.HeldLemmas.{least-start}
 use Rattle.object_log.proofs.KeepingLemmas.{keeps-more}
 use Rattle.object_log.proofs.OutcomeLemmas.{delays-in}
-use Rattle.object_log.proofs.ProcessLemmas.{CanTake, can-take, kept-laws, keeps-fails, keeps-goes, one-fails, one-goes, one-replay}
+use Rattle.object_log.proofs.ProcessLemmas.{CanTake, can-take, kept-laws, keeps-fails, keeps-goes, one-fails, one-goes, one-base, one-replay}
 use Rattle.object_log.proofs.log.ObjectLog.process.Goals as goal
 
 pub invariant_of-self : goal.invariant_of-self
@@ -33,7 +33,7 @@ invariant_of-self-in-Ok-Fails g c =
     let d : Done = record { event = c.args.event; undo = c.new.result; sends = c.new-in-Ok-Fails.result; verdict = Failed c.in-Ok-Fails.code } in
     let can = can-take c.self.inside.processed.done c.args.self.now.done c.args.event d (ap (λ (l : LogView). l.done) c.self.view_is) refl c.requires.above c.requires.went c.requires.few in
     keeps-fails c.self.inside.cells c.prepare-prepared.new.cells c.self.inside.sent c.self.inside.processed.done c.prepare-prepared.new.processed.done c.push.new.self.done d
-    made.contents made.none_fell made.done c.push.ensures can c.new.ensures.items c.new-in-Ok-Fails.ensures c.self.invariant
+    made.contents made.none_fell made.done c.push.ensures.done can c.new.ensures.items c.new-in-Ok-Fails.ensures c.self.invariant
 
 pub go-done-requires-clause-delays : goal.go-done-requires-clause-delays
 go-done-requires-clause-delays g c =
@@ -68,7 +68,7 @@ invariant_of-self-in-Ok-Goes g c =
     let d = c.go-done.result.done in
     let can = can-take c.self.inside.processed.done c.args.self.now.done c.args.event d (ap (λ (l : LogView). l.done) c.self.view_is) c.go-done.ensures.event c.requires.above c.requires.went c.requires.few in
     keeps-goes c.self.inside.cells c.prepare-prepared.new.cells c.go-done.new.cells c.in-Ok-Goes.effect.changes c.self.inside.sent _ c.self.inside.processed.done c.prepare-prepared.new.processed.done c.push-in-Ok-Goes.new.self.done d
-    made.contents made.none_fell made.done c.push-in-Ok-Goes.ensures can c.go-done.ensures.restores (ap (λ n. c.self.inside.sent + n) c.len.ensures) c.self.invariant
+    made.contents made.none_fell made.done c.push-in-Ok-Goes.ensures.done can c.go-done.ensures.restores (ap (λ n. c.self.inside.sent + n) c.len.ensures) c.self.invariant
 
 pub returns-in-Ok-Fails-clause-ok : goal.returns-in-Ok-Fails-clause-ok
 returns-in-Ok-Fails-clause-ok g c =
@@ -82,7 +82,7 @@ returns-in-Ok-Fails-clause-ok g c =
     ∙ ap (λ (x : Event). settled x.key.stamp (m.effect c.self.inside.object c.self.inside.cells.contents x)) c.get.ensures
     ∙ ap (λ (l : LogView). settled e.key.stamp (m.effect l.object l.state.cells e)) view in
     one-fails m c.args.self.now _ e c.in-Ok-Fails.code d outcome
-    (c.push.ensures ∙ ap (λ ds. ds ++ d ∷ []) (made.done ∙ ap (λ (l : LogView). l.done) view)) refl
+    (c.push.ensures.done ∙ ap (λ ds. ds ++ d ∷ []) (made.done ∙ ap (λ (l : LogView). l.done) view)) refl
     ((λ i. record { cells = made.contents i; sent = c.self.inside.sent }) ∙ ap (λ (l : LogView). l.state) view) (ap (λ (l : LogView). l.object) view)
     c.new.ensures.items c.new-in-Ok-Fails.ensures refl
 
@@ -107,7 +107,7 @@ returns-in-Ok-Goes-clause-ok g c =
     ∙ ap (λ (y : Event). settled y.key.stamp (m.effect c.self.inside.object c.self.inside.cells.contents y)) c.get.ensures
     ∙ ap (λ (l : LogView). settled e.key.stamp (m.effect l.object l.state.cells e)) view in
     one-goes m c.args.self.now _ e x d c.prepare-prepared.new.cells c.go-done.new.cells c.go-done.result.least outcome
-    (c.push-in-Ok-Goes.ensures ∙ ap (λ ds. ds ++ d ∷ []) (made.done ∙ ap (λ (l : LogView). l.done) view)) kept.event (ap (λ (l : LogView). l.object) view)
+    (c.push-in-Ok-Goes.ensures.done ∙ ap (λ ds. ds ++ d ∷ []) (made.done ∙ ap (λ (l : LogView). l.done) view)) kept.event (ap (λ (l : LogView). l.object) view)
     (record {
       cells = kept.cells ∙ ap (cells_after_all x.changes) same;
       sent = (λ i. sent i + c.len.ensures i) ∙ ap (λ n. c.args.self.now.state.sent + n) long;
@@ -120,3 +120,9 @@ returns-in-Ok-Goes-clause-ok g c =
 pub returns-in-Ok-Goes-clause-replay : goal.returns-in-Ok-Goes-clause-replay
 returns-in-Ok-Goes-clause-replay g c = λ is_log.
     one-replay (g.M.Model.meaning c.args.model.now) c.args.self.now _ c.args.event _ (returns-in-Ok-Goes-clause-ok g c) is_log
+
+pub returns-in-Ok-Fails-clause-base : goal.returns-in-Ok-Fails-clause-base
+returns-in-Ok-Fails-clause-base g c = one-base (g.M.Model.meaning c.args.model.now) c.args.self.now _ c.args.event _ (returns-in-Ok-Fails-clause-ok g c)
+
+pub returns-in-Ok-Goes-clause-base : goal.returns-in-Ok-Goes-clause-base
+returns-in-Ok-Goes-clause-base g c = one-base (g.M.Model.meaning c.args.model.now) c.args.self.now _ c.args.event _ (returns-in-Ok-Goes-clause-ok g c)

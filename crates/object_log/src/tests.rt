@@ -1,0 +1,169 @@
+ghost use Rattle.std.specs.Prelude.{◌≡◌, ◌≤◌, ◌<◌, ◌^◌};
+
+use super::*;
+use event_chain::{Cell, CellPool, Chain};
+use event_key::{INITIAL, Key, NO_STAMP, stamp_of, time_of};
+use model_core::model::Model as SimulationModel;
+use model_core::{Cells, Event, Note, Part};
+use phold_model::Phold;
+use random_streams::Law;
+use std::alloc::Global;
+use std::process::Abort;
+use std::test::Fail;
+
+/// An initial event at object 0, at step 0 of a time.
+fn event(time: u32, serial: u64) -> Event {
+    Event {
+        key: Key {
+            stamp: stamp_of(u64::from(time), 0),
+            rank: 0,
+            dest: 0,
+            src: INITIAL,
+            serial,
+        },
+        kind: 4,
+        a: 0,
+        b: 0,
+    }
+}
+
+/// The first cells of an object of the model.
+fn cells(alloc: Global) -> Result<Cells, Fail> {
+    let words = vec![in alloc; 0]?;
+    match Cells::new(alloc, words, Vec::new(alloc)) {
+        Ok(cells) => Ok(cells),
+        Err(OutOfMemory) => Err(Fail::from("no memory")),
+    }
+}
+
+/// Processes an event, once all that a log asks of it is seen to hold.
+fn process<R: Abort>(
+    rt: &R,
+    alloc: Global,
+    model: &Phold,
+    log: &mut ObjectLog,
+    pool: &mut CellPool<Event>,
+    event: Event,
+) -> Result<u64, Fail> {
+    let len = log.len();
+    assert!(rt; len < 100);
+    if len > 0 {
+        assert!(rt; log.key_at(len - 1).is_before(&event.key));
+    }
+    assert!(rt; log.faulted().is_none());
+    assert!(rt; log.sent() < 100);
+    assert!(rt; log.object() < model.objects());
+    assert!(rt; event.key.dest == log.object());
+    assert!(rt; time_of(event.key.stamp) < 1 << 46);
+    assert!(rt; model.is_lawful(log.object(), log.cells()));
+    let Ok(cell) = Cell::new(alloc, event) else {
+        return Err(Fail::from("no memory"));
+    };
+    match log.process(alloc, model, pool, cell) {
+        Ok(least) => Ok(least),
+        Err((OutOfMemory, _)) => Err(Fail::from("no memory")),
+    }
+}
+
+/// Commits what is due, once no event is seen to have faulted.
+fn commit<R: Abort>(
+    rt: &R,
+    log: &mut ObjectLog,
+    horizon: u64,
+    cut: Option<Key>,
+    into: &mut Chain<Done>,
+) {
+    assert!(rt; log.faulted().is_none());
+    assert!(rt; log.len() < 100);
+    assert!(rt; into.len() < 100);
+    log.commit_front(horizon, cut, into);
+}
+
+/// What is told of a hop back to object 0.
+fn hop(delay: u64) -> Verdict {
+    let part = Part {
+        word: 1,
+        a: delay,
+        b: 0,
+    };
+    Verdict::Noted(Note::of(part))
+}
+
+/// Goes back to a key, and answers what was undone.
+fn back_to(log: &mut ObjectLog, key: Key, pool: &mut CellPool<Event>) -> Chain<Event> {
+    let mut into = Chain::new();
+    log.back_to(key, pool, &mut into);
+    into
+}
+
+/// The model of one object that draws delays of 1 to 10 ticks.
+fn hops<R: Abort>(rt: &R, alloc: Global) -> Result<Phold, Fail> {
+    let delay = Law::Uniform { low: 1, high: 10 };
+    assert!(rt; delay.is_delay());
+    Ok(Phold::make(0, 1, delay, true, 0, Vec::new(alloc), 0)?)
+}
+
+// By an independent ChaCha20 with seed 0, stream 0: at the places 0, 2 and 4 a delay of 1 to 10 ticks is drawn as 5, 3
+// and 4, and each event reads two words.
+#[test]
+fn a_straggler_takes_the_draw_of_what_it_undoes(rt: HostRuntime) -> Result<(), Fail> {
+    let alloc = rt.alloc();
+    let model = hops(&rt, alloc)?;
+    let mut pool = CellPool::new();
+    let mut log = ObjectLog::new(0, cells(alloc)?);
+    process(&rt, alloc, &model, &mut log, &mut pool, event(0, 0))?;
+    let late = process(&rt, alloc, &model, &mut log, &mut pool, event(2, 2))?;
+    let back = back_to(&mut log, event(1, 1).key, &mut pool);
+    assert_eq!(rt; back.front(), Some(&event(2, 2)));
+    let straggler = process(&rt, alloc, &model, &mut log, &mut pool, event(1, 1))?;
+    let again = process(&rt, alloc, &model, &mut log, &mut pool, event(2, 2))?;
+    assert_eq!(rt; (late, straggler, again), (stamp_of(5, 0), stamp_of(4, 0), stamp_of(6, 0)));
+    assert_eq!(rt; (log.len(), log.sent()), (3, 3));
+    assert_eq!(rt; log.held_least(), stamp_of(4, 0));
+    Ok(())
+}
+
+#[test]
+fn a_commit_takes_what_is_below_the_horizon_and_the_cut(rt: HostRuntime) -> Result<(), Fail> {
+    let alloc = rt.alloc();
+    let model = hops(&rt, alloc)?;
+    let mut pool = CellPool::new();
+    let mut log = ObjectLog::new(0, cells(alloc)?);
+    for time in 0..3 {
+        process(&rt, alloc, &model, &mut log, &mut pool, event(time, 0))?;
+    }
+    let mut done = Chain::new();
+    commit(&rt, &mut log, stamp_of(2, 0), None, &mut done);
+    assert_eq!(rt; (done.len(), log.len()), (2, 1));
+    commit(&rt, &mut log, stamp_of(4, 0), Some(event(2, 0).key), &mut done);
+    assert_eq!(rt; log.len(), 1);
+    assert_eq!(rt; next_told(&mut done)?, (event(0, 0), hop(5)));
+    assert_eq!(rt; next_told(&mut done)?, (event(1, 0), hop(3)));
+    Ok(())
+}
+
+/// Takes the first committed event out, with what is told of it.
+fn next_told(done: &mut Chain<Done>) -> Result<(Event, Verdict), Fail> {
+    let Done { event, verdict, .. } = done.pop_front().ok_or("empty")?.into_inner();
+    Ok((event.into_inner(), verdict))
+}
+
+// What is sent without delay from step 65535 of a tick has no step left.
+#[test]
+fn a_chain_without_end_in_a_tick_is_undone_as_any_event(rt: HostRuntime) -> Result<(), Fail> {
+    let alloc = rt.alloc();
+    let delay = Law::Fixed { value: 0 };
+    assert!(rt; delay.is_delay());
+    let model = Phold::make(0, 1, delay, false, 0, Vec::new(alloc), 0)?;
+    let mut pool = CellPool::new();
+    let mut log = ObjectLog::with(0, cells(alloc)?, 7);
+    let mut last = event(3, 0);
+    last.key.stamp = stamp_of(3, 65535);
+    let least = process(&rt, alloc, &model, &mut log, &mut pool, last)?;
+    assert_eq!(rt; least, NO_STAMP);
+    assert!(rt; log.faulted() == Some((last.key, 1)));
+    let back = back_to(&mut log, last.key, &mut pool);
+    assert!(rt; log.faulted().is_none());
+    assert_eq!(rt; (back.len(), log.sent()), (1, 7));
+    Ok(())
+}
