@@ -1,8 +1,8 @@
 -- Lists, and lists of lists, of which one place changes.
-use Rattle.std.proofs.Common.{◌≡◌, ◌≢◌, ◌⊎◌, inl, inr, ⊎_elim, ℕ, zero, suc, ◌+◌, ◌<◌, List, [], ◌∷◌, ◌++◌, map, length, get_or, set, sym, ap, ◌∙◌, refl, arith}
+use Rattle.std.proofs.Common.{◌≡◌, ◌≢◌, ◌⊎◌, inl, inr, ⊎_elim, ℕ, zero, suc, ◌+◌, ◌<◌, List, [], ◌∷◌, ◌++◌, map, length, take, drop, get_or, set, sym, ap, ◌∙◌, refl, arith}
 use Rattle.std.specs.Prelude.{Option, None, Some, IfSome, option_to_list, slice_get}
 use Rattle.std.specs.List.{range_with_len}
-use Rattle.std.proofs.lemmas.List.{map-set, get_or-map, get_or-set_same, get_or-set_other, map_push, length-map}
+use Rattle.std.proofs.lemmas.List.{map-set, get_or-map, get_or-set_same, get_or-set_other, map_push, length-map, take_at}
 use Rattle.std.proofs.lemmas.Bool.{cases_eq}
 use Rattle.std.proofs.lemmas.Option.{same_Some}
 use Rattle.std.proofs.lemmas.List.FromFn.{map-range_with_len_more}
@@ -100,3 +100,7 @@ slice_get_set_other (y ∷ xs) zero zero x ne = absurd (ne refl)
 slice_get_set_other (y ∷ xs) zero (suc j) x ne = refl
 slice_get_set_other (y ∷ xs) (suc k) zero x ne = refl
 slice_get_set_other (y ∷ xs) (suc k) (suc j) x ne = slice_get_set_other xs k j x (λ e. ne (ap suc e))
+
+-- a list that was lent whole, after a change that keeps it as long
+pub lent_whole : {A B : Type 0} (f : A → B) (xs mid : List A) (n : ℕ) → n ≡ length xs → map f mid ≡ map f xs → take n (mid ++ drop (length mid) xs) ≡ mid
+lent_whole f xs mid n count same = let long = same_length f mid xs same in take_at mid (drop (length mid) xs) n (omega arith)

@@ -118,7 +118,7 @@ pub trait Lanes {
         ensures same { IfNone result (SameLanes (received self.old) (received self.new)) }
         ensures some { IfSome result (λ parcel. (from : ℕ) × (from < nodes self.old) × (rest self.old from to ≡ parcel ∷ rest self.new from to) × AddsOneOn (received self.old) (received self.new) from to parcel) };
 
-    ghost lane: { (lanes : Self) (from to : ℕ) → are_back lanes → received lanes from to ++ rest lanes from to ≡ sent lanes from to };
+    ghost lane: { (lanes : Self) (from to : ℕ) → are_back lanes → from < nodes lanes → to < nodes lanes → received lanes from to ++ rest lanes from to ≡ sent lanes from to };
 
     ghost at_rest: { (lanes : Self) → are_at_rest lanes ↔ (are_back lanes × NothingRests (nodes lanes) (rest lanes)) };
 

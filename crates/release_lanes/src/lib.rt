@@ -4,7 +4,13 @@
 mod lanes;
 mod parcel;
 mod plain;
+mod rings;
 
 pub use lanes::{Lanes, NodeEnd};
 pub use model_core::OutOfMemory;
 pub use parcel::Parcel;
+pub use plain::{PlainEnd, PlainLanes};
+pub use rings::{RingEnd, RingLanes};
+
+#[cfg(test)]
+mod tests;

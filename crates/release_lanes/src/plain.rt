@@ -185,7 +185,7 @@ impl Lanes for PlainLanes {
 
     ghost use Rattle.release_lanes.specs.Laws.{plain_lane, plain_stay};
 
-    ghost lane = { λ lanes from to back. plain_lane lanes.nodes lanes.sent.value.items lanes.ends.items from to back };
+    ghost lane = { λ lanes from to back _ _. plain_lane lanes.nodes lanes.sent.value.items lanes.ends.items from to back };
 
     ghost at_rest = { λ _. (λ now. now, λ now. now) };
 

@@ -1,10 +1,10 @@
-use Rattle.std.proofs.Common.{◌≡◌, ◌≤◌, List, [], ◌++◌, map, length, take, drop, get_or, set, sym, ap, subst, ◌∙◌, inl, inr, ⊎_elim, ◌<◌, refl, arith}
+use Rattle.std.proofs.Common.{◌≤◌, List, [], ◌++◌, map, length, take, drop, get_or, set, sym, ap, subst, ◌∙◌, inl, inr, ⊎_elim, ◌<◌, refl, arith}
 use Rattle.std.proofs.lemmas.Bool.{cases_lt}
-use Rattle.std.proofs.lemmas.List.{take_at, get_or-map}
+use Rattle.std.proofs.lemmas.List.{get_or-map}
 use Rattle.release_lanes.specs.declared.plain.PlainEnd.{PlainEnd}
 use Rattle.release_lanes.specs.Lanes.{lane_at}
 use Rattle.release_lanes.specs.Plain.{outline, next_of, posted, standing, AreBack}
-use Rattle.release_lanes.proofs.Rows.{same_length, emptied_falls}
+use Rattle.release_lanes.proofs.Rows.{lent_whole, emptied_falls}
 use Rattle.release_lanes.proofs.PlainLemmas.{at_next, back_length, back_width, back_after, posted_at_next, one_taken, same_delivered}
 use Rattle.release_lanes.proofs.plain.PlainLanesLanes.rest.Goals as goal
 
@@ -26,8 +26,7 @@ returns-in_default-clause-back c =
     let e = c.index_mut.result.now in
     let same = c.as_mut_slice.ensures.value in
     let outlines = c.in_default.ensures.outlines ∙ ap (map outline) same in
-    let long = same_length outline mid ends outlines in
-    let whole : take c.args.self.now.ends.len (mid ++ drop (length mid) ends) ≡ mid = take_at mid (drop (length mid) ends) c.args.self.now.ends.len (omega (arith, c.args.self.now.ends.ok.0)) in
+    let whole = lent_whole outline ends mid c.args.self.now.ends.len c.args.self.now.ends.ok.0 outlines in
     let P : List PlainEnd → Type 0 = λ m. AreBack nodes sent (set m c.args.to (at_next e c.len.result)) in
     subst P (sym whole)
     (back_after nodes sent ends mid c.args.to c.index.result.now.next c.len.result e c.index.result.now c.requires.back c.requires.node outlines
@@ -56,8 +55,8 @@ returns-in_default-clause-same c = λ i j.
     let mid = c.next_parcel.new.ends in
     let e = c.index_mut.result.now in
     let same = c.as_mut_slice.ensures.value in
-    let long = same_length outline mid ends (c.in_default.ensures.outlines ∙ ap (map outline) same) in
-    let whole : take c.args.self.now.ends.len (mid ++ drop (length mid) ends) ≡ mid = take_at mid (drop (length mid) ends) c.args.self.now.ends.len (omega (arith, c.args.self.now.ends.ok.0)) in
+    let outlines = c.in_default.ensures.outlines ∙ ap (map outline) same in
+    let whole = lent_whole outline ends mid c.args.self.now.ends.len c.args.self.now.ends.ok.0 outlines in
     let now = ap (λ (m : List PlainEnd). map posted (set m c.args.to (at_next e c.len.result))) whole
     ∙ posted_at_next mid c.args.to c.len.result e (c.index_mut.ensures.value ∙ ap (λ m. get_or m c.args.to e) whole) in
     same_delivered c.args.self.now.sent.value.items ends _ i j (ap (λ r. lane_at r i j) (now ∙ c.in_default.ensures.none.0 ∙ ap (map posted) same))
@@ -79,8 +78,7 @@ returns-clause-back c =
     let same = c.as_mut_slice.ensures.value in
     let some = c.in-Some.ensures.some in
     let outlines = c.in-Some.ensures.outlines ∙ ap (map outline) same in
-    let long = same_length outline mid ends outlines in
-    let whole : take c.args.self.now.ends.len (mid ++ drop (length mid) ends) ≡ mid = take_at mid (drop (length mid) ends) c.args.self.now.ends.len (omega (arith, c.args.self.now.ends.ok.0)) in
+    let whole = lent_whole outline ends mid c.args.self.now.ends.len c.args.self.now.ends.ok.0 outlines in
     let taken = some.3 ∙ ap (λ (l : List PlainEnd). set (map posted l) from (set (get_or (map posted l) from []) c.args.to [])) same in
     let P : List PlainEnd → Type 0 = λ m. AreBack nodes sent (set m c.args.to (at_next e from)) in
     subst P (sym whole)
@@ -103,8 +101,8 @@ returns-clause-some c =
     let within = some.0 in
     let same_count = ap length same in
     let count = back_length c.args.self.now.nodes c.args.self.now.sent.value.items ends c.requires.back in
-    let long = same_length outline mid ends (c.in-Some.ensures.outlines ∙ ap (map outline) same) in
-    let whole : take c.args.self.now.ends.len (mid ++ drop (length mid) ends) ≡ mid = take_at mid (drop (length mid) ends) c.args.self.now.ends.len (omega (arith, c.args.self.now.ends.ok.0)) in
+    let outlines = c.in-Some.ensures.outlines ∙ ap (map outline) same in
+    let whole = lent_whole outline ends mid c.args.self.now.ends.len c.args.self.now.ends.ok.0 outlines in
     let now = ap (λ (m : List PlainEnd). map posted (set m c.args.to (at_next e from))) whole
     ∙ posted_at_next mid c.args.to from e (c.index_mut-2.ensures.value ∙ ap (λ m. get_or m c.args.to e) whole) in
     let one = one_taken c.args.self.now.sent.value.items ends

@@ -1,0 +1,66 @@
+//! What no clause says: that calls succeed, and what threads see of one another.
+ghost use Rattle.std.specs.Prelude.{◌≡◌, ◌<◌, IfOk, vec_len};
+
+use crate::{Lanes, NodeEnd, Parcel, PlainLanes, RingLanes};
+use event_chain::{Cell, Chain};
+use event_key::Key;
+use model_core::Event;
+use std::alloc::Global;
+use std::process::Abort;
+use std::test::Fail;
+
+/// One event, of a kind that tells it from others.
+fn one_event(alloc: Global, kind: u32) -> Result<Chain<Event>, Fail> {
+    let key = Key {
+        stamp: 0,
+        rank: 0,
+        dest: 0,
+        src: 0,
+        serial: 0,
+    };
+    let event = Event {
+        key,
+        kind,
+        a: 0,
+        b: 0,
+    };
+    let mut events = Chain::new();
+    let Ok(cell) = Cell::new(alloc, event) else {
+        return Err(Fail::from("no memory"));
+    };
+    events.push_back(cell);
+    Ok(events)
+}
+
+/// Node 0 posts to node 1, which receives it after the ends are given back.
+fn hands_over<L: Lanes>(rt: &impl Abort, alloc: Global, lanes: &mut L) -> Result<(), Fail>
+    requires nodes { L.nodes lanes.old ≡ 2 }
+    requires at_rest { L.are_at_rest lanes.old }
+{
+    let mut ends = lanes.ready(alloc)?;
+    assert_eq!(rt; ends.len(), 2);
+    let events = one_event(alloc, 7)?;
+    ends[0].post(1, Parcel { from: 0, events });
+    lanes.give_back(ends);
+    let Some(parcel) = lanes.rest(1) else {
+        panic!(rt; "nothing came")
+    };
+    assert_eq!(rt; parcel.from, 0);
+    assert_eq!(rt; parcel.events.len(), 1);
+    assert!(rt; parcel.events.front().is_some_and(|event| event.kind == 7));
+    assert!(rt; lanes.rest(1).is_none());
+    assert!(rt; lanes.rest(0).is_none());
+    Ok(())
+}
+
+#[test]
+fn plain_lanes_hand_a_parcel_over(rt: HostRuntime) -> Result<(), Fail> {
+    let mut lanes = PlainLanes::new(rt.alloc(), 2)?;
+    hands_over(&rt, rt.alloc(), &mut lanes)
+}
+
+#[test]
+fn ring_lanes_hand_a_parcel_over(rt: HostRuntime) -> Result<(), Fail> {
+    let mut lanes = RingLanes::new(rt.alloc(), 2)?;
+    hands_over(&rt, rt.alloc(), &mut lanes)
+}
