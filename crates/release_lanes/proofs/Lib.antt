@@ -1,0 +1,5 @@
+pub mod PlainLemmas
+pub mod RingEnds
+pub mod RingLemmas
+pub mod Rows
+pub mod Weaving

@@ -1,0 +1,118 @@
+use Rattle.std.proofs.Common.{◌≡◌, ◌<◌, ◌++◌, length, map, get_or, set, sym, ap, refl, ◌∙◌, arith}
+use lib.Seq.{map-set_same}
+use Rattle.std.proofs.lemmas.List.{get_or_default, get_or-set_same, length-set, with_items_is}
+use Rattle.std.specs.Vec.{with_items}
+use Rattle.std.proofs.lemmas.List.Elements.{All-set}
+use Rattle.rtrb.specs.Ring.{sent}
+use Rattle.release_lanes.specs.declared.rings.RingEnd.{RingEnd}
+use Rattle.release_lanes.specs.Lanes.{list_at, lane_at}
+use Rattle.release_lanes.specs.Woven.{Outline, with_outs}
+use Rattle.release_lanes.specs.Rings.{Ring, ring_out, ring_in, outline, sent_row, received_row, known_row, received_on, rest_on}
+use Rattle.release_lanes.proofs.Rows.{same_at, same_length}
+use Rattle.release_lanes.proofs.RingEnds.{woven_ins, woven_outs, woven_pairs, put_back, this_lane}
+use Rattle.release_lanes.proofs.rings.meet.Goals as goal
+use Rattle.release_lanes.proofs.rings.meet.Goals.{After-drop-ends}
+
+pub look_all-requires-clause-count : goal.look_all-requires-clause-count
+look_all-requires-clause-count c =
+    let ends = c.args.ends.now in
+    let from = c.args.from in
+    let senders = ap (λ v. length v.items) c.replace-senders.ensures.value in
+    let slice = ap length c.as_mut_slice.ensures.value in
+    let wide = woven_outs (length ends) ends from c.index-ends-from.result c.requires.woven c.requires.within in
+    omega (arith, length-set {A = RingEnd})
+
+pub look_all-requires-clause-within : goal.look_all-requires-clause-within
+look_all-requires-clause-within c =
+    let ends = c.args.ends.now in
+    let from = c.args.from in
+    let inside = c.requires.within in
+    let P : RingEnd → Type 0 = λ end. from < length end.ins.items in
+    All-set P ends from _
+    (let wide = woven_ins (length ends) ends from c.index-ends-from.result c.requires.woven inside in omega arith)
+    (λ k d within. let wide = woven_ins (length ends) ends k d c.requires.woven within in omega arith)
+
+pub look_all-requires-clause-pairs : goal.look_all-requires-clause-pairs
+look_all-requires-clause-pairs c = λ to d r less.
+    let ends = c.args.ends.now in
+    let from = c.args.from in
+    let e = get_or ends from c.index-ends-from.result in
+    let out : RingEnd = record { number = e.number; outs = c.replace-senders.new.dest; ins = e.ins; next = e.next } in
+    let inside : to < length ends = omega (arith, length-set {A = RingEnd}) in
+    ap (λ l. get_or (map ring_out l) to r) (c.as_mut_slice.ensures.value ∙ ap (λ v. v.items) c.replace-senders.ensures.value)
+    ∙ woven_pairs (length ends) ends from to c.index-ends-from.result d r c.requires.woven c.requires.within inside
+    ∙ sym (ap (λ v. get_or (map ring_in v.items) from r)
+    (same_at (λ (x : RingEnd). x.ins) (set ends from out) ends to d (map-set_same (λ (x : RingEnd). x.ins) ends from out c.index-ends-from.result refl)))
+
+-- the senders as they were taken out
+taken_out : (c : After-drop-ends) → c.as_mut_slice.result.now ≡ (get_or c.args.ends.now c.args.from c.index-ends-from.result).outs.items
+taken_out c = c.as_mut_slice.ensures.value ∙ ap (λ v. v.items) c.replace-senders.ensures.value
+
+-- the senders as they are put back
+are_whole : (c : After-drop-ends) → (with_items c.replace-senders.result c.look_all.new.senders).items ≡ c.look_all.new.senders
+are_whole c =
+    let long = same_length sent c.look_all.new.senders c.as_mut_slice.result.now c.look_all.ensures.senders.1 in
+    let had = ap length c.as_mut_slice.ensures.value in
+    let ok = c.replace-senders.result.ok.0 in
+    with_items_is c.replace-senders.result c.look_all.new.senders (omega arith)
+
+pub returns-clause-outlines : goal.returns-clause-outlines
+returns-clause-outlines c =
+    let ends = c.args.ends.now in
+    let mid = c.look_all.new.ends in
+    let from = c.args.from in
+    let e = get_or ends from c.index-ends-from.result in
+    let e1 = get_or mid from c.index-ends-from-2.result in
+    let out : RingEnd = record { number = e.number; outs = c.replace-senders.new.dest; ins = e.ins; next = e.next } in
+    let senders = with_items c.replace-senders.result c.look_all.new.senders in
+    let back : RingEnd = record { number = e1.number; outs = senders; ins = e1.ins; next = e1.next } in
+    let at : e ≡ get_or ends from e = get_or_default ends from c.index-ends-from.result e c.requires.within in
+    let rings = ap (map ring_out) (are_whole c) ∙ c.look_all.ensures.senders.0 ∙ ap (map ring_out) (taken_out c) in
+    let same = same_at outline mid (set ends from out) from c.index-ends-from-2.result c.look_all.ensures.outlines
+    ∙ ap outline (get_or-set_same ends from out c.index-ends-from-2.result c.requires.within) in
+    put_back outline ends mid from e out back c.requires.within at c.look_all.ensures.outlines
+    (ap (λ (o : Outline Ring). with_outs o (map ring_out senders.items)) same ∙ ap (λ l. with_outs (outline e) l) rings)
+
+sent_back : goal.returns-clause-sent
+sent_back c =
+    let ends = c.args.ends.now in
+    let mid = c.look_all.new.ends in
+    let from = c.args.from in
+    let e = get_or ends from c.index-ends-from.result in
+    let e1 = get_or mid from c.index-ends-from-2.result in
+    let out : RingEnd = record { number = e.number; outs = c.replace-senders.new.dest; ins = e.ins; next = e.next } in
+    let back : RingEnd = record { number = e1.number; outs = with_items c.replace-senders.result c.look_all.new.senders; ins = e1.ins; next = e1.next } in
+    let at : e ≡ get_or ends from e = get_or_default ends from c.index-ends-from.result e c.requires.within in
+    put_back sent_row ends mid from e out back c.requires.within at c.look_all.ensures.sent
+    (ap (map sent) (are_whole c) ∙ c.look_all.ensures.senders.1 ∙ ap (map sent) (taken_out c))
+
+pub returns-clause-sent : goal.returns-clause-sent
+returns-clause-sent c = sent_back c
+
+pub returns-clause-received : goal.returns-clause-received
+returns-clause-received c =
+    map-set_same received_row c.look_all.new.ends c.args.from _ c.index-ends-from-2.result refl
+    ∙ c.look_all.ensures.received
+    ∙ map-set_same received_row c.args.ends.now c.args.from _ c.index-ends-from.result refl
+
+pub returns-clause-known : goal.returns-clause-known
+returns-clause-known c = λ i to ne.
+    ap (λ rows. lane_at rows to i) (map-set_same known_row c.look_all.new.ends c.args.from _ c.index-ends-from-2.result refl)
+    ∙ c.look_all.ensures.known i to ne
+    ∙ ap (λ rows. lane_at rows to i) (map-set_same known_row c.args.ends.now c.args.from _ c.index-ends-from.result refl)
+
+pub returns-clause-met : goal.returns-clause-met
+returns-clause-met c = λ to less.
+    let ends = c.args.ends.now in
+    let mid = c.look_all.new.ends in
+    let from = c.args.from in
+    let e = get_or ends from c.index-ends-from.result in
+    let e1 = get_or mid from c.index-ends-from-2.result in
+    let back : RingEnd = record { number = e1.number; outs = with_items c.replace-senders.result c.look_all.new.senders; ins = e1.ins; next = e1.next } in
+    let at : e ≡ get_or ends from e = get_or_default ends from c.index-ends-from.result e c.requires.within in
+    ap (λ rows. lane_at rows to from ++ rest_on (set mid from back) from to) (map-set_same received_row mid from back c.index-ends-from-2.result refl)
+    ∙ ap (λ rows. received_on mid from to ++ lane_at rows to from) (map-set_same known_row mid from back c.index-ends-from-2.result refl)
+    ∙ c.look_all.ensures.met to (omega (arith, length-set {A = RingEnd}))
+    ∙ ap (λ l. list_at (map sent l) to) (taken_out c)
+    ∙ sym (this_lane sent_row ends from to e c.requires.within at)
+    ∙ sym (ap (λ rows. lane_at rows from to) (sent_back c))

@@ -1,0 +1,32 @@
+-- What changes on lanes: each lane has lists, named by the number of a node or by those of two.
+use Rattle.std.specs.Prelude.{◌≡◌, ◌≢◌, ℕ, ◌<◌, List, [], ◌∷◌, ◌++◌, slice_index_or}
+
+module _ {T : Type 0} where
+  -- one list has one more item, and the others stay
+  abbrev pub AddsOne : (ℕ → List T) → (ℕ → List T) → ℕ → T → Type 0
+  AddsOne before after place item =
+      (after place ≡ before place ++ item ∷ []) × ((other : ℕ) → other ≢ place → after other ≡ before other)
+
+  abbrev pub SameLists : (ℕ → List T) → (ℕ → List T) → Type 0
+  SameLists before after = (place : ℕ) → after place ≡ before place
+
+  -- the same of lanes, each from one node to another
+  abbrev pub AddsOneOn : (ℕ → ℕ → List T) → (ℕ → ℕ → List T) → ℕ → ℕ → T → Type 0
+  AddsOneOn before after from to item =
+      (after from to ≡ before from to ++ item ∷ [])
+      × ((i j : ℕ) → i ≢ from → after i j ≡ before i j)
+      × ((i j : ℕ) → j ≢ to → after i j ≡ before i j)
+
+  abbrev pub SameLanes : (ℕ → ℕ → List T) → (ℕ → ℕ → List T) → Type 0
+  SameLanes before after = (from to : ℕ) → after from to ≡ before from to
+
+  -- no lane between so many nodes has anything left
+  abbrev pub NothingRests : ℕ → (ℕ → ℕ → List T) → Type 0
+  NothingRests nodes rest = (from to : ℕ) → from < nodes → to < nodes → rest from to ≡ []
+
+-- the list at a place, and the list at a place of a place, or none
+abbrev pub list_at : {T : Type 0} → List (List T) → ℕ → List T
+list_at lists place = slice_index_or lists place []
+
+abbrev pub lane_at : {T : Type 0} → List (List (List T)) → ℕ → ℕ → List T
+lane_at lanes i j = list_at (slice_index_or lanes i []) j

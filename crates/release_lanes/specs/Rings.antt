@@ -1,0 +1,76 @@
+-- What ends of rings have sent and received, and know.
+use Rattle.std.specs.Prelude.{◌≡◌, ℕ, ◌<◌, List, [], ◌++◌, map, length, All, slice_index}
+use Rattle.std.specs.declared.alloc.Global.{Global}
+use denote.RawPtr.{Ptr}
+use Rattle.rtrb.specs.Shared.{Names}
+use Rattle.rtrb.specs.declared.AnyItems.{AnyItems}
+use Rattle.rtrb.specs.declared.producer.Producer.{Producer}
+use Rattle.rtrb.specs.declared.consumer.Consumer.{Consumer}
+use Rattle.rtrb.specs.Ring.{sent, known_free, received, known_items}
+use Rattle.release_lanes.specs.declared.parcel.Parcel.{Parcel}
+use Rattle.release_lanes.specs.declared.rings.RingEnd.{RingEnd}
+use Rattle.release_lanes.specs.Lanes.{lane_at}
+use Rattle.release_lanes.specs.Woven.{Outline}
+
+abbrev pub Sender : Type 0
+Sender = Producer Parcel Global AnyItems
+
+abbrev pub Receiver : Type 0
+Receiver = Consumer Parcel Global AnyItems
+
+-- which ring it is: its memory
+abbrev pub Ring : Type 0
+Ring = Ptr × Ptr × Names × Global
+
+abbrev pub ring_out : Sender → Ring
+ring_out p = (p.end.words, p.end.slots, p.end.names, p.end.heap)
+
+abbrev pub ring_in : Receiver → Ring
+ring_in c = (c.end.words, c.end.slots, c.end.names, c.end.heap)
+
+abbrev pub outline : RingEnd → Outline Ring
+outline end = record { number = end.number; next = end.next; outs = map ring_out end.outs.items; ins = map ring_in end.ins.items }
+
+-- what an end has sent, by the node that it went to, and what it has received and knows of, by the node that it came from
+abbrev pub sent_row : RingEnd → List (List Parcel)
+sent_row end = map sent end.outs.items
+
+abbrev pub received_row : RingEnd → List (List Parcel)
+received_row end = map received end.ins.items
+
+abbrev pub known_row : RingEnd → List (List Parcel)
+known_row end = map known_items end.ins.items
+
+-- how many slots it knows to be free, by the node
+abbrev pub free_row : RingEnd → List ℕ
+free_row end = map known_free end.outs.items
+
+abbrev pub next_of : RingEnd → ℕ
+next_of end = end.next
+
+-- nothing went over a ring, and its slot is known to be free
+abbrev pub IsNewSender : Sender → Type 0
+IsNewSender sender = (sent sender ≡ []) × (known_free sender ≡ 1)
+
+abbrev pub IsNewReceiver : Receiver → Type 0
+IsNewReceiver receiver = (received receiver ≡ []) × (known_items receiver ≡ [])
+
+abbrev pub IsNew : RingEnd → Type 0
+IsNew end = All IsNewSender end.outs.items × All IsNewReceiver end.ins.items
+
+-- what one node has sent to another; what it has received of that, and what rests
+abbrev pub sent_on : List RingEnd → ℕ → ℕ → List Parcel
+sent_on ends from to = lane_at (map sent_row ends) from to
+
+abbrev pub received_on : List RingEnd → ℕ → ℕ → List Parcel
+received_on ends from to = lane_at (map received_row ends) to from
+
+abbrev pub rest_on : List RingEnd → ℕ → ℕ → List Parcel
+rest_on ends from to = lane_at (map known_row ends) to from
+
+-- the ends were given back, and know of all that rests
+pub record AreBack (nodes : ℕ) (ends : List RingEnd) : Type 0 where
+  pub count : length ends ≡ nodes
+  pub widths : All (λ end. length end.ins.items ≡ nodes) ends
+  pub meets : (from to : ℕ) → from < nodes → to < nodes → received_on ends from to ++ rest_on ends from to ≡ sent_on ends from to
+  pub taken : (from to : ℕ) → from < slice_index (map next_of ends) to → rest_on ends from to ≡ []

@@ -1,0 +1,193 @@
+//! Lanes of plain slots, for a calling thread that serves the nodes one after another.
+ghost use Rattle.std.specs.Prelude.{◌≡◌, ◌≢◌, ℕ, ◌<◌, ◌≤◌, [], ◌∷◌, All, IfOk, IfSome, IfNone, map, length, slice_set, slice_index_or};
+ghost use Rattle.release_lanes.specs.Lanes.{list_at};
+ghost use Rattle.release_lanes.specs.Plain.{outline, posted, standing, delivered, IsTeam, AreEmpty, AreBack};
+
+use crate::lanes::{Lanes, NodeEnd};
+use crate::parcel::Parcel;
+use model_core::OutOfMemory;
+use std::alloc::Global;
+use std::snapshot::Snapshot;
+
+/// The end of a node on plain slots. It polls nothing, since it knows of nothing.
+#[derive(Drop)]
+pub struct PlainEnd {
+    number: u32,
+    /// What is posted to each node.
+    slots: Vec<Option<Parcel>>,
+    /// Nothing rests from the nodes below this one.
+    next: usize,
+}
+
+/// Lanes of plain slots: one for each node and each node that it posts to.
+#[derive(Drop)]
+pub struct PlainLanes {
+    nodes: u32,
+    /// None while they are handed out.
+    ends: Vec<PlainEnd>,
+    /// The ends as they were given back.
+    sent: Snapshot<Vec<PlainEnd>>,
+}
+
+impl PlainEnd {
+    /// An end with empty slots.
+    fn new(alloc: Global, number: u32, nodes: u32) -> Result<PlainEnd, OutOfMemory>
+        ensures outline { IfOk result (λ end. outline end ≡ (number, 0, nodes)) }
+        ensures empty { IfOk result AreEmpty }
+    {
+        let mut slots = Vec::with_capacity(alloc, nodes as usize)?;
+        for _ in 0..nodes {
+            slots.push(None)?;
+        }
+        Ok(PlainEnd {
+            number,
+            slots,
+            next: 0,
+        })
+    }
+
+    /// Takes what is posted to a node.
+    fn take(&mut self, to: usize) -> Option<Parcel>
+        requires { to < length self.old.slots.items }
+        ensures outline { outline self.new ≡ outline self.old }
+        ensures none { IfNone result ((list_at (posted self.old) to ≡ []) × (posted self.new ≡ posted self.old)) }
+        ensures some { IfSome result (λ parcel. (list_at (posted self.old) to ≡ parcel ∷ []) × (posted self.new ≡ slice_set (posted self.old) to [])) }
+    {
+        self.slots[to].take()
+    }
+}
+
+/// One end for each node, with empty slots.
+fn new_ends(alloc: Global, nodes: u32) -> Result<Vec<PlainEnd>, OutOfMemory>
+    ensures team { IfOk result (λ ends. IsTeam nodes ends.items) }
+    ensures empty { IfOk result (λ ends. All AreEmpty ends.items) }
+{
+    let mut ends = Vec::with_capacity(alloc, nodes as usize)?;
+    for number in 0..nodes {
+        ends.push(PlainEnd::new(alloc, number, nodes)?)?;
+    }
+    Ok(ends)
+}
+
+/// The next parcel to a node from the nodes at and after a place, with the number of the node that sent it.
+fn next_parcel(ends: &mut [PlainEnd], to: usize, first: usize) -> Option<(usize, Parcel)>
+    requires { All (λ end. to < length end.slots.items) ends.old }
+    ensures outlines { map outline ends.new ≡ map outline ends.old }
+    ensures none { IfNone result ((map posted ends.new ≡ map posted ends.old) × ((from : ℕ) → first ≤ from → standing ends.old from to ≡ [])) }
+    ensures some { IfSome result (λ found. (found.0 < length ends.old) × (standing ends.old found.0 to ≡ found.1 ∷ []) × ((from : ℕ) → first ≤ from → from < found.0 → standing ends.old from to ≡ []) × (map posted ends.new ≡ slice_set (map posted ends.old) found.0 (slice_set (slice_index_or (map posted ends.old) found.0 []) to []))) }
+{
+    for from in first..ends.len() {
+        if let Some(parcel) = ends[from].take(to) {
+            return Some((from, parcel));
+        }
+    }
+    None
+}
+
+impl NodeEnd for PlainEnd {
+    ghost use Rattle.std.specs.Prelude.{◌≡◌, [], Some, None, slice_get, length, refl};
+    ghost use Rattle.std.proofs.Common.{ap, ◌∙◌};
+    ghost use Rattle.release_lanes.specs.Lanes.{list_at};
+    ghost use Rattle.release_lanes.specs.Plain.{outline, posted};
+
+    ghost number = { λ end. end.number };
+
+    ghost nodes = { λ end. length end.slots.items };
+
+    ghost sent = { λ end to. list_at (posted end) to };
+
+    ghost received = { λ _ _. [] };
+
+    ghost is_free = { λ end to. slice_get end.slots.items to ≡ Some None };
+
+    ghost knows_parcel = { λ _ _. ⊥ };
+
+    ghost is_same = { λ a b. outline b ≡ outline a };
+
+    fn post(&mut self, to: u32, parcel: Parcel) {
+        self.slots[to as usize] = Some(parcel);
+    }
+
+    fn early(&mut self) -> Option<Parcel> {
+        None
+    }
+
+    ghost same_first = { λ _. refl };
+
+    ghost same_then = { λ _ _ _ first then. then ∙ first };
+
+    ghost same_number = { λ _ _ same. ap (λ o. o.0) same };
+
+    ghost same_nodes = { λ _ _ same. ap (λ o. o.2) same };
+}
+
+impl PlainLanes {
+    /// Lanes between so many nodes, on which nothing was sent. It answers an error only for want of memory.
+    pub fn new(alloc: Global, nodes: u32) -> Result<PlainLanes, OutOfMemory>
+        requires nodes { (1 ≤ nodes) × (nodes ≤ 64) }
+        ensures nodes { IfOk result (λ lanes. ⟦<PlainLanes as Lanes>⟧.nodes lanes ≡ nodes) }
+        ensures at_rest { IfOk result ⟦<PlainLanes as Lanes>⟧.are_at_rest }
+    {
+        let ends = new_ends(alloc, nodes)?;
+        let sent = Snapshot::of(&ends);
+        Ok(PlainLanes { nodes, ends, sent })
+    }
+}
+
+impl Lanes for PlainLanes {
+    ghost use Rattle.std.specs.Prelude.{◌≡◌, ◌<◌, ℕ, [], ◌⊎◌, length};
+    ghost use Rattle.release_lanes.specs.Lanes.{NothingRests};
+    ghost use Rattle.release_lanes.specs.Plain.{outline, posted, standing, delivered, IsTeam, AreBack};
+
+    type End = PlainEnd;
+
+    ghost nodes = { λ lanes. lanes.nodes };
+
+    ghost are_out = { λ lanes ends. IsTeam lanes.nodes ends };
+
+    ghost are_back = { λ lanes. AreBack lanes.nodes lanes.sent.value.items lanes.ends.items };
+
+    ghost are_at_rest = { λ lanes. AreBack lanes.nodes lanes.sent.value.items lanes.ends.items × NothingRests lanes.nodes (standing lanes.ends.items) };
+
+    ghost sent = { λ lanes. standing lanes.sent.value.items };
+
+    ghost received = { λ lanes. delivered lanes.sent.value.items lanes.ends.items };
+
+    ghost rest = { λ lanes. standing lanes.ends.items };
+
+    fn ready(&mut self, alloc: Global) -> Result<Vec<PlainEnd>, OutOfMemory> {
+        let ends = new_ends(alloc, self.nodes)?;
+        self.ends = Vec::new(alloc);
+        Ok(ends)
+    }
+
+    fn give_back(&mut self, ends: Vec<PlainEnd>)
+        requires { IsTeam self.old.nodes ends.items }
+        ensures nodes { self.new.nodes ≡ self.old.nodes }
+        ensures back { AreBack self.new.nodes self.new.sent.value.items self.new.ends.items }
+        ensures sent { All (λ end. (to : ℕ) → standing self.new.sent.value.items end.number to ≡ list_at (posted end) to) ends.items }
+        ensures received { All (λ end. (from : ℕ) → delivered self.new.sent.value.items self.new.ends.items from end.number ≡ []) ends.items }
+    {
+        self.sent = Snapshot::of(&ends);
+        self.ends = ends;
+    }
+
+    fn rest(&mut self, to: u32) -> Option<Parcel> {
+        let to = to as usize;
+        let first = self.ends[to].next;
+        let Some((from, parcel)) = next_parcel(self.ends.as_mut_slice(), to, first) else {
+            self.ends[to].next = self.ends.len();
+            return None;
+        };
+        self.ends[to].next = from;
+        Some(parcel)
+    }
+
+    ghost use Rattle.release_lanes.specs.Laws.{plain_lane, plain_stay};
+
+    ghost lane = { λ lanes from to back _ _. plain_lane lanes.nodes lanes.sent.value.items lanes.ends.items from to back };
+
+    ghost at_rest = { λ _. (λ now. now, λ now. now) };
+
+    ghost stay_out = { λ lanes before after out same. plain_stay lanes.nodes before after out same };
+}
