@@ -1,16 +1,15 @@
 -- The parts that the three passes give are those of a network.
-use Rattle.std.proofs.Common.{◌≡◌, ◌≢◌, ℕ, zero, suc, ◌+◌, ◌-◌, ◌<◌, ◌≤◌, ◌^◌, Bool, true, false, cond, not, List, [], ◌∷◌, length, map, get_or, Option, Some, None, Ok, Err, refl, sym, ap, subst, ◌∙◌, arith}
+use Rattle.std.proofs.Common.{◌≡◌, ◌≢◌, ℕ, suc, ◌+◌, ◌<◌, ◌≤◌, ◌^◌, Bool, true, false, cond, not, List, [], ◌∷◌, length, map, get_or, Option, Some, None, Ok, Err, refl, sym, ap, subst, ◌∙◌, arith}
 use Rattle.std.specs.Prelude.{IsTrue, All, AllPairs}
 use Rattle.std.specs.Str.{bytes_eq}
 use Rattle.std.proofs.lemmas.Bool.Decides.{nat_tests}
 use Rattle.std.proofs.lemmas.List.{length-map, get_or-map}
 use Rattle.std.proofs.lemmas.List.Elements.{All-nil, All-cons, All-head, All-tail, All-weaker}
-use Rattle.random_streams.specs.declared.law.Law.TheVariants.{Choice}
 use Rattle.model_core.specs.declared.entry.Entry.{Entry}
 use Rattle.queue_models.specs.declared.object.Object.{Object}
 use Rattle.queue_models.specs.declared.object.Role.{Role}
-use Rattle.queue_models.specs.declared.object.Role.TheVariants.{Makes, Serves, Holds, Routes, Ends}
-use Rattle.queue_models.specs.Objects.{network_of, no_object, object_at, is_source}
+use Rattle.queue_models.specs.declared.object.Role.TheVariants.{Ends}
+use Rattle.queue_models.specs.Objects.{network_of, no_object, is_source}
 use Rattle.queue_models.specs.Parts.{IsName, IsLink, IsRole, IsObject, IsJob, IsNetwork}
 use Rattle.model_text.specs.declared.directory.Place.{Place}
 use Rattle.model_text.specs.declared.named.NamedItem.{NamedItem}

@@ -7,8 +7,7 @@ use Rattle.model_text.specs.declared.directory.Place.{Place}
 use Rattle.model_text.specs.declared.named.NamedItem.{NamedItem}
 use Rattle.model_text.specs.Directories.{finder}
 use Rattle.model_text.specs.NamedItems.{IsNamedItem}
-use Rattle.model_text.specs.Names.{place_of, place_in}
-use Rattle.model_text.specs.Objects.{objects_after, objects}
+use Rattle.model_text.specs.Names.{place_of}
 use Rattle.model_text.proofs.Places.{finder-more, names-new}
 use Rattle.model_text.proofs.Reading.{objects_go_on, objects_end}
 use Rattle.model_text.proofs.objects.objects.Goals as goal
