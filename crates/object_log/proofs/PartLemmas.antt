@@ -119,3 +119,7 @@ keys_below key newest (d ∷ e ∷ ds) zero up last is lt = absurd (omega arith)
 keys_below key newest (d ∷ e ∷ ds) (suc k) up last is lt =
     let more = keys_below key newest (e ∷ ds) k up.1 (omega arith) is lt in
     (key_lt-trans d.event.key e.event.key key up.0.0 more.0, more)
+
+pub no_keys : (key : Key) (ds : List Done) → length ds ≡ 0 → Each (λ (k : Key). key_lt k key ≡ true) (keys_of ds)
+no_keys key [] none = tt
+no_keys key (d ∷ ds) none = absurd (omega arith)
