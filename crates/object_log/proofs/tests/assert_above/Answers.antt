@@ -1,5 +1,5 @@
 -- The newest key is the greatest.
-use Rattle.std.proofs.Common.{◌≡◌, ◌+◌, ◌-◌, arith, true}
+use Rattle.std.proofs.Common.{◌≡◌, ◌-◌, arith, true}
 use Rattle.event_key.specs.Keys.{key_lt}
 use Rattle.object_log.proofs.PartLemmas.{keys_below, no_keys}
 use Rattle.object_log.proofs.tests.assert_above.Goals as goal
