@@ -90,12 +90,7 @@ struct Held {
 }
 
 /// What an event at an object sends, in cells of the pool, with serials from this one on.
-fn hold_all(
-    pool: &mut CellPool<Event>,
-    cause: &Key,
-    serial: u64,
-    sends: &[Send],
-) -> Held
+fn hold_all(pool: &mut CellPool<Event>, cause: &Key, serial: u64, sends: &[Send]) -> Held
     requires time { time_part cause.now.stamp < 2 ^ 46 }
     requires stepping { has_chain_of cause.now.stamp sends.now ≡ false }
     requires delays { AllByRecursion (λ send. send.delay ≤ 2 ^ 40) sends.now }

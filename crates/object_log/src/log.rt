@@ -185,12 +185,7 @@ impl ObjectLog {
 
     /// Undoes each processed event whose key isn't below `key`, the newest first, and puts them into `into` in the order
     /// of their keys. Answers how many there were. The cells of what they hold go to the pool.
-    pub fn back_to(
-        &mut self,
-        key: Key,
-        pool: &mut CellPool<Event>,
-        into: &mut Chain<Event>,
-    ) -> u64
+    pub fn back_to(&mut self, key: Key, pool: &mut CellPool<Event>, into: &mut Chain<Event>) -> u64
         requires { into.old ≡ [] }
         ensures left { self.new.done ≡ before_key key self.old.done }
         ensures parts { self.old.done ≡ before_key key self.old.done ++ from_key key self.old.done }

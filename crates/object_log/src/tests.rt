@@ -1,4 +1,8 @@
-ghost use Rattle.std.specs.Prelude.{◌≡◌, ◌≤◌, ◌<◌, ◌^◌};
+ghost use Rattle.std.specs.Prelude.{◌≡◌, true, None};
+ghost use Rattle.std.specs.List.{AllByRecursion};
+ghost use Rattle.event_key.specs.Keys.{key_lt};
+ghost use Rattle.object_log.specs.Logs.{keys_of, fault_of};
+ghost use Rattle.object_log.specs.Parts.{due_of};
 
 use super::*;
 use event_chain::{Cell, CellPool, Chain};
@@ -15,7 +19,7 @@ use std::test::Fail;
 fn event(time: u32, serial: u64) -> Event {
     Event {
         key: Key {
-            stamp: stamp_of(u64::from(time), 0),
+            stamp: at(time),
             rank: 0,
             dest: 0,
             src: INITIAL,
@@ -36,6 +40,25 @@ fn cells(alloc: Global) -> Result<Cells, Fail> {
     }
 }
 
+/// Ends the test where a key isn't above those of the processed events.
+fn assert_above<R: Abort>(rt: &R, log: &ObjectLog, key: &Key)
+    ensures { AllByRecursion (λ earlier. key_lt earlier key.now ≡ true) (keys_of log.now.done) }
+{
+    let len = log.len();
+    if len == 0 {
+        return;
+    }
+    let newest = log.key_at(len - 1);
+    assert!(rt; newest.is_before(key));
+}
+
+/// Ends the test where a processed event has faulted.
+fn assert_went<R: Abort>(rt: &R, log: &ObjectLog, horizon: u64, cut: Option<Key>)
+    ensures { fault_of (due_of horizon cut log.now.done) ≡ None }
+{
+    assert!(rt; log.faulted().is_none());
+}
+
 /// Processes an event, once all that a log asks of it is seen to hold.
 fn process<R: Abort>(
     rt: &R,
@@ -45,11 +68,8 @@ fn process<R: Abort>(
     pool: &mut CellPool<Event>,
     event: Event,
 ) -> Result<u64, Fail> {
-    let len = log.len();
-    assert!(rt; len < 100);
-    if len > 0 {
-        assert!(rt; log.key_at(len - 1).is_before(&event.key));
-    }
+    assert!(rt; log.len() < 100);
+    assert_above(rt, log, &event.key);
     assert!(rt; log.faulted().is_none());
     assert!(rt; log.sent() < 100);
     assert!(rt; log.object() < model.objects());
@@ -73,7 +93,7 @@ fn commit<R: Abort>(
     cut: Option<Key>,
     into: &mut Chain<Done>,
 ) {
-    assert!(rt; log.faulted().is_none());
+    assert_went(rt, log, horizon, cut);
     assert!(rt; log.len() < 100);
     assert!(rt; into.len() < 100);
     log.commit_front(horizon, cut, into);
@@ -96,6 +116,23 @@ fn back_to(log: &mut ObjectLog, key: Key, pool: &mut CellPool<Event>) -> Chain<E
     into
 }
 
+/// Step 0 of a time.
+fn at(time: u32) -> u64 {
+    stamp_of(u64::from(time), 0)
+}
+
+/// How many events are processed, and how many are sent.
+fn counts(log: &ObjectLog) -> (usize, u64) {
+    (log.len(), log.sent())
+}
+
+/// The model of one object that sends to itself without delay.
+fn chains<R: Abort>(rt: &R, alloc: Global) -> Result<Phold, Fail> {
+    let delay = Law::Fixed { value: 0 };
+    assert!(rt; delay.is_delay());
+    Ok(Phold::make(0, 1, delay, false, 0, Vec::new(alloc), 0)?)
+}
+
 /// The model of one object that draws delays of 1 to 10 ticks.
 fn hops<R: Abort>(rt: &R, alloc: Global) -> Result<Phold, Fail> {
     let delay = Law::Uniform { low: 1, high: 10 };
@@ -113,13 +150,15 @@ fn a_straggler_takes_the_draw_of_what_it_undoes(rt: HostRuntime) -> Result<(), F
     let mut log = ObjectLog::new(0, cells(alloc)?);
     process(&rt, alloc, &model, &mut log, &mut pool, event(0, 0))?;
     let late = process(&rt, alloc, &model, &mut log, &mut pool, event(2, 2))?;
+    assert_eq!(rt; late, at(5));
     let back = back_to(&mut log, event(1, 1).key, &mut pool);
     assert_eq!(rt; back.front(), Some(&event(2, 2)));
     let straggler = process(&rt, alloc, &model, &mut log, &mut pool, event(1, 1))?;
+    assert_eq!(rt; straggler, at(4));
     let again = process(&rt, alloc, &model, &mut log, &mut pool, event(2, 2))?;
-    assert_eq!(rt; (late, straggler, again), (stamp_of(5, 0), stamp_of(4, 0), stamp_of(6, 0)));
-    assert_eq!(rt; (log.len(), log.sent()), (3, 3));
-    assert_eq!(rt; log.held_least(), stamp_of(4, 0));
+    assert_eq!(rt; again, at(6));
+    assert_eq!(rt; counts(&log), (3, 3));
+    assert_eq!(rt; log.held_least(), at(4));
     Ok(())
 }
 
@@ -133,10 +172,10 @@ fn a_commit_takes_what_is_below_the_horizon_and_the_cut(rt: HostRuntime) -> Resu
         process(&rt, alloc, &model, &mut log, &mut pool, event(time, 0))?;
     }
     let mut done = Chain::new();
-    commit(&rt, &mut log, stamp_of(2, 0), None, &mut done);
-    assert_eq!(rt; (done.len(), log.len()), (2, 1));
-    commit(&rt, &mut log, stamp_of(4, 0), Some(event(2, 0).key), &mut done);
-    assert_eq!(rt; log.len(), 1);
+    commit(&rt, &mut log, at(2), None, &mut done);
+    assert_eq!(rt; counts(&log), (1, 3));
+    commit(&rt, &mut log, at(4), Some(event(2, 0).key), &mut done);
+    assert_eq!(rt; counts(&log), (1, 3));
     assert_eq!(rt; next_told(&mut done)?, (event(0, 0), hop(5)));
     assert_eq!(rt; next_told(&mut done)?, (event(1, 0), hop(3)));
     Ok(())
@@ -152,9 +191,7 @@ fn next_told(done: &mut Chain<Done>) -> Result<(Event, Verdict), Fail> {
 #[test]
 fn a_chain_without_end_in_a_tick_is_undone_as_any_event(rt: HostRuntime) -> Result<(), Fail> {
     let alloc = rt.alloc();
-    let delay = Law::Fixed { value: 0 };
-    assert!(rt; delay.is_delay());
-    let model = Phold::make(0, 1, delay, false, 0, Vec::new(alloc), 0)?;
+    let model = chains(&rt, alloc)?;
     let mut pool = CellPool::new();
     let mut log = ObjectLog::with(0, cells(alloc)?, 7);
     let mut last = event(3, 0);
@@ -163,7 +200,7 @@ fn a_chain_without_end_in_a_tick_is_undone_as_any_event(rt: HostRuntime) -> Resu
     assert_eq!(rt; least, NO_STAMP);
     assert!(rt; log.faulted() == Some((last.key, 1)));
     let back = back_to(&mut log, last.key, &mut pool);
-    assert!(rt; log.faulted().is_none());
-    assert_eq!(rt; (back.len(), log.sent()), (1, 7));
+    assert_eq!(rt; back.front(), Some(&last));
+    assert_eq!(rt; counts(&log), (0, 7));
     Ok(())
 }

@@ -1,22 +1,18 @@
 -- An event is settled, done and kept.
-use Rattle.std.proofs.Common.{◌≡◌, ◌+◌, ◌<◌, ◌≤◌, ◌^◌, [], ◌∷◌, ◌++◌, true, length, sym, refl, ap, ◌∙◌, arith, subst, List}
-use Rattle.std.specs.List.{AllByRecursion as Each}
-use Rattle.delta_exchange.specs.declared.change.Change.{Change}
-use Rattle.delta_exchange.specs.Changes.{CellData, cells_after_all, inverses_of}
-use Rattle.event_key.specs.Keys.{key_lt}
-use Rattle.model_core.specs.declared.effect.Outcome.TheVariants.{Goes, Fails}
+use Rattle.std.proofs.Common.{◌+◌, [], ◌∷◌, ◌++◌, length, sym, refl, ap, ◌∙◌, arith}
+use Rattle.delta_exchange.specs.Changes.{cells_after_all, inverses_of}
 use Rattle.model_core.specs.declared.event.Event.{Event}
 use Rattle.model_core.specs.Meaning.{Meaning}
 use Rattle.sim_spec.specs.Firing.{emissions}
 use Rattle.sim_spec.proofs.SerialLemmas.{length-emissions}
 use Rattle.object_log.specs.declared.done.Done.{Done}
 use Rattle.object_log.specs.declared.done.Verdict.TheVariants.{Failed}
-use Rattle.object_log.specs.Logs.{LogView, keys_of, fault_of}
+use Rattle.object_log.specs.Logs.{LogView}
 use Rattle.object_log.specs.Outcomes.{settled}
 use Rattle.object_log.proofs.HeldLemmas.{least-start}
 use Rattle.object_log.proofs.KeepingLemmas.{keeps-more}
 use Rattle.object_log.proofs.OutcomeLemmas.{delays-in}
-use Rattle.object_log.proofs.ProcessLemmas.{CanTake, can-take, kept-laws, keeps-fails, keeps-goes, one-fails, one-goes, one-base, one-replay}
+use Rattle.object_log.proofs.ProcessLemmas.{can-take, kept-laws, keeps-fails, keeps-goes, one-fails, one-goes, one-base, one-replay}
 use Rattle.object_log.proofs.log.ObjectLog.process.Goals as goal
 
 pub invariant_of-self : goal.invariant_of-self
