@@ -20,11 +20,7 @@ pub struct AnyEngine {
 
 impl AnyEngine {
     /// The simulation at its start.
-    pub fn new(
-        alloc: Global,
-        model: Arc<AnyModel>,
-        terms: Terms,
-    ) -> Result<AnyEngine, OutOfMemory>
+    pub fn new(alloc: Global, model: Arc<AnyModel>, terms: Terms) -> Result<AnyEngine, OutOfMemory>
         ensures model { IfOk result (λ any. any.engine.model ≡ arc_value model) }
         ensures terms { IfOk result (λ any. any.engine.terms ≡ terms) }
         ensures begins { IfOk result (λ any. any.engine.standing ≡ stands (initial_state (meaning_of (arc_value model))) None) }

@@ -1,4 +1,8 @@
 //! Whole runs of the program over sources and sinks in memory.
+mod cycles;
+mod networks;
+mod refusals;
+
 use crate::gate::Open;
 use crate::top::btb;
 use sim_io::{CleanSink, CleanSource, MemSink, MemSource};
@@ -80,11 +84,20 @@ fn answer_of<R: AllocGlobal + Threads + Sync>(
     })
 }
 
-fn run_of<R: AllocGlobal + Threads + Sync>(rt: &R, model: &str) -> Result<Ended, Fail> {
+/// What these words answer to a model.
+fn told_by<R: AllocGlobal + Threads + Sync>(
+    rt: &R,
+    words: &[&str],
+    model: &str,
+) -> Result<Ended, Fail> {
     let alloc = rt.alloc();
     let source = source_of(alloc, model, &[])?;
     let out = sink_of(alloc, &[], &[])?;
-    answer_of(rt, &["run"], source, out)
+    answer_of(rt, words, source, out)
+}
+
+fn run_of<R: AllocGlobal + Threads + Sync>(rt: &R, model: &str) -> Result<Ended, Fail> {
+    told_by(rt, &["run"], model)
 }
 
 #[test]
@@ -174,7 +187,7 @@ fn no_bytes_are_no_model(rt: HostRuntime) -> Result<(), Fail> {
     let run = run_of(&rt, "")?;
     assert_eq!(rt; run.status, 3);
     assert_eq!(rt; run.text.as_str(), "");
-    assert_eq!(rt; run.notes.as_str(), "model: 5 BadValue item 0\n");
+    assert_eq!(rt; run.notes.as_str(), "model: 3 Missing item 0\n");
     Ok(())
 }
 
@@ -186,6 +199,10 @@ fn refused_words_read_nothing(rt: HostRuntime) -> Result<(), Fail> {
         (["go"].as_slice(), "words: unknown command\n"),
         (["run", "--nodes=2"].as_slice(), "words: unknown option\n"),
         (["run", "x"].as_slice(), "words: extra word\n"),
+        (
+            ["one", "--cycles", "--cycles"].as_slice(),
+            "words: repeated option\n",
+        ),
     ] {
         let source = source_of(alloc, TIE, &[1])?;
         let run = answer_of(&rt, words, source, sink_of(alloc, &[], &[])?)?;
@@ -247,7 +264,7 @@ fn failing_notes_change_only_the_notes(rt: HostRuntime) -> Result<(), Fail> {
     let status = btb(&rt, &words, &mut source, &mut out, &mut notes, &Open);
     assert_eq!(rt; status, 3);
     assert_eq!(rt; out.bytes(), b"".as_slice());
-    assert_eq!(rt; notes.bytes(), b"model: 5 B".as_slice());
+    assert_eq!(rt; notes.bytes(), b"model: 3 M".as_slice());
     Ok(())
 }
 
