@@ -19,13 +19,7 @@ pub fn draw(seed: u64, object: u32, place: u64, law: &Law) -> (u64, u64)
 }
 
 /// The same by a stream, which has the words at hand where it stands at this place, and is left at the place after them.
-pub fn draw_by(
-    words: &mut Stream,
-    seed: u64,
-    object: u32,
-    place: u64,
-    law: &Law,
-) -> (u64, u64)
+pub fn draw_by(words: &mut Stream, seed: u64, object: u32, place: u64, law: &Law) -> (u64, u64)
     requires { IsTrue (is_drawable law.now) }
     ensures within { result.0 ≤ greatest_value law.now }
     ensures bounded { result.0 ≤ 2 ^ 40 }
