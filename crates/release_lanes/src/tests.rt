@@ -1,7 +1,7 @@
 //! What no clause says: that calls succeed, and what threads see of one another.
 ghost use Rattle.std.specs.Prelude.{◌≡◌, ◌<◌, IfOk, vec_len};
 
-use crate::{Lanes, NodeEnd, Parcel, PlainEnd, PlainLanes, RingEnd, RingLanes};
+use crate::{Lanes, NodeEnd, OutOfMemory, Parcel, PlainEnd, PlainLanes, RingEnd, RingLanes};
 use event_chain::{Cell, Chain};
 use event_key::Key;
 use model_core::Event;
@@ -34,6 +34,33 @@ fn one_event(alloc: Global, kind: u32) -> Result<Chain<Event>, Fail> {
     Ok(events)
 }
 
+/// Node 0 posts to both nodes, and what node 1 receives is what was posted to it.
+fn delivered<L: Lanes>(
+    alloc: Global,
+    lanes: &mut L,
+    events: Chain<Event>,
+) -> Result<Parcel, OutOfMemory>
+    requires nodes { L.nodes lanes.old ≡ 2 }
+    requires at_rest { L.are_at_rest lanes.old }
+    ensures { IfOk result (λ parcel. (parcel.from ≡ 0) × (parcel.events ≡ events)) }
+{
+    let mut ends = lanes.ready(alloc)?;
+    let none = Chain::new();
+    ends[0].post(
+        0,
+        Parcel {
+            from: 0,
+            events: none,
+        },
+    );
+    ends[0].post(1, Parcel { from: 0, events });
+    lanes.give_back(ends);
+    let Some(parcel) = lanes.rest(1) else {
+        unreachable!()
+    };
+    Ok(parcel)
+}
+
 /// Node 0 posts to node 1, which receives it after the ends are given back.
 fn hands_over<L: Lanes>(rt: &impl Abort, alloc: Global, lanes: &mut L) -> Result<(), Fail>
     requires nodes { L.nodes lanes.old ≡ 2 }
@@ -57,14 +84,20 @@ fn hands_over<L: Lanes>(rt: &impl Abort, alloc: Global, lanes: &mut L) -> Result
 
 #[test]
 fn plain_lanes_hand_a_parcel_over(rt: HostRuntime) -> Result<(), Fail> {
-    let mut lanes = PlainLanes::new(rt.alloc(), 2)?;
-    hands_over(&rt, rt.alloc(), &mut lanes)
+    hands_over(&rt, rt.alloc(), &mut PlainLanes::new(rt.alloc(), 2)?)?;
+    let events = one_event(rt.alloc(), 8)?;
+    let parcel = delivered(rt.alloc(), &mut PlainLanes::new(rt.alloc(), 2)?, events)?;
+    assert!(rt; parcel.events.front().is_some_and(|event| event.kind == 8));
+    Ok(())
 }
 
 #[test]
 fn ring_lanes_hand_a_parcel_over(rt: HostRuntime) -> Result<(), Fail> {
-    let mut lanes = RingLanes::new(rt.alloc(), 2)?;
-    hands_over(&rt, rt.alloc(), &mut lanes)
+    hands_over(&rt, rt.alloc(), &mut RingLanes::new(rt.alloc(), 2)?)?;
+    let events = one_event(rt.alloc(), 8)?;
+    let parcel = delivered(rt.alloc(), &mut RingLanes::new(rt.alloc(), 2)?, events)?;
+    assert!(rt; parcel.events.front().is_some_and(|event| event.kind == 8));
+    Ok(())
 }
 
 /// Polls until a parcel is there. No wait: it gives up after many polls.
