@@ -216,6 +216,22 @@ impl Cells {
         }
     }
 
+    /// Does the changes from the first to the last, and keeps nothing to undo them. After `room` this takes no memory.
+    pub fn make(&mut self, changes: &[Change])
+        requires fit { AllFit changes.now self.old.contents }
+        requires room { HaveRoom changes.now self.old.spare }
+        ensures cells { self.new.contents ≡ cells_after_all changes.now self.old.contents }
+        ensures spare { self.new.spare ≡ spare_after_all changes.now self.old.spare }
+        ensures spares { HasSpares self.new }
+    {
+        // Opens the cells, so that the proof knows that each line has its spare.
+        let _ = &self.words;
+        for change in changes {
+            let mut done = *change;
+            self.exchange(&mut done);
+        }
+    }
+
     /// Exchanges the changes from the last to the first. What `apply` made of a list can be undone, with
     /// no memory, which gives back the list, the cells and the spares.
     pub fn undo(&mut self, changes: &mut [Change])

@@ -60,15 +60,14 @@ impl Object {
     }
 
     /// Does the changes of an event that sends so many events, or nothing where no memory is left.
-    pub fn take_effect(&mut self, changes: Vec<Change>, sends: u64) -> Result<(), OutOfMemory>
-        requires fits { AllFit changes.items self.old.cells }
+    pub fn take_effect(&mut self, changes: &[Change], sends: u64) -> Result<(), OutOfMemory>
+        requires fits { AllFit changes.now self.old.cells }
         requires sends { self.old.sent + sends < 2 ^ 64 }
-        ensures ok { OnOk result (self.new ≡ record { cells = cells_after_all changes.items self.old.cells; sent = self.old.sent + sends }) }
+        ensures ok { OnOk result (self.new ≡ record { cells = cells_after_all changes.now self.old.cells; sent = self.old.sent + sends }) }
         ensures err { OnErr result (self.new ≡ self.old) }
     {
-        let mut changes = changes;
-        self.cells.room(changes.as_slice())?;
-        self.cells.apply(changes.as_mut_slice());
+        self.cells.room(changes)?;
+        self.cells.make(changes);
         self.sent += sends;
         Ok(())
     }
@@ -117,7 +116,7 @@ impl Object {
                     return Ok(Reaction::Fails(CHAIN));
                 }
                 let serial = self.sent();
-                self.take_effect(changes.into_vec(), sends.as_slice().len() as u64)?;
+                self.take_effect(changes.as_slice(), sends.as_slice().len() as u64)?;
                 Ok(Reaction::Goes(Sending {
                     serial,
                     sends,

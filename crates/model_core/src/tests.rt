@@ -36,6 +36,10 @@ fn a_name_is_its_bytes(rt: HostRuntime) -> Result<(), Fail> {
 fn a_sequence_is_its_values(rt: HostRuntime) -> Result<(), Fail> {
     let sends = Sequence::new(vec![in rt.alloc(); 3, 1, 2]?);
     assert_eq!(rt; sends.as_slice(), [3, 1, 2].as_slice());
-    assert_eq!(rt; sends.into_vec().len(), 3);
+    assert_eq!(rt; Sequence::three(3, 1, 2).as_slice(), sends.as_slice());
+    assert_eq!(rt; Sequence::two(3, 1).as_slice(), [3, 1].as_slice());
+    assert_eq!(rt; Sequence::one(3).as_slice(), [3].as_slice());
+    let nothing: Sequence<u64> = Sequence::none();
+    assert!(rt; nothing.as_slice().is_empty());
     Ok(())
 }

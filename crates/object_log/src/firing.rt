@@ -15,7 +15,7 @@ use crate::entries::Entries;
 use event_chain::{Cell, CellPool, Chain};
 use event_key::{Key, NO_STAMP, later, step_of};
 use model_core::model::{Model as SimulationModel, keeps_laws};
-use model_core::{Cells, Effect, Event, OutOfMemory, Outcome, Send};
+use model_core::{Cells, Change, Effect, Event, OutOfMemory, Outcome, Send};
 use std::alloc::Global;
 
 /// Whether something is sent without delay from the last step of a tick.
@@ -133,14 +133,16 @@ pub struct Kept {
     ghost least_is: { least ≡ least_stamp NO_STAMP done.sends },
 }
 
-/// Does the changes of an event, and puts what it sends into cells. It takes no memory.
+/// Does the changes of an event, which are handed in to be kept, and puts what it sends into cells. It takes no memory.
 pub fn go(
     cells: &mut Cells,
     sent: u64,
     pool: &mut CellPool<Event>,
     event: Cell<Event>,
+    undo: Vec<Change>,
     effect: Effect,
 ) -> Kept
+    requires undo { undo.items ≡ effect.changes }
     requires fits { AllFit effect.changes cells.old.contents }
     requires room { HaveRoom effect.changes cells.old.spare }
     requires time { time_part event.key.stamp < 2 ^ 46 }
@@ -158,11 +160,11 @@ pub fn go(
     ensures spare { pool.new + length effect.sends ≡ pool.old }
 {
     let Effect {
-        changes,
+        changes: _,
         sends,
         note,
     } = effect;
-    let mut undo = changes.into_vec();
+    let mut undo = undo;
     cells.apply(undo.as_mut_slice());
     let Held { messages, least } = hold_all(pool, &event.get().key, sent, sends.as_slice());
     let done = Done {

@@ -9,10 +9,10 @@ ghost use Rattle.one_thread.specs.Turns.{IsTurn, HasDue};
 use crate::beginning::first_events;
 use crate::sending::send_all;
 use crate::turn::Turn;
-use event_chain::Chain;
+use event_chain::{CellPool, Chain};
 use event_firing::{Object, Reaction, first_objects};
 use event_key::end_bound;
-use model_core::OutOfMemory;
+use model_core::{Event, OutOfMemory};
 use model_core::model::{Model as SimulationModel, keeps_laws};
 use sim_spec::{Stop, Terms};
 use speedes_queue::Queue;
@@ -24,6 +24,8 @@ use std::marker::Model;
 pub struct Course {
     objects: Vec<Object>,
     queue: Queue,
+    // the cells of events that are done
+    pool: CellPool<Event>,
     count: u64,
 }
 
@@ -45,6 +47,7 @@ impl Course {
         Ok(Course {
             objects: first_objects(alloc, model)?,
             queue: first_events(alloc, model)?,
+            pool: CellPool::new(),
             count: 0,
         })
     }
@@ -124,9 +127,10 @@ impl Course {
         let object = &mut self.objects[key.dest as usize];
         match object.fire(alloc, model, event)? {
             Reaction::Goes(sending) => {
-                drop(cell);
+                self.pool.recycle(cell);
                 send_all(
                     &mut self.queue,
+                    &mut self.pool,
                     alloc,
                     &key,
                     sending.serial,

@@ -5,16 +5,17 @@ ghost use Rattle.model_core.specs.Meaning.{SendsInRange};
 ghost use Rattle.sim_spec.specs.Firing.{has_chain, emissions};
 ghost use Rattle.sim_spec.proofs.SerialLemmas.{SerialsBelow};
 
-use event_chain::Cell;
+use event_chain::CellPool;
 use event_firing::{Sending, sent_event};
 use event_key::Key;
-use model_core::{OutOfMemory, Send};
+use model_core::{Event, OutOfMemory, Send};
 use speedes_queue::Queue;
 use std::alloc::Global;
 
-/// Puts what an event sends among the fresh events, with serials from this one on.
+/// Puts what an event sends among the fresh events, with serials from this one on. Their cells come from the pool.
 pub fn send_all(
     queue: &mut Queue,
+    pool: &mut CellPool<Event>,
     alloc: Global,
     cause: &Key,
     serial: u64,
@@ -32,11 +33,10 @@ pub fn send_all(
     ensures fresh { OnOk result (queue.new.fresh ≡ queue.old.fresh ++ emissions cause.now.stamp cause.now.dest serial sends.now) }
 {
     queue.reserve(alloc, sends.len())?;
+    pool.reserve(alloc, sends.len())?;
     let mut next_serial = serial;
     for send in sends {
-        let Ok(cell) = Cell::new(alloc, sent_event(cause, next_serial, send)) else {
-            return Err(OutOfMemory);
-        };
+        let cell = pool.fill(sent_event(cause, next_serial, send));
         queue.push(cell);
         next_serial += 1;
     }

@@ -1,5 +1,5 @@
 //! The model PHOLD.
-ghost use Rattle.std.specs.Prelude.{◌≡◌, ◌<◌, IsOkAnd, IfOk};
+ghost use Rattle.std.specs.Prelude.{◌≡◌, ◌<◌, IsOkAnd};
 ghost use Rattle.phold_model.specs.Parts.{IsPhold, phold_parts};
 ghost use Rattle.phold_model.specs.Meaning.{phold_meaning, hop_start, place_changes};
 
@@ -84,17 +84,16 @@ fn hop_start(time: u64, dest: u32, rank: u32) -> Start
 
 /// The change by which an object keeps its place, where words were read.
 #[tactic(auto, unfolding(crate::specs::Meaning::place_changes))]
-fn place_changes(alloc: Global, place: u64, next: u64) -> Result<Vec<Change>, OutOfMemory>
-    ensures { IfOk result (λ changes. changes.items ≡ place_changes place next) }
+fn place_changes(place: u64, next: u64) -> Sequence<Change>
+    ensures { result ≡ place_changes place next }
 {
-    let mut changes = Vec::new(alloc);
-    if next != place {
-        changes.push(Change::Set {
-            word: 0,
-            value: next,
-        })?;
+    if next == place {
+        return Sequence::none();
     }
-    Ok(changes)
+    Sequence::one(Change::Set {
+        word: 0,
+        value: next,
+    })
 }
 
 impl Phold {
@@ -173,7 +172,7 @@ impl SimulationModel for Phold {
 
     fn react_with(
         &self,
-        alloc: Global,
+        _alloc: Global,
         words: &mut Stream,
         object: u32,
         cells: &Cells,
@@ -181,20 +180,17 @@ impl SimulationModel for Phold {
     ) -> Result<Outcome, OutOfMemory> {
         let place = cells.word(0);
         let hop = self.hop(words, object, place);
-        let changes = place_changes(alloc, place, hop.next)?;
-        let sends = vec![in alloc;
-            Send {
-                dest: hop.dest,
-                delay: hop.delay,
-                kind: HOP_KIND,
-                a: 0,
-                b: 0,
-                rank: self.rank,
-            },
-        ]?;
+        let send = Send {
+            dest: hop.dest,
+            delay: hop.delay,
+            kind: HOP_KIND,
+            a: 0,
+            b: 0,
+            rank: self.rank,
+        };
         Ok(Outcome::Goes(Effect {
-            changes: Sequence::new(changes),
-            sends: Sequence::new(sends),
+            changes: place_changes(place, hop.next),
+            sends: Sequence::one(send),
             note: Note::of(Part {
                 word: HOP_WORD,
                 a: hop.delay,

@@ -1,13 +1,12 @@
 //! Delays: where jobs are held for a while.
-ghost use Rattle.std.specs.Prelude.{◌≡◌, IfOk, IsTrue};
+ghost use Rattle.std.specs.Prelude.{◌≡◌, IsTrue};
 ghost use Rattle.random_streams.specs.Laws.{is_drawable};
 ghost use Rattle.queue_models.specs.Sites.{is_plain_cells};
 ghost use Rattle.queue_models.specs.Delays.{delay_effect};
 
 use crate::site::{Site, place_changes, told};
-use model_core::{Cells, Effect, Event, OutOfMemory, Outcome, Sequence};
+use model_core::{Cells, Effect, Event, Outcome, Sequence};
 use random_streams::{Law, Stream, draw_by};
-use std::alloc::Global;
 
 /// The word that tells of a job that is held.
 const HELD_WORD: u32 = 7;
@@ -24,24 +23,22 @@ impl Delay {
     #[tactic(auto, unfolding(crate::specs::Delays::delay_effect))]
     pub fn react(
         &self,
-        alloc: Global,
         words: &mut Stream,
         site: Site,
         cells: &Cells,
         event: &Event,
-    ) -> Result<Outcome, OutOfMemory>
+    ) -> Outcome
         requires delay { IsTrue (is_drawable self.now.delay) }
         requires cells { IsTrue (is_plain_cells cells.now.contents) }
-        ensures { IfOk result (λ outcome. outcome ≡ delay_effect site self.now cells.now.contents event.now) }
+        ensures { result ≡ delay_effect site self.now cells.now.contents event.now }
     {
         let place = cells.word(0);
         let (delay, next_place) = draw_by(words, site.seed, site.object, place, &self.delay);
-        let changes = place_changes(alloc, place, next_place)?;
-        let sends = vec![in alloc; site.job_to(self.next, delay, event.a, event.b)]?;
-        Ok(Outcome::Goes(Effect {
-            changes: Sequence::new(changes),
-            sends: Sequence::new(sends),
+        let send = site.job_to(self.next, delay, event.a, event.b);
+        Outcome::Goes(Effect {
+            changes: place_changes(place, next_place),
+            sends: Sequence::one(send),
             note: told(HELD_WORD, event.a, delay),
-        }))
+        })
     }
 }

@@ -183,7 +183,7 @@ impl SimulationModel for Network {
 
     fn react_with(
         &self,
-        alloc: Global,
+        _alloc: Global,
         words: &mut Stream,
         object: u32,
         cells: &Cells,
@@ -191,7 +191,7 @@ impl SimulationModel for Network {
     ) -> Result<Outcome, OutOfMemory> {
         let site = self.site(object);
         let role = self.role_of(object);
-        role.react(alloc, words, site, cells, event)
+        Ok(role.react(words, site, cells, event))
     }
 
     fn put_name(&self, _alloc: Global, object: u32, into: &mut Vec<u8>) -> Result<(), OutOfMemory> {

@@ -111,24 +111,17 @@ impl Role {
     }
 
     /// What an event does.
-    pub fn react(
-        &self,
-        alloc: Global,
-        words: &mut Stream,
-        site: Site,
-        cells: &Cells,
-        event: &Event,
-    ) -> Result<Outcome, OutOfMemory>
+    pub fn react(&self, words: &mut Stream, site: Site, cells: &Cells, event: &Event) -> Outcome
         requires role { RoleCanDraw self.now }
         requires lawful { IsTrue (is_lawful self.now cells.now.contents) }
-        ensures { IfOk result (λ outcome. outcome ≡ effect_at site self.now cells.now.contents event.now) }
+        ensures { result ≡ effect_at site self.now cells.now.contents event.now }
     {
         match self {
-            Role::Makes(source) => source.react(alloc, words, site, cells, event),
-            Role::Serves(station) => station.react(alloc, words, site, cells, event),
-            Role::Holds(delay) => delay.react(alloc, words, site, cells, event),
-            Role::Routes(router) => router.react(alloc, words, site, cells, event),
-            Role::Ends(sink) => sink.react(alloc, event),
+            Role::Makes(source) => source.react(words, site, cells, event),
+            Role::Serves(station) => station.react(words, site, cells, event),
+            Role::Holds(delay) => delay.react(words, site, cells, event),
+            Role::Routes(router) => router.react(words, site, cells, event),
+            Role::Ends(sink) => sink.react(event),
         }
     }
 }

@@ -1,12 +1,11 @@
 //! Routers: where jobs part.
-ghost use Rattle.std.specs.Prelude.{◌≡◌, ◌<◌, IfOk, IsTrue, length, slice_index};
+ghost use Rattle.std.specs.Prelude.{◌≡◌, ◌<◌, IsTrue, length, slice_index};
 ghost use Rattle.queue_models.specs.Sites.{is_plain_cells};
 ghost use Rattle.queue_models.specs.Routers.{IsChoiceOf, router_effect};
 
 use crate::site::{Site, place_changes, told};
-use model_core::{Cells, Effect, Event, OutOfMemory, Outcome, Sequence};
+use model_core::{Cells, Effect, Event, Outcome, Sequence};
 use random_streams::{Law, Stream, draw_by};
-use std::alloc::Global;
 use std::marker::Model;
 
 /// The word that tells of a job that is routed.
@@ -55,26 +54,24 @@ impl Router {
     #[tactic(auto, unfolding(crate::specs::Routers::router_effect))]
     pub fn react(
         &self,
-        alloc: Global,
         words: &mut Stream,
         site: Site,
         cells: &Cells,
         event: &Event,
-    ) -> Result<Outcome, OutOfMemory>
+    ) -> Outcome
         requires choice { IsChoiceOf self.now.next self.now.choice }
         requires cells { IsTrue (is_plain_cells cells.now.contents) }
-        ensures { IfOk result (λ outcome. outcome ≡ router_effect site self.now cells.now.contents event.now) }
+        ensures { result ≡ router_effect site self.now cells.now.contents event.now }
     {
         let place = cells.word(0);
         let (way, next_place) = draw_by(words, site.seed, site.object, place, &self.choice);
         let dest = self.chosen(way);
-        let changes = place_changes(alloc, place, next_place)?;
-        let sends = vec![in alloc; site.job_to(dest, 0, event.a, event.b)]?;
-        Ok(Outcome::Goes(Effect {
-            changes: Sequence::new(changes),
-            sends: Sequence::new(sends),
+        let send = site.job_to(dest, 0, event.a, event.b);
+        Outcome::Goes(Effect {
+            changes: place_changes(place, next_place),
+            sends: Sequence::one(send),
             note: told(ROUTED_WORD, event.a, u64::from(dest)),
-        }))
+        })
     }
 
     /// The object that is chosen by its place.

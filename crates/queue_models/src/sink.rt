@@ -1,11 +1,10 @@
 //! Sinks: where jobs leave.
-ghost use Rattle.std.specs.Prelude.{◌≡◌, IfOk};
+ghost use Rattle.std.specs.Prelude.{◌≡◌};
 ghost use Rattle.queue_models.specs.Sinks.{is_late, sink_effect};
 
 use crate::site::told;
 use event_key::time_of;
-use model_core::{Effect, Event, OutOfMemory, Outcome, Sequence};
-use std::alloc::Global;
+use model_core::{Effect, Event, Outcome, Sequence};
 
 /// The word that tells of a job that leaves.
 const LEFT_WORD: u32 = 9;
@@ -22,18 +21,18 @@ pub struct Sink {
 impl Sink {
     /// A job leaves, at its age since it was born.
     #[tactic(auto, unfolding(crate::specs::Sinks::sink_effect))]
-    pub fn react(&self, alloc: Global, event: &Event) -> Result<Outcome, OutOfMemory>
-        ensures { IfOk result (λ outcome. outcome ≡ sink_effect self.now event.now) }
+    pub fn react(&self, event: &Event) -> Outcome
+        ensures { result ≡ sink_effect self.now event.now }
     {
         let age = time_of(event.key.stamp).saturating_sub(event.b);
         if self.is_late(age) {
-            return Ok(Outcome::Fails(LATE));
+            return Outcome::Fails(LATE);
         }
-        Ok(Outcome::Goes(Effect {
-            changes: Sequence::new(Vec::new(alloc)),
-            sends: Sequence::new(Vec::new(alloc)),
+        Outcome::Goes(Effect {
+            changes: Sequence::none(),
+            sends: Sequence::none(),
             note: told(LEFT_WORD, event.a, age),
-        }))
+        })
     }
 
     /// Whether a job of this age is late.

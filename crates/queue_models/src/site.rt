@@ -1,8 +1,8 @@
 //! Where an event happens, and what objects of several kinds do there.
-ghost use Rattle.std.specs.Prelude.{◌≡◌, IfOk};
+ghost use Rattle.std.specs.Prelude.{◌≡◌, ◌++◌, ◌∷◌, [], IfOk};
 ghost use Rattle.queue_models.specs.Sites.{job_to, told, place_changes, is_plain_cells, plain_cells};
 
-use model_core::{Cells, Change, Note, OutOfMemory, Part, Send};
+use model_core::{Cells, Change, Note, OutOfMemory, Part, Send, Sequence};
 use std::alloc::Global;
 
 /// The kind of an event at which a source makes a job.
@@ -62,15 +62,43 @@ pub fn told(word: u32, a: u64, b: u64) -> Note
 
 /// The change by which an object keeps its random place, where words were read.
 #[tactic(auto, unfolding(crate::specs::Sites::place_changes))]
-pub fn place_changes(alloc: Global, place: u64, next: u64) -> Result<Vec<Change>, OutOfMemory>
-    ensures { IfOk result (λ changes. changes.items ≡ place_changes place next) }
+pub fn place_changes(place: u64, next: u64) -> Sequence<Change>
+    ensures { result ≡ place_changes place next }
 {
-    let mut changes = Vec::new(alloc);
-    if next != place {
-        changes.push(Change::Set {
-            word: 0,
-            value: next,
-        })?;
+    if next == place {
+        return Sequence::none();
     }
-    Ok(changes)
+    Sequence::one(place_change(next))
+}
+
+/// That change, and another one.
+#[tactic(auto, unfolding(crate::specs::Sites::place_changes))]
+pub fn place_and(place: u64, next: u64, change: Change) -> Sequence<Change>
+    ensures { result ≡ place_changes place next ++ change ∷ [] }
+{
+    if next == place {
+        return Sequence::one(change);
+    }
+    Sequence::two(place_change(next), change)
+}
+
+/// That change, and two others.
+#[tactic(auto, unfolding(crate::specs::Sites::place_changes))]
+pub fn place_and_both(place: u64, next: u64, first: Change, second: Change) -> Sequence<Change>
+    ensures { result ≡ place_changes place next ++ first ∷ second ∷ [] }
+{
+    if next == place {
+        return Sequence::two(first, second);
+    }
+    Sequence::three(place_change(next), first, second)
+}
+
+/// The random place of an object becomes this one.
+fn place_change(next: u64) -> Change
+    ensures { result ≡ Change.Set 0 next }
+{
+    Change::Set {
+        word: 0,
+        value: next,
+    }
 }

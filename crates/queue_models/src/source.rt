@@ -4,7 +4,7 @@ ghost use Rattle.event_key.specs.Stamps.{time_part};
 ghost use Rattle.random_streams.specs.Laws.{is_drawable};
 ghost use Rattle.queue_models.specs.Sources.{is_source_cells, first_source_cells, idle_effect, last_effect, make_effect, source_effect, left_of};
 
-use crate::site::{MAKE, Site, place_changes, told};
+use crate::site::{MAKE, Site, place_and_both, told};
 use event_key::time_of;
 use model_core::{Cells, Change, Effect, Event, OutOfMemory, Outcome, Send, Sequence};
 use random_streams::{Law, Stream, draw_by};
@@ -47,96 +47,72 @@ impl Source {
 
     /// Makes the next job, where one is left.
     #[tactic(auto, unfolding(crate::specs::Sources::source_effect))]
-    pub fn react(
-        &self,
-        alloc: Global,
-        words: &mut Stream,
-        site: Site,
-        cells: &Cells,
-        event: &Event,
-    ) -> Result<Outcome, OutOfMemory>
+    pub fn react(&self, words: &mut Stream, site: Site, cells: &Cells, event: &Event) -> Outcome
         requires every { IsTrue (is_drawable self.now.every) }
         requires cells { IsTrue (is_source_cells self.now cells.now.contents) }
-        ensures { IfOk result (λ outcome. outcome ≡ source_effect site self.now cells.now.contents event.now) }
+        ensures { result ≡ source_effect site self.now cells.now.contents event.now }
     {
         let time = time_of(event.key.stamp);
         let effect = match cells.word(2) {
-            0 => self.idle(alloc, cells),
-            1 => self.make_last(alloc, site, cells, time)?,
-            _ => self.make(alloc, words, site, cells, time)?,
+            0 => self.idle(cells),
+            1 => self.make_last(site, cells, time),
+            _ => self.make(words, site, cells, time),
         };
-        Ok(Outcome::Goes(effect))
+        Outcome::Goes(effect)
     }
 
     /// No job is left.
     #[tactic(auto, unfolding(crate::specs::Sources::idle_effect))]
-    fn idle(&self, alloc: Global, cells: &Cells) -> Effect
+    fn idle(&self, cells: &Cells) -> Effect
         requires { IsTrue (is_source_cells self.now cells.now.contents) }
         ensures { result ≡ idle_effect cells.now.contents }
     {
         Effect {
-            changes: Sequence::new(Vec::new(alloc)),
-            sends: Sequence::new(Vec::new(alloc)),
+            changes: Sequence::none(),
+            sends: Sequence::none(),
             note: told(MADE_WORD, cells.word(1), 0),
         }
     }
 
     /// Makes the last job.
     #[tactic(auto, unfolding(crate::specs::Sources::last_effect))]
-    fn make_last(
-        &self,
-        alloc: Global,
-        site: Site,
-        cells: &Cells,
-        time: u64,
-    ) -> Result<Effect, OutOfMemory>
+    fn make_last(&self, site: Site, cells: &Cells, time: u64) -> Effect
         requires { IsTrue (is_source_cells self.now cells.now.contents) }
-        ensures { IfOk result (λ effect. effect ≡ last_effect site self.now cells.now.contents time) }
+        ensures { result ≡ last_effect site self.now cells.now.contents time }
     {
         let job = cells.word(1) + 1;
-        let changes = vec![in alloc;
-            Change::Set {
-                word: 1,
-                value: job
-            },
-            Change::Set { word: 2, value: 0 },
-        ]?;
-        let sends = vec![in alloc; site.job_to(self.next, 0, job, time)]?;
-        Ok(Effect {
-            changes: Sequence::new(changes),
-            sends: Sequence::new(sends),
+        let made = Change::Set {
+            word: 1,
+            value: job,
+        };
+        let left = Change::Set { word: 2, value: 0 };
+        Effect {
+            changes: Sequence::two(made, left),
+            sends: Sequence::one(site.job_to(self.next, 0, job, time)),
             note: told(MADE_WORD, job, 0),
-        })
+        }
     }
 
     /// Makes a job, and will make another after a drawn delay.
     #[tactic(auto, unfolding(crate::specs::Sources::make_effect))]
-    fn make(
-        &self,
-        alloc: Global,
-        words: &mut Stream,
-        site: Site,
-        cells: &Cells,
-        time: u64,
-    ) -> Result<Effect, OutOfMemory>
+    fn make(&self, words: &mut Stream, site: Site, cells: &Cells, time: u64) -> Effect
         requires every { IsTrue (is_drawable self.now.every) }
         requires cells { IsTrue (is_source_cells self.now cells.now.contents) }
         requires left { 1 ≤ left_of cells.now.contents }
-        ensures { IfOk result (λ effect. effect ≡ make_effect site self.now cells.now.contents time) }
+        ensures { result ≡ make_effect site self.now cells.now.contents time }
     {
         let place = cells.word(0);
         let job = cells.word(1) + 1;
         let left = cells.word(2) - 1;
         let (delay, next_place) = draw_by(words, site.seed, site.object, place, &self.every);
-        let mut changes = place_changes(alloc, place, next_place)?;
-        changes.push(Change::Set {
+        let made = Change::Set {
             word: 1,
             value: job,
-        })?;
-        changes.push(Change::Set {
+        };
+        let fewer = Change::Set {
             word: 2,
             value: left,
-        })?;
+        };
         let again = Send {
             dest: site.object,
             delay,
@@ -145,11 +121,10 @@ impl Source {
             b: 0,
             rank: site.rank,
         };
-        let sends = vec![in alloc; site.job_to(self.next, 0, job, time), again]?;
-        Ok(Effect {
-            changes: Sequence::new(changes),
-            sends: Sequence::new(sends),
+        Effect {
+            changes: place_and_both(place, next_place, made, fewer),
+            sends: Sequence::two(site.job_to(self.next, 0, job, time), again),
             note: told(MADE_WORD, job, left),
-        })
+        }
     }
 }

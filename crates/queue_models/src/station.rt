@@ -3,7 +3,7 @@ ghost use Rattle.std.specs.Prelude.{◌≡◌, ◌<◌, IfOk, IsTrue};
 ghost use Rattle.random_streams.specs.Laws.{is_drawable};
 ghost use Rattle.queue_models.specs.Stations.{is_station_cells, first_station_cells, busy_servers, waiting_jobs, done_after, take_effect, wait_effect, lose_effect, arrival_outcome, serve_effect, free_effect, done_effect, station_effect};
 
-use crate::site::{DONE, Site, place_changes, told};
+use crate::site::{DONE, Site, place_and, place_and_both, told};
 use model_core::{Cells, Change, Effect, Event, OutOfMemory, Outcome, Send, Sequence};
 use random_streams::{Law, Stream, draw_by};
 use std::alloc::Global;
@@ -77,195 +77,147 @@ impl Station {
 
     /// A service is done, or a job arrives, whatever else the kind of the event.
     #[tactic(auto, unfolding(crate::specs::Stations::station_effect))]
-    pub fn react(
-        &self,
-        alloc: Global,
-        words: &mut Stream,
-        site: Site,
-        cells: &Cells,
-        event: &Event,
-    ) -> Result<Outcome, OutOfMemory>
+    pub fn react(&self, words: &mut Stream, site: Site, cells: &Cells, event: &Event) -> Outcome
         requires service { IsTrue (is_drawable self.now.service) }
         requires cells { IsTrue (is_station_cells self.now cells.now.contents) }
-        ensures { IfOk result (λ outcome. outcome ≡ station_effect site self.now cells.now.contents event.now) }
+        ensures { result ≡ station_effect site self.now cells.now.contents event.now }
     {
         match event.kind {
-            DONE => Ok(Outcome::Goes(self.done(alloc, words, site, cells, event)?)),
-            _ => self.arrival(alloc, words, site, cells, event),
+            DONE => Outcome::Goes(self.done(words, site, cells, event)),
+            _ => self.arrival(words, site, cells, event),
         }
     }
 
     /// A job arrives: it is taken, waits, or finds the line full.
     #[tactic(auto, unfolding(crate::specs::Stations::arrival_outcome))]
-    fn arrival(
-        &self,
-        alloc: Global,
-        words: &mut Stream,
-        site: Site,
-        cells: &Cells,
-        event: &Event,
-    ) -> Result<Outcome, OutOfMemory>
+    fn arrival(&self, words: &mut Stream, site: Site, cells: &Cells, event: &Event) -> Outcome
         requires service { IsTrue (is_drawable self.now.service) }
         requires cells { IsTrue (is_station_cells self.now cells.now.contents) }
-        ensures { IfOk result (λ outcome. outcome ≡ arrival_outcome site self.now cells.now.contents event.now) }
+        ensures { result ≡ arrival_outcome site self.now cells.now.contents event.now }
     {
         if cells.word(BUSY) < u64::from(self.servers) {
-            return Ok(Outcome::Goes(self.take(alloc, words, site, cells, event)?));
+            return Outcome::Goes(self.take(words, site, cells, event));
         }
         if cells.line_len(JOBS) < self.line as usize {
-            return Ok(Outcome::Goes(self.wait(alloc, cells, event)?));
+            return Outcome::Goes(self.wait(cells, event));
         }
         if self.strict {
-            return Ok(Outcome::Fails(LINE_FULL));
+            return Outcome::Fails(LINE_FULL);
         }
-        Ok(Outcome::Goes(self.lose(alloc, cells, event)))
+        Outcome::Goes(self.lose(cells, event))
     }
 
     /// A free server takes the job.
     #[tactic(auto, unfolding(crate::specs::Stations::take_effect))]
-    fn take(
-        &self,
-        alloc: Global,
-        words: &mut Stream,
-        site: Site,
-        cells: &Cells,
-        event: &Event,
-    ) -> Result<Effect, OutOfMemory>
+    fn take(&self, words: &mut Stream, site: Site, cells: &Cells, event: &Event) -> Effect
         requires service { IsTrue (is_drawable self.now.service) }
         requires cells { IsTrue (is_station_cells self.now cells.now.contents) }
-        ensures { IfOk result (λ effect. effect ≡ take_effect site self.now cells.now.contents event.now) }
+        ensures { result ≡ take_effect site self.now cells.now.contents event.now }
     {
         let place = cells.word(0);
         let (service, next_place) = draw_by(words, site.seed, site.object, place, &self.service);
-        let mut changes = place_changes(alloc, place, next_place)?;
-        changes.push(Change::Set {
+        let busy = Change::Set {
             word: BUSY,
             value: cells.word(BUSY) + 1,
-        })?;
-        let sends = vec![in alloc; done_after(&site, service, event.a, event.b)]?;
-        Ok(Effect {
-            changes: Sequence::new(changes),
-            sends: Sequence::new(sends),
+        };
+        Effect {
+            changes: place_and(place, next_place, busy),
+            sends: Sequence::one(done_after(&site, service, event.a, event.b)),
             note: told(TAKEN_WORD, event.a, cells.line_len(JOBS) as u64),
-        })
+        }
     }
 
     /// The job goes to the end of the line.
     #[tactic(auto, unfolding(crate::specs::Stations::wait_effect))]
-    fn wait(&self, alloc: Global, cells: &Cells, event: &Event) -> Result<Effect, OutOfMemory>
+    fn wait(&self, cells: &Cells, event: &Event) -> Effect
         requires { IsTrue (is_station_cells self.now cells.now.contents) }
-        ensures { IfOk result (λ effect. effect ≡ wait_effect cells.now.contents event.now) }
+        ensures { result ≡ wait_effect cells.now.contents event.now }
     {
         let waiting = cells.line_len(JOBS) as u64;
-        let changes = vec![in alloc;
-            Change::Push {
-                line: JOBS,
-                value: event.a
-            },
-            Change::Push {
-                line: BIRTHS,
-                value: event.b
-            },
-        ]?;
-        Ok(Effect {
-            changes: Sequence::new(changes),
-            sends: Sequence::new(Vec::new(alloc)),
+        let job = Change::Push {
+            line: JOBS,
+            value: event.a,
+        };
+        let birth = Change::Push {
+            line: BIRTHS,
+            value: event.b,
+        };
+        Effect {
+            changes: Sequence::two(job, birth),
+            sends: Sequence::none(),
             note: told(WAITING_WORD, event.a, waiting + 1),
-        })
+        }
     }
 
     /// The job is turned away.
     #[tactic(auto, unfolding(crate::specs::Stations::lose_effect))]
-    fn lose(&self, alloc: Global, cells: &Cells, event: &Event) -> Effect
+    fn lose(&self, cells: &Cells, event: &Event) -> Effect
         requires { IsTrue (is_station_cells self.now cells.now.contents) }
         ensures { result ≡ lose_effect cells.now.contents event.now }
     {
         Effect {
-            changes: Sequence::new(Vec::new(alloc)),
-            sends: Sequence::new(Vec::new(alloc)),
+            changes: Sequence::none(),
+            sends: Sequence::none(),
             note: told(LOST_WORD, event.a, cells.line_len(JOBS) as u64),
         }
     }
 
     /// A job is done: the next one is served, or the server is free.
     #[tactic(auto, unfolding(crate::specs::Stations::done_effect))]
-    fn done(
-        &self,
-        alloc: Global,
-        words: &mut Stream,
-        site: Site,
-        cells: &Cells,
-        event: &Event,
-    ) -> Result<Effect, OutOfMemory>
+    fn done(&self, words: &mut Stream, site: Site, cells: &Cells, event: &Event) -> Effect
         requires service { IsTrue (is_drawable self.now.service) }
         requires cells { IsTrue (is_station_cells self.now cells.now.contents) }
-        ensures { IfOk result (λ effect. effect ≡ done_effect site self.now cells.now.contents event.now) }
+        ensures { result ≡ done_effect site self.now cells.now.contents event.now }
     {
         if cells.line_len(JOBS) > 0 {
-            self.serve(alloc, words, site, cells, event)
+            self.serve(words, site, cells, event)
         } else {
-            self.free(alloc, site, cells, event)
+            self.free(site, cells, event)
         }
     }
 
     /// The server goes on with the job that has waited longest.
     #[tactic(auto, unfolding(crate::specs::Stations::serve_effect))]
-    fn serve(
-        &self,
-        alloc: Global,
-        words: &mut Stream,
-        site: Site,
-        cells: &Cells,
-        event: &Event,
-    ) -> Result<Effect, OutOfMemory>
+    fn serve(&self, words: &mut Stream, site: Site, cells: &Cells, event: &Event) -> Effect
         requires service { IsTrue (is_drawable self.now.service) }
         requires cells { IsTrue (is_station_cells self.now cells.now.contents) }
         requires waiting { 0 < waiting_jobs cells.now.contents }
-        ensures { IfOk result (λ effect. effect ≡ serve_effect site self.now cells.now.contents event.now) }
+        ensures { result ≡ serve_effect site self.now cells.now.contents event.now }
     {
         let job = cells.line_at(JOBS, 0);
         let birth = cells.line_at(BIRTHS, 0);
         let place = cells.word(0);
         let (service, next_place) = draw_by(words, site.seed, site.object, place, &self.service);
-        let mut changes = place_changes(alloc, place, next_place)?;
-        changes.push(Change::Pop { line: JOBS })?;
-        changes.push(Change::Pop { line: BIRTHS })?;
-        let sends = vec![in alloc;
-            site.job_to(self.next, 0, event.a, event.b),
-            done_after(&site, service, job, birth),
-        ]?;
-        Ok(Effect {
-            changes: Sequence::new(changes),
-            sends: Sequence::new(sends),
+        let next_job = Change::Pop { line: JOBS };
+        let its_birth = Change::Pop { line: BIRTHS };
+        let gone = site.job_to(self.next, 0, event.a, event.b);
+        let served = done_after(&site, service, job, birth);
+        Effect {
+            changes: place_and_both(place, next_place, next_job, its_birth),
+            sends: Sequence::two(gone, served),
             note: told(DONE_WORD, event.a, cells.line_len(JOBS) as u64 - 1),
-        })
+        }
     }
 
     /// Nobody waits: the server is free.
     #[tactic(auto, unfolding(crate::specs::Stations::free_effect))]
-    fn free(
-        &self,
-        alloc: Global,
-        site: Site,
-        cells: &Cells,
-        event: &Event,
-    ) -> Result<Effect, OutOfMemory>
+    fn free(&self, site: Site, cells: &Cells, event: &Event) -> Effect
         requires { IsTrue (is_station_cells self.now cells.now.contents) }
-        ensures { IfOk result (λ effect. effect ≡ free_effect site self.now cells.now.contents event.now) }
+        ensures { result ≡ free_effect site self.now cells.now.contents event.now }
     {
-        let mut changes = Vec::new(alloc);
         let busy = cells.word(BUSY);
-        if busy > 0 {
-            changes.push(Change::Set {
+        let changes = if busy > 0 {
+            Sequence::one(Change::Set {
                 word: BUSY,
                 value: busy - 1,
-            })?;
-        }
-        let sends = vec![in alloc; site.job_to(self.next, 0, event.a, event.b)]?;
-        Ok(Effect {
-            changes: Sequence::new(changes),
-            sends: Sequence::new(sends),
+            })
+        } else {
+            Sequence::none()
+        };
+        Effect {
+            changes,
+            sends: Sequence::one(site.job_to(self.next, 0, event.a, event.b)),
             note: told(DONE_WORD, event.a, 0),
-        })
+        }
     }
 }

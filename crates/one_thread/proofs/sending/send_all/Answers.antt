@@ -14,8 +14,8 @@ sent_event-requires-clause-stepping c = (chain_at c.args.cause.now.stamp c.args.
 
 pub push-requires-clause-new_key : goal.push-requires-clause-new_key
 push-requires-clause-new_key c =
-    let is = c.in-Ok.ensures.ok ∙ c.sent_event.ensures in
-    new_key c.in-Ok.cell c.args.cause.now.dest c.loop-send.next_serial c.loop-send.queue.primary c.loop-send.queue.fresh
+    let is = c.fill-cell.ensures.value ∙ c.sent_event.ensures in
+    new_key c.fill-cell.result c.args.cause.now.dest c.loop-send.next_serial c.loop-send.queue.primary c.loop-send.queue.fresh
     (ap (λ (e : Event). e.key.src) is) (ap (λ (e : Event). e.key.serial) is) c.loop-send.invariant.primary c.loop-send.invariant.fresh
 
 pub loop-send-preserved : goal.loop-send-preserved
@@ -25,8 +25,8 @@ loop-send-preserved c =
     let cause = c.args.cause.now in
     let serial = c.loop-send.next_serial in
     let fresh = c.loop-send.queue.fresh in
-    let is = c.in-Ok.ensures.ok ∙ c.sent_event.ensures in
-    let long = ap length c.push.ensures.fresh ∙ length-append fresh (c.in-Ok.cell ∷ []) in
+    let is = c.fill-cell.ensures.value ∙ c.sent_event.ensures in
+    let long = ap length c.push.ensures.fresh ∙ length-append fresh (c.fill-cell.result ∷ []) in
     record {
       ranged = ranged_more c.args.objects sends i c.loop-send-test.true c.loop-send.invariant.ranged;
       stepping = (chain_at cause.stamp sends i none c.loop-send-test.true c.loop-send.invariant.stepping).1;
@@ -35,8 +35,9 @@ loop-send-preserved c =
       fresh_is = sent_more cause.stamp cause.dest serial sends i none fresh c.push.new.self.fresh _ c.loop-send-test.true
           (c.push.ensures.fresh ∙ ap (λ (e : Event). fresh ++ e ∷ []) is) c.loop-send.invariant.fresh_is;
       spare = omega arith;
+      cells = omega arith;
       primary = one_serial_more cause.dest serial _ _ c.push.ensures.primary c.loop-send.invariant.primary;
-      fresh = one_event_more cause.dest serial c.in-Ok.cell _ _ c.push.ensures.fresh (ap (λ (e : Event). e.key.serial) is) c.loop-send.invariant.fresh;
+      fresh = one_event_more cause.dest serial c.fill-cell.result _ _ c.push.ensures.fresh (ap (λ (e : Event). e.key.serial) is) c.loop-send.invariant.fresh;
       len = omega arith;
     }
 

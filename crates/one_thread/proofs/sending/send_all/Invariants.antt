@@ -12,6 +12,7 @@ invariant-loop-send l = record {
   primary_is : l.queue.primary ≡ l.fn.queue.primary;
   fresh_is : l.queue.fresh ++ emissions l.cause.stamp l.cause.dest l.next_serial (drop l.send-index l.sends) ≡ l.fn.queue.fresh ++ emissions l.cause.stamp l.cause.dest l.fn.serial l.sends;
   spare : length l.sends ≤ l.queue.spare + l.send-index;
+  cells : length l.sends ≤ l.pool + l.send-index;
   primary : SerialsBelow l.cause.dest l.next_serial l.queue.primary;
   fresh : SerialsBelow l.cause.dest l.next_serial l.queue.fresh;
   len : length l.queue.fresh ≡ length l.fn.queue.fresh + l.send-index;

@@ -38,8 +38,8 @@ returns-in_ok-take_effect-in-Goes-clause-ok g c =
       firing = firing_of o e x;
       fires = fire-goes m o e x is_outcome stepping;
       state = state_of o _ e x _ _
-          (c.in_ok-take_effect-in-Goes.ensures.ok ∙ ap (λ (s : ObjectState). record { cells = cells_after_all c.into_vec.result.items s.cells; sent = s.sent + length c.as_slice-in-Goes.result.now }) same)
-          c.into_vec.ensures c.as_slice-in-Goes.ensures;
+          (c.in_ok-take_effect-in-Goes.ensures.ok ∙ ap (λ (s : ObjectState). record { cells = cells_after_all c.as_slice-in-Goes.result.now s.cells; sent = s.sent + length c.as_slice-in-Goes-2.result.now }) same)
+          c.as_slice-in-Goes.ensures c.as_slice-in-Goes-2.ensures;
       note = refl;
       serial = c.sent-serial.ensures ∙ ap (λ (s : ObjectState). s.sent) same;
       events = refl;

@@ -1,5 +1,5 @@
 -- The event that is due is fired as the definition fires it.
-use Rattle.std.proofs.Common.{◌+◌, ◌++◌, ◌∷◌, [], List, length, ap, ◌∙◌, subst, arith}
+use Rattle.std.proofs.Common.{◌+◌, ◌++◌, ◌∷◌, [], List, length, sym, ap, ◌∙◌, subst, arith}
 use Rattle.std.specs.Prelude.{slice_set}
 use Rattle.model_core.specs.declared.event.Event.{Event}
 use Rattle.sim_spec.specs.Firing.{ObjectState, has_chain}
@@ -10,6 +10,7 @@ use Rattle.one_thread.specs.Engines.{Course}
 use Rattle.one_thread.specs.Turns.{IsDone, IsFailed}
 use Rattle.one_thread.proofs.FireLemmas.{course_of, taken_in, object_read, lawful_read, serials_read, one_ascending, back_in_place, put_back, done, failed, ranged_as}
 use Rattle.one_thread.proofs.course.Course.fire.Goals as goal
+use Rattle.one_thread.proofs.course.Course.fire.Goals.{in-Many-2, in-Nothing-2}
 
 pub overflow_cast-key : goal.overflow_cast-key
 overflow_cast-key g c =
@@ -110,17 +111,21 @@ returns-in_ok-send_all-in-Goes g c =
     let P : Reaction → Type 0 = λ r. IsReaction (g.M.Model.meaning c.args.model.now) c.index_mut-object.result.now c.get-event.result.now r c.fire.new.self in
     let goes : P (Goes c.in-Goes.sending) = subst P c.in-Goes.is c.in_ok-sending.ensures.ok in
     let e = c.get-event.result.now in
-    let D : Course → Type 0 = λ old. IsDone (g.M.Model.meaning c.args.model.now) c.args.terms.now old e.key c.in-Goes.sending.note (course_of (slice_set c.self.inside.objects.items e.key.dest c.fire.new.self) c.send_all.new.queue (c.self.inside.count + 1)) in
+    let m = g.M.Model.meaning c.args.model.now in
+    let after = course_of (slice_set c.self.inside.objects.items e.key.dest c.fire.new.self) c.send_all.new.queue (c.self.inside.count + 1) in
+    let D : Course → Type 0 = λ old. IsDone m c.args.terms.now old e.key c.in-Goes.sending.note after in
+    let E : Course → Type 0 = IsDone m c.args.terms.now c.args.self.now e.key c.in-Goes.sending.note in
     let same = ap (λ (v : Course). v.count) c.self.view_is in
-    subst D c.self.view_is
-    (done (g.M.Model.meaning c.args.model.now) c.args.terms.now (course_of c.self.inside.objects.items c.self.inside.queue c.self.inside.count) _ e c.pop.new.self.primary c.pop.new.self.fresh c.index_mut-object.result.now c.fire.new.self c.in-Goes.sending c.as_slice.result.now
-    k (omega (arith, c.requires.free)) o goes c.as_slice.ensures
-    (λ i. record {
-      objects = slice_set c.self.inside.objects.items e.key.dest c.fire.new.self;
-      primary = c.in_ok-send_all-in-Goes.ensures.primary i;
-      fresh = c.in_ok-send_all-in-Goes.ensures.fresh i;
-      count = c.self.inside.count + 1;
-    }))
+    let is_done : E after = subst D c.self.view_is
+        (done m c.args.terms.now (course_of c.self.inside.objects.items c.self.inside.queue c.self.inside.count) _ e c.pop.new.self.primary c.pop.new.self.fresh c.index_mut-object.result.now c.fire.new.self c.in-Goes.sending c.as_slice.result.now
+        k (omega (arith, c.requires.free)) o goes c.as_slice.ensures
+        (λ i. record {
+          objects = slice_set c.self.inside.objects.items e.key.dest c.fire.new.self;
+          primary = c.in_ok-send_all-in-Goes.ensures.primary i;
+          fresh = c.in_ok-send_all-in-Goes.ensures.fresh i;
+          count = c.self.inside.count + 1;
+        })) in
+    elim c.match-sending-2.branch [ in-Many-2 w ↦ subst E (sym w.self-is) is_done | in-Nothing-2 w ↦ subst E (sym w.self-is) is_done ]
 
 pub give_back-requires-clause-ascending : goal.give_back-requires-clause-ascending
 give_back-requires-clause-ascending g c =

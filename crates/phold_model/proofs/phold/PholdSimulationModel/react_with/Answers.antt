@@ -3,4 +3,4 @@ use Rattle.phold_model.proofs.phold.PholdSimulationModel.react_with.Goals as goa
 
 pub returns : goal.returns
 unfolding phold_meaning hop_effect
-returns c = cc (c.in_ok-changes.ensures, c.in_ok-sends.ensures.items)
+returns c = cc (c.place_changes.ensures, c.one.ensures)
