@@ -19,7 +19,7 @@ use std::alloc::Global;
 use std::sync::Arc;
 use std::{fs, io};
 
-/// The examples by name: each is a model and its text.
+/// The examples by name. Each is a model and its text in `data`, which the folder `examples` at the top stands for.
 const EXAMPLES: [&str; 6] = ["bank", "clinic", "job-shop", "phold", "switch", "tandem"];
 
 /// More bytes than any of the texts has.
