@@ -1,8 +1,9 @@
 //! Runs each example on one thread, and says whether its text is the stored one, which an independent simulator wrote.
 #![tactic(auto)]
 
-ghost use Rattle.std.specs.Prelude.{◌≡◌, IfOk, None};
+ghost use Rattle.std.specs.Prelude.{◌≡◌, IfOk, None, false};
 ghost use Rattle.std.specs.Arc.{arc_value};
+ghost use Rattle.sim_io.specs.CycleTexts.{text};
 ghost use Rattle.sim_spec.specs.Standing.{stands};
 ghost use Rattle.sim_spec.specs.State.{initial_state};
 ghost use Rattle.model_text.specs.Meanings.{meaning_of};
@@ -42,7 +43,9 @@ fn engine_of(
 }
 
 /// The text of a model's simulation.
-fn text_of(alloc: Global, model: AnyModel, terms: Terms) -> Result<MemSink, Unfinished> {
+fn text_of(alloc: Global, model: AnyModel, terms: Terms) -> Result<MemSink, Unfinished>
+    ensures { IfOk result (λ sink. sink.taken ≡ text (meaning_of model) terms false (initial_state (meaning_of model))) }
+{
     let (model, mut engine) = engine_of(alloc, model, terms)?;
     let mut sink = MemSink::new(alloc, ROOM, Vec::new(alloc), Vec::new(alloc), ROOM)?;
     simulate(alloc, &*model, &terms, &mut engine, false, &mut sink)?;
