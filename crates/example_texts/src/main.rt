@@ -1,12 +1,13 @@
 //! Runs each example on one thread, and says whether its text is the stored one, which an independent simulator wrote.
 #![tactic(auto)]
 
-ghost use Rattle.std.specs.Prelude.{◌≡◌, IfOk, None, false};
+ghost use Rattle.std.specs.Prelude.{◌≡◌, IfOk, IfSome, None, false};
 ghost use Rattle.std.specs.Arc.{arc_value};
 ghost use Rattle.sim_io.specs.CycleTexts.{text};
 ghost use Rattle.sim_spec.specs.Standing.{stands};
 ghost use Rattle.sim_spec.specs.State.{initial_state};
 ghost use Rattle.model_text.specs.Meanings.{meaning_of};
+ghost use Rattle.model_text.specs.ModelTexts.{model_of};
 
 mod engine;
 
@@ -53,7 +54,9 @@ fn text_of(alloc: Global, model: AnyModel, terms: Terms) -> Result<MemSink, Unfi
 }
 
 /// The text of the simulation of the model that these bytes are, and nothing where there is none.
-fn told_of(alloc: Global, bytes: &[u8]) -> Option<MemSink> {
+fn told_of(alloc: Global, bytes: &[u8]) -> Option<MemSink>
+    ensures { IfSome result (λ sink. IfOk (model_of bytes.now) (λ read. sink.taken ≡ text read.meaning read.terms false (initial_state read.meaning))) }
+{
     let (model, terms) = read_model(alloc, bytes).ok()?;
     text_of(alloc, model, terms).ok()
 }
