@@ -2,7 +2,6 @@
 #![tactic(auto)]
 
 mod ending;
-mod engine;
 mod gate;
 mod notes;
 mod running;
@@ -12,12 +11,10 @@ mod top;
 
 use crate::gate::Open;
 use crate::top::btb;
-use sim_io::{StdSink, StdSource};
+use sim_io::{StdSink, StdSource, write_all};
+use std::io::ErrorKind;
 use std::process::ExitCode;
 use std::{env, io};
-
-/// The status of a command line that can't be read as words.
-const BAD_WORDS: u8 = 2;
 
 /// The words that follow the program's name.
 fn program_words(rt: &HostRuntime) -> io::Result<Vec<String>> {
@@ -25,12 +22,26 @@ fn program_words(rt: &HostRuntime) -> io::Result<Vec<String>> {
     Ok(words)
 }
 
+/// The status and the line for words that can't be read: one that is no text is refused like any faulty word, before
+/// all else.
+fn unread_words(kind: ErrorKind) -> (u8, &'static [u8]) {
+    match kind {
+        ErrorKind::OutOfMemory => (6, b"out of memory\n"),
+        _ => (2, b"words: bad value\n"),
+    }
+}
+
 fn main(rt: HostRuntime) -> ExitCode {
-    let Ok(words) = program_words(&rt) else {
-        return ExitCode::from(BAD_WORDS);
+    let mut notes = StdSink::new(rt.stderr());
+    let words = match program_words(&rt) {
+        Ok(words) => words,
+        Err(error) => {
+            let (status, line) = unread_words(error.kind());
+            let _told = write_all(&mut notes, line);
+            return ExitCode::from(status);
+        }
     };
     let mut source = StdSource::new(rt.stdin());
     let mut out = StdSink::new(rt.stdout());
-    let mut notes = StdSink::new(rt.stderr());
     ExitCode::from(btb(&rt, &words, &mut source, &mut out, &mut notes, &Open))
 }

@@ -1,24 +1,18 @@
 //! Runs each example on one thread, and says whether its text is the stored one, which an independent simulator wrote.
 #![tactic(auto)]
 
-ghost use Rattle.std.specs.Prelude.{◌≡◌, IfOk, IfSome, None, false};
-ghost use Rattle.std.specs.Arc.{arc_value};
+ghost use Rattle.std.specs.Prelude.{◌≡◌, IfOk, IfSome, false};
 ghost use Rattle.sim_io.specs.CycleTexts.{text};
-ghost use Rattle.sim_spec.specs.Standing.{stands};
 ghost use Rattle.sim_spec.specs.State.{initial_state};
 ghost use Rattle.model_text.specs.Meanings.{meaning_of};
 ghost use Rattle.model_text.specs.ModelTexts.{model_of};
 
-mod engine;
-
-use crate::engine::AnyEngine;
-use model_core::OutOfMemory;
+use model_runs::run_model;
 use model_text::{AnyModel, read_model};
 use sim_io::MemSink;
 use sim_spec::Terms;
-use sim_text::{Unfinished, simulate};
+use sim_text::Unfinished;
 use std::alloc::Global;
-use std::sync::Arc;
 use std::{fs, io};
 
 /// The examples by name. Each is a model and its text in `data`, which the folder `examples` at the top stands for.
@@ -27,29 +21,12 @@ const EXAMPLES: [&str; 6] = ["bank", "clinic", "job-shop", "phold", "switch", "t
 /// More bytes than any of the texts has.
 const ROOM: usize = 1_048_576;
 
-/// A simulation at its start, and its model.
-fn engine_of(
-    alloc: Global,
-    model: AnyModel,
-    terms: Terms,
-) -> Result<(Arc<AnyModel>, AnyEngine), OutOfMemory>
-    ensures named { IfOk result (λ both. arc_value both.0 ≡ model) }
-    ensures model { IfOk result (λ both. both.1.engine.model ≡ model) }
-    ensures terms { IfOk result (λ both. both.1.engine.terms ≡ terms) }
-    ensures begins { IfOk result (λ both. both.1.engine.standing ≡ stands (initial_state (meaning_of model)) None) }
-{
-    let model = Arc::new(alloc, model)?;
-    let engine = AnyEngine::new(alloc, model.clone()?, terms)?;
-    Ok((model, engine))
-}
-
 /// The text of a model's simulation.
 fn text_of(alloc: Global, model: AnyModel, terms: Terms) -> Result<MemSink, Unfinished>
     ensures { IfOk result (λ sink. sink.taken ≡ text (meaning_of model) terms false (initial_state (meaning_of model))) }
 {
-    let (model, mut engine) = engine_of(alloc, model, terms)?;
     let mut sink = MemSink::new(alloc, ROOM, Vec::new(alloc), Vec::new(alloc), ROOM)?;
-    simulate(alloc, &*model, &terms, &mut engine, false, &mut sink)?;
+    run_model(alloc, model, terms, false, &mut sink)?;
     Ok(sink)
 }
 

@@ -178,7 +178,14 @@ impl ObjectLog {
                 let Ok(undo) = effect.changes.as_slice().to_vec(alloc) else {
                     return Err((OutOfMemory, event));
                 };
-                let Kept { done, least } = go(&mut self.cells, self.sent, pool, event, undo, effect);
+                let Kept { done, least } = go(
+                    &mut self.cells,
+                    self.sent,
+                    pool,
+                    event,
+                    undo,
+                    effect,
+                );
                 self.sent += done.sends.len() as u64;
                 self.processed.push(done, least);
                 Ok(least)

@@ -21,13 +21,7 @@ pub struct Delay {
 impl Delay {
     /// Holds a job.
     #[tactic(auto, unfolding(crate::specs::Delays::delay_effect))]
-    pub fn react(
-        &self,
-        words: &mut Stream,
-        site: Site,
-        cells: &Cells,
-        event: &Event,
-    ) -> Outcome
+    pub fn react(&self, words: &mut Stream, site: Site, cells: &Cells, event: &Event) -> Outcome
         requires delay { IsTrue (is_drawable self.now.delay) }
         requires cells { IsTrue (is_plain_cells cells.now.contents) }
         ensures { result ≡ delay_effect site self.now cells.now.contents event.now }

@@ -52,13 +52,7 @@ pub struct Router {
 impl Router {
     /// Routes a job. A word is drawn also where there is no choice.
     #[tactic(auto, unfolding(crate::specs::Routers::router_effect))]
-    pub fn react(
-        &self,
-        words: &mut Stream,
-        site: Site,
-        cells: &Cells,
-        event: &Event,
-    ) -> Outcome
+    pub fn react(&self, words: &mut Stream, site: Site, cells: &Cells, event: &Event) -> Outcome
         requires choice { IsChoiceOf self.now.next self.now.choice }
         requires cells { IsTrue (is_plain_cells cells.now.contents) }
         ensures { result ≡ router_effect site self.now cells.now.contents event.now }

@@ -43,19 +43,20 @@ fn put_told_cycle(
     Ok(())
 }
 
-/// Appends what a bucket tells: its records, and the line of its cycle where cycles are told and it is whole.
+/// Appends what a bucket tells, and lets it go: its records, and the line of its cycle where cycles are told and it is
+/// whole.
 #[tactic(auto, unfolding(sim_io::specs::CycleTexts::bucket_lines))]
 pub fn put_bucket<M: Model>(
     alloc: Global,
     model: &M,
     told: bool,
     number: u64,
-    bucket: &Bucket,
+    bucket: Bucket,
     into: &mut Vec<u8>,
 ) -> Result<(), OutOfMemory>
-    requires { AllAtObjects (M.meaning model.now) bucket.now.done }
-    ensures { OnOk result (into.new.items ≡ into.old.items ++ bucket_lines (M.meaning model.now) told number bucket.now) }
+    requires { AllAtObjects (M.meaning model.now) bucket.done }
+    ensures { OnOk result (into.new.items ≡ into.old.items ++ bucket_lines (M.meaning model.now) told number bucket) }
 {
     put_records(alloc, model, bucket.done.as_slice(), into)?;
-    put_told_cycle(told, number, bucket, into)
+    put_told_cycle(told, number, &bucket, into)
 }

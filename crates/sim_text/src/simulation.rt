@@ -50,7 +50,7 @@ pub fn simulate<M: Model, E: Engine, K: Sink>(
             return Ok(stop);
         }
         let bucket = engine.bucket(alloc)?;
-        put_bucket(alloc, model, cycles, number, &bucket, &mut text)?;
+        put_bucket(alloc, model, cycles, number, bucket, &mut text)?;
         write_piece(&mut text, sink)?;
         number += 1;
     }

@@ -117,14 +117,14 @@ returns-in_ok-send_all-in-Goes g c =
     let E : Course → Type 0 = IsDone m c.args.terms.now c.args.self.now e.key c.in-Goes.sending.note in
     let same = ap (λ (v : Course). v.count) c.self.view_is in
     let is_done : E after = subst D c.self.view_is
-        (done m c.args.terms.now (course_of c.self.inside.objects.items c.self.inside.queue c.self.inside.count) _ e c.pop.new.self.primary c.pop.new.self.fresh c.index_mut-object.result.now c.fire.new.self c.in-Goes.sending c.as_slice.result.now
-        k (omega (arith, c.requires.free)) o goes c.as_slice.ensures
-        (λ i. record {
-          objects = slice_set c.self.inside.objects.items e.key.dest c.fire.new.self;
-          primary = c.in_ok-send_all-in-Goes.ensures.primary i;
-          fresh = c.in_ok-send_all-in-Goes.ensures.fresh i;
-          count = c.self.inside.count + 1;
-        })) in
+    (done m c.args.terms.now (course_of c.self.inside.objects.items c.self.inside.queue c.self.inside.count) _ e c.pop.new.self.primary c.pop.new.self.fresh c.index_mut-object.result.now c.fire.new.self c.in-Goes.sending c.as_slice.result.now
+    k (omega (arith, c.requires.free)) o goes c.as_slice.ensures
+    (λ i. record {
+      objects = slice_set c.self.inside.objects.items e.key.dest c.fire.new.self;
+      primary = c.in_ok-send_all-in-Goes.ensures.primary i;
+      fresh = c.in_ok-send_all-in-Goes.ensures.fresh i;
+      count = c.self.inside.count + 1;
+    })) in
     elim c.match-sending-2.branch [ in-Many-2 w ↦ subst E (sym w.self-is) is_done | in-Nothing-2 w ↦ subst E (sym w.self-is) is_done ]
 
 pub give_back-requires-clause-ascending : goal.give_back-requires-clause-ascending
