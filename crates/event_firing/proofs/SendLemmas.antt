@@ -1,12 +1,13 @@
 -- The sends of an event, one after another.
-use Rattle.std.proofs.Common.{◌≡◌, ℕ, ◌+◌, ◌<◌, Bool, true, false, cond, ◌||◌, List, ◌∷◌, length, get_or, drop, refl, ◌∙◌, ap, subst}
-use Rattle.std.proofs.lemmas.List.{drop_more}
+use Rattle.std.proofs.Common.{◌≡◌, ℕ, ◌+◌, ◌<◌, ◌≤◌, Bool, true, false, cond, ◌||◌, List, [], ◌∷◌, ◌++◌, length, get_or, drop, refl, sym, ◌∙◌, ap, subst, append_assoc}
+use Rattle.std.proofs.lemmas.List.{drop_more, append-nil}
+use Rattle.std.proofs.Math.ListN.{drop_of_length-le}
 use Rattle.std.specs.Prelude.{Option, Some, None}
 use Rattle.event_key.specs.Stamps.{has_no_step, next_stamp, later_stamp}
 use Rattle.model_core.specs.declared.event.Event.{Event}
 use Rattle.model_core.specs.declared.event.Send.{Send}
 use Rattle.model_core.specs.Meaning.{SendsInRange}
-use Rattle.sim_spec.specs.Firing.{has_chain}
+use Rattle.sim_spec.specs.Firing.{has_chain, emission, emissions}
 
 or_false : (a b : Bool) → (a || b) ≡ false → (a ≡ false) × (b ≡ false)
 or_false true b h = absurd (cc)
@@ -48,3 +49,20 @@ emission_at stamp object serial s = record {
   a = s.a;
   b = s.b;
 }
+
+-- one event more of those that are sent
+pub sent_more : (stamp object serial : ℕ) (ss : List Send) (i : ℕ) (d : Send) (fresh now all : List Event) → i < length ss
+    → now ≡ fresh ++ emission stamp object serial (get_or ss i d) ∷ [] → fresh ++ emissions stamp object serial (drop i ss) ≡ all
+    → now ++ emissions stamp object (serial + 1) (drop (i + 1) ss) ≡ all
+unfolding emissions
+sent_more stamp object serial ss i d fresh now all below is_now is_all =
+    let one : Event = emission stamp object serial (get_or ss i d) in
+    let more : List Event = emissions stamp object (serial + 1) (drop (i + 1) ss) in
+    ap (λ xs. xs ++ more) is_now ∙ append_assoc fresh (one ∷ []) more
+    ∙ ap (λ ys. fresh ++ emissions stamp object serial ys) (sym (drop_more ss i d below)) ∙ is_all
+
+-- all of them
+pub sent_all : (stamp object serial : ℕ) (ss : List Send) (i : ℕ) (fresh all : List Event) → length ss ≤ i → fresh ++ emissions stamp object serial (drop i ss) ≡ all → fresh ≡ all
+unfolding emissions
+sent_all stamp object serial ss i fresh all past is_all =
+    sym (append-nil fresh) ∙ ap (λ ys. fresh ++ emissions stamp object serial ys) (sym (drop_of_length-le ss past)) ∙ is_all

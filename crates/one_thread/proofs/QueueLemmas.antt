@@ -1,12 +1,8 @@
 -- Keys of events on their way to the queue.
-use Rattle.std.proofs.Common.{◌≡◌, ℕ, ◌+◌, ◌<◌, ◌≤◌, List, [], ◌∷◌, ◌++◌, length, get_or, drop, sym, ap, ◌∙◌, subst, arith, append_assoc}
-use Rattle.std.proofs.lemmas.List.{drop_more, append-nil}
-use Rattle.std.proofs.Math.ListN.{drop_of_length-le}
+use Rattle.std.proofs.Common.{◌≡◌, ℕ, ◌+◌, List, [], ◌∷◌, ◌++◌, sym, ap, subst, arith}
 use Rattle.std.proofs.lemmas.List.Elements.{All-nil, All-cons}
 use Rattle.event_key.specs.declared.key.Key.{Key}
 use Rattle.model_core.specs.declared.event.Event.{Event}
-use Rattle.model_core.specs.declared.event.Send.{Send}
-use Rattle.sim_spec.specs.Firing.{emission, emissions}
 use Rattle.sim_spec.proofs.SerialLemmas.{SerialsBelow, SerialsBelow-le}
 use Rattle.speedes_queue.specs.Keys.{IsNewKey}
 
@@ -42,22 +38,6 @@ unfolding SerialsBelow
 one_event_more object serial e old new is_new is_serial below =
     let P : List Event → Type 0 = SerialsBelow object (serial + 1) in
     subst P (sym is_new) (SerialsBelow-append object (serial + 1) old (e ∷ []) (SerialsBelow-le object serial (serial + 1) old (omega arith) below) (λ _. omega arith, tt))
-
--- one more send is among the fresh events
-pub sent_more : (stamp object serial : ℕ) (ss : List Send) (i : ℕ) (d : Send) (fresh now all : List Event) → i < length ss
-    → now ≡ fresh ++ emission stamp object serial (get_or ss i d) ∷ [] → fresh ++ emissions stamp object serial (drop i ss) ≡ all
-    → now ++ emissions stamp object (serial + 1) (drop (i + 1) ss) ≡ all
-unfolding emissions
-sent_more stamp object serial ss i d fresh now all below is_now is_all =
-    let one : Event = emission stamp object serial (get_or ss i d) in
-    let more : List Event = emissions stamp object (serial + 1) (drop (i + 1) ss) in
-    ap (λ xs. xs ++ more) is_now ∙ append_assoc fresh (one ∷ []) more
-    ∙ ap (λ ys. fresh ++ emissions stamp object serial ys) (sym (drop_more ss i d below)) ∙ is_all
-
-pub sent_all : (stamp object serial : ℕ) (ss : List Send) (i : ℕ) (fresh all : List Event) → length ss ≤ i → fresh ++ emissions stamp object serial (drop i ss) ≡ all → fresh ≡ all
-unfolding emissions
-sent_all stamp object serial ss i fresh all past is_all =
-    sym (append-nil fresh) ∙ ap (λ ys. fresh ++ emissions stamp object serial ys) (sym (drop_of_length-le ss past)) ∙ is_all
 
 pub none_below : (object n : ℕ) (es : List Event) → es ≡ [] → SerialsBelow object n es
 unfolding SerialsBelow

@@ -1,8 +1,9 @@
 //! Networks whose texts were worked out by hand.
-use super::{answer_of, run_of, told_by};
+use super::{Ended, answer_of, run_of, told_by};
 use sim_io::{MemSink, MemSource};
-use std::alloc::Global;
+use std::alloc::{AllocGlobal, Global};
 use std::test::Fail;
+use std::thread::Threads;
 
 /// A source of three jobs, a station that serves them one after another, and a sink. The terms stand in front.
 pub(super) const SHOP_OBJECTS: &str = "
@@ -211,5 +212,71 @@ fn the_last_step_of_a_tick_ends_a_job_that_goes_round(rt: HostRuntime) -> Result
     expected.push_str("fault 0.65535 r1 chain\n")?;
     assert_eq!(rt; run.status, 1);
     assert!(rt; run.text.as_str() == expected.as_str());
+    Ok(())
+}
+
+/// A bank with geometric times.
+const BANK: &str = "# customers come about every 10 ticks, three desks, one in ten comes again
+format = 1
+model = \"network\"
+end = 100000
+seed = 7
+
+[[object]]
+name = \"door\"
+kind = \"source\"
+first = 0
+every = { law = \"geometric\", p = 429496729, cap = 200 }
+count = 1000
+next = \"desk\"
+
+[[object]]
+name = \"desk\"
+kind = \"station\"
+servers = 3
+service = { law = \"geometric\", p = 214748364, cap = 600 }
+line = 50
+next = \"split\"
+
+[[object]]
+name = \"split\"
+kind = \"router\"
+next = [\"out\", \"again\"]
+weights = [9, 1]
+
+[[object]]
+name = \"again\"
+kind = \"delay\"
+delay = { law = \"uniform\", low = 5, high = 20 }
+next = \"desk\"
+
+[[object]]
+name = \"out\"
+kind = \"sink\"
+";
+
+/// The whole text that a command writes of the bank.
+fn bank_by<R: AllocGlobal + Threads + Sync>(rt: &R, command: &str) -> Result<Ended, Fail> {
+    let alloc = rt.alloc();
+    let source = MemSource::new(BANK.as_bytes().to_vec(alloc)?, Vec::new(alloc), 65536);
+    let out = MemSink::new(
+        alloc,
+        2_000_000,
+        Vec::new(alloc),
+        Vec::new(alloc),
+        2_000_000,
+    )?;
+    answer_of(rt, &[command], source, out)
+}
+
+#[test]
+fn both_commands_write_the_same_text_of_a_bank(rt: HostRuntime) -> Result<(), Fail> {
+    let run = bank_by(&rt, "run")?;
+    let one = bank_by(&rt, "one")?;
+    assert_eq!(rt; run.status, 0);
+    assert_eq!(rt; one.status, 0);
+    assert!(rt; run.text.as_str() == one.text.as_str());
+    assert!(rt; run.text.as_str().starts_with("0.0 door make 1 999\n"));
+    assert!(rt; run.text.as_str().ends_with("\nend 100000 events 5416\n"));
     Ok(())
 }

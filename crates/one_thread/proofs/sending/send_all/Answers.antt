@@ -2,8 +2,8 @@
 use Rattle.std.proofs.Common.{◌++◌, ◌∷◌, [], length, length-append, arith, ap, ◌∙◌}
 use Rattle.model_core.specs.declared.event.Send.{Send}
 use Rattle.model_core.specs.declared.event.Event.{Event}
-use Rattle.event_firing.proofs.SendLemmas.{chain_at, ranged_more}
-use Rattle.one_thread.proofs.QueueLemmas.{new_key, one_serial_more, one_event_more, sent_more, sent_all}
+use Rattle.event_firing.proofs.SendLemmas.{chain_at, ranged_more, sent_more, sent_all}
+use Rattle.one_thread.proofs.QueueLemmas.{new_key, one_serial_more, one_event_more}
 use Rattle.one_thread.proofs.sending.send_all.Goals as goal
 
 abbrev none : Send
