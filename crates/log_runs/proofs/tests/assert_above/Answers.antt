@@ -2,7 +2,7 @@
 use Rattle.std.proofs.Common.{◌≡◌, ◌-◌, arith, true}
 use Rattle.event_key.specs.Keys.{key_lt}
 use Rattle.object_log.proofs.PartLemmas.{keys_below, no_keys}
-use Rattle.object_log.proofs.tests.assert_above.Goals as goal
+use Rattle.log_runs.proofs.tests.assert_above.Goals as goal
 
 pub returns-then-len-eq0 : goal.returns-then-len-eq0
 returns-then-len-eq0 g c = no_keys _ c.args.log.now.done (omega (arith, c.len-len.ensures.value))

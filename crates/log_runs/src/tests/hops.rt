@@ -1,14 +1,9 @@
-ghost use Rattle.std.specs.Prelude.{◌≡◌, true, None};
-ghost use Rattle.std.specs.List.{AllByRecursion};
-ghost use Rattle.event_key.specs.Keys.{key_lt};
-ghost use Rattle.object_log.specs.Logs.{keys_of, fault_of};
-ghost use Rattle.object_log.specs.Parts.{due_of};
-
-use super::*;
-use event_chain::{Cell, CellPool, Chain};
-use event_key::{INITIAL, Key, NO_STAMP, stamp_of, time_of};
-use model_core::model::Model as SimulationModel;
-use model_core::{Cells, Event, Note, Part};
+//! A log of PHOLD.
+use super::{at, back_to, commit, next_told, process};
+use event_chain::{CellPool, Chain};
+use event_key::{INITIAL, Key, NO_STAMP, stamp_of};
+use model_core::{Cells, Event, Note, OutOfMemory, Part};
+use object_log::{ObjectLog, Verdict};
 use phold_model::Phold;
 use random_streams::Law;
 use std::alloc::Global;
@@ -40,65 +35,6 @@ fn cells(alloc: Global) -> Result<Cells, Fail> {
     }
 }
 
-/// Ends the test where a key isn't above those of the processed events.
-fn assert_above<R: Abort>(rt: &R, log: &ObjectLog, key: &Key)
-    ensures { AllByRecursion (λ earlier. key_lt earlier key.now ≡ true) (keys_of log.now.done) }
-{
-    let len = log.len();
-    if len == 0 {
-        return;
-    }
-    let newest = log.key_at(len - 1);
-    assert!(rt; newest.is_before(key));
-}
-
-/// Ends the test where a processed event has faulted.
-fn assert_went<R: Abort>(rt: &R, log: &ObjectLog, horizon: u64, cut: Option<Key>)
-    ensures { fault_of (due_of horizon cut log.now.done) ≡ None }
-{
-    assert!(rt; log.faulted().is_none());
-}
-
-/// Processes an event, once all that a log asks of it is seen to hold.
-fn process<R: Abort>(
-    rt: &R,
-    alloc: Global,
-    model: &Phold,
-    log: &mut ObjectLog,
-    pool: &mut CellPool<Event>,
-    event: Event,
-) -> Result<u64, Fail> {
-    assert!(rt; log.len() < 100);
-    assert_above(rt, log, &event.key);
-    assert!(rt; log.faulted().is_none());
-    assert!(rt; log.sent() < 100);
-    assert!(rt; log.object() < model.objects());
-    assert!(rt; event.key.dest == log.object());
-    assert!(rt; time_of(event.key.stamp) < 1 << 46);
-    assert!(rt; model.is_lawful(log.object(), log.cells()));
-    let Ok(cell) = Cell::new(alloc, event) else {
-        return Err(Fail::from("no memory"));
-    };
-    match log.process(alloc, model, pool, cell) {
-        Ok(least) => Ok(least),
-        Err((OutOfMemory, _)) => Err(Fail::from("no memory")),
-    }
-}
-
-/// Commits what is due, once no event is seen to have faulted.
-fn commit<R: Abort>(
-    rt: &R,
-    log: &mut ObjectLog,
-    horizon: u64,
-    cut: Option<Key>,
-    into: &mut Chain<Done>,
-) {
-    assert_went(rt, log, horizon, cut);
-    assert!(rt; log.len() < 100);
-    assert!(rt; into.len() < 100);
-    log.commit_front(horizon, cut, into);
-}
-
 /// What is told of a hop back to object 0.
 fn hop(delay: u64) -> Verdict {
     let part = Part {
@@ -107,18 +43,6 @@ fn hop(delay: u64) -> Verdict {
         b: 0,
     };
     Verdict::Noted(Note::of(part))
-}
-
-/// Goes back to a key, and answers what was undone.
-fn back_to(log: &mut ObjectLog, key: Key, pool: &mut CellPool<Event>) -> Chain<Event> {
-    let mut into = Chain::new();
-    log.back_to(key, pool, &mut into);
-    into
-}
-
-/// Step 0 of a time.
-fn at(time: u32) -> u64 {
-    stamp_of(u64::from(time), 0)
 }
 
 /// How many events are processed, and how many are sent.
@@ -179,12 +103,6 @@ fn a_commit_takes_what_is_below_the_horizon_and_the_cut(rt: HostRuntime) -> Resu
     assert_eq!(rt; next_told(&mut done)?, (event(0, 0), hop(5)));
     assert_eq!(rt; next_told(&mut done)?, (event(1, 0), hop(3)));
     Ok(())
-}
-
-/// Takes the first committed event out, with what is told of it.
-fn next_told(done: &mut Chain<Done>) -> Result<(Event, Verdict), Fail> {
-    let Done { event, verdict, .. } = done.pop_front().ok_or("empty")?.into_inner();
-    Ok((event.into_inner(), verdict))
 }
 
 // What is sent without delay from step 65535 of a tick has no step left.

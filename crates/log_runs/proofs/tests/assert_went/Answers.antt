@@ -4,7 +4,7 @@ use Rattle.std.specs.Prelude.{None}
 use Rattle.world_spec.specs.Early.{is_due}
 use Rattle.object_log.specs.Logs.{fault_of}
 use Rattle.object_log.proofs.FaultLemmas.{fault-filter}
-use Rattle.object_log.proofs.tests.assert_went.Goals as goal
+use Rattle.log_runs.proofs.tests.assert_went.Goals as goal
 
 pub returns : goal.returns
 returns g c = fault-filter (λ d. is_due c.args.horizon c.args.cut d.event.key) c.args.log.now.done (let none : fault_of c.args.log.now.done ≡ None = search rules in none)
