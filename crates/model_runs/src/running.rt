@@ -11,7 +11,7 @@ ghost use Rattle.sim_io.specs.Transfers.{AppendsFront};
 ghost use Rattle.sim_text.specs.declared.unfinished.Unfinished.TheVariants.{WriteFault};
 ghost use Rattle.model_text.specs.Meanings.{meaning_of};
 
-use crate::engine::AnyEngine;
+use crate::one_thread_run::OneThreadRun;
 use model_core::OutOfMemory;
 use model_text::AnyModel;
 use sim_io::Sink;
@@ -21,19 +21,19 @@ use std::alloc::Global;
 use std::sync::Arc;
 
 /// A simulation at its start, and its model, which names what the simulation tells.
-fn engine_of(
+fn run_of(
     alloc: Global,
     model: AnyModel,
     terms: Terms,
-) -> Result<(Arc<AnyModel>, AnyEngine), OutOfMemory>
+) -> Result<(Arc<AnyModel>, OneThreadRun), OutOfMemory>
     ensures named { IfOk result (λ both. arc_value both.0 ≡ model) }
     ensures model { IfOk result (λ both. both.1.engine.model ≡ model) }
     ensures terms { IfOk result (λ both. both.1.engine.terms ≡ terms) }
     ensures begins { IfOk result (λ both. both.1.engine.standing ≡ stands (initial_state (meaning_of model)) None) }
 {
     let model = Arc::new(alloc, model)?;
-    let engine = AnyEngine::new(alloc, model.clone()?, terms)?;
-    Ok((model, engine))
+    let run = OneThreadRun::new(alloc, model.clone()?, terms)?;
+    Ok((model, run))
 }
 
 /// Runs a model on one thread, and writes the text of its simulation, with a line for each cycle where these are told.
@@ -50,6 +50,7 @@ pub fn run_model<K: Sink>(
     ensures fault { IsErrOf result WriteFault → Rose (K.faults out.old) (K.faults out.new) }
     ensures later { K.faults out.old ≤ K.faults out.new }
 {
-    let (model, mut engine) = engine_of(alloc, model, terms)?;
-    simulate(alloc, &*model, &terms, &mut engine, cycles, out)
+    let (model, mut run) = run_of(alloc, model, terms)?;
+    let cycle = |run: &mut OneThreadRun, alloc: Global| run.engine.bucket(alloc);
+    simulate(alloc, &*model, &terms, &mut run, &cycle, cycles, out)
 }

@@ -8,36 +8,41 @@ ghost use Rattle.model_text.specs.Meanings.{meaning_of};
 use model_core::OutOfMemory;
 use model_text::AnyModel;
 use one_thread::OneThread;
-use sim_spec::{Bucket, Engine, Stop, Terms};
+use sim_spec::{Engine, Stop, Terms};
 use std::alloc::Global;
 use std::sync::Arc;
 
 /// A simulation of a model of any kind, on one thread.
 #[derive(Drop)]
-pub struct AnyEngine {
+pub struct OneThreadRun {
     pub engine: OneThread<AnyModel>,
 }
 
-impl AnyEngine {
+impl OneThreadRun {
     /// The simulation at its start.
-    pub fn new(alloc: Global, model: Arc<AnyModel>, terms: Terms) -> Result<AnyEngine, OutOfMemory>
-        ensures model { IfOk result (λ any. any.engine.model ≡ arc_value model) }
-        ensures terms { IfOk result (λ any. any.engine.terms ≡ terms) }
-        ensures begins { IfOk result (λ any. any.engine.standing ≡ stands (initial_state (meaning_of (arc_value model))) None) }
+    pub fn new(
+        alloc: Global,
+        model: Arc<AnyModel>,
+        terms: Terms,
+    ) -> Result<OneThreadRun, OutOfMemory>
+        ensures model { IfOk result (λ run. run.engine.model ≡ arc_value model) }
+        ensures terms { IfOk result (λ run. run.engine.terms ≡ terms) }
+        ensures begins { IfOk result (λ run. run.engine.standing ≡ stands (initial_state (meaning_of (arc_value model))) None) }
     {
         let engine = OneThread::new(alloc, model, terms)?;
-        Ok(AnyEngine { engine })
+        Ok(OneThreadRun { engine })
     }
 }
 
-impl Engine for AnyEngine {
+impl Engine for OneThreadRun {
+    ghost use Rattle.std.specs.Prelude.{◌≡◌};
     ghost use Rattle.model_text.specs.Meanings.{meaning_of};
 
-    ghost meaning = { λ any. meaning_of any.engine.model };
+    ghost meaning = { λ run. meaning_of run.engine.model };
 
-    ghost terms = { λ any. any.engine.terms };
+    ghost terms = { λ run. run.engine.terms };
 
-    ghost standing = { λ any. any.engine.standing };
+    ghost stands_at = { λ run at. run.engine.standing ≡ at };
 
     fn ended(&self) -> Option<Stop> {
         self.engine.ended()
@@ -46,9 +51,5 @@ impl Engine for AnyEngine {
     #[tactic(auto, unfolding(sim_spec::specs::Standing::IsCountAt))]
     fn count(&self) -> u64 {
         self.engine.count()
-    }
-
-    fn bucket(&mut self, alloc: Global) -> Result<Bucket, OutOfMemory> {
-        self.engine.bucket(alloc)
     }
 }
