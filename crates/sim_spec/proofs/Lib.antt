@@ -2,18 +2,14 @@ pub mod AscendingLemmas
 pub mod BucketFacts
 pub mod BucketInduction
 pub mod BucketLaw
-pub mod CycleSummary
 pub mod CyclesLaw
 pub mod EachLemmas
-pub mod EarlyFault
 pub mod EnqueueLemmas
-pub mod FaultCycles
 pub mod HorizonLaw
 pub mod InTurnLemmas
 pub mod InitialLemmas
 pub mod LawfulLemmas
 pub mod MovesLaw
-pub mod NetworkEffects
 pub mod ObjectReplay
 pub mod ObjectsLaw
 pub mod OrderLemmas
@@ -24,7 +20,5 @@ pub mod RunEndsLemma
 pub mod RunLemmas
 pub mod SerialLemmas
 pub mod ShareLemmas
-pub mod ShopCycles
 pub mod SoundLemmas
 pub mod StampLemmas
-pub mod TieCycles

@@ -9,7 +9,6 @@ pub mod ClosedLaw
 pub mod ClosesLaw
 pub mod CommitLaw
 pub mod EndsLaw
-pub mod FalseFault
 pub mod FilterLemmas
 pub mod FrontLemmas
 pub mod HandedLemmas
