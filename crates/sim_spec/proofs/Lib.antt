@@ -1,10 +1,7 @@
-pub mod AscendingLemmas
 pub mod BucketFacts
 pub mod BucketInduction
 pub mod BucketLaw
 pub mod CyclesLaw
-pub mod EachLemmas
-pub mod EnqueueLemmas
 pub mod HorizonLaw
 pub mod InTurnLemmas
 pub mod InitialLemmas
@@ -12,13 +9,11 @@ pub mod LawfulLemmas
 pub mod MovesLaw
 pub mod ObjectReplay
 pub mod ObjectsLaw
-pub mod OrderLemmas
 pub mod PartLemmas
-pub mod PendingLemmas
 pub mod ReplayLemmas
 pub mod RunEndsLemma
 pub mod RunLemmas
 pub mod SerialLemmas
-pub mod ShareLemmas
 pub mod SoundLemmas
 pub mod StampLemmas
+pub mod TakenLemmas

@@ -8,9 +8,9 @@ use Rattle.model_core.specs.declared.event.Event.{Event}
 use Rattle.model_core.specs.declared.note.Note.{Note}
 use Rattle.sim_spec.specs.Firing.{Firing}
 use Rattle.sim_spec.specs.State.{object_at, initial_state}
-use Rattle.sim_spec.specs.Horizon.{least_stamp}
+use Rattle.key_order.specs.Stamps.{least_stamp}
 use Rattle.sim_spec.specs.Cut.{records_of, emissions_of}
-use Rattle.world_spec.specs.Early.{is_due}
+use Rattle.key_order.specs.Due.{is_due}
 use Rattle.world_spec.specs.Share.{Share, log_of}
 use Rattle.world_spec.specs.Moves.{received, received_ahead, committed, committed_ahead}
 use Rattle.worked_examples.specs.Notes.{take_part, wait_part, done_part, leave_part}

@@ -9,11 +9,12 @@ use Rattle.queue_models.specs.Objects.{sources_below}
 use Rattle.queue_models.specs.Meaning.{start_of, network_meaning}
 use Rattle.queue_models.specs.Stations.{take_effect, wait_effect, arrival_outcome, serve_effect, free_effect, done_effect, station_effect}
 use Rattle.queue_models.specs.Sinks.{sink_effect}
-use Rattle.sim_spec.specs.Pending.{enqueue, enqueue_all}
+use Rattle.key_order.specs.Pending.{enqueue, enqueue_all}
 use Rattle.sim_spec.specs.Firing.{has_chain, emissions, fired_by, fire}
 use Rattle.sim_spec.specs.State.{initial_state}
 use Rattle.sim_spec.specs.Run.{next, next_of, next_fired}
-use Rattle.sim_spec.specs.Horizon.{least_stamp, bucket_fired, bucket_below, horizon_bucket}
+use Rattle.key_order.specs.Stamps.{least_stamp}
+use Rattle.sim_spec.specs.Horizon.{bucket_fired, bucket_below, horizon_bucket}
 use Rattle.sim_spec.specs.Cut.{emissions_of, objects_after, state_with_done, is_limited, committed_events, after, cut}
 use Rattle.sim_spec.specs.Cycles.{cycles_behind, cycles_on, cycles_for, cycles}
 use Rattle.worked_examples.specs.StrictStation.{crowd, to_thirty, two_are_done, faulted_bucket, strict_station}

@@ -9,13 +9,13 @@ use Rattle.queue_models.specs.Objects.{sources_below}
 use Rattle.queue_models.specs.Meaning.{start_of, network_meaning}
 use Rattle.queue_models.specs.Stations.{take_effect, wait_effect, arrival_outcome, serve_effect, free_effect, done_effect, station_effect}
 use Rattle.queue_models.specs.Sinks.{sink_effect}
-use Rattle.sim_spec.specs.Pending.{enqueue, enqueue_all}
+use Rattle.key_order.specs.Pending.{enqueue, enqueue_all}
 use Rattle.sim_spec.specs.Firing.{has_chain, emissions, fired_by, fire}
 use Rattle.sim_spec.specs.State.{initial_state}
-use Rattle.sim_spec.specs.Horizon.{least_stamp}
+use Rattle.key_order.specs.Stamps.{least_stamp}
 use Rattle.sim_spec.specs.Cut.{emissions_of}
 use Rattle.sim_spec.specs.Replay.{replay_fired, replay, events_at}
-use Rattle.world_spec.specs.Early.{is_due}
+use Rattle.key_order.specs.Due.{is_due}
 use Rattle.world_spec.specs.Share.{log_of}
 use Rattle.world_spec.specs.Moves.{due_count}
 use Rattle.worked_examples.specs.StrictStation.{pairs, strict_station}

@@ -5,11 +5,12 @@ use Rattle.event_key.specs.Stamps.{next_stamp, has_no_step}
 use Rattle.delta_exchange.specs.Changes.{cells_after_all, inverses_of}
 use Rattle.random_streams.specs.Laws.{draw, drawn_value, words_read}
 use Rattle.phold_model.specs.Meaning.{starts_of, hop_delay, hop_dest, hop_next, place_changes, hop_effect, phold_meaning}
-use Rattle.sim_spec.specs.Pending.{enqueue, enqueue_all}
+use Rattle.key_order.specs.Pending.{enqueue, enqueue_all}
 use Rattle.sim_spec.specs.Firing.{has_chain, emissions, fired_by, fire}
 use Rattle.sim_spec.specs.State.{initial_state}
 use Rattle.sim_spec.specs.Run.{next, next_of, next_fired}
-use Rattle.sim_spec.specs.Horizon.{least_stamp, bucket_fired, bucket_below, horizon_bucket}
+use Rattle.key_order.specs.Stamps.{least_stamp}
+use Rattle.sim_spec.specs.Horizon.{bucket_fired, bucket_below, horizon_bucket}
 use Rattle.sim_spec.specs.Cut.{emissions_of, objects_after, state_with_done, is_limited, committed_events, after, cut}
 use Rattle.sim_spec.specs.Cycles.{cycles_behind, cycles_on, cycles_for, cycles}
 use Rattle.worked_examples.specs.Ring.{ring, to_nine, ring_buckets}
