@@ -124,7 +124,6 @@ impl NodeEnd for PlainEnd {
 impl PlainLanes {
     /// Lanes between so many nodes, on which nothing was sent. It answers an error only for want of memory.
     pub fn new(alloc: Global, nodes: u32) -> Result<PlainLanes, OutOfMemory>
-        requires nodes { (1 ≤ nodes) × (nodes ≤ 64) }
         ensures nodes { IfOk result (λ lanes. ⟦<PlainLanes as Lanes>⟧.nodes lanes ≡ nodes) }
         ensures at_rest { IfOk result ⟦<PlainLanes as Lanes>⟧.are_at_rest }
     {

@@ -213,7 +213,6 @@ impl NodeEnd for RingEnd {
 impl RingLanes {
     /// Lanes between so many nodes, on which nothing was sent. It answers an error only for want of memory.
     pub fn new(alloc: Global, nodes: u32) -> Result<RingLanes, OutOfMemory>
-        requires nodes { (1 ≤ nodes) × (nodes ≤ 64) }
         ensures nodes { IfOk result (λ lanes. ⟦<RingLanes as Lanes>⟧.nodes lanes ≡ nodes) }
         ensures at_rest { IfOk result ⟦<RingLanes as Lanes>⟧.are_at_rest }
     {

@@ -7,7 +7,6 @@ pub mod ClosedLaw
 pub mod ClosesLaw
 pub mod CommitLaw
 pub mod EndsLaw
-pub mod FalseFault
 pub mod FrontLemmas
 pub mod HandedLemmas
 pub mod HeldLemmas
