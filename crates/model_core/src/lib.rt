@@ -17,6 +17,7 @@ pub use event::{Event, Send, Start};
 pub use few::Few;
 pub use name::Name;
 pub use note::{Note, Part};
+pub use random_streams::Stream;
 pub use sequence::Sequence;
 
 #[cfg(test)]

@@ -39,6 +39,7 @@ pub trait Model: std::marker::Send + Sync + Drop {
         ensures { result ≡ (meaning self.now).lawful object cells.now.contents };
 
     /// What an event does at an object with these cells, written into a sheet: whatever that held before plays no part.
+    /// A model that wants memory of its own may refuse, and then the sheet may hold anything.
     /// The stream belongs to the object, and an engine keeps it from one of its events to the next, so that the random
     /// words that are at hand there needn't be made again. Wherever the stream stands, the effect is the same.
     fn respond(
@@ -48,11 +49,12 @@ pub trait Model: std::marker::Send + Sync + Drop {
         cells: &Cells,
         event: &Event,
         sheet: &mut Effect,
-    ) -> Ending
+    ) -> Result<Ending, OutOfMemory>
         requires object { object < (meaning self.now).objects }
         requires lawful { IsTrue ((meaning self.now).lawful object cells.now.contents) }
         requires time { time_part event.now.key.stamp < 2 ^ 46 }
-        ensures { outcome_by result sheet.new ≡ (meaning self.now).effect object cells.now.contents event.now };
+        ensures { IfOk result (λ ending. outcome_by ending sheet.new
+            ≡ (meaning self.now).effect object cells.now.contents event.now) };
 
     /// The same on a stream and a sheet of its own, for a caller with a single event.
     fn react(
@@ -69,7 +71,7 @@ pub trait Model: std::marker::Send + Sync + Drop {
     {
         let mut words = Stream::new(0, object, 0);
         let mut sheet = Effect::new(alloc)?;
-        match self.respond(&mut words, object, cells, event, &mut sheet) {
+        match self.respond(&mut words, object, cells, event, &mut sheet)? {
             Ending::Goes => Ok(Outcome::Goes(sheet)),
             Ending::Fails(code) => Ok(Outcome::Fails(code)),
         }
