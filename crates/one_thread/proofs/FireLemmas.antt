@@ -20,7 +20,7 @@ use Rattle.sim_spec.proofs.SerialLemmas.{serials_sound}
 use Rattle.key_order.proofs.StampLemmas.{after-below, NoneBelow-least_stamp, least_stamp-le}
 use Rattle.key_order.specs.Keys.{IsAhead}
 use Rattle.speedes_queue.specs.Queues.{QueueView, TakesPrimary}
-use Rattle.event_firing.specs.declared.reaction.Sending.{Sending}
+use Rattle.model_core.specs.declared.effect.Effect.{Effect}
 use Rattle.event_firing.specs.Reactions.{IsSending}
 use Rattle.one_thread.specs.Engines.{Course, state_of}
 use Rattle.one_thread.specs.Turns.{IsDue, HasDue, IsDone, IsFailed}
@@ -103,13 +103,13 @@ object_read (x ∷ xs) zero o below is = is
 object_read (x ∷ xs) (suc i) o below is = object_read xs i o (omega arith) is
 
 -- the event went
-pub done : (m : Meaning) (t : Terms) (old new : Course) (e : Event) (primary fresh : List Event) (o after : ObjectState) (s : Sending) (sends : List Send)
-    → IsTaken m t old e primary fresh → old.count < t.limit → o ≡ object_at old.objects e.key.dest → IsSending m o e s after → sends ≡ s.sends
-    → new ≡ record { objects = slice_set old.objects e.key.dest after; primary = primary; fresh = fresh ++ emissions e.key.stamp e.key.dest s.serial sends; count = old.count + 1 }
-    → IsDone m t old e.key s.note new
-done m t old new e primary fresh o after s sends is_taken free is_o sent is_sends is_new =
-    let events : emissions e.key.stamp e.key.dest s.serial sends ≡ sent.firing.events =
-    ap (λ n. emissions e.key.stamp e.key.dest n sends) sent.serial ∙ ap (emissions e.key.stamp e.key.dest o.sent) is_sends ∙ sym sent.events in
+pub done : (m : Meaning) (t : Terms) (old new : Course) (e : Event) (primary fresh : List Event) (o after : ObjectState) (sheet : Effect) (serial : ℕ) (sends : List Send)
+    → IsTaken m t old e primary fresh → old.count < t.limit → o ≡ object_at old.objects e.key.dest → IsSending m o e sheet after → serial ≡ o.sent → sends ≡ sheet.sends
+    → new ≡ record { objects = slice_set old.objects e.key.dest after; primary = primary; fresh = fresh ++ emissions e.key.stamp e.key.dest serial sends; count = old.count + 1 }
+    → IsDone m t old e.key sheet.note new
+done m t old new e primary fresh o after sheet serial sends is_taken free is_o sent is_serial is_sends is_new =
+    let events : emissions e.key.stamp e.key.dest serial sends ≡ sent.firing.events =
+    ap (λ n. emissions e.key.stamp e.key.dest n sends) is_serial ∙ ap (emissions e.key.stamp e.key.dest o.sent) is_sends ∙ sym sent.events in
     record {
       event = e;
       rest = primary;
