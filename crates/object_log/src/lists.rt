@@ -4,7 +4,7 @@ ghost use Rattle.std.specs.Prelude.{◌≡◌, IfOk};
 use model_core::{Change, OutOfMemory};
 use std::alloc::Global;
 
-/// Empty lists of changes, each with the memory that it had.
+/// Lists of changes that are used no more, each with the memory that it had.
 #[derive(Drop)]
 pub struct UndoLists {
     // None until the first list is made, since a vector holds its allocator
@@ -31,6 +31,7 @@ impl UndoLists {
         ensures { IfOk result (λ list. list.items ≡ changes.now) }
     {
         let mut list = self.lend(alloc)?;
+        list.clear();
         if list.extend_from_slice(changes).is_err() {
             self.give_back(list);
             return Err(OutOfMemory);
@@ -38,29 +39,25 @@ impl UndoLists {
         Ok(list)
     }
 
-    /// An empty list.
-    fn lend(&mut self, alloc: Global) -> Result<Vec<Change>, OutOfMemory>
-        ensures { IfOk result (λ list. list.items ≡ []) }
-    {
-        let lists = match &mut self.lists {
-            Some(lists) => lists,
-            None => self.lists.insert(Vec::new(alloc)),
-        };
-        let list = match lists.pop() {
-            Some(list) => list,
-            None => {
-                lists.reserve(self.lent.saturating_add(1))?;
-                Vec::new(alloc)
+    /// A list, whatever it holds.
+    fn lend(&mut self, alloc: Global) -> Result<Vec<Change>, OutOfMemory> {
+        let room = self.lent.saturating_add(1);
+        match &mut self.lists {
+            Some(lists) => {
+                if let Some(list) = lists.pop() {
+                    self.lent = room;
+                    return Ok(list);
+                }
+                lists.reserve(room)?;
             }
-        };
-        self.lent = self.lent.saturating_add(1);
-        Ok(list)
+            None => self.lists = Some(Vec::with_capacity(alloc, room)?),
+        }
+        self.lent = room;
+        Ok(Vec::new(alloc))
     }
 
     /// Keeps a list that is used no more.
     pub fn give_back(&mut self, list: Vec<Change>) {
-        let mut list = list;
-        list.clear();
         self.lent = self.lent.saturating_sub(1);
         if let Some(lists) = &mut self.lists
             && lists.len() < lists.capacity()

@@ -14,15 +14,16 @@ ghost use Rattle.object_log.specs.declared.done.Done.{Done};
 ghost use Rattle.object_log.specs.Logs.{LogView, before, undone, events_of, keys_of, held_of, fault_of};
 ghost use Rattle.object_log.specs.Parts.{before_key, from_key, due_of, left_of, newest_is_from, oldest_is_due};
 ghost use Rattle.object_log.specs.Replays.{IsLogOf, IsOneMore, replay_of};
+ghost use Rattle.object_log.specs.Steps.{IsWithoutNewest};
 
 use crate::done::{Done, Verdict};
 use crate::entries::Entries;
-use crate::firing::{Kept, go, prepare, recycle_all};
+use crate::firing::{Kept, go, prepare};
 use crate::pool::LogPool;
 use event_chain::{Cell, Chain};
 use event_key::{Key, NO_STAMP};
 use model_core::model::{Model as SimulationModel, keeps_laws};
-use model_core::{Cells, Effect, Event, OutOfMemory};
+use model_core::{Cells, Effect, Event, OutOfMemory, Outcome};
 use random_streams::Stream;
 use std::alloc::Global;
 use std::marker::Model;
@@ -67,6 +68,7 @@ impl ObjectLog {
             cells,
             sent,
             processed: Entries::new(),
+            words: Stream::new(0, object, 0),
         }
     }
 
@@ -164,6 +166,7 @@ impl ObjectLog {
         ensures spare { pool.old.events + self.old.state.sent ≤ pool.new.events + self.new.state.sent }
         ensures entries { pool.old.entries + length self.old.done ≤ pool.new.entries + length self.new.done }
     {
+        let _ = sheet;
         keeps_laws(model);
         let prepared = prepare(
             alloc,
@@ -183,11 +186,11 @@ impl ObjectLog {
                     sends: Chain::new(),
                     verdict: Verdict::Failed(code),
                 };
-                self.processed.push(done, NO_STAMP);
+                self.processed.push(pool.enter(done), NO_STAMP);
                 Ok(NO_STAMP)
             }
             Ok(Outcome::Goes(effect)) => {
-                let Ok(undo) = effect.changes.as_slice().to_vec(alloc) else {
+                let Ok(undo) = pool.copy_of(alloc, effect.changes.as_slice()) else {
                     return Err((OutOfMemory, event));
                 };
                 let Kept { done, least } = go(
@@ -199,7 +202,7 @@ impl ObjectLog {
                     effect,
                 );
                 self.sent += done.sends.len() as u64;
-                self.processed.push(done, least);
+                self.processed.push(pool.enter(done), least);
                 Ok(least)
             }
         }
@@ -260,7 +263,7 @@ impl ObjectLog {
             mut undo,
             sends,
             verdict: _,
-        } = self.processed.pop_newest(pool);
+        } = pool.take_out(self.processed.pop_newest());
         self.cells.undo(undo.as_mut_slice());
         self.sent -= sends.len() as u64;
         pool.keep(undo, sends);

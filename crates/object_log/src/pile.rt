@@ -6,22 +6,12 @@ ghost use Rattle.object_log.specs.Logs.{held_of};
 ghost use Rattle.object_log.specs.Rows.{dones_of, TellHeld};
 
 use crate::done::Done;
+use crate::entry::Entry;
 use event_chain::Cell;
 use event_key::NO_STAMP;
 use model_core::OutOfMemory;
 use std::alloc::Global;
 use std::marker::Model;
-
-/// A processed event in a pile.
-#[derive(Drop)]
-struct Entry {
-    done: Cell<Done>,
-    // the least stamp that it sends, or `NO_STAMP`
-    least: u64,
-    // the least that it and those below it send
-    held: u64,
-    ghost least_is: { least ≡ least_stamp NO_STAMP done.sends },
-}
 
 /// Processed events, one on top of another. Contracts see them from the bottom to the top, and for how many more there
 /// is room.
@@ -98,7 +88,7 @@ impl Pile {
         requires least { least ≡ least_stamp NO_STAMP done.sends }
         ensures { self.new.done ≡ self.old.done ++ done ∷ [] }
     {
-        let held = least.min(self.held_least());
+        let held = self.held_least().min(least);
         let Some(entries) = &mut self.entries else {
             unreachable!()
         };
@@ -121,10 +111,11 @@ impl Pile {
     pub fn turn(&mut self)
         ensures { self.new.done ≡ reverse self.old.done }
     {
-        if let Some(entries) = &mut self.entries {
-            entries.reverse();
-            tell_held(entries.as_mut_slice());
-        }
+        let Some(entries) = &mut self.entries else {
+            return;
+        };
+        entries.reverse();
+        tell_held(entries);
     }
 }
 
@@ -140,12 +131,13 @@ fn last_held(entries: &[Entry]) -> u64
 }
 
 /// Tells each one the least stamp that it and those below it send.
-fn tell_held(entries: &mut [Entry])
-    ensures told { TellHeld NO_STAMP entries.new }
-    ensures same { map (λ e. e.done) entries.new ≡ map (λ e. e.done) entries.old }
+fn tell_held(entries: &mut Vec<Entry>)
+    ensures told { TellHeld NO_STAMP entries.new.items }
+    ensures same { map (λ e. e.done) entries.new.items ≡ map (λ e. e.done) entries.old.items }
 {
     let mut held = NO_STAMP;
-    for entry in entries.iter_mut() {
+    for place in 0..entries.len() {
+        let entry = &mut entries[place];
         held = held.min(entry.least);
         entry.held = held;
     }

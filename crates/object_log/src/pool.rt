@@ -45,16 +45,18 @@ impl LogPool {
         }
     }
 
-    /// How many cells of events there are, at most 2^60.
+    /// How many cells of events there are.
     pub fn events(&self) -> usize
-        ensures { result ≡ self.now.events }
+        ensures value { result ≡ self.now.events }
+        ensures most { result ≤ 2 ^ 60 }
     {
         self.events.spare()
     }
 
-    /// How many spent entries there are, at most 2^60.
+    /// How many spent entries there are.
     pub fn entries(&self) -> usize
-        ensures { result ≡ self.now.entries }
+        ensures value { result ≡ self.now.entries }
+        ensures most { result ≤ 2 ^ 60 }
     {
         self.entries.spare()
     }
@@ -81,12 +83,85 @@ impl LogPool {
             undo,
             sends,
             verdict,
-        } = self.entries.recycle(done);
+        } = self.take_out(done);
         self.lists.give_back(undo);
         Released {
             event: self.events.recycle(event),
             sends,
             verdict,
         }
+    }
+
+    /// Makes sure of an entry, and of cells for all that one event sends.
+    pub(crate) fn reserve(&mut self, alloc: Global) -> Result<(), OutOfMemory>
+        ensures events { OnOk result (8 ≤ self.new.events) }
+        ensures entries { OnOk result (1 ≤ self.new.entries) }
+        ensures events_kept { self.old.events ≤ self.new.events }
+        ensures entries_kept { self.old.entries ≤ self.new.entries }
+    {
+        self.entries.reserve(alloc, 1)?;
+        self.events.reserve(alloc, 8)?;
+        Ok(())
+    }
+
+    /// A list of these changes.
+    pub(crate) fn copy_of(
+        &mut self,
+        alloc: Global,
+        changes: &[Change],
+    ) -> Result<Vec<Change>, OutOfMemory>
+        ensures list { IfOk result (λ list. list.items ≡ changes.now) }
+        ensures same { self.new ≡ self.old }
+    {
+        self.lists.copy_of(alloc, changes)
+    }
+
+    /// Puts an event into a cell.
+    pub(crate) fn fill(&mut self, event: Event) -> Cell<Event>
+        requires { 1 ≤ self.old.events }
+        ensures value { result ≡ event }
+        ensures events { self.new.events + 1 ≡ self.old.events }
+        ensures entries { self.new.entries ≡ self.old.entries }
+    {
+        self.events.fill(event)
+    }
+
+    /// Puts what is kept of an event into an entry.
+    pub(crate) fn enter(&mut self, done: Done) -> Cell<Done>
+        requires { 1 ≤ self.old.entries }
+        ensures value { result ≡ done }
+        ensures events { self.new.events ≡ self.old.events }
+        ensures entries { self.new.entries + 1 ≡ self.old.entries }
+    {
+        self.entries.fill(done)
+    }
+
+    /// Takes what is kept of an event out of its entry.
+    pub(crate) fn take_out(&mut self, entry: Cell<Done>) -> Done
+        ensures value { result ≡ entry }
+        ensures events { self.new.events ≡ self.old.events }
+        ensures entries { self.new.entries ≡ min (self.old.entries + 1) (2 ^ 60) }
+    {
+        self.entries.recycle(entry)
+    }
+
+    /// Keeps what an undone event leaves: the list of its changes, and the cells of its messages.
+    pub(crate) fn keep(&mut self, undo: Vec<Change>, sends: Chain<Event>)
+        ensures events { self.new.events ≡ min (self.old.events + length sends) (2 ^ 60) }
+        ensures entries { self.new.entries ≡ self.old.entries }
+    {
+        self.lists.give_back(undo);
+        recycle_all(&mut self.events, sends);
+    }
+}
+
+/// Puts the cells of messages into the pool.
+fn recycle_all(pool: &mut CellPool<Event>, messages: Chain<Event>)
+    ensures { pool.new ≡ min (pool.old + length messages) (2 ^ 60) }
+{
+    prove!(pool.spare() <= 1 << 60);
+    let mut messages = messages;
+    while let Some(message) = messages.pop_front() {
+        pool.recycle(message);
     }
 }
