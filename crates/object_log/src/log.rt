@@ -18,12 +18,13 @@ ghost use Rattle.object_log.specs.Steps.{IsWithoutNewest};
 
 use crate::done::{Done, Verdict};
 use crate::entries::Entries;
-use crate::firing::{Kept, go, prepare};
+use crate::firing::{Kept, changes_of, go, make_room};
 use crate::pool::LogPool;
 use event_chain::{Cell, Chain};
+use event_firing::settle;
 use event_key::{Key, NO_STAMP};
 use model_core::model::{Model as SimulationModel, keeps_laws};
-use model_core::{Cells, Effect, Event, OutOfMemory, Outcome};
+use model_core::{Cells, Effect, Ending, Event, OutOfMemory};
 use random_streams::Stream;
 use std::alloc::Global;
 use std::marker::Model;
@@ -166,41 +167,29 @@ impl ObjectLog {
         ensures spare { pool.old.events + self.old.state.sent ≤ pool.new.events + self.new.state.sent }
         ensures entries { pool.old.entries + length self.old.done ≤ pool.new.entries + length self.new.done }
     {
-        let _ = sheet;
         keeps_laws(model);
-        let prepared = prepare(
-            alloc,
-            model,
-            self.object,
-            &mut self.cells,
-            &mut self.processed,
-            pool,
-            event.get(),
-        );
-        match prepared {
-            Err(refusal) => Err((refusal, event)),
-            Ok(Outcome::Fails(code)) => {
+        let Ok(ending) = settle(model, &mut self.words, &self.cells, event.get(), sheet) else {
+            return Err((OutOfMemory, event));
+        };
+        let changes = changes_of(&ending, sheet);
+        let room = make_room(alloc, &mut self.cells, &mut self.processed, pool, changes);
+        let Ok(undo) = room else {
+            return Err((OutOfMemory, event));
+        };
+        match ending {
+            Ending::Fails(code) => {
                 let done = Done {
                     event,
-                    undo: Vec::new(alloc),
+                    undo,
                     sends: Chain::new(),
                     verdict: Verdict::Failed(code),
                 };
                 self.processed.push(pool.enter(done), NO_STAMP);
                 Ok(NO_STAMP)
             }
-            Ok(Outcome::Goes(effect)) => {
-                let Ok(undo) = pool.copy_of(alloc, effect.changes.as_slice()) else {
-                    return Err((OutOfMemory, event));
-                };
-                let Kept { done, least } = go(
-                    &mut self.cells,
-                    self.sent,
-                    pool,
-                    event,
-                    undo,
-                    effect,
-                );
+            Ending::Goes => {
+                let Kept { done, least } =
+                    go(&mut self.cells, self.sent, pool, event, undo, sheet);
                 self.sent += done.sends.len() as u64;
                 self.processed.push(pool.enter(done), least);
                 Ok(least)

@@ -10,10 +10,10 @@ use crate::beginning::first_events;
 use crate::sending::send_all;
 use crate::turn::Turn;
 use event_chain::{CellPool, Chain};
-use event_firing::{Object, Reaction, first_objects};
+use event_firing::{Object, first_objects};
 use event_key::end_bound;
 use model_core::model::{Model as SimulationModel, keeps_laws};
-use model_core::{Event, OutOfMemory};
+use model_core::{Effect, Ending, Event, OutOfMemory};
 use sim_spec::{Stop, Terms};
 use speedes_queue::Queue;
 use std::alloc::Global;
@@ -26,6 +26,8 @@ pub struct Course {
     queue: Queue,
     // the cells of events that are done
     pool: CellPool<Event>,
+    // what the last event did
+    sheet: Effect,
     count: u64,
 }
 
@@ -48,6 +50,7 @@ impl Course {
             objects: first_objects(alloc, model)?,
             queue: first_events(alloc, model)?,
             pool: CellPool::new(),
+            sheet: Effect::new(alloc)?,
             count: 0,
         })
     }
@@ -125,22 +128,23 @@ impl Course {
         let event = cell.get();
         let key = event.key;
         let object = &mut self.objects[key.dest as usize];
-        match object.fire(alloc, model, event)? {
-            Reaction::Goes(sending) => {
+        let serial = object.sent();
+        match object.fire(model, event, &mut self.sheet)? {
+            Ending::Goes => {
                 self.pool.recycle(cell);
                 send_all(
                     &mut self.queue,
                     &mut self.pool,
                     alloc,
                     &key,
-                    sending.serial,
-                    sending.sends.as_slice(),
+                    serial,
+                    self.sheet.sends.as_slice(),
                     model.objects(),
                 )?;
                 self.count += 1;
-                Ok(Turn::Does(key, sending.note))
+                Ok(Turn::Does(key, self.sheet.note))
             }
-            Reaction::Fails(code) => {
+            Ending::Fails(code) => {
                 let mut taken = Chain::new();
                 taken.push_back(cell);
                 self.queue.give_back(taken);

@@ -4,7 +4,7 @@ use Rattle.queue_models.specs.ModelLaws.{object_fine, role_can_draw}
 use Rattle.queue_models.specs.Objects.{object_at}
 use Rattle.queue_models.specs.Roles.{RoleCanDraw}
 use Rattle.queue_models.specs.Views.{parts_of}
-use Rattle.queue_models.proofs.network.NetworkSimulationModel.react_with.Goals as goal
+use Rattle.queue_models.proofs.network.NetworkSimulationModel.respond.Goals as goal
 
 pub react-requires-clause-role : goal.react-requires-clause-role
 unfolding network_meaning
