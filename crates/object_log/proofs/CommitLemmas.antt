@@ -7,10 +7,10 @@ use Rattle.std.specs.Prelude.{Option}
 use Rattle.event_key.specs.declared.key.Key.{Key}
 use Rattle.model_core.specs.Meaning.{Meaning}
 use Rattle.sim_spec.specs.Firing.{ObjectState}
-use Rattle.sim_spec.specs.Pending.{IsAscending}
-use Rattle.sim_spec.proofs.EachLemmas.{Each-append}
-use Rattle.world_spec.specs.Early.{is_due}
-use Rattle.world_spec.proofs.FilterLemmas.{filter-all}
+use Rattle.key_order.specs.Ascending.{IsAscending}
+use Rattle.key_order.proofs.EachLemmas.{Each-append}
+use Rattle.key_order.specs.Due.{is_due}
+use Rattle.key_order.proofs.FilterLemmas.{filter-all}
 use Rattle.object_log.specs.declared.done.Done.{Done}
 use Rattle.object_log.specs.Logs.{LogView, events_of}
 use Rattle.object_log.specs.Parts.{due_of, left_of, oldest_is_due}

@@ -3,7 +3,7 @@ use Rattle.std.proofs.Common.{◌≡◌, ℕ, ◌+◌, ◌<◌, min, List, [], �
 use Rattle.std.specs.Prelude.{slice_set, reverse}
 use Rattle.std.proofs.lemmas.List.{append-nil, map-append, reverse-append, take_more_set}
 use Rattle.event_key.specs.declared.stamp.TheConstants.{NO_STAMP}
-use Rattle.sim_spec.specs.Horizon.{least_stamp}
+use Rattle.key_order.specs.Stamps.{least_stamp}
 use Rattle.object_log.specs.declared.done.Done.{Done}
 use Rattle.object_log.specs.declared.entry.Entry.{Entry}
 use Rattle.object_log.specs.Logs.{held_of}

@@ -1,7 +1,7 @@
 //! A processed event in a pile.
 ghost use Rattle.std.specs.Prelude.{◌≡◌};
 ghost use Rattle.event_key.specs.declared.stamp.TheConstants.{NO_STAMP};
-ghost use Rattle.sim_spec.specs.Horizon.{least_stamp};
+ghost use Rattle.key_order.specs.Stamps.{least_stamp};
 
 use crate::done::Done;
 use event_chain::Cell;

@@ -6,10 +6,10 @@ ghost use Rattle.event_key.specs.Stamps.{time_part};
 ghost use Rattle.event_key.specs.declared.stamp.TheConstants.{NO_STAMP};
 ghost use Rattle.model_core.specs.Meaning.{Meaning};
 ghost use Rattle.sim_spec.specs.Firing.{fire};
-ghost use Rattle.sim_spec.specs.Horizon.{least_stamp};
-ghost use Rattle.sim_spec.specs.Pending.{IsAscending};
-ghost use Rattle.sim_spec.specs.Replay.{replay};
-ghost use Rattle.world_spec.specs.Early.{taken, is_due};
+ghost use Rattle.key_order.specs.Stamps.{least_stamp};
+ghost use Rattle.key_order.specs.Ascending.{IsAscending};
+ghost use Rattle.sim_spec.specs.Replay.{replay, taken};
+ghost use Rattle.key_order.specs.Due.{is_due};
 ghost use Rattle.object_log.specs.declared.done.Done.{Done};
 ghost use Rattle.object_log.specs.Logs.{LogView, before, undone, events_of, keys_of, held_of, fault_of};
 ghost use Rattle.object_log.specs.Parts.{before_key, from_key, due_of, left_of, newest_is_from, oldest_is_due};
@@ -278,7 +278,7 @@ impl ObjectLog {
     }
 
     /// Whether the oldest processed event is due.
-    #[tactic(auto, unfolding(world_spec::specs::Early::is_due, crate::specs::Parts::oldest_is_due))]
+    #[tactic(auto, unfolding(key_order::specs::Due::is_due, crate::specs::Parts::oldest_is_due))]
     fn oldest_is_due(&self, horizon: u64, cut: &Option<Key>) -> bool
         ensures { result ≡ oldest_is_due horizon cut.now self.now.done }
     {

@@ -9,17 +9,18 @@ use Rattle.model_core.specs.declared.note.Note.{Note}
 use Rattle.model_core.specs.Meaning.{Meaning, MeaningLaws}
 use Rattle.sim_spec.specs.declared.terms.Terms.{Terms}
 use Rattle.sim_spec.specs.Firing.{ObjectState, Firing}
-use Rattle.sim_spec.specs.Pending.{enqueue_all}
+use Rattle.key_order.specs.Pending.{enqueue_all}
 use Rattle.sim_spec.specs.State.{State, Lawful}
 use Rattle.sim_spec.specs.Run.{next_fired}
-use Rattle.sim_spec.specs.Horizon.{HorizonBucket, bucket_with, bucket_below, horizon_bucket, least_stamp}
+use Rattle.sim_spec.specs.Horizon.{HorizonBucket, bucket_with, bucket_below, horizon_bucket}
+use Rattle.key_order.specs.Stamps.{least_stamp}
 use Rattle.sim_spec.specs.Cut.{events_of, records_of, emissions_of, objects_after}
 use Rattle.sim_spec.proofs.BucketInduction.{bucket-goes}
 use Rattle.sim_spec.proofs.LawfulLemmas.{next-lawful}
 use Rattle.sim_spec.proofs.PartLemmas.{events_of-append}
-use Rattle.sim_spec.proofs.PendingLemmas.{enqueue_all-append}
+use Rattle.key_order.proofs.PendingLemmas.{enqueue_all-append}
 use Rattle.sim_spec.proofs.RunLemmas.{next-fires}
-use Rattle.sim_spec.proofs.StampLemmas.{enqueue_all-behind, NoneBelow-least_stamp, least_stamp-le}
+use Rattle.key_order.proofs.StampLemmas.{enqueue_all-behind, NoneBelow-least_stamp, least_stamp-le}
 use Rattle.one_thread.specs.Engines.{Course, state_of}
 use Rattle.one_thread.specs.Turns.{horizon_of, IsDone}
 

@@ -9,18 +9,20 @@ use Rattle.model_core.specs.declared.event.Send.{Send}
 use Rattle.model_core.specs.Meaning.{Meaning, MeaningLaws, SendsInRange}
 use Rattle.sim_spec.specs.declared.terms.Terms.{Terms}
 use Rattle.sim_spec.specs.Firing.{ObjectState, fails, fire, emissions}
-use Rattle.sim_spec.specs.Pending.{enqueue, enqueue_all, AllAfter, IsAscending}
-use Rattle.sim_spec.specs.Horizon.{least_stamp}
+use Rattle.key_order.specs.Pending.{enqueue, enqueue_all}
+use Rattle.key_order.specs.Ascending.{AllAfter, IsAscending}
+use Rattle.key_order.specs.Stamps.{least_stamp}
 use Rattle.sim_spec.specs.State.{Lawful, AllSound, object_at, no_object}
-use Rattle.sim_spec.proofs.AscendingLemmas.{IsAscending-without_all}
-use Rattle.sim_spec.proofs.EnqueueLemmas.{length-enqueue_all}
+use Rattle.key_order.proofs.AscendingLemmas.{IsAscending-without_all}
+use Rattle.key_order.proofs.EnqueueLemmas.{length-enqueue_all}
 use Rattle.sim_spec.proofs.LawfulLemmas.{time_early}
 use Rattle.sim_spec.proofs.RunLemmas.{first_sound}
-use Rattle.sim_spec.proofs.SerialLemmas.{SerialsBelow, serials_sound}
-use Rattle.sim_spec.proofs.StampLemmas.{enqueue_all-behind, NoneBelow-least_stamp, least_stamp-le}
-use Rattle.speedes_queue.specs.Keys.{IsAhead}
+use Rattle.key_order.specs.Serials.{SerialsBelow}
+use Rattle.sim_spec.proofs.SerialLemmas.{serials_sound}
+use Rattle.key_order.proofs.StampLemmas.{enqueue_all-behind, NoneBelow-least_stamp, least_stamp-le}
+use Rattle.key_order.specs.Keys.{IsAhead}
 use Rattle.speedes_queue.specs.Queues.{QueueView, TakesPrimary}
-use Rattle.speedes_queue.proofs.LeastLemmas.{after_least}
+use Rattle.key_order.proofs.LeastLemmas.{after_least}
 use Rattle.event_firing.specs.declared.reaction.Sending.{Sending}
 use Rattle.event_firing.specs.Reactions.{IsSending}
 use Rattle.one_thread.specs.Engines.{Course, state_of}

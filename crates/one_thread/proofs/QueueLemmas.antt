@@ -3,8 +3,9 @@ use Rattle.std.proofs.Common.{◌≡◌, ℕ, ◌+◌, List, [], ◌∷◌, ◌+
 use Rattle.std.proofs.lemmas.List.Elements.{All-nil, All-cons}
 use Rattle.event_key.specs.declared.key.Key.{Key}
 use Rattle.model_core.specs.declared.event.Event.{Event}
-use Rattle.sim_spec.proofs.SerialLemmas.{SerialsBelow, SerialsBelow-le}
-use Rattle.speedes_queue.specs.Keys.{IsNewKey}
+use Rattle.key_order.specs.Serials.{SerialsBelow}
+use Rattle.key_order.proofs.SerialLemmas.{SerialsBelow-le}
+use Rattle.key_order.specs.Keys.{IsNewKey}
 
 pub SerialsBelow-append : (object n : ℕ) (xs ys : List Event) → SerialsBelow object n xs → SerialsBelow object n ys → SerialsBelow object n (xs ++ ys)
 unfolding SerialsBelow

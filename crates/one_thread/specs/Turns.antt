@@ -8,7 +8,7 @@ use Rattle.model_core.specs.Meaning.{Meaning}
 use Rattle.sim_spec.specs.declared.terms.Terms.{Terms}
 use Rattle.sim_spec.specs.Firing.{Firing, goes, fails, fire}
 use Rattle.sim_spec.specs.State.{object_at}
-use Rattle.sim_spec.specs.Horizon.{least_stamp}
+use Rattle.key_order.specs.Stamps.{least_stamp}
 use Rattle.one_thread.specs.Engines.{Course}
 use Rattle.one_thread.specs.declared.turn.Turn.{Turn}
 use Rattle.one_thread.specs.declared.turn.Turn.TheVariants.{Does, Ends, Limit, Fault}

@@ -8,15 +8,17 @@ use Rattle.event_key.proofs.Order.{key_lt-irrefl, stamp-le}
 use Rattle.model_core.specs.declared.event.Event.{Event}
 use Rattle.model_core.specs.Meaning.{Meaning}
 use Rattle.sim_spec.specs.Firing.{ObjectState, Firing, goes, fails}
-use Rattle.sim_spec.specs.Pending.{AllAfter, IsAscending}
+use Rattle.key_order.specs.Ascending.{AllAfter, IsAscending}
 use Rattle.sim_spec.specs.State.{object_at}
-use Rattle.sim_spec.specs.Horizon.{bucket_below, least_stamp, reach_of}
+use Rattle.sim_spec.specs.Horizon.{bucket_below, reach_of}
+use Rattle.key_order.specs.Stamps.{least_stamp, NoneBelow}
 use Rattle.sim_spec.specs.Cut.{events_of, objects_after}
-use Rattle.sim_spec.specs.Replay.{NoneBelow, EmitsFrom}
+use Rattle.sim_spec.specs.Replay.{EmitsFrom}
 use Rattle.sim_spec.specs.HorizonLaws.{IsBefore, IsPast, IsNextFault}
-use Rattle.sim_spec.proofs.EachLemmas.{Each-map}
-use Rattle.sim_spec.proofs.AscendingLemmas.{AllAfter-each, key_lt-turned}
-use Rattle.sim_spec.proofs.StampLemmas.{NoneBelow-le, NoneBelow-least_stamp, least_stamp-le, least_stamp-from, fire-later}
+use Rattle.key_order.proofs.EachLemmas.{Each-map}
+use Rattle.key_order.proofs.AscendingLemmas.{AllAfter-each, key_lt-turned}
+use Rattle.key_order.proofs.StampLemmas.{NoneBelow-le, NoneBelow-least_stamp, least_stamp-le, least_stamp-from}
+use Rattle.sim_spec.proofs.StampLemmas.{fire-later}
 use Rattle.sim_spec.proofs.BucketInduction.{fire_at, objects_with, bucket-induction}
 
 -- each event goes, from the states that those before it leave

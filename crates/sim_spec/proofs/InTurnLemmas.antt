@@ -8,15 +8,16 @@ use Rattle.model_core.specs.declared.event.Event.{Event}
 use Rattle.model_core.specs.Meaning.{Meaning}
 use Rattle.sim_spec.specs.declared.terms.Terms.{Terms}
 use Rattle.sim_spec.specs.Firing.{ObjectState, Firing, goes}
-use Rattle.sim_spec.specs.Pending.{enqueue_all}
+use Rattle.key_order.specs.Pending.{enqueue_all}
 use Rattle.sim_spec.specs.State.{State}
 use Rattle.sim_spec.specs.Run.{does, next, next_fired, Leads}
 use Rattle.sim_spec.specs.Cut.{events_of, records_of, emissions_of, objects_after, state_with_done}
-use Rattle.sim_spec.specs.Replay.{NoneBelow, EmitsFrom}
-use Rattle.sim_spec.proofs.PendingLemmas.{enqueue_all-append}
+use Rattle.key_order.specs.Stamps.{NoneBelow}
+use Rattle.sim_spec.specs.Replay.{EmitsFrom}
+use Rattle.key_order.proofs.PendingLemmas.{enqueue_all-append}
 use Rattle.sim_spec.proofs.PartLemmas.{length-events_of}
 use Rattle.sim_spec.proofs.RunLemmas.{next-fires}
-use Rattle.sim_spec.proofs.StampLemmas.{NoneBelow-append, enqueue_all-behind}
+use Rattle.key_order.proofs.StampLemmas.{NoneBelow-append, enqueue_all-behind}
 use Rattle.sim_spec.proofs.BucketInduction.{fire_at, objects_with}
 use Rattle.sim_spec.proofs.BucketFacts.{GoInTurn}
 

@@ -7,10 +7,12 @@ use Rattle.model_core.specs.declared.event.Event.{Event}
 use Rattle.model_core.specs.Meaning.{Meaning, MeaningLaws, StartLaws}
 use Rattle.sim_spec.specs.Firing.{ObjectState}
 use Rattle.sim_spec.specs.declared.terms.Terms.{Terms}
-use Rattle.sim_spec.specs.Pending.{enqueue, enqueue_all, IsAscending}
+use Rattle.key_order.specs.Pending.{enqueue, enqueue_all}
+use Rattle.key_order.specs.Ascending.{IsAscending}
 use Rattle.sim_spec.specs.State.{Lawful, AllSound, object_at, no_object, first_object, start_event, initial_state}
-use Rattle.sim_spec.proofs.EnqueueLemmas.{IsAscending-enqueue, length-enqueue_all}
-use Rattle.sim_spec.proofs.SerialLemmas.{SerialsBelow, NoneAt-serial, SerialsBelow-enqueue, SerialsBelow-le}
+use Rattle.key_order.proofs.EnqueueLemmas.{IsAscending-enqueue, length-enqueue_all}
+use Rattle.key_order.specs.Serials.{SerialsBelow}
+use Rattle.key_order.proofs.SerialLemmas.{NoneAt-serial, SerialsBelow-enqueue, SerialsBelow-le}
 use Rattle.sim_spec.proofs.SoundLemmas.{AllSound-enqueue_all}
 
 starts_ascending : (m : Meaning) (a n : ℕ) (xs : List Event) → SerialsBelow 4294967295 a xs → IsAscending xs → IsAscending (enqueue_all (map (start_event m) (range_with_len a n)) xs)

@@ -12,11 +12,13 @@ use Rattle.model_core.specs.Meaning.{Meaning, MeaningLaws, OutcomeLaws}
 use Rattle.sim_spec.specs.declared.terms.Terms.{Terms}
 use Rattle.sim_spec.specs.declared.stop.Stop.TheVariants.{End, Limit, Fault}
 use Rattle.sim_spec.specs.Firing.{ObjectState, Firing, Fired, goes, fails, fire, fired_by, emissions, has_chain}
-use Rattle.sim_spec.specs.Pending.{enqueue_all, IsAscending}
+use Rattle.key_order.specs.Pending.{enqueue_all}
+use Rattle.key_order.specs.Ascending.{IsAscending}
 use Rattle.sim_spec.specs.State.{State, Lawful, AllSound, object_at, no_object}
 use Rattle.sim_spec.specs.Run.{Next, stops, does, next, next_of, next_fired, Leads}
-use Rattle.sim_spec.proofs.EnqueueLemmas.{length-enqueue_all}
-use Rattle.sim_spec.proofs.SerialLemmas.{SerialsBelow, serials_sound, emissions_ascending, length-emissions}
+use Rattle.key_order.proofs.EnqueueLemmas.{length-enqueue_all}
+use Rattle.key_order.specs.Serials.{SerialsBelow}
+use Rattle.sim_spec.proofs.SerialLemmas.{serials_sound, emissions_ascending, length-emissions}
 use Rattle.sim_spec.proofs.SoundLemmas.{AllSound-enqueue_all, emissions_sound, AllSound-more, at_object}
 
 -- what comes of a lawful object's event

@@ -6,13 +6,15 @@ use Rattle.std.specs.List.{AllByRecursion as Each}
 use Rattle.model_core.specs.declared.event.Event.{Event}
 use Rattle.model_core.specs.Meaning.{Meaning}
 use Rattle.sim_spec.specs.Firing.{ObjectState, Firing}
-use Rattle.sim_spec.specs.Pending.{enqueue_all, IsAscending}
+use Rattle.key_order.specs.Pending.{enqueue_all}
+use Rattle.key_order.specs.Ascending.{IsAscending, Ascends}
 use Rattle.sim_spec.specs.State.{AllSound}
 use Rattle.sim_spec.specs.Cut.{events_of}
 use Rattle.sim_spec.specs.Replay.{events_at, done_at}
-use Rattle.sim_spec.proofs.AscendingLemmas.{IsAscending-filter}
-use Rattle.sim_spec.proofs.EachLemmas.{Each-filter}
-use Rattle.sim_spec.proofs.ShareLemmas.{filter-enqueue_all}
+use Rattle.key_order.proofs.AscendingLemmas.{IsAscending-filter}
+use Rattle.key_order.proofs.EachLemmas.{Each-filter}
+use Rattle.key_order.proofs.ShareLemmas.{filter-enqueue_all}
+use Rattle.key_order.proofs.AscendsLemmas.{Ascends-mapped, Ascends-events}
 
 pub Each-events_at : (P : Event → Type 0) (object : ℕ) (es : List Event) → Each P es → Each P (events_at object es)
 unfolding events_at
@@ -88,3 +90,6 @@ Each-parts P n (d ∷ ds) inside parts =
     let Q : Bool → Type 0 = λ b. Each P (cond b (d ∷ done_at d.0.key.dest ds) (done_at d.0.key.dest ds)) in
     let one : Q true = subst Q here (parts d.0.key.dest inside.0) in
     (one.0, Each-parts P n ds inside.1 (λ object below. other_part P object d ds (parts object below)))
+
+pub Ascends-done : (ds : List (Event × Firing)) → IsAscending (events_of ds) → Ascends (λ (d : Event × Firing). d.0.key) ds
+Ascends-done ds up = Ascends-mapped (λ (e : Event). e.key) (λ (d : Event × Firing). d.0) ds (Ascends-events (events_of ds) up)

@@ -13,11 +13,12 @@ use Rattle.model_core.specs.declared.effect.Outcome.TheVariants.{Goes}
 use Rattle.model_core.specs.Meaning.{Meaning}
 use Rattle.sim_spec.specs.declared.terms.Terms.{Terms}
 use Rattle.sim_spec.specs.declared.stop.Stop.TheVariants.{End}
-use Rattle.sim_spec.specs.Pending.{enqueue, enqueue_all}
+use Rattle.key_order.specs.Pending.{enqueue, enqueue_all}
 use Rattle.sim_spec.specs.Firing.{has_chain, emissions, fired_by, fire}
 use Rattle.sim_spec.specs.State.{initial_state}
 use Rattle.sim_spec.specs.Run.{next, next_of, next_fired}
-use Rattle.sim_spec.specs.Horizon.{least_stamp, bucket_fired, bucket_below, horizon_bucket}
+use Rattle.key_order.specs.Stamps.{least_stamp}
+use Rattle.sim_spec.specs.Horizon.{bucket_fired, bucket_below, horizon_bucket}
 use Rattle.sim_spec.specs.Cut.{emissions_of, objects_after, state_with_done, is_limited, committed_events, after, cut}
 use Rattle.sim_spec.specs.Cycles.{cycles_behind, cycles_on, cycles_for, cycles}
 use Rattle.sim_spec.proofs.CycleSummary.{summary_of, key_at, told_at, whole_bucket}

@@ -6,11 +6,12 @@ use Rattle.std.proofs.lemmas.List.Sorted.{IsPermutation-sym, IsPermutation-trans
 use Rattle.event_key.specs.declared.key.Key.{Key}
 use Rattle.event_key.specs.Keys.{key_lt}
 use Rattle.model_core.specs.declared.event.Event.{Event}
-use Rattle.sim_spec.specs.Pending.{AllAfter, IsAscending, enqueue_all}
-use Rattle.speedes_queue.specs.Keys.{IsNewKey, KeysDiffer, in_order}
+use Rattle.key_order.specs.Ascending.{AllAfter, IsAscending}
+use Rattle.key_order.specs.Pending.{enqueue_all, in_order}
+use Rattle.key_order.specs.Keys.{IsNewKey, KeysDiffer}
 use Rattle.speedes_queue.specs.Queues.{QueueView, IsOrderly}
-use Rattle.speedes_queue.proofs.Counting.{Apart, Apart-permutation, Apart-left, Apart-right, Apart-nil, Apart-cons, IsOther, others, others_from, apart, differ}
-use Rattle.speedes_queue.proofs.InOrder.{enqueue_all-permutation, in_order-permutation, length-in_order, enqueue_all-ascending, in_order-ascending, enqueue_all-is}
+use Rattle.key_order.proofs.Counting.{Apart, Apart-permutation, Apart-left, Apart-right, Apart-nil, Apart-cons, IsOther, others, others_from, apart, differ}
+use Rattle.key_order.proofs.InOrder.{enqueue_all-permutation, in_order-permutation, length-in_order, enqueue_all-ascending, in_order-ascending, enqueue_all-is}
 
 abbrev pub view : List Event → List Event → ℕ → QueueView
 view primary fresh spare = record { primary = primary; fresh = fresh; spare = spare }

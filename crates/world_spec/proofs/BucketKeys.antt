@@ -9,20 +9,21 @@ use Rattle.model_core.specs.Meaning.{Meaning}
 use Rattle.model_core.specs.declared.event.Event.{Event}
 use Rattle.sim_spec.specs.Cut.{events_of}
 use Rattle.sim_spec.specs.Horizon.{horizon_bucket}
-use Rattle.sim_spec.specs.Pending.{IsAscending}
+use Rattle.key_order.specs.Ascending.{IsAscending}
 use Rattle.sim_spec.specs.Replay.{done_at, events_at}
 use Rattle.sim_spec.specs.State.{Lawful, State}
 use Rattle.sim_spec.specs.declared.terms.Terms.{Terms}
-use Rattle.sim_spec.proofs.EachLemmas.{Each-front, Each-take}
+use Rattle.key_order.proofs.EachLemmas.{Each-front, Each-take}
 use Rattle.sim_spec.proofs.HorizonLaw.{horizon_law}
 use Rattle.sim_spec.proofs.PartLemmas.{AllSound-dest, Each-events_at}
 use Rattle.world_spec.specs.Answer.{AreKeysBelow, keys_of}
 use Rattle.world_spec.specs.Closed.{fault_key}
-use Rattle.world_spec.specs.Early.{IsClosed, RunsAhead, early_events, is_due, is_uncut}
-use Rattle.world_spec.proofs.AscendsLemmas.{Ascends-events, Ascends-filter, Ascends-map, IsAscending-front, by-objects}
+use Rattle.world_spec.specs.Early.{IsClosed, RunsAhead, early_events}
+use Rattle.key_order.specs.Due.{is_due, is_uncut}
+use Rattle.key_order.proofs.AscendsLemmas.{Ascends-events, Ascends-filter, Ascends-map, IsAscending-front, by-objects}
 use Rattle.world_spec.proofs.ClosedFacts.{behind_bucket}
 use Rattle.world_spec.proofs.ClosedLaw.{behind_stays, bucket_due, bucket_processed}
-use Rattle.world_spec.proofs.FilterLemmas.{filter-all, filter-both, filter-map, filter-none, filter-swap}
+use Rattle.key_order.proofs.FilterLemmas.{filter-all, filter-both, filter-map, filter-none, filter-swap}
 use Rattle.world_spec.proofs.ProcessedLemmas.{events-split, further_events}
 
 no_events_at : (n object : ℕ) (es : List Event) → n ≤ object → Each (λ (e : Event). e.key.dest < n) es → events_at object es ≡ []

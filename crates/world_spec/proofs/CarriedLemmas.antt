@@ -9,14 +9,14 @@ use Rattle.model_core.specs.Meaning.{Meaning}
 use Rattle.model_core.specs.declared.event.Event.{Event}
 use Rattle.sim_spec.specs.Cut.{after, emissions_of, events_of, state_with_done}
 use Rattle.sim_spec.specs.Firing.{Firing}
-use Rattle.sim_spec.specs.Pending.{IsAscending}
+use Rattle.key_order.specs.Ascending.{IsAscending}
 use Rattle.sim_spec.specs.Replay.{done_at, events_at}
 use Rattle.sim_spec.specs.State.{State}
 use Rattle.sim_spec.specs.declared.terms.Terms.{Terms}
-use Rattle.sim_spec.proofs.AscendingLemmas.{AllAfter-each, IsAscending-back, IsAscending-take}
+use Rattle.key_order.proofs.AscendingLemmas.{AllAfter-each, IsAscending-back, IsAscending-take}
 use Rattle.sim_spec.proofs.PartLemmas.{IsAscending-events_at}
 use Rattle.world_spec.specs.Early.{early_events, is_before_all, kept, leading}
-use Rattle.world_spec.proofs.FilterLemmas.{length-filter_take}
+use Rattle.key_order.proofs.FilterLemmas.{length-filter_take}
 use Rattle.world_spec.proofs.FrontLemmas.{before_all-trans, leading-keeps, leading-le, leading-pass}
 use Rattle.world_spec.proofs.ProcessedLemmas.{IsProcessed, events-split, front-stays, further-is, further_events, length-further, own_events}
 

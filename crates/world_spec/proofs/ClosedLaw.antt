@@ -13,20 +13,23 @@ use Rattle.sim_spec.specs.Cut.{after, committed_events, emissions_of, events_of}
 use Rattle.sim_spec.specs.Firing.{Firing}
 use Rattle.sim_spec.specs.Horizon.{HorizonBucket, horizon_bucket, reach_of, reach_with}
 use Rattle.sim_spec.specs.HorizonLaws.{IsBefore, IsBelowHorizon, IsOwnReplay, IsPast}
-use Rattle.sim_spec.specs.Pending.{IsAscending}
-use Rattle.sim_spec.specs.Replay.{EmitsFrom, NoneBelow, Replay, done_at, early_replay, events_at}
+use Rattle.key_order.specs.Ascending.{IsAscending}
+use Rattle.sim_spec.specs.Replay.{EmitsFrom, Replay, done_at, early_replay, events_at}
+use Rattle.key_order.specs.Stamps.{NoneBelow}
 use Rattle.sim_spec.specs.State.{Lawful, State}
 use Rattle.sim_spec.specs.declared.terms.Terms.{Terms}
-use Rattle.sim_spec.proofs.AscendingLemmas.{ascending-before, ascending-from}
+use Rattle.key_order.proofs.AscendingLemmas.{ascending-before, ascending-from}
 use Rattle.sim_spec.proofs.BucketFacts.{GoInTurn, bucket-in-turn, reach-le}
 use Rattle.sim_spec.proofs.BucketLaw.{bucket_law}
-use Rattle.sim_spec.proofs.EachLemmas.{Each-append, Each-back, Each-both, Each-front, Each-map}
+use Rattle.key_order.proofs.EachLemmas.{Each-append, Each-back, Each-both, Each-front, Each-map}
 use Rattle.sim_spec.proofs.HorizonLaw.{GoInTurn-take, events_of-split, horizon_law, pending-split}
 use Rattle.sim_spec.proofs.ObjectsLaw.{objects_law}
 use Rattle.sim_spec.proofs.PartLemmas.{AllSound-dest, Each-events_at, Each-parts, done_at-append, events_at-events_of, events_at-first, length-events_of}
-use Rattle.sim_spec.proofs.StampLemmas.{NoneBelow-contains, NoneBelow-emissions_of}
+use Rattle.key_order.proofs.StampLemmas.{NoneBelow-contains}
+use Rattle.sim_spec.proofs.StampLemmas.{NoneBelow-emissions_of}
 use Rattle.world_spec.specs.Closed.{CycleLaw, IsLeastFault, cut_key, fault_key, first_key}
-use Rattle.world_spec.specs.Early.{IsClosed, IsPastFault, RunsAhead, is_due, kept}
+use Rattle.world_spec.specs.Early.{IsClosed, IsPastFault, RunsAhead, kept}
+use Rattle.key_order.specs.Due.{is_due}
 use Rattle.world_spec.proofs.ClosedFacts.{before_reach, behind_bucket, due-is, due_before, left_of, none-waits, past_before, past_stays}
 use Rattle.world_spec.proofs.ProcessedLemmas.{IsProcessed, kept-early, replay-split}
 

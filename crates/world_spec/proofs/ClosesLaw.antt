@@ -10,11 +10,11 @@ use Rattle.event_key.proofs.Order.{key_lt-apart, key_lt-trans, stamp-le}
 use Rattle.model_core.specs.declared.event.Event.{Event}
 use Rattle.model_core.specs.Meaning.{Meaning}
 use Rattle.sim_spec.specs.declared.terms.Terms.{Terms}
-use Rattle.sim_spec.specs.Pending.{IsAscending}
+use Rattle.key_order.specs.Ascending.{IsAscending}
 use Rattle.sim_spec.specs.Cut.{emissions_of}
 use Rattle.sim_spec.specs.Replay.{Replay, replay, events_at, EmitsFrom}
-use Rattle.sim_spec.proofs.AscendingLemmas.{AllAfter-each, ascending-before}
-use Rattle.sim_spec.proofs.EachLemmas.{Each-map, Each-take}
+use Rattle.key_order.proofs.AscendingLemmas.{AllAfter-each, ascending-before}
+use Rattle.key_order.proofs.EachLemmas.{Each-map, Each-take}
 use Rattle.sim_spec.proofs.PartLemmas.{IsAscending-events_at, events_at-dest, events_at-first}
 use Rattle.sim_spec.proofs.ReplayLemmas.{replay-fault}
 use Rattle.sim_spec.proofs.StampLemmas.{EmitsFrom-le}

@@ -9,16 +9,17 @@ use Rattle.event_key.specs.Stamps.{next_stamp, has_no_step, stamp_at, end_stamp}
 use Rattle.delta_exchange.specs.Changes.{cells_after_all, inverses_of}
 use Rattle.model_core.specs.Meaning.{Meaning}
 use Rattle.model_core.specs.declared.note.Note.{Note}
-use Rattle.sim_spec.specs.Pending.{enqueue, enqueue_all}
+use Rattle.key_order.specs.Pending.{enqueue, enqueue_all}
 use Rattle.sim_spec.specs.Firing.{Firing, has_chain, emissions, fired_by, fire}
 use Rattle.model_core.specs.declared.event.Event.{Event}
 use Rattle.sim_spec.specs.State.{object_at, initial_state}
-use Rattle.sim_spec.specs.Horizon.{least_stamp}
+use Rattle.key_order.specs.Stamps.{least_stamp}
 use Rattle.sim_spec.specs.Cut.{records_of, emissions_of}
 use Rattle.sim_spec.specs.Replay.{replay_fired, replay, events_at}
 use Rattle.sim_spec.proofs.CycleSummary.{key_at, told_at}
 use Rattle.sim_spec.proofs.NetworkEffects.{take_part, wait_part, done_part, leave_part, finish_effect, arrival_effect, station_effect, sink_effect, strict_station}
-use Rattle.world_spec.specs.Early.{is_due, is_before_all, leading}
+use Rattle.key_order.specs.Due.{is_due}
+use Rattle.world_spec.specs.Early.{is_before_all, leading}
 use Rattle.world_spec.specs.Share.{Share, log_of}
 use Rattle.world_spec.specs.Moves.{received, received_ahead, committed, committed_ahead, due_count}
 

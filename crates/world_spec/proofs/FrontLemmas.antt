@@ -9,13 +9,14 @@ use Rattle.std.specs.Prelude.{Contains, IsPermutation}
 use Rattle.event_key.proofs.Order.{key_lt-trans}
 use Rattle.event_key.specs.Keys.{key_lt}
 use Rattle.model_core.specs.declared.event.Event.{Event}
-use Rattle.sim_spec.specs.Pending.{IsAscending, enqueue, enqueue_all}
+use Rattle.key_order.specs.Ascending.{IsAscending}
+use Rattle.key_order.specs.Pending.{enqueue, enqueue_all}
 use Rattle.sim_spec.specs.Replay.{events_at}
-use Rattle.sim_spec.proofs.AscendingLemmas.{AllAfter-each, key_lt-turned}
-use Rattle.sim_spec.proofs.EachLemmas.{Each-map}
-use Rattle.sim_spec.proofs.EnqueueLemmas.{length-enqueue}
+use Rattle.key_order.proofs.AscendingLemmas.{AllAfter-each, key_lt-turned}
+use Rattle.key_order.proofs.EachLemmas.{Each-map}
+use Rattle.key_order.proofs.EnqueueLemmas.{length-enqueue}
 use Rattle.world_spec.specs.Early.{is_before_all, leading}
-use Rattle.world_spec.proofs.MemberLemmas.{each-contains, first-or-later, is-first, is-later}
+use Rattle.key_order.proofs.MemberLemmas.{each-contains, first-or-later, is-first, is-later}
 
 -- those at the front are some of all, and each of them passes
 pub leading-le : (p : Event → Bool) (es : List Event) → leading p es ≤ length es

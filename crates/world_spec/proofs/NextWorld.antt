@@ -10,23 +10,24 @@ use Rattle.model_core.specs.Meaning.{Meaning, MeaningLaws}
 use Rattle.model_core.specs.declared.event.Event.{Event}
 use Rattle.sim_spec.specs.Cut.{after, committed_events, emissions_of, events_of, objects_after, state_with_done}
 use Rattle.sim_spec.specs.Firing.{Firing}
-use Rattle.sim_spec.specs.Pending.{IsAscending}
+use Rattle.key_order.specs.Ascending.{IsAscending}
 use Rattle.sim_spec.specs.Replay.{Replay, done_at, events_at, replay}
 use Rattle.sim_spec.specs.State.{Lawful, State, object_at}
 use Rattle.sim_spec.specs.declared.terms.Terms.{Terms}
-use Rattle.sim_spec.proofs.AscendingLemmas.{IsAscending-filter}
+use Rattle.key_order.proofs.AscendingLemmas.{IsAscending-filter}
 use Rattle.sim_spec.proofs.BucketLaw.{bucket_law}
-use Rattle.sim_spec.proofs.EachLemmas.{Each-both, Each-drop, Each-filter, Each-front, Each-take}
+use Rattle.key_order.proofs.EachLemmas.{Each-both, Each-drop, Each-filter, Each-front, Each-take}
 use Rattle.sim_spec.proofs.PartLemmas.{AllSound-dest, Each-events_at, events_at-append, events_at-events_of, length-events_of}
 use Rattle.sim_spec.proofs.ReplayLemmas.{replay-fault, replay_after}
 use Rattle.world_spec.specs.Closed.{cut_key}
-use Rattle.world_spec.specs.Early.{IsClosed, RunsAhead, is_due, kept}
+use Rattle.world_spec.specs.Early.{IsClosed, RunsAhead, kept}
+use Rattle.key_order.specs.Due.{is_due}
 use Rattle.world_spec.specs.Moves.{IsCommit, IsDueDone, committed, committed_ahead}
 use Rattle.world_spec.specs.Parcels.{IsHandedOut, done_of, parcels}
 use Rattle.world_spec.specs.Share.{IsAtHome, NodeData, Share, StandsFor, is_at}
 use Rattle.world_spec.specs.World.{IsMadeFor, Setting, WorldData, WorldIsClosed, WorldStands}
 use Rattle.world_spec.specs.WorldLaws.{EndsCycle, IsCycle, WorldLaw, next_share}
-use Rattle.world_spec.proofs.AscendsLemmas.{IsAscending-front}
+use Rattle.key_order.proofs.AscendsLemmas.{IsAscending-front}
 use Rattle.world_spec.proofs.ClosedFacts.{left_of}
 use Rattle.world_spec.proofs.ClosedLaw.{committed_processed, cycle_law, due_parts, pending_is}
 use Rattle.world_spec.proofs.CommitLaw.{commit_law}

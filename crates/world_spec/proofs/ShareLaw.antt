@@ -10,25 +10,27 @@ use Rattle.model_core.specs.Meaning.{Meaning, MeaningLaws}
 use Rattle.model_core.specs.declared.event.Event.{Event}
 use Rattle.sim_spec.specs.Cut.{after, committed_events, emissions_of, events_of, objects_after, state_with_done}
 use Rattle.sim_spec.specs.Firing.{Firing}
-use Rattle.sim_spec.specs.Pending.{IsAscending, enqueue_all}
+use Rattle.key_order.specs.Ascending.{IsAscending}
+use Rattle.key_order.specs.Pending.{enqueue_all}
 use Rattle.sim_spec.specs.Replay.{Replay, done_at, events_at, replay}
 use Rattle.sim_spec.specs.State.{Lawful, State, object_at}
 use Rattle.sim_spec.specs.declared.terms.Terms.{Terms}
-use Rattle.sim_spec.proofs.AscendingLemmas.{IsAscending-filter, IsAscending-without_all}
+use Rattle.key_order.proofs.AscendingLemmas.{IsAscending-filter, IsAscending-without_all}
 use Rattle.sim_spec.proofs.BucketLaw.{bucket_law}
-use Rattle.sim_spec.proofs.EachLemmas.{Each-filter, Each-map}
+use Rattle.key_order.proofs.EachLemmas.{Each-filter, Each-map}
 use Rattle.sim_spec.proofs.InTurnLemmas.{drop-front}
 use Rattle.sim_spec.proofs.ObjectReplay.{in-turn-replay}
 use Rattle.sim_spec.proofs.PartLemmas.{Each-events_at, events_at-append, events_at-events_of, length-events_of}
-use Rattle.sim_spec.proofs.ShareLemmas.{filter-enqueue_all}
+use Rattle.key_order.proofs.ShareLemmas.{filter-enqueue_all}
 use Rattle.world_spec.specs.Closed.{cut_key}
-use Rattle.world_spec.specs.Early.{IsClosed, RunsAhead, is_before_all, is_due, kept, leading}
+use Rattle.world_spec.specs.Early.{IsClosed, RunsAhead, is_before_all, kept, leading}
+use Rattle.key_order.specs.Due.{is_due}
 use Rattle.world_spec.specs.Moves.{committed, committed_ahead, due_count, received, received_ahead}
 use Rattle.world_spec.specs.Share.{IsHome, IsShareOf, Share, ahead_events, is_at, log_of}
-use Rattle.world_spec.proofs.ArrivalLemmas.{arrival}
+use Rattle.key_order.proofs.ArrivalLemmas.{arrival}
 use Rattle.world_spec.proofs.ClosedFacts.{left_of}
 use Rattle.world_spec.proofs.ClosedLaw.{committed_processed, due_parts, pending_is}
-use Rattle.world_spec.proofs.FilterLemmas.{filter-all, filter-none}
+use Rattle.key_order.proofs.FilterLemmas.{filter-all, filter-none}
 use Rattle.world_spec.proofs.FrontLemmas.{before-permutation, leading-same}
 use Rattle.world_spec.proofs.HomeLemmas.{at-home}
 use Rattle.world_spec.proofs.ProcessedLemmas.{IsProcessed, further-is, further_events}

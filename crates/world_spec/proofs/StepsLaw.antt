@@ -11,19 +11,18 @@ use Rattle.event_key.specs.declared.key.Key.{Key}
 use Rattle.model_core.specs.Meaning.{Meaning}
 use Rattle.model_core.specs.declared.event.Event.{Event}
 use Rattle.sim_spec.specs.Firing.{ObjectState, fails, fire, goes}
-use Rattle.sim_spec.specs.Pending.{IsAscending}
-use Rattle.sim_spec.specs.Replay.{Replay, events_at, replay, replay_fired}
+use Rattle.key_order.specs.Ascending.{IsAscending}
+use Rattle.sim_spec.specs.Replay.{Replay, events_at, replay, replay_fired, taken}
 use Rattle.sim_spec.specs.Run.{next}
 use Rattle.sim_spec.specs.declared.terms.Terms.{Terms}
-use Rattle.sim_spec.proofs.AscendingLemmas.{ascending-before}
-use Rattle.sim_spec.proofs.EachLemmas.{Each-append}
+use Rattle.key_order.proofs.AscendingLemmas.{ascending-before}
+use Rattle.key_order.proofs.EachLemmas.{Each-append}
 use Rattle.sim_spec.proofs.PartLemmas.{IsAscending-events_at, events_at-first}
 use Rattle.sim_spec.proofs.ReplayLemmas.{replay-append, replay-fault, replay_after}
-use Rattle.world_spec.specs.Early.{taken}
 use Rattle.world_spec.specs.Moves.{IsStep, Steps, one_more, raised}
 use Rattle.world_spec.specs.NodeLaws.{AdvanceLaw, StepsLaw}
 use Rattle.world_spec.specs.Share.{IsAhead, IsAtHome, IsHome, NodeData, Share, StandsFor, log_of}
-use Rattle.world_spec.proofs.TakenLemmas.{taken-whole}
+use Rattle.sim_spec.proofs.TakenLemmas.{taken-whole}
 
 -- the first event that is not taken
 pub next-of : (n : ℕ) (xs : List Event) (e : Event) (ys : List Event) → drop n xs ≡ e ∷ ys → (take (suc n) xs ≡ take n xs ++ (e ∷ [])) × (drop (suc n) xs ≡ ys) × (xs ≡ take n xs ++ (e ∷ ys))

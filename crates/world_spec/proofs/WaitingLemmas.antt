@@ -7,9 +7,9 @@ use Rattle.event_key.specs.Keys.{key_lt}
 use Rattle.model_core.specs.declared.event.Event.{Event}
 use Rattle.model_core.specs.Meaning.{Meaning}
 use Rattle.sim_spec.specs.declared.terms.Terms.{Terms}
-use Rattle.sim_spec.specs.Pending.{IsAscending}
+use Rattle.key_order.specs.Ascending.{IsAscending}
 use Rattle.sim_spec.specs.Replay.{events_at}
-use Rattle.sim_spec.proofs.AscendingLemmas.{AllAfter-each, each-AllAfter}
+use Rattle.key_order.proofs.AscendingLemmas.{AllAfter-each, each-AllAfter}
 use Rattle.world_spec.specs.Share.{Share, IsHome, IsAtHome, IsAhead, NodeData, StandsFor, log_of}
 
 -- one less at this object

@@ -7,12 +7,12 @@ use Rattle.event_key.specs.declared.key.Key.{Key}
 use Rattle.model_core.specs.Meaning.{Meaning}
 use Rattle.model_core.specs.declared.event.Event.{Event}
 use Rattle.sim_spec.specs.Cut.{emissions_of}
-use Rattle.sim_spec.specs.Replay.{EmitsFrom, Replay, early_replay, events_at, replay}
+use Rattle.sim_spec.specs.Replay.{EmitsFrom, Replay, early_replay, events_at, replay, taken}
 use Rattle.sim_spec.specs.State.{State}
 use Rattle.sim_spec.specs.declared.terms.Terms.{Terms}
-use Rattle.sim_spec.proofs.EachLemmas.{Each-map}
+use Rattle.key_order.proofs.EachLemmas.{Each-map}
 use Rattle.sim_spec.proofs.PartLemmas.{Each-events_at}
-use Rattle.world_spec.specs.Early.{IsClosed, IsPastFault, RunsAhead, taken}
+use Rattle.world_spec.specs.Early.{IsClosed, IsPastFault, RunsAhead}
 use Rattle.world_spec.specs.Moves.{IsPastFaultOf}
 use Rattle.world_spec.specs.Share.{IsHome, IsShareOf, Share, log_of}
 use Rattle.world_spec.specs.World.{WorldData, WorldIsClosed, WorldStands}

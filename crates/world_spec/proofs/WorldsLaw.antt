@@ -11,8 +11,8 @@ use Rattle.sim_spec.specs.declared.placement.Placement.TheVariants.{Round, Block
 use Rattle.sim_spec.specs.declared.terms.Terms.{Terms}
 use Rattle.world_spec.specs.World.{PlacementLaw}
 use Rattle.sim_spec.specs.State.{State, object_at}
-use Rattle.sim_spec.proofs.AscendingLemmas.{IsAscending-filter}
-use Rattle.world_spec.specs.Early.{taken}
+use Rattle.key_order.proofs.AscendingLemmas.{IsAscending-filter}
+use Rattle.sim_spec.specs.Replay.{taken}
 use Rattle.world_spec.specs.Share.{Share, IsHome, is_at, IsShareOf, IsAhead}
 use Rattle.world_spec.specs.WorldLaws.{WorldsLaw}
 use Rattle.world_spec.proofs.NextWorld.{share-homed}

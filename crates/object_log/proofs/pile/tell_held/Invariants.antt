@@ -1,6 +1,6 @@
 use Rattle.std.proofs.Common.{◌≡◌, length, take}
 use Rattle.event_key.specs.declared.stamp.TheConstants.{NO_STAMP}
-use Rattle.sim_spec.specs.Horizon.{least_stamp}
+use Rattle.key_order.specs.Stamps.{least_stamp}
 use Rattle.object_log.specs.Logs.{held_of}
 use Rattle.object_log.specs.Rows.{TellHeld}
 use Rattle.object_log.proofs.PileLemmas.{dones}

@@ -1,7 +1,7 @@
 -- The new one knows the least of all.
 use Rattle.std.proofs.Common.{◌≡◌, sym, ap, ◌∙◌, subst}
 use Rattle.event_key.specs.declared.stamp.TheConstants.{NO_STAMP}
-use Rattle.sim_spec.specs.Horizon.{least_stamp}
+use Rattle.key_order.specs.Stamps.{least_stamp}
 use Rattle.object_log.specs.Logs.{held_of}
 use Rattle.object_log.specs.Rows.{PileView, TellHeld, HaveTold, dones_of}
 use Rattle.object_log.proofs.PileLemmas.{least-top, told-push}

@@ -6,9 +6,10 @@ use Rattle.event_key.specs.declared.key.Key.{Key}
 use Rattle.event_key.specs.Keys.{key_lt}
 use Rattle.event_key.proofs.Order.{key_lt-trans}
 use Rattle.model_core.specs.declared.event.Event.{Event}
-use Rattle.sim_spec.specs.Pending.{enqueue, enqueue_all, AllAfter, IsAscending}
-use Rattle.sim_spec.proofs.AscendingLemmas.{AllAfter-each, each-AllAfter, IsAscending-without_all}
-use Rattle.sim_spec.proofs.EachLemmas.{Each-filter, Each-map}
+use Rattle.key_order.specs.Pending.{enqueue, enqueue_all}
+use Rattle.key_order.specs.Ascending.{AllAfter, IsAscending}
+use Rattle.key_order.proofs.AscendingLemmas.{AllAfter-each, each-AllAfter, IsAscending-without_all}
+use Rattle.key_order.proofs.EachLemmas.{Each-filter, Each-map}
 
 enqueue-front : (e : Event) (xs : List Event) → AllAfter e.key xs → enqueue e xs ≡ e ∷ xs
 unfolding AllAfter enqueue

@@ -4,7 +4,9 @@ use Rattle.event_key.specs.declared.key.Key.{Key}
 use Rattle.event_key.specs.Keys.{key_lt}
 use Rattle.event_key.proofs.Order.{key_lt-trans, key_lt-apart}
 use Rattle.model_core.specs.declared.event.Event.{Event}
-use Rattle.sim_spec.specs.Pending.{enqueue, enqueue_all, AllAfter, IsAscending, NoneAt}
+use Rattle.key_order.specs.Pending.{enqueue, enqueue_all}
+use Rattle.key_order.specs.Ascending.{AllAfter, IsAscending}
+use Rattle.key_order.specs.Keys.{NoneAt}
 
 AllAfter-trans : (j k : Key) (xs : List Event) → key_lt j k ≡ true → AllAfter k xs → AllAfter j xs
 unfolding AllAfter

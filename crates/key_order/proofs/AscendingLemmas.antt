@@ -6,9 +6,10 @@ use Rattle.event_key.specs.declared.key.Key.{Key}
 use Rattle.event_key.specs.Keys.{key_lt}
 use Rattle.event_key.proofs.Order.{key_lt-irrefl, key_lt-trans}
 use Rattle.model_core.specs.declared.event.Event.{Event}
-use Rattle.sim_spec.specs.Pending.{enqueue, enqueue_all, AllAfter, IsAscending}
-use Rattle.sim_spec.proofs.PendingLemmas.{false_from}
-use Rattle.sim_spec.proofs.EachLemmas.{Each-map, Each-back, Each-filter, Each-take}
+use Rattle.key_order.specs.Pending.{enqueue, enqueue_all}
+use Rattle.key_order.specs.Ascending.{AllAfter, IsAscending}
+use Rattle.key_order.proofs.PendingLemmas.{false_from}
+use Rattle.key_order.proofs.EachLemmas.{Each-map, Each-back, Each-filter, Each-take}
 
 -- of two keys that come one after the other, the second isn't the first
 pub key_lt-turned : (a b : Key) → key_lt a b ≡ true → key_lt b a ≡ false

@@ -3,7 +3,7 @@ use Rattle.std.proofs.Common.{◌≡◌, ◌<◌, Bool, true, false, cond, List,
 use Rattle.event_key.specs.Keys.{key_lt}
 use Rattle.event_key.proofs.Order.{stamp-le}
 use Rattle.model_core.specs.declared.event.Event.{Event}
-use Rattle.sim_spec.specs.Pending.{enqueue, enqueue_all}
+use Rattle.key_order.specs.Pending.{enqueue, enqueue_all}
 
 -- a test that is not true is false
 pub false_from : (b : Bool) → (b ≡ true → ⊥) → b ≡ false

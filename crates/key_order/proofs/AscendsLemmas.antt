@@ -5,11 +5,8 @@ use Rattle.event_key.proofs.Order.{key_lt-irrefl, key_lt-trans}
 use Rattle.event_key.specs.Keys.{key_lt}
 use Rattle.event_key.specs.declared.key.Key.{Key}
 use Rattle.model_core.specs.declared.event.Event.{Event}
-use Rattle.sim_spec.specs.Cut.{events_of}
-use Rattle.sim_spec.specs.Firing.{Firing}
-use Rattle.sim_spec.specs.Pending.{AllAfter, IsAscending}
-use Rattle.world_spec.specs.Answer.{After, Ascends}
-use Rattle.world_spec.proofs.MemberLemmas.{filter-contains, first-or-later, is-first, is-later, none-in}
+use Rattle.key_order.specs.Ascending.{AllAfter, IsAscending, After, Ascends}
+use Rattle.key_order.proofs.MemberLemmas.{filter-contains, first-or-later, is-first, is-later, none-in}
 
 module _ {X : Type 0} (key : X → Key) where
   After-trans : (j k : Key) (xs : List X) → key_lt j k ≡ true → After key k xs → After key j xs
@@ -137,9 +134,6 @@ pub Ascends-events : (es : List Event) → IsAscending es → Ascends (λ (e : E
 unfolding IsAscending Ascends
 Ascends-events [] up = tt
 Ascends-events (e ∷ es) up = (after_events e.key es up.0, Ascends-events es up.1)
-
-pub Ascends-done : (ds : List (Event × Firing)) → IsAscending (events_of ds) → Ascends (λ (d : Event × Firing). d.0.key) ds
-Ascends-done ds up = Ascends-mapped (λ (e : Event). e.key) (λ (d : Event × Firing). d.0) ds (Ascends-events (events_of ds) up)
 
 -- the first part of an ascending list
 all_front : (k : Key) (xs ys : List Event) → AllAfter k (xs ++ ys) → AllAfter k xs

@@ -8,9 +8,11 @@ use Rattle.event_key.proofs.Order.{key_lt-apart, key_lt-irrefl}
 use Rattle.event_key.specs.Keys.{key_lt}
 use Rattle.event_key.specs.declared.key.Key.{Key}
 use Rattle.model_core.specs.declared.event.Event.{Event}
-use Rattle.sim_spec.specs.Pending.{AllAfter, IsAscending, NoneAt, enqueue, enqueue_all}
-use Rattle.sim_spec.proofs.EnqueueLemmas.{IsAscending-enqueue}
-use Rattle.sim_spec.proofs.OrderLemmas.{ascending_permutation}
+use Rattle.key_order.specs.Ascending.{AllAfter, IsAscending}
+use Rattle.key_order.specs.Keys.{NoneAt}
+use Rattle.key_order.specs.Pending.{enqueue, enqueue_all}
+use Rattle.key_order.proofs.EnqueueLemmas.{IsAscending-enqueue}
+use Rattle.key_order.proofs.OrderLemmas.{ascending_permutation}
 
 abbrev pub unless : Bool → Bool → ℕ
 unless a b = cond (a || b) 0 1

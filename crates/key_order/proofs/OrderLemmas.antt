@@ -6,7 +6,7 @@ use Rattle.event_key.specs.declared.key.Key.{Key}
 use Rattle.event_key.specs.Keys.{key_lt}
 use Rattle.event_key.proofs.Order.{key_lt-irrefl, key_lt-trans}
 use Rattle.model_core.specs.declared.event.Event.{Event}
-use Rattle.sim_spec.specs.Pending.{AllAfter, IsAscending}
+use Rattle.key_order.specs.Ascending.{AllAfter, IsAscending}
 
 -- an element is the first one, or one behind it
 first_or_later : (x y : Event) (ys : List Event) → Contains (y ∷ ys) x → (y ≡ x) ⊎ Contains ys x

@@ -1,0 +1,17 @@
+pub mod ArrivalLemmas
+pub mod AscendingLemmas
+pub mod AscendsLemmas
+pub mod Counting
+pub mod DueLemmas
+pub mod EachLemmas
+pub mod EnqueueLemmas
+pub mod FilterLemmas
+pub mod InOrder
+pub mod LeastLemmas
+pub mod MemberLemmas
+pub mod OrderLemmas
+pub mod PendingLemmas
+pub mod SerialLemmas
+pub mod ShareLemmas
+pub mod Sorting
+pub mod StampLemmas
