@@ -1,6 +1,7 @@
 -- What is due leaves a log, one event after another.
-use Rattle.std.proofs.Common.{◌≡◌, ℕ, ◌+◌, ◌<◌, ◌^◌, true, false, List, [], ◌∷◌, ◌++◌, length, refl, sym, ap, ◌∙◌, subst, arith, append_assoc, length-append}
+use Rattle.std.proofs.Common.{◌≡◌, ℕ, ◌+◌, ◌<◌, ◌^◌, Bool, true, false, cond, List, [], ◌∷◌, ◌++◌, length, refl, sym, ap, ◌∙◌, subst, arith, append_assoc, length-append}
 use Rattle.std.proofs.lemmas.List.{append-nil}
+use Rattle.std.proofs.lemmas.List.Elements.{filter-append}
 use Rattle.std.specs.List.{AllByRecursion as Each}
 use Rattle.std.specs.Prelude.{Option}
 use Rattle.event_key.specs.declared.key.Key.{Key}
@@ -9,6 +10,7 @@ use Rattle.sim_spec.specs.Firing.{ObjectState}
 use Rattle.key_order.specs.Ascending.{IsAscending}
 use Rattle.key_order.proofs.EachLemmas.{Each-append}
 use Rattle.key_order.specs.Due.{is_due}
+use Rattle.key_order.proofs.FilterLemmas.{filter-all}
 use Rattle.object_log.specs.declared.done.Done.{Done}
 use Rattle.object_log.specs.Logs.{LogView, events_of}
 use Rattle.object_log.specs.Parts.{due_of, left_of, oldest_is_due}
@@ -56,11 +58,22 @@ unfolding oldest_is_due
 some_oldest horizon cut [] due = absurd (cc)
 some_oldest horizon cut (d ∷ ds) due = omega arith
 
+some_due : (horizon : ℕ) (cut : Option Key) (ds : List Done) → oldest_is_due horizon cut ds ≡ true → 0 < length (due_of horizon cut ds)
+unfolding oldest_is_due
+some_due horizon cut [] due = absurd (cc)
+some_due horizon cut (d ∷ ds) due =
+    let P : Bool → Type 0 = λ b. 0 < length (cond b (d ∷ due_of horizon cut ds) (due_of horizon cut ds)) in
+    subst P (sym due) (omega arith)
+
 pub commit-room : (old : LogView) (first : List Done) (horizon : ℕ) (cut : Option Key) (now : LogView) (into : List Done) → IsCommitted old first horizon cut now into
-    → length first + length old.done < 2 ^ 60 → oldest_is_due horizon cut now.done ≡ true → (0 < length now.done) × (length into + 1 < 2 ^ 60)
+    → length first + length (due_of horizon cut old.done) < 2 ^ 60 → oldest_is_due horizon cut now.done ≡ true → (0 < length now.done) × (length into + 1 < 2 ^ 60)
 commit-room old first horizon cut now into so_far few due =
     let some = some_oldest horizon cut now.done due in
-    let long = ap length so_far.split ∙ length-append so_far.gone now.done in
+    let due_rest = some_due horizon cut now.done due in
+    let due_all = filter-append (λ d. is_due horizon cut d.event.key) so_far.gone now.done in
+    let due_gone = filter-all (λ d. is_due horizon cut d.event.key) so_far.gone so_far.due in
+    let parts = ap (due_of horizon cut) so_far.split ∙ due_all ∙ ap (λ ds. ds ++ due_of horizon cut now.done) due_gone in
+    let long = ap length parts ∙ length-append so_far.gone (due_of horizon cut now.done) in
     let taken = ap length so_far.into_is ∙ length-append first so_far.gone in
     (some, omega arith)
 
@@ -89,3 +102,12 @@ commit-replay m old first horizon cut now into so_far is_log =
     let Q : ObjectState → Type 0 = λ s. IsReplayed m old.object s now.done in
     let R : ℕ → Type 0 = λ o. IsReplayed m o now.state now.done in
     subst R (sym so_far.object) (subst Q (sym so_far.state) back)
+
+-- so it is once its oldest event is committed
+pub rest-replay : (m : Meaning) (old now : LogView) (d : Done) → old.done ≡ d ∷ now.done → now.state ≡ old.state → now.object ≡ old.object → IsLogOf m old → IsLogOf m now
+rest-replay m old now d split state object is_log =
+    let P : List Done → Type 0 = IsReplayed m old.object old.state in
+    let back = replayed-back m old.object old.state (d ∷ []) now.done (subst P split is_log) in
+    let Q : ObjectState → Type 0 = λ s. IsReplayed m old.object s now.done in
+    let R : ℕ → Type 0 = λ o. IsReplayed m o now.state now.done in
+    subst R (sym object) (subst Q (sym state) back)

@@ -14,14 +14,18 @@ ghost use Rattle.object_log.specs.declared.done.Done.{Done};
 ghost use Rattle.object_log.specs.Logs.{LogView, before, undone, events_of, keys_of, held_of, fault_of};
 ghost use Rattle.object_log.specs.Parts.{before_key, from_key, due_of, left_of, newest_is_from, oldest_is_due};
 ghost use Rattle.object_log.specs.Replays.{IsLogOf, IsOneMore, replay_of};
+ghost use Rattle.object_log.specs.Steps.{IsWithoutNewest};
 
 use crate::done::{Done, Verdict};
 use crate::entries::Entries;
-use crate::firing::{Kept, go, prepare, recycle_all};
-use event_chain::{Cell, CellPool, Chain};
+use crate::firing::{Kept, changes_of, go, make_room};
+use crate::pool::LogPool;
+use event_chain::{Cell, Chain};
+use event_firing::settle;
 use event_key::{Key, NO_STAMP};
 use model_core::model::{Model as SimulationModel, keeps_laws};
-use model_core::{Cells, Event, OutOfMemory, Outcome};
+use model_core::{Cells, Effect, Ending, Event, OutOfMemory};
+use random_streams::Stream;
 use std::alloc::Global;
 use std::marker::Model;
 
@@ -33,6 +37,8 @@ pub struct ObjectLog {
     cells: Cells,
     sent: u64,
     processed: Entries,
+    // the random words at hand, kept from one event to the next
+    words: Stream,
 }
 
 impl Model for ObjectLog {
@@ -63,6 +69,7 @@ impl ObjectLog {
             cells,
             sent,
             processed: Entries::new(),
+            words: Stream::new(0, object, 0),
         }
     }
 
@@ -87,13 +94,19 @@ impl ObjectLog {
         self.sent
     }
 
-    /// How many processed events there are.
-    pub fn len(&self) -> usize
-        ensures value { result ≡ length self.now.done }
+    /// What is true of each log: its events are in the order of their keys, and a replay of them takes them all.
+    pub fn tells(&self)
         ensures ordered { IsAscending (events_of self.now.done) }
         ensures whole { taken (replay_of self.now.state self.now.done) ≡ length self.now.done }
+        ensures few { length self.now.done < 2 ^ 60 }
     {
         let _ = &self.sent;
+    }
+
+    /// How many processed events there are.
+    pub fn len(&self) -> usize
+        ensures { result ≡ length self.now.done }
+    {
         self.processed.len()
     }
 
@@ -105,7 +118,7 @@ impl ObjectLog {
         self.processed.at(place).event.get().key
     }
 
-    /// The least stamp of the messages that it holds, or `NO_STAMP`, in time linear in how many events are processed.
+    /// The least stamp of the messages that it holds, or `NO_STAMP`, in constant time.
     pub fn held_least(&self) -> u64
         ensures { result ≡ least_stamp NO_STAMP (held_of self.now.done) }
     {
@@ -127,13 +140,14 @@ impl ObjectLog {
         }
     }
 
-    /// Fires an event and keeps what takes it back. Answers the least stamp that it sends, or `NO_STAMP`. Where no
-    /// memory is left, the event comes back.
+    /// Fires an event and keeps what takes it back. Answers the least stamp that it sends, or `NO_STAMP`. The sheet is
+    /// written over. Memory is taken only for what the pool lacks; where none is left, the event comes back.
     pub fn process<M: SimulationModel>(
         &mut self,
         alloc: Global,
         model: &M,
-        pool: &mut CellPool<Event>,
+        sheet: &mut Effect,
+        pool: &mut LogPool,
         event: Cell<Event>,
     ) -> Result<u64, (OutOfMemory, Cell<Event>)>
         requires object { self.old.object < (M.meaning model.now).objects }
@@ -150,52 +164,42 @@ impl ObjectLog {
         ensures lawful { OnOk result (IsTrue ((M.meaning model.now).lawful self.new.object self.new.state.cells)) }
         ensures err { OnErr result (self.new ≡ self.old) }
         ensures back { IfErr result (λ refused. refused.1 ≡ event) }
-        ensures spare { pool.old + self.old.state.sent ≤ pool.new + self.new.state.sent }
+        ensures spare { pool.old.events + self.old.state.sent ≤ pool.new.events + self.new.state.sent }
+        ensures entries { pool.old.entries + length self.old.done ≤ pool.new.entries + length self.new.done }
     {
         keeps_laws(model);
-        let prepared = prepare(
-            alloc,
-            model,
-            self.object,
-            &mut self.cells,
-            &mut self.processed,
-            pool,
-            event.get(),
-        );
-        match prepared {
-            Err(refusal) => Err((refusal, event)),
-            Ok(Outcome::Fails(code)) => {
+        let Ok(ending) = settle(model, &mut self.words, &self.cells, event.get(), sheet) else {
+            return Err((OutOfMemory, event));
+        };
+        let changes = changes_of(&ending, sheet);
+        let room = make_room(alloc, &mut self.cells, &mut self.processed, pool, changes);
+        let Ok(undo) = room else {
+            return Err((OutOfMemory, event));
+        };
+        match ending {
+            Ending::Fails(code) => {
                 let done = Done {
                     event,
-                    undo: Vec::new(alloc),
+                    undo,
                     sends: Chain::new(),
                     verdict: Verdict::Failed(code),
                 };
-                self.processed.push(done, NO_STAMP);
+                self.processed.push(pool.enter(done), NO_STAMP);
                 Ok(NO_STAMP)
             }
-            Ok(Outcome::Goes(effect)) => {
-                let Ok(undo) = effect.changes.as_slice().to_vec(alloc) else {
-                    return Err((OutOfMemory, event));
-                };
-                let Kept { done, least } = go(
-                    &mut self.cells,
-                    self.sent,
-                    pool,
-                    event,
-                    undo,
-                    effect,
-                );
+            Ending::Goes => {
+                let Kept { done, least } =
+                    go(&mut self.cells, self.sent, pool, event, undo, sheet);
                 self.sent += done.sends.len() as u64;
-                self.processed.push(done, least);
+                self.processed.push(pool.enter(done), least);
                 Ok(least)
             }
         }
     }
 
     /// Undoes each processed event whose key isn't below `key`, the newest first, and puts them into `into` in the order
-    /// of their keys. Answers how many there were. The cells of what they hold go to the pool.
-    pub fn back_to(&mut self, key: Key, pool: &mut CellPool<Event>, into: &mut Chain<Event>) -> u64
+    /// of their keys. Answers how many there were. What else they leave goes to the pool.
+    pub fn back_to(&mut self, key: Key, pool: &mut LogPool, into: &mut Chain<Event>) -> u64
         requires { into.old ≡ [] }
         ensures left { self.new.done ≡ before_key key self.old.done }
         ensures parts { self.old.done ≡ before_key key self.old.done ++ from_key key self.old.done }
@@ -203,51 +207,63 @@ impl ObjectLog {
         ensures object { self.new.object ≡ self.old.object }
         ensures events { into.new ≡ events_of (from_key key self.old.done) }
         ensures count { result ≡ length (from_key key self.old.done) }
-        ensures spare { pool.new ≡ min (pool.old + length (held_of (from_key key self.old.done))) (2 ^ 60) }
+        ensures spare { pool.new.events ≡ min (pool.old.events + length (held_of (from_key key self.old.done))) (2 ^ 60) }
+        ensures entries { pool.new.entries ≡ min (pool.old.entries + length (from_key key self.old.done)) (2 ^ 60) }
         ensures base { undone self.new.state self.new.done ≡ undone self.old.state self.old.done }
         ensures replay { (m : Meaning) → IsLogOf m self.old → IsLogOf m self.new }
     {
         let _ = &self.sent;
-        prove!(pool.spare() <= 1 << 60);
+        prove!(pool.events() <= 1 << 60);
+        prove!(pool.entries() <= 1 << 60);
         let mut count = 0;
-        while self.newest_is_from(&key) {
+        while self.is_past(&key) {
             into.push_front(self.undo_newest(pool));
             count += 1;
         }
         count
     }
 
-    /// Whether the newest processed event doesn't come before a key.
-    fn newest_is_from(&self, key: &Key) -> bool
+    /// Whether the newest processed event doesn't come before a key, in constant time.
+    pub fn is_past(&self, key: &Key) -> bool
         ensures { result ≡ newest_is_from key.now self.now.done }
     {
         let len = self.processed.len();
         len > 0 && !self.processed.at(len - 1).event.get().key.is_before(key)
     }
 
-    /// Undoes the newest processed event.
-    fn undo_newest(&mut self, pool: &mut CellPool<Event>) -> Cell<Event>
+    /// Undoes the newest processed event. What else it leaves goes to the pool.
+    pub fn undo_one(&mut self, pool: &mut LogPool) -> Cell<Event>
         requires { 0 < length self.old.done }
-        ensures { (d : Done) × (self.old.done ≡ self.new.done ++ d ∷ []) × (self.new.state ≡ before self.old.state d)
-            × (self.new.object ≡ self.old.object) × (result ≡ d.event) × (pool.new ≡ min (pool.old + length d.sends) (2 ^ 60)) }
+        ensures newest { (d : Done) × (self.old.done ≡ self.new.done ++ d ∷ []) × (self.new.state ≡ before self.old.state d) × (result ≡ d.event) }
+        ensures object { self.new.object ≡ self.old.object }
+        ensures base { undone self.new.state self.new.done ≡ undone self.old.state self.old.done }
+        ensures replay { (m : Meaning) → IsLogOf m self.old → IsLogOf m self.new }
+    {
+        self.undo_newest(pool)
+    }
+
+    /// Undoes the newest processed event.
+    fn undo_newest(&mut self, pool: &mut LogPool) -> Cell<Event>
+        requires { 0 < length self.old.done }
+        ensures { IsWithoutNewest self.old self.new result pool.old pool.new }
     {
         let Done {
             event,
             mut undo,
             sends,
             verdict: _,
-        } = self.processed.pop_newest();
+        } = pool.take_out(self.processed.pop_newest());
         self.cells.undo(undo.as_mut_slice());
         self.sent -= sends.len() as u64;
-        recycle_all(pool, sends);
+        pool.keep(undo, sends);
         event
     }
 
     /// Moves each processed event that is due to the back of `into`, the oldest first: its stamp is below the horizon,
-    /// and its key is below the cut where there is one.
+    /// and its key is below the cut where there is one. `LogPool::release` takes them apart.
     pub fn commit_front(&mut self, horizon: u64, cut: Option<Key>, into: &mut Chain<Done>)
         requires went { fault_of (due_of horizon cut self.old.done) ≡ None }
-        requires room { length into.old + length self.old.done < 2 ^ 60 }
+        requires room { length into.old + length (due_of horizon cut self.old.done) < 2 ^ 60 }
         ensures due { into.new ≡ into.old ++ due_of horizon cut self.old.done }
         ensures left { self.new.done ≡ left_of horizon cut self.old.done }
         ensures parts { self.old.done ≡ due_of horizon cut self.old.done ++ left_of horizon cut self.old.done }
@@ -257,7 +273,7 @@ impl ObjectLog {
     {
         let _ = &self.sent;
         while self.oldest_is_due(horizon, &cut) {
-            into.push_back(self.commit_oldest());
+            into.push_back(self.commit_one());
         }
     }
 
@@ -277,12 +293,13 @@ impl ObjectLog {
             }
     }
 
-    /// Takes the oldest processed event out, which stays done.
-    fn commit_oldest(&mut self) -> Cell<Done>
+    /// Takes the oldest processed event out, which stays done. `LogPool::release` takes it apart.
+    pub fn commit_one(&mut self) -> Cell<Done>
         requires { 0 < length self.old.done }
         ensures done { self.old.done ≡ result ∷ self.new.done }
         ensures state { self.new.state ≡ self.old.state }
         ensures object { self.new.object ≡ self.old.object }
+        ensures replay { (m : Meaning) → IsLogOf m self.old → IsLogOf m self.new }
     {
         self.processed.pop_oldest()
     }
