@@ -86,6 +86,7 @@ impl<M: SimulationModel> Node<M> {
         ensures homes { IfOk result (λ node. node.homes ≡ arc_value homes) }
         ensures new { IfOk result (IsNew (M.meaning (arc_value model))) }
     {
+        keeps_laws(&*model);
         let logs = first_logs(alloc, &*model, number, &homes)?;
         Ok(Node {
             model,
@@ -259,14 +260,14 @@ impl<M: SimulationModel> Node<M> {
         ensures size { length self.now.processed + length self.now.waiting ≡ length (share_of self.now).pending }
         ensures few { length self.now.processed + length self.now.waiting < 2 ^ 60 }
     {
-        let _ = &self.work;
+        self.store.tells();
     }
 
     /// Which keys the processed events have.
     pub fn tells_keys(&self)
         ensures { AreItsKeys (M.meaning self.now.model) self.now }
     {
-        let _ = &self.work;
+        self.store.tells();
     }
 
     /// No object has sent more than eight events for each that it has processed, beside those before.
@@ -274,5 +275,6 @@ impl<M: SimulationModel> Node<M> {
         ensures { (object : ℕ) → (log_at self.now.logs object).state.sent ≤ (base_at self.now.logs object).sent + 8 * ahead_of self.now object }
     {
         keeps_laws(&*self.model);
+        self.store.tells();
     }
 }
