@@ -15,7 +15,7 @@ ghost use Rattle.node_core.specs.Steps.{IsHeldLeast, IsStepOf};
 
 use crate::committed::Committed;
 use crate::homes::Homes;
-use crate::parts::{empty_parcels, first_logs, is_before_fault, lesser, met_after, raised, send_home};
+use crate::parts::{first_logs, is_before_fault, lesser, met_after, raised};
 use crate::step::Step;
 use crate::store::Store;
 use crate::tallies::Tallies;
@@ -23,7 +23,6 @@ use event_chain::Chain;
 use event_key::Key;
 use model_core::model::{Model as SimulationModel, keeps_laws};
 use model_core::{Event, OutOfMemory};
-use object_log::{Done, Verdict};
 use sim_spec::Terms;
 use std::alloc::Global;
 use std::marker::Model;
@@ -233,27 +232,12 @@ impl<M: SimulationModel> Node<M> {
         ensures ok { IfOk result (λ committed. IsCommitted (M.meaning self.old.model) horizon cut self.old self.new committed.done.items committed.out.items) }
         ensures err { OnErr result (self.new ≡ self.old) }
     {
-        let mut done = Vec::with_capacity(alloc, self.store.due(horizon, &cut))?;
-        let mut out = empty_parcels(alloc, self.homes.nodes())?;
-        while let Some(key) = self.store.first_due(horizon, &cut) {
-            let entry = self.store.commit_one(&key);
-            let Done {
-                event,
-                undo: _,
-                sends,
-                verdict,
-            } = entry.into_inner();
-            let Verdict::Noted(note) = verdict else {
-                unreachable!()
-            };
-            self.store.recycle(event);
-            send_home(&self.homes, sends, &mut out);
-            let Ok(()) = done.push((key, note)) else {
-                unreachable!()
-            };
-        }
-        self.committed = self.committed.wrapping_add(done.len() as u64);
-        Ok(Committed { done, out })
+        keeps_laws(&*self.model);
+        self.store.tells();
+        let committed = self.store.commit(alloc, &self.homes, horizon, &cut)?;
+        self.store.tells();
+        self.committed = self.committed.wrapping_add(committed.done.len() as u64);
+        Ok(committed)
     }
 
     /// What it counted, and how many events are processed now.
