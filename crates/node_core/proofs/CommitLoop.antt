@@ -1,14 +1,13 @@
 -- One event after another is committed: those so far are the first ones of their logs.
-use Rattle.std.proofs.Common.{◌≡◌, ◌≢◌, ℕ, ◌+◌, ◌*◌, ◌<◌, ◌≤◌, ◌^◌, Bool, true, false, cond, List, [], ◌∷◌, ◌++◌, length, map, eqb, eq-eqb, ne_eqb, Option, Some, None, refl, sym, ap, ◌∙◌, subst, arith, append_assoc, length-append}
-use Rattle.std.specs.Prelude.{filter, slice_index_or, ◌==◌}
+use Rattle.std.proofs.Common.{◌≡◌, ℕ, ◌+◌, ◌<◌, ◌≤◌, ◌^◌, Bool, true, false, cond, List, [], ◌∷◌, ◌++◌, length, map, eq-eqb, ne_eqb, Option, Some, refl, sym, ap, ◌∙◌, subst, arith, append_assoc, length-append}
+use Rattle.std.specs.Prelude.{filter, slice_index_or}
 use Rattle.std.specs.List.{AllByRecursion as Each}
 use Rattle.std.proofs.lemmas.List.{append-nil, length-map, map-append}
 use Rattle.std.proofs.lemmas.List.Elements.{filter-append}
 use Rattle.event_key.specs.declared.key.Key.{Key}
 use Rattle.model_core.specs.declared.event.Event.{Event}
 use Rattle.model_core.specs.declared.note.Note.{Note}
-use Rattle.model_core.specs.Meaning.{Meaning}
-use Rattle.sim_spec.specs.Cut.{emissions_of, events_of, records_of}
+use Rattle.sim_spec.specs.Cut.{emissions_of, events_of}
 use Rattle.sim_spec.specs.Firing.{Firing, ObjectState}
 use Rattle.sim_spec.specs.Replay.{Replay, done_at}
 use Rattle.sim_spec.proofs.EachLemmas.{Each-append, Each-back}
@@ -16,18 +15,18 @@ use Rattle.sim_spec.proofs.PartLemmas.{done_at-append}
 use Rattle.object_log.specs.declared.done.Done.{Done}
 use Rattle.object_log.specs.declared.done.Verdict.{Verdict}
 use Rattle.object_log.specs.declared.done.Verdict.TheVariants.{Noted, Failed}
-use Rattle.object_log.specs.Logs.{LogView, undone, events_of as log_events}
+use Rattle.object_log.specs.Logs.{LogView, undone}
 use Rattle.object_log.specs.Replays.{IsLogOf, firing_of, replay_of, told}
 use Rattle.world_spec.specs.Early.{is_due}
 use Rattle.world_spec.specs.Share.{is_at}
-use Rattle.node_core.specs.Handed.{AddsOne, AreTaken, CanCommit, HasCommitted, IsFaultLate, IsLogLess, IsNoted, IsTellingOf, told_of, with_front}
+use Rattle.node_core.specs.Handed.{AddsOne, AreTaken, CanCommit, IsFaultLate, IsLogLess, IsNoted, IsTellingOf, told_of, with_front}
 use Rattle.node_core.specs.Homes.{HomesView, home_of}
-use Rattle.node_core.specs.Marks.{MarkView, code_of, fault_or, first_fault, first_mark, mark_of}
+use Rattle.node_core.specs.Marks.{MarkView, code_of, fault_or, first_fault, first_mark}
 use Rattle.node_core.specs.Moves.{IsCommittedAt}
 use Rattle.node_core.specs.Nodes.{IsHere, base_at, log_at}
 use Rattle.node_core.specs.Rows.{keys_of}
 use Rattle.node_core.specs.Stores.{StoreView, IsCommittedIn}
-use Rattle.node_core.proofs.StoreCommits.{here-done}
+use Rattle.node_core.proofs.OldestFacts.{here-done}
 use Rattle.node_core.proofs.StoreLemmas.{by_object, other_log, still_here, was_here, events_of-append}
 
 pub taken-start : (horizon : ℕ) (cut : Option Key) (s : StoreView) → AreTaken horizon cut s s []

@@ -1,5 +1,5 @@
 -- A node whose due events were committed.
-use Rattle.std.proofs.Common.{◌≡◌, ℕ, ◌+◌, ◌*◌, ◌<◌, ◌≤◌, ◌%◌, ◌^◌, Bool, true, false, not, List, [], ◌∷◌, ◌++◌, length, map, take, Option, Some, None, refl, sym, ap, ◌∙◌, subst, arith, length-append}
+use Rattle.std.proofs.Common.{◌≡◌, ℕ, ◌+◌, ◌*◌, ◌<◌, ◌≤◌, ◌%◌, ◌^◌, false, not, List, [], ◌∷◌, ◌++◌, length, map, Option, Some, None, refl, sym, ap, ◌∙◌, subst, arith, length-append}
 use Rattle.std.specs.Prelude.{IsTrue, filter, ◌==◌}
 use Rattle.std.specs.List.{AllByRecursion as Each}
 use Rattle.std.proofs.lemmas.List.{length-map}
@@ -11,23 +11,23 @@ use Rattle.model_core.specs.Meaning.{Meaning, MeaningLaws}
 use Rattle.sim_spec.specs.declared.terms.Terms.{Terms}
 use Rattle.sim_spec.specs.Cut.{events_of}
 use Rattle.sim_spec.specs.Firing.{Firing, ObjectState}
-use Rattle.sim_spec.specs.Replay.{Replay, done_at, events_at, replay}
+use Rattle.sim_spec.specs.Replay.{events_at, replay}
 use Rattle.sim_spec.proofs.EachLemmas.{Each-back, Each-map}
 use Rattle.sim_spec.proofs.PartLemmas.{Each-events_at}
 use Rattle.object_log.specs.declared.done.Done.{Done}
-use Rattle.object_log.specs.Logs.{LogView, undone, events_of as log_events}
+use Rattle.object_log.specs.Logs.{undone, events_of as log_events}
 use Rattle.object_log.specs.Replays.{IsReplayed, replay_of}
 use Rattle.world_spec.specs.Early.{is_due}
-use Rattle.world_spec.specs.Moves.{IsCommit, IsDueDone, committed, due_count, without_first}
+use Rattle.world_spec.specs.Moves.{IsCommit, IsDueDone, due_count, without_first}
 use Rattle.world_spec.specs.Parcels.{IsHandedOut}
 use Rattle.world_spec.specs.Share.{IsAtHome, IsHome, NodeData, Share, log_of}
 use Rattle.world_spec.proofs.CommitLaw.{commit_law}
 use Rattle.world_spec.proofs.FilterLemmas.{filter-swap}
-use Rattle.node_core.specs.Calls.{IsCommitted, IsLeastFaultOf}
-use Rattle.node_core.specs.Handed.{AreTaken, CanCommit, HasCommitted, IsFaultLate, IsLogLess}
+use Rattle.node_core.specs.Calls.{HasCommitted, IsLeastFaultOf}
+use Rattle.node_core.specs.Handed.{AreTaken, CanCommit, HasHandedOut, IsFaultLate, IsLogLess}
 use Rattle.node_core.specs.Homes.{HomesView, home_of}
 use Rattle.node_core.specs.Marks.{MarkView, first_fault}
-use Rattle.node_core.specs.Nodes.{Counts, IsHere, NodeView, Stands, base_at, data_of, log_at, pending_at}
+use Rattle.node_core.specs.Nodes.{Counts, IsHere, base_at, log_at, pending_at}
 use Rattle.node_core.specs.Rows.{keys_of}
 use Rattle.node_core.specs.Sound.{IsNode, IsStore}
 use Rattle.node_core.specs.Stores.{StoreView}
@@ -36,8 +36,8 @@ use Rattle.node_core.proofs.CommitReplay.{base-lawful, front-state, log-little}
 use Rattle.node_core.proofs.FaultFacts.{node-faulted}
 use Rattle.node_core.proofs.LogLemmas.{inside}
 use Rattle.node_core.proofs.NodeViews.{node_of}
-use Rattle.node_core.proofs.RollFacts.{home-here}
-use Rattle.node_core.proofs.StoreCommits.{here-done}
+use Rattle.node_core.proofs.RollbackFacts.{home-here}
+use Rattle.node_core.proofs.OldestFacts.{here-done}
 use Rattle.node_core.proofs.StoreLemmas.{events_of-append}
 
 mod-first : (a b c d : ℕ) → ((a + b) % 2 ^ 64 + c + d) % 2 ^ 64 ≡ (a + b + c + d) % 2 ^ 64
@@ -52,7 +52,7 @@ taken-count horizon cut old new done taken =
     let three = length-map new.marks (λ (k : MarkView). k.key) in
     omega arith
 
-told-count : (homes : HomesView) (horizon : ℕ) (cut : Option Key) (old new : StoreView) (told : List (Key × Note)) (out : List (List Event)) (h : HasCommitted homes horizon cut old new told out) → length told ≡ length h.done
+told-count : (homes : HomesView) (horizon : ℕ) (cut : Option Key) (old new : StoreView) (told : List (Key × Note)) (out : List (List Event)) (h : HasHandedOut homes horizon cut old new told out) → length told ≡ length h.done
 told-count homes horizon cut old new told out h = ap length h.tells.told_is ∙ length-map h.done (λ (d : Event × Firing). (d.0.key, d.1.note))
 
 abbrev data_at : StoreView → NodeData
@@ -105,7 +105,7 @@ module _ (m : Meaning) (t : Terms) (number : ℕ) (homes : HomesView) (s : Store
       }
 
 module _ (m : Meaning) (t : Terms) (number : ℕ) (homes : HomesView) (s s' : StoreView) (counts : Counts) (is : IsInside m t number homes s counts) (horizon : ℕ) (cut : Option Key) (told : List (Key × Note)) (out : List (List Event))
-    (h : HasCommitted homes horizon cut s s' told out) where
+    (h : HasHandedOut homes horizon cut s s' told out) where
   less : (object : ℕ) → IsLogLess s.logs s'.logs h.done object
   less object = h.taken.logs object
 
@@ -193,7 +193,7 @@ module _ (m : Meaning) (t : Terms) (number : ℕ) (homes : HomesView) (s s' : St
           ∙ ap (λ ws. log_events (log_at s'.logs object).done ++ events_at object ws) (sym h.taken.waiting)
 
     pub committed-whole : {M : Type 0} (model : M) (work met count : ℕ) → count ≡ length told
-        → IsCommitted m horizon cut (node_of model t number homes s work met counts) (node_of model t number homes s' work met (record counts { committed = (counts.committed + count) % 2 ^ 64 })) told out
+        → HasCommitted m horizon cut (node_of model t number homes s work met counts) (node_of model t number homes s' work met (record counts { committed = (counts.committed + count) % 2 ^ 64 })) told out
     committed-whole model work met count counted =
         let total = taken-count horizon cut s s' h.done h.taken in
         let same = told-count homes horizon cut s s' told out h in

@@ -1,5 +1,5 @@
 -- What is due was committed, object by object.
-use Rattle.std.proofs.Common.{◌≡◌, ℕ, ◌+◌, ◌<◌, ◌≤◌, Bool, true, false, cond, not, List, [], ◌∷◌, ◌++◌, length, map, take, drop, Option, refl, sym, ap, ◌∙◌, subst, arith, append_assoc}
+use Rattle.std.proofs.Common.{◌≡◌, ℕ, Bool, true, false, not, List, [], ◌∷◌, ◌++◌, length, map, take, drop, Option, refl, sym, ap, ◌∙◌, subst, append_assoc}
 use Rattle.std.specs.Prelude.{filter, IfSome, ◌==◌}
 use Rattle.std.specs.List.{AllByRecursion as Each}
 use Rattle.std.proofs.Math.Seq.{drop-append_seam, take-append_seam}
@@ -7,7 +7,6 @@ use Rattle.std.proofs.lemmas.Bool.{false_from_ne_true}
 use Rattle.std.proofs.lemmas.List.{length-map}
 use Rattle.std.proofs.lemmas.List.Elements.{filter-append}
 use Rattle.event_key.specs.declared.key.Key.{Key}
-use Rattle.event_key.specs.Keys.{key_lt}
 use Rattle.model_core.specs.declared.event.Event.{Event}
 use Rattle.sim_spec.specs.Cut.{events_of}
 use Rattle.sim_spec.specs.Firing.{Firing, ObjectState}
@@ -26,11 +25,11 @@ use Rattle.world_spec.specs.Moves.{without_first}
 use Rattle.world_spec.proofs.AscendsLemmas.{Ascends-map}
 use Rattle.world_spec.proofs.CommitLaw.{due-down}
 use Rattle.world_spec.proofs.FilterLemmas.{filter-all, filter-front, filter-none}
-use Rattle.node_core.specs.Handed.{AreTaken, IsLogLess, with_front}
+use Rattle.node_core.specs.Handed.{AreTaken, IsLogLess}
 use Rattle.node_core.specs.Marks.{MarkView, AreInOrder, first_mark, mark_of}
 use Rattle.node_core.specs.Nodes.{log_at}
 use Rattle.node_core.specs.Rows.{keys_of}
-use Rattle.node_core.specs.Sound.{AreMarked, IsStore}
+use Rattle.node_core.specs.Sound.{AreMarked}
 use Rattle.node_core.specs.Stores.{StoreView}
 
 -- the committed events are in the order of their keys

@@ -8,7 +8,7 @@ use Rattle.model_core.specs.declared.effect.Outcome.{Outcome}
 use Rattle.model_core.specs.declared.effect.Outcome.TheVariants.{Fails, Goes}
 use Rattle.model_core.specs.declared.event.Event.{Event}
 use Rattle.model_core.specs.declared.event.Send.{Send}
-use Rattle.sim_spec.specs.Firing.{Fired, Firing, ObjectState, emissions, fails, fire, fired_by, goes, has_chain}
+use Rattle.sim_spec.specs.Firing.{Firing, ObjectState, emissions, fails, fire, fired_by, goes, has_chain}
 use Rattle.sim_spec.specs.Replay.{Replay, replay}
 use Rattle.sim_spec.proofs.BucketInduction.{replay-goes}
 use Rattle.sim_spec.proofs.SerialLemmas.{length-emissions}

@@ -1,5 +1,5 @@
 -- The keys of a node's processed events.
-use Rattle.std.proofs.Common.{◌≡◌, ℕ, ◌+◌, ◌*◌, ◌<◌, ◌≤◌, List, [], ◌∷◌, length, map, Option, Some, None, is_some, Bool, true, false, refl, sym, ap, ◌∙◌, subst, arith}
+use Rattle.std.proofs.Common.{◌≡◌, ℕ, ◌+◌, ◌*◌, ◌≤◌, List, [], ◌∷◌, length, map, Option, Some, None, is_some, Bool, true, false, refl, sym, ap, ◌∙◌, subst, arith}
 use Rattle.std.specs.Prelude.{filter, ◌==◌}
 use Rattle.std.proofs.lemmas.List.{length-map}
 use Rattle.event_key.specs.declared.key.Key.{Key}
@@ -13,9 +13,9 @@ use Rattle.object_log.specs.Replays.{IsReplayed}
 use Rattle.node_core.specs.Marks.{MarkView, AreInOrder, mark_of}
 use Rattle.node_core.specs.Nodes.{IsHere, NodeView, ahead_of, base_at, home, log_at, log_or, slot_at}
 use Rattle.node_core.specs.Rows.{keys_of}
-use Rattle.node_core.specs.Shares.{AreItsKeys, total_upto}
+use Rattle.node_core.specs.Shares.{AreProcessedKeys, total_upto}
 use Rattle.node_core.specs.Sound.{AreMarked, IsNode, IsStore}
-use Rattle.node_core.proofs.RollFacts.{home-here}
+use Rattle.node_core.proofs.RollbackFacts.{home-here}
 use Rattle.node_core.proofs.SentFacts.{each-few, sent-bound}
 use Rattle.node_core.proofs.ShareFacts.{marks-total}
 
@@ -43,7 +43,7 @@ module _ {M : Type 0} (m : Meaning) (n : NodeView M) (marks : List MarkView) (no
       by_slot None is = ap (λ slot. length (log_or slot).done) is
       by_slot (Some log) is = absurd (away (home-here m n.terms n.number n.homes n.logs marks n.counts object node (ap is_some is)))
 
-  pub own-keys : n.processed ≡ keys_of marks → AreItsKeys m n
+  pub own-keys : n.processed ≡ keys_of marks → AreProcessedKeys m n
   own-keys is =
       let A : List Key → Type 0 = Ascends (λ (k : Key). k) in
       let total = marks-total n.logs marks marked in

@@ -18,13 +18,13 @@ use Rattle.world_spec.specs.Answer.{Ascends}
 use Rattle.object_log.specs.declared.done.Done.{Done}
 use Rattle.object_log.specs.Keeping.{OnlyLastFailed}
 use Rattle.object_log.specs.Logs.{LogView, events_of, undone}
-use Rattle.object_log.specs.Replays.{IsLogOf, IsReplayed, replay_of}
-use Rattle.node_core.specs.Calls.{IsNew}
+use Rattle.object_log.specs.Replays.{IsReplayed, replay_of}
+use Rattle.node_core.specs.Calls.{IsNewNode}
 use Rattle.node_core.specs.Homes.{HomesView, home_of}
 use Rattle.node_core.specs.Marks.{mark_of}
 use Rattle.node_core.specs.NewLogs.{first_log, first_logs}
 use Rattle.node_core.specs.Nodes.{Counts, IsHere, base_at, log_at, log_or, slot_at}
-use Rattle.node_core.specs.Sound.{AreHeld, IsNode, IsStore}
+use Rattle.node_core.specs.Sound.{AreOrderly, IsNode, IsStore}
 use Rattle.node_core.specs.Stores.{StoreView}
 use Rattle.node_core.proofs.NodeViews.{node_of}
 use Rattle.node_core.proofs.TotalLemmas.{eqb-apart}
@@ -109,7 +109,7 @@ module _ (m : Meaning) (homes : HomesView) (number : ℕ) (logs : List (Option L
   unfolding IsHere
   new-home object here = by_home m homes number (IsHome m (home_of homes) number object) object (λ at. at) (λ apart. absurd (let none = ap is_some (new-elsewhere object apart) in cc))
 
-  pub new-held : AreHeld logs []
+  pub new-held : AreOrderly logs []
   unfolding OnlyLastFailed IsAscending events_at
   new-held =
       let O : List Done → Type 0 = OnlyLastFailed in
@@ -144,7 +144,7 @@ module _ (m : Meaning) (homes : HomesView) (number : ℕ) (logs : List (Option L
   }
 
   pub is-new : {M : Type 0} (model : M) (t : Terms) (s : StoreView) (counts : Counts) → MeaningLaws m → s.logs ≡ logs → s.marks ≡ [] → s.waiting ≡ [] → counts ≡ record { processed = 0; undone = 0; committed = 0 }
-      → IsNew m (node_of model t number homes s 0 0 counts)
+      → IsNewNode m (node_of model t number homes s 0 0 counts)
   unfolding log_of replay replay_of events_at IsAscending
   is-new model t s counts laws logs_are marks_are waiting_are none =
       let base : (o : ℕ) → IsHome m (home_of homes) number o → first_object m o ≡ base_at s.logs o = λ o at. sym (ap (λ slots. base_at slots o) logs_are ∙ new-base o at) in
@@ -175,6 +175,6 @@ module _ (m : Meaning) (homes : HomesView) (number : ℕ) (logs : List (Option L
       }
 
 -- a store without events
-pub new-store : (logs : List (Option LogView)) → AreHeld logs [] → ((object : ℕ) → (log_at logs object).done ≡ []) → IsStore logs [] []
+pub new-store : (logs : List (Option LogView)) → AreOrderly logs [] → ((object : ℕ) → (log_at logs object).done ≡ []) → IsStore logs [] []
 unfolding Ascends
 new-store logs held none = record { held = held; marked = record { ordered = tt; parts = λ o. sym (ap (map mark_of) (none o)) }; few = omega arith }

@@ -1,5 +1,5 @@
 -- How many events a log has sent: no event sends more than eight.
-use Rattle.std.proofs.Common.{◌≡◌, ℕ, ◌+◌, ◌*◌, ◌-◌, ◌<◌, ◌≤◌, ◌^◌, Bool, true, false, cond, List, [], ◌∷◌, length, Option, refl, sym, ap, ◌∙◌, subst, arith}
+use Rattle.std.proofs.Common.{◌≡◌, ℕ, ◌+◌, ◌*◌, ◌<◌, ◌≤◌, Bool, true, false, cond, List, [], ◌∷◌, length, sym, ap, subst, arith}
 use Rattle.std.specs.Prelude.{IsTrue}
 use Rattle.std.specs.List.{AllByRecursion as Each}
 use Rattle.delta_exchange.specs.Changes.{cells_after_all, inverses_of}
@@ -14,7 +14,7 @@ use Rattle.world_spec.proofs.ReplayLawful.{replay-lawful}
 use Rattle.object_log.specs.declared.done.Done.{Done}
 use Rattle.object_log.specs.declared.done.Verdict.{Verdict}
 use Rattle.object_log.specs.declared.done.Verdict.TheVariants.{Noted, Failed}
-use Rattle.object_log.specs.Logs.{LogView, before, undone}
+use Rattle.object_log.specs.Logs.{undone}
 use Rattle.object_log.specs.Replays.{IsReplayed, IsTold, firing_of}
 
 abbrev pub SendsFew : Done → Type 0

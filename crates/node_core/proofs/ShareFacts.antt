@@ -1,15 +1,13 @@
 -- The share that a node's logs and waiting events make up: it stands for it, and for no other.
-use Rattle.std.proofs.Common.{◌≡◌, ℕ, zero, suc, ◌+◌, ◌<◌, ◌≤◌, ◌^◌, Bool, true, false, cond, List, [], ◌∷◌, ◌++◌, length, map, take, eqb, eq-eqb, eqb-true, ltb, ltb-true, ltb-false, Option, Some, None, is_some, refl, sym, ap, ◌∙◌, subst, arith, append_assoc}
+use Rattle.std.proofs.Common.{◌≡◌, ℕ, zero, suc, ◌+◌, ◌<◌, true, false, List, [], ◌∷◌, ◌++◌, length, take, eqb, eq-eqb, Option, refl, sym, ap, ◌∙◌, subst, arith, append_assoc}
 use Rattle.std.specs.Prelude.{filter, ◌==◌}
 use Rattle.std.specs.List.{AllByRecursion as Each}
 use Rattle.std.proofs.lemmas.List.{append-nil, length-map}
-use Rattle.event_key.specs.declared.key.Key.{Key}
 use Rattle.event_key.specs.Stamps.{end_stamp}
 use Rattle.model_core.specs.declared.event.Event.{Event}
 use Rattle.model_core.specs.Meaning.{Meaning}
-use Rattle.sim_spec.specs.declared.terms.Terms.{Terms}
 use Rattle.sim_spec.specs.Pending.{IsAscending, enqueue_all}
-use Rattle.sim_spec.specs.Replay.{Replay, events_at, replay}
+use Rattle.sim_spec.specs.Replay.{events_at}
 use Rattle.sim_spec.proofs.EachLemmas.{Each-append, Each-map}
 use Rattle.sim_spec.proofs.EnqueueLemmas.{length-enqueue_all}
 use Rattle.sim_spec.proofs.PartLemmas.{events_at-append, events_at-enqueue_all}
@@ -19,19 +17,17 @@ use Rattle.world_spec.proofs.ArrivalLemmas.{KeysDiffer, ascending-differ, enqueu
 use Rattle.world_spec.proofs.FilterLemmas.{filter-all, filter-none}
 use Rattle.object_log.specs.declared.done.Done.{Done}
 use Rattle.object_log.specs.Logs.{LogView, events_of}
-use Rattle.object_log.specs.Replays.{replay_of}
 use Rattle.object_log.proofs.ReplayLemmas.{taken_is}
 use Rattle.node_core.specs.Marks.{MarkView, mark_of}
 use Rattle.node_core.specs.Nodes.{IsHere, NodeView, Stands, ahead_of, base_at, data_of, home, log_at, log_or, pending_at, processed_events, share_of, slot_at}
-use Rattle.node_core.specs.Rows.{keys_of}
-use Rattle.node_core.specs.Shares.{IsItsShare, total_upto}
-use Rattle.node_core.specs.Sound.{AreHeld, AreMarked, IsNode, IsStore}
-use Rattle.node_core.proofs.BackFacts.{each-enqueue_all, enqueue_all-front}
+use Rattle.node_core.specs.Shares.{IsOwnShare, total_upto}
+use Rattle.node_core.specs.Sound.{AreOrderly, AreMarked, IsNode, IsStore}
+use Rattle.node_core.proofs.GiveBackFacts.{each-enqueue_all, enqueue_all-front}
 use Rattle.node_core.proofs.HeldFacts.{mark-done, part-of}
 use Rattle.node_core.proofs.LogLemmas.{inside}
 use Rattle.node_core.proofs.QueueFacts.{parts-differ}
-use Rattle.node_core.proofs.RollFacts.{ahead-is, home-here, left-log, rest-waits, take-front}
-use Rattle.node_core.proofs.StoreCommits.{here-done}
+use Rattle.node_core.proofs.RollbackFacts.{ahead-is, home-here, left-log, rest-waits, take-front}
+use Rattle.node_core.proofs.OldestFacts.{here-done}
 use Rattle.node_core.proofs.TotalLemmas.{eqb-apart, length-parts, total-same}
 use Rattle.node_core.proofs.WholeLemmas.{homed-same}
 
@@ -79,7 +75,7 @@ processed-at base (suc object) (slot ∷ slots) own =
     ∙ ap (λ o. events_at o (processed_events slots)) same
     ∙ processed-at (base + 1) object slots (own-later base slot slots own)
 
-pub processed-parts : (logs : List (Option LogView)) (waiting : List Event) → AreHeld logs waiting → (object : ℕ) → events_at object (processed_events logs) ≡ events_of (log_at logs object).done
+pub processed-parts : (logs : List (Option LogView)) (waiting : List Event) → AreOrderly logs waiting → (object : ℕ) → events_at object (processed_events logs) ≡ events_of (log_at logs object).done
 unfolding log_at AreOwnFrom
 processed-parts logs waiting held object =
     let same : object ≡ 0 + object = omega arith in
@@ -92,7 +88,7 @@ processed-each P [] all = tt
 processed-each P (slot ∷ slots) all = Each-append P (events_of (log_or slot).done) (processed_events slots) (all 0) (processed-each P slots (λ k. all (suc k)))
 
 -- each processed event is at an object that is here
-pub processed-here : (logs : List (Option LogView)) (waiting : List Event) → AreHeld logs waiting → Each (λ (e : Event). IsHere logs e.key.dest) (processed_events logs)
+pub processed-here : (logs : List (Option LogView)) (waiting : List Event) → AreOrderly logs waiting → Each (λ (e : Event). IsHere logs e.key.dest) (processed_events logs)
 unfolding log_at
 processed-here logs waiting held = processed-each (λ (e : Event). IsHere logs e.key.dest) logs (λ k. by_done k (log_at logs k).done refl (held.own k))
   where
@@ -123,7 +119,7 @@ marks-total logs marks marked =
     ∙ total-same (λ o. length (filter (λ (k : MarkView). k.key.dest == o) marks)) (λ o. length (log_at logs o).done) (length logs)
       (λ o. ap length (marked.parts o) ∙ length-map (log_at logs o).done mark_of)
 
-pub events-total : (logs : List (Option LogView)) (waiting : List Event) → AreHeld logs waiting → length (processed_events logs) ≡ total_upto (λ o. length (log_at logs o).done) (length logs)
+pub events-total : (logs : List (Option LogView)) (waiting : List Event) → AreOrderly logs waiting → length (processed_events logs) ≡ total_upto (λ o. length (log_at logs o).done) (length logs)
 unfolding events_at
 events-total logs waiting held =
     length-parts (λ (e : Event). e.key.dest) (length logs) (processed_events logs)
@@ -184,7 +180,7 @@ module _ {M : Type 0} (m : Meaning) (n : NodeView M) (marks : List MarkView) (no
     events = λ o h. own-pending o;
   }
 
-  pub own-only : (share : Share) (ahead : ℕ → ℕ) → Stands m n share ahead → IsItsShare m n share ahead
+  pub own-only : (share : Share) (ahead : ℕ → ℕ) → Stands m n share ahead → IsOwnShare m n share ahead
   own-only share ahead st = record {
     states = st.states;
     pending = st.events;

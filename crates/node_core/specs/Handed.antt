@@ -84,7 +84,7 @@ pub record IsTellingOf (homes : HomesView) (done : List (Event × Firing)) (told
   pub parcels : (to : ℕ) → to < homes.nodes → slice_index_or out to [] ≡ filter (is_at (home_of homes) to) (emissions_of done)
 
 -- all that was due was taken out and is told
-pub record HasCommitted (homes : HomesView) (horizon : ℕ) (cut : Option Key) (old new : StoreView) (told : List (Key × Note)) (out : List (List Event)) : Type 0 where
+pub record HasHandedOut (homes : HomesView) (horizon : ℕ) (cut : Option Key) (old new : StoreView) (told : List (Key × Note)) (out : List (List Event)) : Type 0 where
   pub done : List (Event × Firing)
   pub taken : AreTaken horizon cut old new done
   pub tells : IsTellingOf homes done told out

@@ -1,5 +1,5 @@
 -- What a step answers and leaves.
-use Rattle.std.specs.Prelude.{◌≡◌, ◌≢◌, ◌⊎◌, ℕ, ◌+◌, ◌%◌, ◌^◌, ◌≤◌, min, Contains, length, if◌then◌else◌, Option, Some, None, is_some, nat_lt}
+use Rattle.std.specs.Prelude.{◌≡◌, ◌≢◌, ◌⊎◌, ℕ, ◌+◌, ◌%◌, ◌^◌, ◌≤◌, min, Contains, length, if◌then◌else◌, is_some, nat_lt}
 use Rattle.event_key.specs.declared.key.Key.{Key}
 use Rattle.event_key.specs.declared.stamp.TheConstants.{NO_STAMP}
 use Rattle.model_core.specs.declared.event.Event.{Event}
@@ -19,16 +19,16 @@ raised n = if nat_lt n 18446744073709551615 then n + 1 else n
 
 module _ {M : Type 0} where
   -- the node holds a message with this stamp
-  abbrev pub HoldsAt : Meaning → NodeView M → ℕ → Type 0
-  HoldsAt m n stamp = (object : ℕ) × IsHome m (home n) n.number object × (e : Event) × Contains (emissions_of ((data_of n).log object).done) e × (e.key.stamp ≡ stamp)
+  abbrev pub HoldsMessageAt : Meaning → NodeView M → ℕ → Type 0
+  HoldsMessageAt m n stamp = (object : ℕ) × IsHome m (home n) n.number object × (e : Event) × Contains (emissions_of ((data_of n).log object).done) e × (e.key.stamp ≡ stamp)
 
   -- the least stamp that the node holds, or NO_STAMP
   pub record IsHeldLeast (m : Meaning) (n : NodeView M) (stamp : ℕ) : Type 0 where
     pub from : (object : ℕ) → IsHome m (home n) n.number object → EmitsFrom stamp ((data_of n).log object).done
-    pub reached : (stamp ≡ NO_STAMP) ⊎ HoldsAt m n stamp
+    pub reached : (stamp ≡ NO_STAMP) ⊎ HoldsMessageAt m n stamp
 
   -- a step processed the event with this key, which emitted this least stamp
-  pub record IsDid (m : Meaning) (bound : ℕ) (old new : NodeView M) (key : Key) (least : ℕ) : Type 0 where
+  pub record HasProcessed (m : Meaning) (bound : ℕ) (old new : NodeView M) (key : Key) (least : ℕ) : Type 0 where
     pub same : IsSameNode old new
     pub step : IsStep m (home old) old.number bound (data_of old) (data_of new)
     pub key_is : step.event.key ≡ key
@@ -45,10 +45,10 @@ module _ {M : Type 0} where
     pub counts : new.counts ≡ record old.counts { processed = (old.counts.processed + 1) % 2 ^ 64 }
 
   -- no step is left below this bound, and nothing changed
-  pub record IsIdleAt (m : Meaning) (bound : ℕ) (old new : NodeView M) : Type 0 where
+  pub record IsLeftIdle (m : Meaning) (bound : ℕ) (old new : NodeView M) : Type 0 where
     pub unchanged : new ≡ old
     pub idle : IsIdle m (home old) old.number bound (data_of old)
 
-  abbrev pub IsStepOf : Meaning → ℕ → NodeView M → NodeView M → Step → Type 0
-  IsStepOf m bound old new (Did key least) = IsDid m bound old new key least
-  IsStepOf m bound old new Idle = IsIdleAt m bound old new
+  abbrev pub HasStepped : Meaning → ℕ → NodeView M → NodeView M → Step → Type 0
+  HasStepped m bound old new (Did key least) = HasProcessed m bound old new key least
+  HasStepped m bound old new Idle = IsLeftIdle m bound old new

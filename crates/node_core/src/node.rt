@@ -1,24 +1,22 @@
 //! A node.
-ghost use Rattle.std.specs.Prelude.{◌≡◌, ◌<◌, ◌≤◌, ◌+◌, ◌*◌, ◌%◌, ◌^◌, ◌++◌, ℕ, List, length, filter, nat_lt, IfOk, OnOk, OnErr, Option};
+ghost use Rattle.std.specs.Prelude.{◌≡◌, ◌<◌, ◌≤◌, ◌+◌, ◌*◌, ◌%◌, ◌^◌, ◌++◌, length, filter, nat_lt, IfOk, OnOk, OnErr};
 ghost use Rattle.std.specs.List.{AllByRecursion};
 ghost use Rattle.std.specs.Arc.{arc_value};
-ghost use Rattle.event_key.specs.declared.key.Key.{Key};
 ghost use Rattle.event_key.specs.Stamps.{end_stamp};
-ghost use Rattle.sim_spec.specs.Pending.{IsAscending, enqueue_all};
-ghost use Rattle.sim_spec.specs.Replay.{events_at};
-ghost use Rattle.world_spec.specs.Share.{Share, IsHome, IsAtHome};
+ghost use Rattle.world_spec.specs.Share.{IsAtHome};
 ghost use Rattle.world_spec.specs.Moves.{IsDueDone};
-ghost use Rattle.node_core.specs.Calls.{IsNew, IsLeastFaultOf, IsLeastKeyOf, IsReceived, IsUndone, IsCommitted};
-ghost use Rattle.node_core.specs.Nodes.{log_at, base_at, pending_at, home, ahead_of, share_of, data_of, Stands, IsAsBefore};
-ghost use Rattle.node_core.specs.Shares.{IsItsShare, AreItsKeys};
-ghost use Rattle.node_core.specs.Steps.{IsHeldLeast, IsStepOf};
+ghost use Rattle.node_core.specs.Calls.{HasCommitted, HasReceived, HasUndoneFrom, HaveOwnKeys, HaveSentFew, IsLeastFaultOf, IsLeastKeyOf, IsNewNode, tallies_of};
+ghost use Rattle.node_core.specs.Nodes.{IsAsBefore, Stands, ahead_of, data_of, home, share_of};
+ghost use Rattle.node_core.specs.Shares.{AreProcessedKeys, SendAtMostEight, StandsForItsOwn};
+ghost use Rattle.node_core.specs.Steps.{IsHeldLeast, HasStepped};
 
 use crate::committed::Committed;
 use crate::homes::Homes;
-use crate::parts::{first_logs, is_before_fault, lesser, met_after, raised};
+use crate::beginning::first_logs;
+use crate::keys::{is_before_fault, lesser};
 use crate::step::Step;
 use crate::store::Store;
-use crate::tallies::Tallies;
+use crate::tallies::{Tallies, met_after, raised};
 use event_chain::Chain;
 use event_key::Key;
 use model_core::model::{Model as SimulationModel, keeps_laws};
@@ -84,7 +82,7 @@ impl<M: SimulationModel> Node<M> {
         ensures terms { IfOk result (λ node. node.terms ≡ terms) }
         ensures number { IfOk result (λ node. node.number ≡ number) }
         ensures homes { IfOk result (λ node. node.homes ≡ arc_value homes) }
-        ensures new { IfOk result (IsNew (M.meaning (arc_value model))) }
+        ensures new { IfOk result (IsNewNode (M.meaning (arc_value model))) }
     {
         keeps_laws(&*model);
         let logs = first_logs(alloc, &*model, number, &homes)?;
@@ -137,9 +135,9 @@ impl<M: SimulationModel> Node<M> {
     pub fn receive(&mut self, events: Chain<Event>) -> u64
         requires spare { length events ≤ self.old.spare }
         requires homed { AllByRecursion (IsAtHome (M.meaning self.old.model) (home self.old) self.old.number) events }
-        requires keys { (object : ℕ) → IsHome (M.meaning self.old.model) (home self.old) self.old.number object → IsAscending (enqueue_all (events_at object events) (pending_at self.old.logs self.old.waiting object)) }
+        requires keys { HaveOwnKeys (M.meaning self.old.model) self.old events }
         requires few { length events + length self.old.processed + length self.old.waiting < 2 ^ 60 }
-        ensures { IsReceived (M.meaning self.old.model) events self.old self.new result }
+        ensures { HasReceived (M.meaning self.old.model) events self.old self.new result }
     {
         self.store.tells();
         let count = self.store.receive(events);
@@ -161,8 +159,8 @@ impl<M: SimulationModel> Node<M> {
     /// met.
     pub fn step(&mut self, alloc: Global, bound: u64) -> Result<Step, OutOfMemory>
         requires bound { bound ≤ end_stamp self.old.terms.end }
-        requires sent { (object : ℕ) → IsHome (M.meaning self.old.model) (home self.old) self.old.number object → (log_at self.old.logs object).state.sent < 2 ^ 60 }
-        ensures ok { IfOk result (λ step. IsStepOf (M.meaning self.old.model) bound self.old self.new step) }
+        requires sent { HaveSentFew (M.meaning self.old.model) self.old }
+        ensures ok { IfOk result (λ step. HasStepped (M.meaning self.old.model) bound self.old self.new step) }
         ensures err { OnErr result (IsAsBefore self.old self.new) }
     {
         keeps_laws(&*self.model);
@@ -186,7 +184,7 @@ impl<M: SimulationModel> Node<M> {
 
     /// Undoes each processed event that isn't below the horizon. Answers how many there were.
     pub fn undo_from(&mut self, horizon: u64) -> u64
-        ensures { IsUndone (M.meaning self.old.model) horizon self.old self.new result }
+        ensures { HasUndoneFrom (M.meaning self.old.model) horizon self.old self.new result }
     {
         self.store.tells();
         let count = self.store.undo_from(horizon);
@@ -229,7 +227,7 @@ impl<M: SimulationModel> Node<M> {
     ) -> Result<Committed, OutOfMemory>
         requires done { IsDueDone (M.meaning self.old.model) (home self.old) self.old.number horizon cut (data_of self.old) }
         requires few { 8 * length self.old.processed < 2 ^ 60 }
-        ensures ok { IfOk result (λ committed. IsCommitted (M.meaning self.old.model) horizon cut self.old self.new committed.done.items committed.out.items) }
+        ensures ok { IfOk result (λ committed. HasCommitted (M.meaning self.old.model) horizon cut self.old self.new committed.done.items committed.out.items) }
         ensures err { OnErr result (self.new ≡ self.old) }
     {
         keeps_laws(&*self.model);
@@ -242,7 +240,7 @@ impl<M: SimulationModel> Node<M> {
 
     /// What it counted, and how many events are processed now.
     pub fn tallies(&self) -> Tallies
-        ensures value { result ≡ record { processed = self.now.counts.processed; undone = self.now.counts.undone; committed = self.now.counts.committed; left = length self.now.processed } }
+        ensures value { result ≡ tallies_of self.now }
         ensures balance { result.processed ≡ (result.committed + result.undone + result.left) % 2 ^ 64 }
     {
         Tallies {
@@ -256,7 +254,7 @@ impl<M: SimulationModel> Node<M> {
     /// A node stands for the share that its logs and events make up, and for no other.
     pub fn tells_share(&self)
         ensures stands { Stands (M.meaning self.now.model) self.now (share_of self.now) (ahead_of self.now) }
-        ensures only { (share : Share) (ahead : ℕ → ℕ) → Stands (M.meaning self.now.model) self.now share ahead → IsItsShare (M.meaning self.now.model) self.now share ahead }
+        ensures only { StandsForItsOwn (M.meaning self.now.model) self.now }
         ensures size { length self.now.processed + length self.now.waiting ≡ length (share_of self.now).pending }
         ensures few { length self.now.processed + length self.now.waiting < 2 ^ 60 }
     {
@@ -265,14 +263,14 @@ impl<M: SimulationModel> Node<M> {
 
     /// Which keys the processed events have.
     pub fn tells_keys(&self)
-        ensures { AreItsKeys (M.meaning self.now.model) self.now }
+        ensures { AreProcessedKeys (M.meaning self.now.model) self.now }
     {
         self.store.tells();
     }
 
     /// No object has sent more than eight events for each that it has processed, beside those before.
     pub fn tells_sent(&self)
-        ensures { (object : ℕ) → (log_at self.now.logs object).state.sent ≤ (base_at self.now.logs object).sent + 8 * ahead_of self.now object }
+        ensures { SendAtMostEight self.now }
     {
         keeps_laws(&*self.model);
         self.store.tells();

@@ -1,11 +1,8 @@
 -- Each message goes home.
-use Rattle.std.proofs.Common.{ℕ, ◌<◌, List, [], ◌++◌, length, ap, ◌∙◌, sym, refl, arith}
-use Rattle.std.proofs.lemmas.List.{append-nil}
-use Rattle.std.specs.Prelude.{filter, slice_index_or}
+use Rattle.std.proofs.Common.{ap, ◌∙◌, arith}
 use Rattle.model_core.specs.declared.event.Event.{Event}
 use Rattle.node_core.specs.Homes.{home_of}
-use Rattle.world_spec.specs.Share.{is_at}
-use Rattle.node_core.proofs.CommitParcels.{IsParcel, parcel-room, left-step}
+use Rattle.node_core.proofs.CommitParcels.{parcel-room, left-step}
 use Rattle.node_core.proofs.committed.send_home.Goals as goal
 
 pub push_back-requires : goal.push_back-requires

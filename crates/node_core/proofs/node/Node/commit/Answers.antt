@@ -1,13 +1,13 @@
 -- What is due is committed.
-use Rattle.std.proofs.Common.{ℕ, ◌+◌, ◌*◌, ◌<◌, ◌%◌, ◌^◌, List, length, subst, sym, ap, ◌∙◌, refl}
+use Rattle.std.proofs.Common.{◌+◌, ◌*◌, ◌<◌, ◌%◌, ◌^◌, length, subst, sym, ◌∙◌, refl}
 use Rattle.std.specs.Arc.{arc_value}
 use Rattle.model_core.specs.Meaning.{MeaningLaws}
 use Rattle.world_spec.specs.Moves.{IsDueDone}
-use Rattle.node_core.specs.Calls.{IsCommitted}
-use Rattle.node_core.specs.Handed.{CanCommit, HasCommitted}
+use Rattle.node_core.specs.Calls.{HasCommitted}
+use Rattle.node_core.specs.Handed.{CanCommit, HasHandedOut}
 use Rattle.node_core.specs.Homes.{HomesView}
 use Rattle.node_core.specs.Nodes.{NodeView, data_of, home}
-use Rattle.node_core.proofs.CommitNode.{IsInside, can-commit, committed-whole, node-committed}
+use Rattle.node_core.proofs.CommitNode.{can-commit, committed-whole, node-committed}
 use Rattle.node_core.proofs.NodeViews.{node_of, counts_of}
 use Rattle.node_core.proofs.node.Node.commit.Goals as goal
 
@@ -32,7 +32,7 @@ invariant_of-self-2 g c =
     let counts = counts_of i.processed i.undone i.committed in
     let told = c.in_ok-committed.committed.done.items in
     let out = c.in_ok-committed.committed.out.items in
-    let H : HomesView → Type 0 = λ h. HasCommitted h c.args.horizon c.args.cut i.store c.commit.new.self told out in
+    let H : HomesView → Type 0 = λ h. HasHandedOut h c.args.horizon c.args.cut i.store c.commit.new.self told out in
     node-committed m i.terms i.number (arc_value i.homes) i.store c.commit.new.self counts (record { laws = subst L c.deref.ensures c.keeps_laws.ensures; node = c.self.invariant; store = c.tells.ensures })
     c.args.horizon c.args.cut told out (subst H c.deref-2.ensures c.in_ok-committed.ensures.ok)
     c.len.result (c.len.ensures ∙ c.in_ok-committed.committed.done.ok.0) _ refl
@@ -45,10 +45,10 @@ returns g c =
     let counts = counts_of i.processed i.undone i.committed in
     let told = c.in_ok-committed.committed.done.items in
     let out = c.in_ok-committed.committed.out.items in
-    let H : HomesView → Type 0 = λ h. HasCommitted h c.args.horizon c.args.cut i.store c.commit.new.self told out in
+    let H : HomesView → Type 0 = λ h. HasHandedOut h c.args.horizon c.args.cut i.store c.commit.new.self told out in
     let D : NodeView g.row.M.Denot → Type 0 = λ n. IsDueDone (g.M.Model.meaning n.model) (home n) n.number c.args.horizon c.args.cut (data_of n) in
     let new = node_of (arc_value i.model) i.terms i.number (arc_value i.homes) c.commit.new.self i.work i.met (record counts { committed = (i.committed + c.len.result) % 2 ^ 64 }) in
-    let P : NodeView g.row.M.Denot → Type 0 = λ n. IsCommitted (g.M.Model.meaning n.model) c.args.horizon c.args.cut n new told out in
+    let P : NodeView g.row.M.Denot → Type 0 = λ n. HasCommitted (g.M.Model.meaning n.model) c.args.horizon c.args.cut n new told out in
     record {
       ok = subst P c.self.view_is
           (committed-whole m i.terms i.number (arc_value i.homes) i.store c.commit.new.self counts (record { laws = subst L c.deref.ensures c.keeps_laws.ensures; node = c.self.invariant; store = c.tells.ensures })

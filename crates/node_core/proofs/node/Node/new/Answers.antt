@@ -1,8 +1,7 @@
 -- A new node.
-use Rattle.std.proofs.Common.{◌≡◌, List, Option, [], ◌∙◌, subst, sym, ap, refl}
+use Rattle.std.proofs.Common.{◌≡◌, List, ◌∙◌, subst, sym, ap, refl}
 use Rattle.std.specs.Arc.{arc_value}
 use Rattle.model_core.specs.Meaning.{Meaning, MeaningLaws}
-use Rattle.object_log.specs.Logs.{LogView}
 use Rattle.node_core.specs.Homes.{home_of}
 use Rattle.node_core.specs.Marks.{MarkView}
 use Rattle.node_core.specs.NewLogs.{first_logs}

@@ -1,11 +1,11 @@
 -- The share that a node stands for.
-use Rattle.std.proofs.Common.{◌≡◌, ◌<◌, ◌^◌, ℕ, ◌+◌, length, subst, sym, ap, ◌∙◌, arith}
+use Rattle.std.proofs.Common.{◌≡◌, ◌<◌, ◌^◌, ℕ, ◌+◌, length, subst, ap, ◌∙◌, arith}
 use Rattle.std.proofs.lemmas.List.{length-map}
 use Rattle.std.specs.Arc.{arc_value}
 use Rattle.world_spec.specs.Share.{Share}
 use Rattle.node_core.specs.Marks.{MarkView}
 use Rattle.node_core.specs.Nodes.{NodeView, Stands, ahead_of, share_of}
-use Rattle.node_core.specs.Shares.{IsItsShare}
+use Rattle.node_core.specs.Shares.{IsOwnShare}
 use Rattle.node_core.proofs.NodeViews.{node_of, counts_of}
 use Rattle.node_core.proofs.ShareFacts.{own-only, own-size, own-stands}
 use Rattle.node_core.proofs.node.Node.tells_share.Goals as goal
@@ -21,7 +21,7 @@ pub returns-clause-only : goal.returns-clause-only
 returns-clause-only g c =
     let i = c.self.inside in
     let v = node_of (arc_value i.model) i.terms i.number (arc_value i.homes) i.store i.work i.met (counts_of i.processed i.undone i.committed) in
-    let P : NodeView g.row.M.Denot → Type 0 = λ n. (share : Share) (ahead : ℕ → ℕ) → Stands (g.M.Model.meaning n.model) n share ahead → IsItsShare (g.M.Model.meaning n.model) n share ahead in
+    let P : NodeView g.row.M.Denot → Type 0 = λ n. (share : Share) (ahead : ℕ → ℕ) → Stands (g.M.Model.meaning n.model) n share ahead → IsOwnShare (g.M.Model.meaning n.model) n share ahead in
     subst P c.self.view_is (own-only (g.M.Model.meaning (arc_value i.model)) v i.store.marks c.self.invariant c.tells.ensures)
 
 pub returns-clause-size : goal.returns-clause-size

@@ -1,6 +1,6 @@
 -- The least event that is due is committed, until none is.
-use Rattle.std.proofs.Common.{ℕ, ◌+◌, ◌<◌, List, length, [], ◌∙◌, sym, ap, arith}
-use Rattle.node_core.proofs.CommitLoop.{handing-start, handing-step, next-due, next-few, next-homed, next-less, next-noted, next-parcels, next-room}
+use Rattle.std.proofs.Common.{◌∙◌}
+use Rattle.node_core.proofs.CommitLoop.{handing-start, handing-step, next-due, next-homed, next-less, next-noted, next-parcels, next-room}
 use Rattle.node_core.proofs.store.Store.commit.Goals as goal
 
 pub steps-init : goal.steps-init
