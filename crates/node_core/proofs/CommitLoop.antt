@@ -10,14 +10,14 @@ use Rattle.model_core.specs.declared.note.Note.{Note}
 use Rattle.sim_spec.specs.Cut.{emissions_of, events_of}
 use Rattle.sim_spec.specs.Firing.{Firing, ObjectState}
 use Rattle.sim_spec.specs.Replay.{Replay, done_at}
-use Rattle.sim_spec.proofs.EachLemmas.{Each-append, Each-back}
+use Rattle.key_order.proofs.EachLemmas.{Each-append, Each-back}
 use Rattle.sim_spec.proofs.PartLemmas.{done_at-append}
 use Rattle.object_log.specs.declared.done.Done.{Done}
 use Rattle.object_log.specs.declared.done.Verdict.{Verdict}
 use Rattle.object_log.specs.declared.done.Verdict.TheVariants.{Noted, Failed}
 use Rattle.object_log.specs.Logs.{LogView, undone}
 use Rattle.object_log.specs.Replays.{IsLogOf, firing_of, replay_of, told}
-use Rattle.world_spec.specs.Early.{is_due}
+use Rattle.key_order.specs.Due.{is_due}
 use Rattle.world_spec.specs.Share.{is_at}
 use Rattle.node_core.specs.Handed.{AddsOne, AreTaken, CanCommit, IsFaultLate, IsLogLess, IsNoted, IsTellingOf, told_of, with_front}
 use Rattle.node_core.specs.Homes.{HomesView, home_of}

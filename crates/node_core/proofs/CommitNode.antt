@@ -12,17 +12,17 @@ use Rattle.sim_spec.specs.declared.terms.Terms.{Terms}
 use Rattle.sim_spec.specs.Cut.{events_of}
 use Rattle.sim_spec.specs.Firing.{Firing, ObjectState}
 use Rattle.sim_spec.specs.Replay.{events_at, replay}
-use Rattle.sim_spec.proofs.EachLemmas.{Each-back, Each-map}
+use Rattle.key_order.proofs.EachLemmas.{Each-back, Each-map}
 use Rattle.sim_spec.proofs.PartLemmas.{Each-events_at}
 use Rattle.object_log.specs.declared.done.Done.{Done}
 use Rattle.object_log.specs.Logs.{undone, events_of as log_events}
 use Rattle.object_log.specs.Replays.{IsReplayed, replay_of}
-use Rattle.world_spec.specs.Early.{is_due}
+use Rattle.key_order.specs.Due.{is_due}
 use Rattle.world_spec.specs.Moves.{IsCommit, IsDueDone, due_count, without_first}
 use Rattle.world_spec.specs.Parcels.{IsHandedOut}
 use Rattle.world_spec.specs.Share.{IsAtHome, IsHome, NodeData, Share, log_of}
 use Rattle.world_spec.proofs.CommitLaw.{commit_law}
-use Rattle.world_spec.proofs.FilterLemmas.{filter-swap}
+use Rattle.key_order.proofs.FilterLemmas.{filter-swap}
 use Rattle.node_core.specs.Calls.{HasCommitted, IsLeastFaultOf}
 use Rattle.node_core.specs.Handed.{AreTaken, CanCommit, HasHandedOut, IsFaultLate, IsLogLess}
 use Rattle.node_core.specs.Homes.{HomesView, home_of}

@@ -10,21 +10,20 @@ use Rattle.event_key.specs.declared.key.Key.{Key}
 use Rattle.model_core.specs.declared.event.Event.{Event}
 use Rattle.sim_spec.specs.Cut.{events_of}
 use Rattle.sim_spec.specs.Firing.{Firing, ObjectState}
-use Rattle.sim_spec.specs.Pending.{AllAfter, IsAscending}
+use Rattle.key_order.specs.Ascending.{AllAfter, IsAscending, After, Ascends}
 use Rattle.sim_spec.specs.Replay.{Replay, done_at}
-use Rattle.sim_spec.proofs.EachLemmas.{Each-filter, Each-map, Each-append}
+use Rattle.key_order.proofs.EachLemmas.{Each-filter, Each-map, Each-append}
 use Rattle.object_log.specs.declared.done.Done.{Done}
 use Rattle.object_log.specs.declared.done.Verdict.{Verdict}
 use Rattle.object_log.specs.declared.done.Verdict.TheVariants.{Noted, Failed}
 use Rattle.object_log.specs.Logs.{LogView, undone, events_of as log_events}
 use Rattle.object_log.specs.Parts.{left_of}
 use Rattle.object_log.specs.Replays.{replay_of, told}
-use Rattle.world_spec.specs.Answer.{After, Ascends}
-use Rattle.world_spec.specs.Early.{is_due}
+use Rattle.key_order.specs.Due.{is_due}
 use Rattle.world_spec.specs.Moves.{without_first}
-use Rattle.world_spec.proofs.AscendsLemmas.{Ascends-map}
-use Rattle.world_spec.proofs.CommitLaw.{due-down}
-use Rattle.world_spec.proofs.FilterLemmas.{filter-all, filter-front, filter-none}
+use Rattle.key_order.proofs.AscendingLemmas.{Ascends-map}
+use Rattle.key_order.proofs.DueLemmas.{due-down}
+use Rattle.key_order.proofs.FilterLemmas.{filter-all, filter-front, filter-none}
 use Rattle.node_core.specs.Handed.{AreTaken, IsLogLess}
 use Rattle.node_core.specs.Marks.{MarkView, AreInOrder, first_mark, mark_of}
 use Rattle.node_core.specs.Nodes.{log_at}
@@ -34,12 +33,11 @@ use Rattle.node_core.specs.Stores.{StoreView}
 
 -- the committed events are in the order of their keys
 all-after : (k : Key) (done : List (Event × Firing)) (rest : List Key) → After (λ (k : Key). k) k (map (λ (d : Event × Firing). d.0.key) done ++ rest) → AllAfter k (events_of done)
-unfolding After AllAfter
 all-after k [] rest all = tt
 all-after k (d ∷ done) rest all = (all.0, all-after k done rest all.1)
 
 up-events : (done : List (Event × Firing)) (rest : List Key) → Ascends (λ (k : Key). k) (map (λ (d : Event × Firing). d.0.key) done ++ rest) → IsAscending (events_of done)
-unfolding Ascends IsAscending
+unfolding Ascends
 up-events [] rest up = tt
 up-events (d ∷ done) rest up = (all-after d.0.key done rest up.0, up-events done rest up.1)
 
@@ -50,7 +48,6 @@ keys-up marks done rest up is =
 
 -- none is due behind one that isn't
 none-behind : (horizon : ℕ) (cut : Option Key) (key : Key) (ks : List MarkView) → After (λ (mark : MarkView). mark.key) key ks → is_due horizon cut key ≡ false → Each (λ (k : MarkView). is_due horizon cut k.key ≡ false) ks
-unfolding After
 none-behind horizon cut key [] all no_more = tt
 none-behind horizon cut key (k ∷ ks) all no_more =
     (false_from_ne_true (is_due horizon cut k.key) (λ due. let first = due-down horizon cut key k.key all.0 due in cc), none-behind horizon cut key ks all.1 no_more)

@@ -4,9 +4,9 @@ use Rattle.std.specs.Prelude.{filter, ◌==◌}
 use Rattle.std.proofs.lemmas.List.{length-map}
 use Rattle.event_key.specs.declared.key.Key.{Key}
 use Rattle.model_core.specs.Meaning.{Meaning, MeaningLaws}
-use Rattle.world_spec.specs.Answer.{After, Ascends}
+use Rattle.key_order.specs.Ascending.{After, Ascends}
 use Rattle.world_spec.specs.Share.{IsHome}
-use Rattle.world_spec.proofs.FilterLemmas.{filter-map}
+use Rattle.key_order.proofs.FilterLemmas.{filter-map}
 use Rattle.object_log.specs.declared.done.Done.{Done}
 use Rattle.object_log.specs.Logs.{LogView, keys_of as keys_of_log}
 use Rattle.object_log.specs.Replays.{IsReplayed}
@@ -20,7 +20,6 @@ use Rattle.node_core.proofs.SentFacts.{each-few, sent-bound}
 use Rattle.node_core.proofs.ShareFacts.{marks-total}
 
 keys-after : (key : Key) (ks : List MarkView) → After (λ (k : MarkView). k.key) key ks → After (λ (k : Key). k) key (keys_of ks)
-unfolding After
 keys-after key [] all = tt
 keys-after key (k ∷ ks) all = (all.0, keys-after key ks all.1)
 

@@ -10,11 +10,10 @@ use Rattle.model_core.specs.declared.event.Event.{Event}
 use Rattle.model_core.specs.Meaning.{Meaning, MeaningLaws}
 use Rattle.sim_spec.specs.declared.terms.Terms.{Terms}
 use Rattle.sim_spec.specs.Firing.{ObjectState}
-use Rattle.sim_spec.specs.Pending.{IsAscending}
+use Rattle.key_order.specs.Ascending.{IsAscending, Ascends}
 use Rattle.sim_spec.specs.Replay.{events_at, replay}
 use Rattle.sim_spec.specs.State.{first_object}
 use Rattle.world_spec.specs.Share.{IsHome, log_of}
-use Rattle.world_spec.specs.Answer.{Ascends}
 use Rattle.object_log.specs.declared.done.Done.{Done}
 use Rattle.object_log.specs.Keeping.{OnlyLastFailed}
 use Rattle.object_log.specs.Logs.{LogView, events_of, undone}
@@ -110,7 +109,7 @@ module _ (m : Meaning) (homes : HomesView) (number : ℕ) (logs : List (Option L
   new-home object here = by_home m homes number (IsHome m (home_of homes) number object) object (λ at. at) (λ apart. absurd (let none = ap is_some (new-elsewhere object apart) in cc))
 
   pub new-held : AreOrderly logs []
-  unfolding OnlyLastFailed IsAscending events_at
+  unfolding OnlyLastFailed Ascends events_at
   new-held =
       let O : List Done → Type 0 = OnlyLastFailed in
       let A : List Done → Type 0 = λ ds. IsAscending (events_of ds ++ []) in
@@ -145,7 +144,7 @@ module _ (m : Meaning) (homes : HomesView) (number : ℕ) (logs : List (Option L
 
   pub is-new : {M : Type 0} (model : M) (t : Terms) (s : StoreView) (counts : Counts) → MeaningLaws m → s.logs ≡ logs → s.marks ≡ [] → s.waiting ≡ [] → counts ≡ record { processed = 0; undone = 0; committed = 0 }
       → IsNewNode m (node_of model t number homes s 0 0 counts)
-  unfolding log_of replay replay_of events_at IsAscending
+  unfolding log_of replay replay_of events_at Ascends
   is-new model t s counts laws logs_are marks_are waiting_are none =
       let base : (o : ℕ) → IsHome m (home_of homes) number o → first_object m o ≡ base_at s.logs o = λ o at. sym (ap (λ slots. base_at slots o) logs_are ∙ new-base o at) in
       let done : (o : ℕ) → (log_at s.logs o).done ≡ [] = λ o. ap (λ slots. (log_at slots o).done) logs_are ∙ new-done o in

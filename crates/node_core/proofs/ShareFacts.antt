@@ -6,15 +6,17 @@ use Rattle.std.proofs.lemmas.List.{append-nil, length-map}
 use Rattle.event_key.specs.Stamps.{end_stamp}
 use Rattle.model_core.specs.declared.event.Event.{Event}
 use Rattle.model_core.specs.Meaning.{Meaning}
-use Rattle.sim_spec.specs.Pending.{IsAscending, enqueue_all}
-use Rattle.sim_spec.specs.Replay.{events_at}
-use Rattle.sim_spec.proofs.EachLemmas.{Each-append, Each-map}
-use Rattle.sim_spec.proofs.EnqueueLemmas.{length-enqueue_all}
+use Rattle.key_order.specs.Ascending.{IsAscending, key_of}
+use Rattle.key_order.specs.Pending.{enqueue_all}
+use Rattle.sim_spec.specs.Replay.{events_at, taken}
+use Rattle.key_order.proofs.EachLemmas.{Each-append, Each-map}
+use Rattle.key_order.proofs.EnqueueLemmas.{length-enqueue_all}
 use Rattle.sim_spec.proofs.PartLemmas.{events_at-append, events_at-enqueue_all}
-use Rattle.world_spec.specs.Early.{taken}
 use Rattle.world_spec.specs.Share.{IsAhead, IsAtHome, IsHome, Share, ahead_events, log_of}
-use Rattle.world_spec.proofs.ArrivalLemmas.{KeysDiffer, ascending-differ, enqueue_all-ascending}
-use Rattle.world_spec.proofs.FilterLemmas.{filter-all, filter-none}
+use Rattle.key_order.specs.Keys.{KeysDiffer}
+use Rattle.key_order.proofs.KeyLemmas.{Ascends-differ}
+use Rattle.key_order.proofs.ArrivalLemmas.{enqueue_all-ascending}
+use Rattle.key_order.proofs.FilterLemmas.{filter-all, filter-none}
 use Rattle.object_log.specs.declared.done.Done.{Done}
 use Rattle.object_log.specs.Logs.{LogView, events_of}
 use Rattle.object_log.proofs.ReplayLemmas.{taken_is}
@@ -135,7 +137,7 @@ module _ {M : Type 0} (m : Meaning) (n : NodeView M) (marks : List MarkView) (no
       enqueue_all-ascending es n.waiting
       (parts-differ (es ++ n.waiting)
        (λ o. subst K (sym (events_at-append o es n.waiting ∙ ap (λ xs. xs ++ events_at o n.waiting) (processed-parts n.logs n.waiting store.held o)))
-           (ascending-differ (pending_at n.logs n.waiting o) (store.held.ordered o))))
+           (Ascends-differ key_of (pending_at n.logs n.waiting o) (store.held.ordered o))))
       store.held.waiting_ordered
 
   own-pending : (object : ℕ) → events_at object (share_of n).pending ≡ pending_at n.logs n.waiting object

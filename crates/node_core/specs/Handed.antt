@@ -13,7 +13,7 @@ use Rattle.object_log.specs.declared.done.Verdict.{Verdict}
 use Rattle.object_log.specs.declared.done.Verdict.TheVariants.{Noted, Failed}
 use Rattle.object_log.specs.Logs.{LogView, events_of as log_events}
 use Rattle.object_log.specs.Replays.{IsLogOf, replay_of}
-use Rattle.world_spec.specs.Early.{is_due}
+use Rattle.key_order.specs.Due.{is_due}
 use Rattle.world_spec.specs.Share.{is_at}
 use Rattle.node_core.specs.Homes.{HomesView, home_of}
 use Rattle.node_core.specs.Marks.{first_fault, first_mark}

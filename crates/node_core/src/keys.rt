@@ -1,6 +1,6 @@
 //! Keys and faults, as far as they are there.
 ghost use Rattle.std.specs.Prelude.{◌≡◌};
-ghost use Rattle.speedes_queue.specs.Keys.{lesser as lesser_of};
+ghost use Rattle.key_order.specs.Keys.{lesser as lesser_of};
 ghost use Rattle.node_core.specs.Marks.{is_before_fault as before_fault};
 
 use event_key::Key;

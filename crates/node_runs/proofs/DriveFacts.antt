@@ -11,15 +11,17 @@ use Rattle.model_core.specs.declared.event.Event.{Event}
 use Rattle.model_core.specs.Meaning.{Meaning}
 use Rattle.model_core.specs.declared.note.Note.{Note}
 use Rattle.sim_spec.specs.Firing.{ObjectState}
-use Rattle.sim_spec.specs.Pending.{IsAscending, NoneAt, enqueue, enqueue_all}
+use Rattle.key_order.specs.Ascending.{IsAscending}
+use Rattle.key_order.specs.Keys.{IsNewKey}
+use Rattle.key_order.specs.Pending.{enqueue, enqueue_all}
 use Rattle.sim_spec.specs.Replay.{events_at}
-use Rattle.sim_spec.proofs.EachLemmas.{Each-append, Each-back, Each-drop, Each-filter, Each-front, Each-map, Each-take}
-use Rattle.sim_spec.proofs.EnqueueLemmas.{IsAscending-enqueue, length-enqueue_all}
+use Rattle.key_order.proofs.EachLemmas.{Each-append, Each-back, Each-drop, Each-filter, Each-front, Each-map, Each-take}
+use Rattle.key_order.proofs.EnqueueLemmas.{IsAscending-enqueue, length-enqueue_all}
 use Rattle.sim_spec.proofs.PartLemmas.{Each-events_at, IsAscending-events_at}
-use Rattle.world_spec.specs.Early.{is_due}
+use Rattle.key_order.specs.Due.{is_due}
 use Rattle.world_spec.specs.Moves.{IsDueDone, received, received_ahead}
 use Rattle.world_spec.specs.Share.{IsHome, Share}
-use Rattle.world_spec.proofs.FilterLemmas.{length-filter_le}
+use Rattle.key_order.proofs.FilterLemmas.{length-filter_le}
 use Rattle.object_log.specs.declared.done.Done.{Done}
 use Rattle.object_log.specs.Logs.{LogView, events_of, keys_of, undone}
 use Rattle.object_log.specs.Parts.{left_of}
@@ -59,8 +61,8 @@ known-itself keys e =
     list_any-append (same_key e.key) keys (e.key ∷ []) ∙ later (list_any (same_key e.key) keys) (same_key e.key e.key || false) (either (same_key e.key e.key) false (same_key-itself e.key))
 
 -- a key that isn't known is that of no event
-none-known : (keys : List Key) (key : Key) (es : List Event) → list_any (same_key key) keys ≡ false → Each (Known keys) es → NoneAt key es
-unfolding NoneAt
+none-known : (keys : List Key) (key : Key) (es : List Event) → list_any (same_key key) keys ≡ false → Each (Known keys) es → IsNewKey key es
+unfolding IsNewKey
 none-known keys key [] new all = tt
 none-known keys key (e ∷ es) new all = (λ same. (let is = ap (λ k. list_any (same_key k) keys) same in let yes = all.0 in cc), none-known keys key es new all.1)
 

@@ -1,7 +1,7 @@
 -- A store without events.
 use Rattle.std.proofs.Common.{List, [], subst, sym, ◌≡◌}
 use Rattle.model_core.specs.declared.event.Event.{Event}
-use Rattle.sim_spec.specs.Pending.{enqueue_all}
+use Rattle.key_order.specs.Pending.{enqueue_all}
 use Rattle.node_core.specs.Marks.{MarkView}
 use Rattle.node_core.specs.Sound.{IsStore}
 use Rattle.node_core.proofs.NewFacts.{new-store}
