@@ -15,10 +15,19 @@ use Rattle.cycle_core.specs.declared.cut.Cut.{Cut}
 use Rattle.cycle_core.specs.Ends.{AreDueDone, CommitUpto, AllCanReceive, ReceiveUpto, sent_to, records_in, joined}
 use Rattle.cycle_core.specs.Known.{AreKnown}
 use Rattle.cycle_core.specs.Places.{AtEach}
-use Rattle.cycle_core.specs.Worlds.{WorldView}
+use Rattle.sim_spec.specs.declared.terms.Terms.{Terms}
+use Rattle.node_core.specs.Homes.{HomesView}
+use Rattle.cycle_core.specs.Worlds.{WorldView, AreNodesOf}
 
 abbrev pub cut_data : Cut → CutData
 cut_data c = record { below = c.below; fault = c.fault; limited = c.limited }
+
+-- these are all nodes of one world, in their order
+pub record AreOneWorld {M : Type 0} (nodes : List (NodeView M)) : Type 0 where
+  pub model : M
+  pub terms : Terms
+  pub homes : HomesView
+  pub are : AreNodesOf model terms homes nodes
 
 module _ {M : Type 0} (meaning_of : M → Meaning) where
   abbrev pub HomeOf : NodeView M → ℕ → Type 0
@@ -40,13 +49,16 @@ module _ {M : Type 0} (meaning_of : M → Meaning) where
       × (fault.0.stamp < bound)
       × ((number : ℕ) (n : NodeView M) → slice_get nodes number ≡ Some n → (object : ℕ) → HomeOf n object → (met : Key × ℕ) → ((data_of n).log object).fault ≡ Some met → key_lt met.0 fault.0 ≡ false)
 
-  -- the cut of the processed events below a bound: at the least fault, and at the limit
-  pub record IsCutOf (w : WorldView M) (bound : ℕ) (c : Cut) : Type 0 where
+  -- the cut of the processed events below a bound, when so many events are left: at the least fault, and at the limit
+  pub record IsCutAt (left : ℕ) (nodes : List (NodeView M)) (bound : ℕ) (c : Cut) : Type 0 where
     pub keys : List Key
-    pub keys_are : AreKeysIn bound w.nodes keys
+    pub keys_are : AreKeysIn bound nodes keys
     pub fault : Option (Key × ℕ)
-    pub fault_is : IsLeastFaultIn bound w.nodes fault
-    pub is : cut_data c ≡ cut_below (w.terms.limit - w.count) keys fault
+    pub fault_is : IsLeastFaultIn bound nodes fault
+    pub is : cut_data c ≡ cut_below left keys fault
+
+  abbrev pub IsCutOf : WorldView M → ℕ → Cut → Type 0
+  IsCutOf w bound c = IsCutAt (w.terms.limit - w.count) w.nodes bound c
 
   -- what the end of a cycle needs of the nodes: what is due is done, and what is sent can be received
   pub record CanEnd (bound : ℕ) (cut : Option Key) (nodes : List (NodeView M)) : Type 0 where
