@@ -252,11 +252,11 @@ module _ {M : Type 0} (meaning_of : M → Meaning) (w : WorldView M) (laws : Mea
           let A : M → Terms → HomesView → ℕ → Type 0 = λ v t h k. Each (IsAtHome (meaning_of v) (home_of h) k) (arrivals_of number) in
           let V : M → Type 0 = λ v. (object : ℕ) → IsHome (meaning_of v) (home p.mid) p.mid.number object → IsAscending (enqueue_all (events_at object (arrivals_of number)) (pending_at p.mid.logs p.mid.waiting object)) in
           let keys : V w.model = λ object at.
-              let U : List Event → Type 0 = IsAscending in
-              let one : IsAscending (events_at object (enqueue_all (arrivals_of number) (left_share number).pending)) = IsAscending-events_at object (enqueue_all (arrivals_of number) (left_share number).pending) up in
-              let two = subst U (events_at-enqueue_all object (arrivals_of number) (left_share number).pending up) one in
-              let Q : List Event → Type 0 = λ xs. IsAscending (enqueue_all (events_at object (arrivals_of number)) xs) in
-              subst Q (its.pending object at) two in
+          let U : List Event → Type 0 = IsAscending in
+          let one : IsAscending (events_at object (enqueue_all (arrivals_of number) (left_share number).pending)) = IsAscending-events_at object (enqueue_all (arrivals_of number) (left_share number).pending) up in
+          let two = subst U (events_at-enqueue_all object (arrivals_of number) (left_share number).pending up) one in
+          let Q : List Event → Type 0 = λ xs. IsAscending (enqueue_all (events_at object (arrivals_of number)) xs) in
+          subst Q (its.pending object at) two in
           record {
             homed = to-node w.model w.terms w.homes number A p.mid is here;
             keys = subst V (sym is.model_is) keys;

@@ -216,9 +216,9 @@ module _ {M : Type 0} (meaning_of : M → Meaning) (bound : ℕ) (nodes : List (
     others = λ object none.
         part-same object (keys_in bound nodes) keys moves up (part-up object)
         ∙ part-none bound object nodes (λ j x at. away j x at object (λ there.
-            let is = are.each j x at in
-            let H : M → Type 0 = λ v. IsHome (meaning_of v) (home x) x.number object in
-            none j x at (subst H (sym is.model_is) (home-there m x model terms homes j is object there))));
+        let is = are.each j x at in
+        let H : M → Type 0 = λ v. IsHome (meaning_of v) (home x) x.number object in
+        none j x at (subst H (sym is.model_is) (home-there m x model terms homes j is object there))));
   }
 
 -- of two that aren't before each other, one after another
@@ -259,12 +259,12 @@ module _ {N X : Type 0} (key : X → Key) (Has May : N → X → Type 0) where
       by_test true is = (
         (place, n, (omega arith), at, here.0),
         λ number x below at_x v may. each-more (λ number x. (v : X) → May x v → key_lt (key v) (key y) ≡ false) nodes place n at
-        (λ number x below at_x v may. not_before (key v) (key f) (key y) (before.1 number x below at_x v may) (key_lt-turned (key y) (key f) is)) here.1 number x below at_x v may,
+            (λ number x below at_x v may. not_before (key v) (key f) (key y) (before.1 number x below at_x v may) (key_lt-turned (key y) (key f) is)) here.1 number x below at_x v may,
       )
       by_test false is = (
         (let b = before.0 in (b.0, b.1, (let lt = b.2 in omega arith), b.3, b.4)),
         λ number x below at_x v may. each-more (λ number x. (v : X) → May x v → key_lt (key v) (key f) ≡ false) nodes place n at before.1
-        (λ v may. not_before (key v) (key y) (key f) (here.1 v may) is) number x below at_x v may,
+            (λ v may. not_before (key v) (key y) (key f) (here.1 v may) is) number x below at_x v may,
       )
 
 module _ {M : Type 0} (meaning_of : M → Meaning) (bound : ℕ) where

@@ -41,6 +41,8 @@ use Rattle.cycle_core.proofs.CommitFacts.{middle, mid_is, mid_record, left_share
 use Rattle.cycle_core.proofs.EndLemmas.{next-ahead, next-stands, to-node}
 use Rattle.cycle_core.proofs.CarriedFacts.{ahead-is, carried, log-early, undone-few}
 use Rattle.cycle_core.proofs.PlaceLemmas.{at-some}
+use Rattle.cycle_core.proofs.RecordLemmas.{records-differ}
+use Rattle.cycle_core.specs.Records.{RecordsDiffer}
 use Rattle.cycle_core.proofs.WorldLemmas.{inside, node-stands, all-small, home-there, home-here}
 
 filter-keys : (p : Key → Bool) (ds : List Done) → filter p (keys_of ds) ≡ map (λ (e : Event). e.key) (filter (λ (e : Event). p e.key) (events_of ds))
@@ -132,15 +134,14 @@ module _ {M : Type 0} (meaning_of : M → Meaning) (w : WorldView M) (laws : Mea
       let below = inside m w s stands some.0.0 n some.0.2 in
       let S = node-stands m w s stands some.0.0 n some.0.2 in
       let own = stands.stands.shares_of some.0.0 below in
-      let log = S.stands.logs fault.0.dest at ∙ share-log m home_in s some.0.0 (stands.shares some.0.0) own fault.0.dest (stands.ahead fault.0.dest) there in
-      (
+      let log = S.stands.logs fault.0.dest at ∙ share-log m home_in s some.0.0 (stands.shares some.0.0) own fault.0.dest (stands.ahead fault.0.dest) there in (
         at.0,
         ap (λ (r : Replay). r.fault) (sym log) ∙ some.0.4,
         some.1,
         λ object low met is_met.
-          let p = place object low in
-          let Q : M → Type 0 = λ v. IsHome (meaning_of v) (home p.n) p.n.number object in
-          some.2 (home_in object) p.n p.at object (subst Q (sym p.is.model_is) p.here) met (ap (λ (r : Replay). r.fault) p.log ∙ is_met),
+            let p = place object low in
+            let Q : M → Type 0 = λ v. IsHome (meaning_of v) (home p.n) p.n.number object in
+            some.2 (home_in object) p.n p.at object (subst Q (sym p.is.model_is) p.here) met (ap (λ (r : Replay). r.fault) p.log ∙ is_met),
       )
 
   -- the cut is that of the state
@@ -160,6 +161,7 @@ module _ {M : Type 0} (meaning_of : M → Meaning) (w : WorldView M) (laws : Mea
         few = λ number n at. (let few = (small number n at).few in omega arith);
         wide = λ number n at. (let is = stands.has.nodes.each number n at in ap (λ (h : HomesView). h.nodes) is.homes_is ∙ sym many);
         sent = λ mids all upto to low. sent-few meaning_of w laws s stands bound closed mids all upto to (omega arith);
+        told = λ mids all upto. subst RecordsDiffer (sym (told-is meaning_of w laws s stands bound closed mids all upto)) (records-differ m w.terms home_in w.homes.nodes s stands.stands.lawful stands.stands.homes);
         arrives = λ mids all parcel_list upto long sorted mids_known. all-can-receive meaning_of w laws s stands bound closed mids all upto parcel_list (long ∙ many) sorted mids_known;
       })
 

@@ -2,9 +2,11 @@
 use Rattle.std.proofs.Common.{◌≡◌, ◌≢◌, ℕ, zero, suc, ◌+◌, ◌<◌, ◌≤◌, true, false, List, [], ◌∷◌, ◌++◌, length, drop, get_or, append_assoc, append-nil, refl, sym, ap, ◌∙◌, subst, arith, Vec}
 use Rattle.std.proofs.Math.Seq.{drop-cons}
 use Rattle.std.proofs.lemmas.List.{drop_all}
+use Rattle.std.proofs.lemmas.Option.{slice_get-get_or}
 use Rattle.std.proofs.lemmas.List.Sorted.{IsPermutation-refl, IsPermutation-trans, IsPermutation-middle, IsPermutation-append, IsPermutation-append_right}
 use Rattle.std.proofs.lemmas.List.Sums.{sum_by-append}
-use Rattle.std.specs.Prelude.{IsPermutation}
+use Rattle.std.specs.Prelude.{IsPermutation, slice_get, Some}
+use Rattle.cycle_core.proofs.PlaceLemmas.{same-some}
 use Rattle.std.specs.List.{AllByRecursion as Each}
 use Rattle.event_key.specs.declared.key.Key.{Key}
 use Rattle.event_key.specs.Keys.{key_lt}
@@ -47,10 +49,10 @@ module _ (left right : List (Key × Note)) (i j : ℕ) (merged : List (Key × No
     here : drop i left ≡ x ∷ drop (suc i) left
     there : drop j right ≡ y ∷ drop (suc j) right
 
-  heads : (x y : Key × Note) → i < length left → j < length right → x ≡ get_or left i x → y ≡ get_or right j y → AreHeads x y
-  heads x y i_in j_in x_is y_is = record {
-    here = drop-cons left i x i_in ∙ ap (λ v. v ∷ drop (suc i) left) (sym x_is);
-    there = drop-cons right j y j_in ∙ ap (λ v. v ∷ drop (suc j) right) (sym y_is);
+  heads : (x y d e : Key × Note) → i < length left → j < length right → x ≡ get_or left i d → y ≡ get_or right j e → AreHeads x y
+  heads x y d e i_in j_in x_is y_is = record {
+    here = drop-cons left i d i_in ∙ ap (λ v. v ∷ drop (suc i) left) (sym x_is);
+    there = drop-cons right j e j_in ∙ ap (λ v. v ∷ drop (suc j) right) (sym y_is);
   }
 
   module _ (x y : Key × Note) (are : AreHeads x y) where
@@ -89,7 +91,7 @@ module _ (left right : List (Key × Note)) (i j : ℕ) (merged : List (Key × No
         let lt = key_lt-other x.0 y.0 (apart differ) not_lt in
         let later : AreInOrder (merged ++ (y ∷ drop i left)) = subst (λ vs. AreInOrder (merged ++ (y ∷ vs))) (sym are.here) (put-between record_key merged y x (drop (suc j) right) (drop (suc i) left) down up lt) in
         let back : IsPermutation (merged ++ (drop i left ++ (y ∷ drop (suc j) right))) (merged ++ (y ∷ (drop i left ++ drop (suc j) right))) =
-            IsPermutation-append_right merged _ _ (IsPermutation-middle (drop i left) y (drop (suc j) right)) in
+        IsPermutation-append_right merged _ _ (IsPermutation-middle (drop i left) y (drop (suc j) right)) in
         let here = subst (λ ws. IsPermutation (left ++ right) (merged ++ (drop i left ++ ws))) are.there so_far.moves in
         record {
           left_in = so_far.left_in;
@@ -100,11 +102,11 @@ module _ (left right : List (Key × Note)) (i j : ℕ) (merged : List (Key × No
               (IsPermutation-trans (left ++ right) (merged ++ (drop i left ++ (y ∷ drop (suc j) right))) (merged ++ (y ∷ (drop i left ++ drop (suc j) right))) here back);
         }
 
-  pub merging-left : (x y : Key × Note) → i < length left → j < length right → x ≡ get_or left i x → y ≡ get_or right j y → key_lt x.0 y.0 ≡ true → IsMerging left right (suc i) j (merged ++ x ∷ [])
-  merging-left x y i_in j_in x_is y_is lt = with_left x y (heads x y i_in j_in x_is y_is) lt (omega arith)
+  pub merging-left : (x y d e : Key × Note) → i < length left → j < length right → x ≡ get_or left i d → y ≡ get_or right j e → key_lt x.0 y.0 ≡ true → IsMerging left right (suc i) j (merged ++ x ∷ [])
+  merging-left x y d e i_in j_in x_is y_is lt = with_left x y (heads x y d e i_in j_in x_is y_is) lt (omega arith)
 
-  pub merging-right : (x y : Key × Note) → i < length left → j < length right → x ≡ get_or left i x → y ≡ get_or right j y → key_lt x.0 y.0 ≡ false → RecordsDiffer (left ++ right) → IsMerging left right i (suc j) (merged ++ y ∷ [])
-  merging-right x y i_in j_in x_is y_is not_lt differ = with_right x y (heads x y i_in j_in x_is y_is) not_lt differ (omega arith)
+  pub merging-right : (x y d e : Key × Note) → i < length left → j < length right → x ≡ get_or left i d → y ≡ get_or right j e → key_lt x.0 y.0 ≡ false → RecordsDiffer (left ++ right) → IsMerging left right i (suc j) (merged ++ y ∷ [])
+  merging-right x y d e i_in j_in x_is y_is not_lt differ = with_right x y (heads x y d e i_in j_in x_is y_is) not_lt differ (omega arith)
 
   -- at the end what is left is put behind
   pub merging-all : IsPermutation (left ++ right) ((merged ++ drop i left) ++ drop j right)
@@ -126,3 +128,22 @@ pub joined-append : {X Z : Type 0} (us vs : List (Vec X Z)) → joined (us ++ vs
 unfolding joined
 joined-append [] vs = refl
 joined-append (u ∷ us) vs = ap (λ xs. u.items ++ xs) (joined-append us vs) ∙ sym (append_assoc u.items (joined us) (joined vs))
+
+pub joined-none : {X Z : Type 0} (vs : List (Vec X Z)) → length vs ≡ 0 → joined vs ≡ []
+unfolding joined
+joined-none [] none = refl
+joined-none (v ∷ vs) none = absurd (omega arith)
+
+pub joined-one : {X Z : Type 0} (vs : List (Vec X Z)) (v : Vec X Z) → length vs ≡ 1 → slice_get vs 0 ≡ Some v → joined vs ≡ v.items
+unfolding joined
+joined-one [] v one at = absurd (omega arith)
+joined-one (u ∷ []) v one at = append-nil u.items ∙ ap (λ w. w.items) (same-some u v at)
+joined-one (u ∷ w ∷ vs) v one at = absurd (omega arith)
+
+pub in-order-none : (records : List (Key × Note)) → records ≡ [] → AreInOrder records
+unfolding Ascends
+in-order-none records none = subst AreInOrder (sym none) tt
+
+-- what is read twice at a place
+pub same-read : {X : Type 0} (xs : List X) (i : ℕ) (x y : X) → i < length xs → x ≡ get_or xs i x → y ≡ get_or xs i y → x ≡ y
+same-read xs i x y below x_is y_is = x_is ∙ same-some (get_or xs i x) (get_or xs i y) (sym (slice_get-get_or xs i x below) ∙ slice_get-get_or xs i y below) ∙ sym y_is

@@ -1,19 +1,22 @@
 -- Where a world stands in a simulation, by the least key of its nodes.
 use Rattle.std.proofs.Common.{◌≡◌, ◌≢◌, ℕ, ◌<◌, ◌≤◌, true, false, List, [], ◌∷◌, ◌++◌, length, refl, sym, ap, ◌∙◌, subst, inl, inr, arith, eqb, eq-eqb}
-use Rattle.std.specs.Prelude.{slice_get, Option, Some, None, Contains, filter, ◌==◌}
+use Rattle.std.specs.Prelude.{slice_get, Option, Some, None, Contains, filter, ◌==◌, Ok, Err}
 use Rattle.std.proofs.lemmas.Option.{slice_get_within}
 use Rattle.event_key.specs.declared.key.Key.{Key}
 use Rattle.event_key.specs.Keys.{key_lt}
 use Rattle.event_key.specs.Stamps.{end_stamp}
 use Rattle.model_core.specs.Meaning.{Meaning}
 use Rattle.model_core.specs.declared.event.Event.{Event}
+use Rattle.delta_exchange.specs.declared.memory.OutOfMemory.{OutOfMemory}
+use Rattle.sim_spec.specs.declared.bucket.Bucket.{Bucket}
+use Rattle.sim_spec.specs.Cut.{after, cut}
 use Rattle.sim_spec.specs.declared.stop.Stop.{Stop}
 use Rattle.sim_spec.specs.declared.stop.Stop.TheVariants.{End, Limit, Fault}
 use Rattle.sim_spec.specs.declared.terms.Terms.{Terms}
 use Rattle.sim_spec.specs.Firing.{Fired, ObjectState, goes, fails, fire}
 use Rattle.sim_spec.specs.Replay.{events_at}
 use Rattle.sim_spec.specs.Run.{next, next_fired}
-use Rattle.sim_spec.specs.Standing.{Standing, stands, spent, ended, end_or_limit, IsCountAt}
+use Rattle.sim_spec.specs.Standing.{Standing, stands, spent, ended, end_or_limit, CycleGives, IsCountAt}
 use Rattle.sim_spec.specs.State.{State, AllSound, object_at}
 use Rattle.sim_spec.proofs.RunLemmas.{next-none, next-late, next-full, next-fires}
 use Rattle.key_order.specs.Ascending.{Ascends, key_of}
@@ -28,8 +31,8 @@ use Rattle.node_core.specs.Nodes.{NodeView, home, log_at, pending_at}
 use Rattle.node_core.specs.Shares.{AreProcessedKeys}
 use Rattle.cycle_core.specs.Gathered.{HasKeyOf, MayKeyOf, itself}
 use Rattle.cycle_core.specs.Leasts.{IsLeastAt, IsLeastUpto}
-use Rattle.cycle_core.specs.Standings.{WorldStandsAt}
-use Rattle.cycle_core.specs.Worlds.{WorldView, StandsAt}
+use Rattle.cycle_core.specs.Standings.{HasCycled, WorldStandsAt}
+use Rattle.cycle_core.specs.Worlds.{IsSameWorld, WorldView, StandsAt}
 use Rattle.cycle_core.proofs.CutLemmas.{contains-filter}
 use Rattle.cycle_core.proofs.PlaceLemmas.{at-some}
 use Rattle.cycle_core.proofs.WorldLemmas.{home-here, home-there}
@@ -193,3 +196,38 @@ module _ {M : Type 0} (meaning_of : M → Meaning) (w : WorldView M) where
   unfolding IsCountAt WorldStandsAt
   count-at (stands s fault) there = there.0.stands.count
   count-at spent there = tt
+
+  -- a world without its nodes stands nowhere
+  pub taken-ended : (stop : Option Stop) → w.is_spent ≡ false → w.nodes ≡ [] → (at : Standing) → WorldStandsAt meaning_of w at → stop ≡ ended (meaning_of w.model) w.terms at
+  unfolding WorldStandsAt
+  taken-ended stop awake none (stands s fault) there = absurd (let some = there.0.has.nodes.some in let long = ap length none in omega arith)
+  taken-ended stop awake none spent there = absurd (cc)
+
+  -- the least key of the nodes tells what comes next
+  pub next-told : (least : Option Key) (stop : Option Stop) → w.is_spent ≡ false → w.fault ≡ None → IsLeastUpto itself (HasKeyOf meaning_of) (MayKeyOf meaning_of) (length w.nodes) w.nodes least
+      → ((s : State) → least ≡ first_key s.pending → w.count ≡ s.count → stop ≡ end_or_limit (next (meaning_of w.model) w.terms s))
+      → (at : Standing) → WorldStandsAt meaning_of w at → stop ≡ ended (meaning_of w.model) w.terms at
+  next-told least stop awake none is tells = rest-ended stop awake none (λ s there. tells s (least-first meaning_of w s there least is) there.stands.count)
+
+module _ {M : Type 0} (meaning_of : M → Meaning) (old new : WorldView M) (same : IsSameWorld old new) where
+  -- a refusal leaves a world that is spent
+  pub cycled-refused : (refused : OutOfMemory) → new.is_spent ≡ true → HasCycled meaning_of old (Err refused) new
+  unfolding WorldStandsAt CycleGives
+  cycled-refused refused is at there more = record { left = spent; stands = is; gives = refl; same_meaning = ap meaning_of same.model; same_terms = same.terms }
+
+  pub cycled-done : (bucket : Bucket) → old.is_spent ≡ false → new.fault ≡ bucket.fault
+      → ((s : State) → StandsAt (meaning_of old.model) old s → bucket ≡ cut (meaning_of old.model) old.terms s)
+      → ((s : State) → StandsAt (meaning_of old.model) old s → StandsAt (meaning_of old.model) new (after (meaning_of old.model) old.terms s))
+      → HasCycled meaning_of old (Ok bucket) new
+  unfolding WorldStandsAt CycleGives ended
+  cycled-done bucket awake fault bucket_is stands_after (stands s (Some met)) there more = absurd (cc)
+  cycled-done bucket awake fault bucket_is stands_after (stands s None) there more =
+      let P : M → Type 0 = λ v. StandsAt (meaning_of v) new (after (meaning_of old.model) old.terms s) in
+      record {
+        left = stands (after (meaning_of old.model) old.terms s) bucket.fault;
+        stands = (subst P (sym same.model) (stands_after s there.0), fault);
+        gives = record { state = s; begins = refl; bucket_is = bucket_is s there.0; ends = refl };
+        same_meaning = ap meaning_of same.model;
+        same_terms = same.terms;
+      }
+  cycled-done bucket awake fault bucket_is stands_after spent there more = absurd (cc)

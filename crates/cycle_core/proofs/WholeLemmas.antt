@@ -29,6 +29,7 @@ module _ (m : Meaning) (home : ℕ → ℕ) (node : ℕ) where
     where
       far_from : (object : ℕ) → (IsHome m home node object → ⊥) → events_at object xs ≡ events_at object ys
       far_from object far = none-elsewhere object far xs here ∙ sym (none-elsewhere object far ys there)
+
       at_object : (object : ℕ) (b : Bool) → eqb (home object) node ≡ b → (c : Bool) → ltb object m.objects ≡ c → events_at object xs ≡ events_at object ys
       at_object object true is true below = same object (ltb-true object m.objects below, eqb-true (home object) node is)
       at_object object true is false far = far_from object (λ at. (let low : object < m.objects = at.0 in let high = ltb-false object m.objects far in omega arith))

@@ -204,9 +204,9 @@ module _ {M : Type 0} (m : Meaning) where
 
     work_is : ((new.work ≡ mid.work + 1) ⊎ IsFull new.work) × (mid.work ≤ new.work)
     work_is = elim (raised-cases mid.work) [
-        | inl up ↦ (let e : new.work ≡ mid.work + 1 = did.work ∙ up in (inl e, omega arith))
-        | inr full ↦ (let e : new.work ≡ mid.work = did.work ∙ full.0 in (inr (let g = full.1 in omega arith), omega arith))
-      ]
+      | inl up ↦ (let e : new.work ≡ mid.work + 1 = did.work ∙ up in (inl e, omega arith))
+      | inr full ↦ (let e : new.work ≡ mid.work = did.work ∙ full.0 in (inr (let g = full.1 in omega arith), omega arith))
+    ]
 
     held_here : (stamp : ℕ) → HoldsMessageAt m mid stamp → HoldsMessageAt m new stamp
     held_here stamp h = by_object (eqb h.0 did.step.event.key.dest) refl

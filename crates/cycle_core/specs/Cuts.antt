@@ -15,6 +15,7 @@ use Rattle.cycle_core.specs.declared.cut.Cut.{Cut}
 use Rattle.cycle_core.specs.Ends.{AreDueDone, CommitUpto, AllCanReceive, ReceiveUpto, sent_to, records_in, joined}
 use Rattle.cycle_core.specs.Known.{AreKnown}
 use Rattle.cycle_core.specs.Places.{AtEach}
+use Rattle.cycle_core.specs.Records.{RecordsDiffer}
 use Rattle.sim_spec.specs.declared.terms.Terms.{Terms}
 use Rattle.node_core.specs.Homes.{HomesView}
 use Rattle.cycle_core.specs.Worlds.{WorldView, AreNodesOf}
@@ -66,6 +67,7 @@ module _ {M : Type 0} (meaning_of : M → Meaning) where
     pub few : AtEach (λ number n. 8 * length n.processed < 2 ^ 60) nodes
     pub wide : AtEach (λ number n. n.homes.nodes ≡ length nodes) nodes
     pub sent : (mids : List (NodeView M)) (all : List Committed) → CommitUpto meaning_of bound cut (length nodes) nodes mids all → (to : ℕ) → to < length nodes → length (sent_to to all) < 2 ^ 60
+    pub told : (mids : List (NodeView M)) (all : List Committed) → CommitUpto meaning_of bound cut (length nodes) nodes mids all → RecordsDiffer (joined (map records_in all))
     pub arrives : (mids : List (NodeView M)) (all : List Committed) (parcels : List (List Event)) → CommitUpto meaning_of bound cut (length nodes) nodes mids all → length parcels ≡ length nodes
         → ((to : ℕ) → to < length nodes → IsPermutation (sent_to to all) (slice_index_or parcels to [])) → AreKnown meaning_of mids → AllCanReceive meaning_of parcels mids
 

@@ -44,10 +44,7 @@ fn merge_two(
 }
 
 /// The lists as one, merged two by two.
-fn merge_all(
-    alloc: Global,
-    parts: &mut [Vec<(Key, Note)>],
-) -> Result<Vec<(Key, Note)>, OutOfMemory>
+fn merge_all(alloc: Global, parts: &mut [Vec<(Key, Note)>]) -> Result<Vec<(Key, Note)>, OutOfMemory>
     requires ordered { AllByRecursion (λ part. AreInOrder part.items) parts.old }
     requires differ { RecordsDiffer (joined parts.old) }
     ensures permutes { IfOk result (λ merged. IsPermutation (joined parts.old) merged.items) }
@@ -68,10 +65,7 @@ fn merge_all(
 
 /// All records of these lists in the order of their keys, in time linear in their number and logarithmic in that of the
 /// lists. A list that is alone, as when the others are empty, is not copied.
-pub fn merge(
-    alloc: Global,
-    parts: Vec<Vec<(Key, Note)>>,
-) -> Result<Vec<(Key, Note)>, OutOfMemory>
+pub fn merge(alloc: Global, parts: Vec<Vec<(Key, Note)>>) -> Result<Vec<(Key, Note)>, OutOfMemory>
     requires ordered { AllByRecursion (λ part. AreInOrder part.items) parts.items }
     requires differ { RecordsDiffer (joined parts.items) }
     ensures permutes { IfOk result (λ merged. IsPermutation (joined parts.items) merged.items) }

@@ -19,9 +19,9 @@ returns-after-left-many-2 c =
     let keys = c.args.keys.now in
     let met : Key × ℕ = (c.in-Some.key, c.in-Some.field-0-1) in
     let is : c.if-left-many-2.result ≡ cond (nat_eq left (length keys)) None (Some met) =
-        elim c.if-left-many-2.branch [
-          | then-left-many-2 w ↦ w.result-is ∙ ap (λ b. cond b None (Some met)) (sym (eq-eqb left (length keys) w.if-left-many-2.true))
-          | else-left-many-2 w ↦ w.result-is ∙ c.in-Some.is ∙ ap (λ b. cond b None (Some met)) (sym (ne_eqb left (length keys) w.if-left-many-2.false))
-        ] in
+    elim c.if-left-many-2.branch [
+      | then-left-many-2 w ↦ w.result-is ∙ ap (λ b. cond b None (Some met)) (sym (eq-eqb left (length keys) w.if-left-many-2.true))
+      | else-left-many-2 w ↦ w.result-is ∙ c.in-Some.is ∙ ap (λ b. cond b None (Some met)) (sym (ne_eqb left (length keys) w.if-left-many-2.false))
+    ] in
     let F : Option (Key × ℕ) → CutData = λ f. record { below = Some c.in-Some.key; fault = f; limited = nat_eq left (length keys) } in
     ap F is ∙ cut-fault left keys met (nat_eq left (length keys)) (omega arith) refl ∙ ap (cut_of left keys) (sym c.in-Some.is)

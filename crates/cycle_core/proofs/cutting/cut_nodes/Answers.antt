@@ -1,6 +1,6 @@
 use Rattle.std.proofs.Common.{◌≡◌, ◌+◌, ◌≤◌, ◌∙◌, length, ap, sym, refl, arith, subst, not, rules}
 use Rattle.std.specs.Prelude.{IsPermutation, IsTrue, Some, None, filter}
-use Rattle.std.proofs.lemmas.List.Elements.{filter_from_retain}
+use Rattle.std.proofs.lemmas.Fn.{filter_same}
 use Rattle.std.proofs.lemmas.List.Sorted.{length_permutation}
 use Rattle.event_key.specs.declared.key.Key.{Key}
 use Rattle.event_key.specs.Keys.{key_lt}
@@ -20,7 +20,7 @@ returns-then-are_within g c =
     let all = keys_in c.args.bound nodes in
     let none = none-is c.least_fault-fault.result (c.is_none.ensures ∙ ap not c.if-is_none.true) in
     let few = keys_in-few c.args.bound nodes in
-    let fits = c.are_within.ensures (subst IsTrue (sym c.if-are_within.true) tt) in
+    let fits = c.are_within.ensures (subst IsTrue (sym c.if-are_within.true) refl) in
     let long = length_permutation all (sorted all) (sorted-moves all) in
     record {
       keys = sorted all;
@@ -40,7 +40,11 @@ returns g c =
     let nodes = c.args.nodes.now in
     let keys = c.in_ok-keys.keys.items in
     let fault = c.least_fault-fault.result in
-    let left_over : c.match-fault.keys.items ≡ filter (is_uncut (key_of_fault fault)) keys = ? in
+    let left_over : c.match-fault.keys.items ≡ filter (is_uncut (key_of_fault fault)) keys =
+    elim c.match-fault.branch [
+      | in-Some w ↦ ap (λ v. v.items) w.keys-is ∙ filter_same _ (is_uncut (Some w.in-Some.first)) _ (λ x b f' k. search rules) _ _ w.retain.ensures.filtered ∙ ap (λ f. filter (is_uncut (key_of_fault f)) keys) (sym w.in-Some.is)
+      | in_default w ↦ ap (λ v. v.items) w.keys-is ∙ sym (ap (λ f. filter (is_uncut (key_of_fault f)) keys) w.in_default.is ∙ all-uncut keys)
+    ] in
     record {
       keys = keys;
       keys_are = are-keys of c.args.bound nodes c.requires.model c.requires.terms c.requires.homes c.requires.are c.know_all.ensures keys c.in_ok-keys.ensures.permutes c.in_ok-keys.ensures.ordered;
