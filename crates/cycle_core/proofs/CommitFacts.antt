@@ -52,7 +52,7 @@ enqueue-parts P e (x ∷ xs) all = by_test (enqueue-parts P e xs) (key_lt e.key 
     by_test more true h = (h.0, h.1)
     by_test more false h = let parts = more h.1 in (parts.0, (h.0, parts.1))
 
-enqueue_all-parts : (P : Event → Type 0) (es xs : List Event) → Each P (enqueue_all es xs) → Each P es × Each P xs
+pub enqueue_all-parts : (P : Event → Type 0) (es xs : List Event) → Each P (enqueue_all es xs) → Each P es × Each P xs
 unfolding enqueue_all
 enqueue_all-parts P [] xs all = (tt, all)
 enqueue_all-parts P (e ∷ es) xs all =
