@@ -5,6 +5,7 @@ pub mod CycleSummary
 pub mod CyclesLaw
 pub mod EarlyFault
 pub mod FaultCycles
+pub mod FiringLemmas
 pub mod HorizonLaw
 pub mod InTurnLemmas
 pub mod InitialLemmas
