@@ -1,5 +1,5 @@
 //! All that the program does, over any input and output.
-ghost use Rattle.std.specs.Prelude.{◌≡◌, ◌≢◌, ◌≤◌, ◌⊎◌, ◌↔◌, IfSome, IsErr, IsOk, Some, drop};
+ghost use Rattle.std.specs.Prelude.{◌≡◌, ◌≢◌, ◌≤◌, ◌⊎◌, ◌↔◌, IfSome, IsErr, Some, drop};
 ghost use Rattle.sim_io.specs.Causes.{Rose};
 ghost use Rattle.sim_io.specs.Words.{settings, texts_of};
 ghost use Rattle.btb.specs.Answer.{OfAnswer, OfAccepted, WritesOutput, WritesPrefix};

@@ -2,8 +2,7 @@
 #![tactic(auto)]
 
 ghost use Rattle.std.specs.Prelude.{◌≡◌, IfOk, IfSome, false};
-ghost use Rattle.sim_io.specs.CycleTexts.{text};
-ghost use Rattle.sim_spec.specs.State.{initial_state};
+ghost use Rattle.sim_io.specs.CycleTexts.{text_from_start};
 ghost use Rattle.model_text.specs.Meanings.{meaning_of};
 ghost use Rattle.model_text.specs.ModelTexts.{model_of};
 

@@ -1,5 +1,5 @@
 //! The top table, and the whole text.
-ghost use Rattle.std.specs.Prelude.{◌≡◌, ◌<◌, ◌≤◌, ◌^◌, ◌∷◌, IfOk, IfErr, codes};
+ghost use Rattle.std.specs.Prelude.{◌≡◌, ◌<◌, ◌≤◌, ◌^◌, IfOk, IfErr, codes};
 ghost use Rattle.toml.specs.View.{table_view};
 ghost use Rattle.model_text.specs.Checks.{Gives, Fails};
 ghost use Rattle.model_text.specs.Fields.{required, only_number, only};

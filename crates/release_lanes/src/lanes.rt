@@ -1,5 +1,5 @@
 //! What every kind of lanes keeps.
-ghost use Rattle.std.specs.Prelude.{◌≡◌, ℕ, ◌+◌, ◌<◌, ◌↔◌, ◌≢◌, [], List, All, map, vec_len, IfOk, OnErr, IfSome, IfNone, OnSome};
+ghost use Rattle.std.specs.Prelude.{◌≡◌, ℕ, ◌+◌, ◌<◌, ◌↔◌, ◌≢◌, [], List, All, map, IfOk, OnErr, IfSome, IfNone};
 ghost use Rattle.std.specs.List.{AllZip, range_with_len};
 ghost use Rattle.release_lanes.specs.Lanes.{AddsOne, SameLists, SameLanes, Meets, NothingRests, TakesRest};
 

@@ -1,5 +1,5 @@
 //! Lanes of plain slots, for a calling thread that serves the nodes one after another.
-ghost use Rattle.std.specs.Prelude.{◌≡◌, ◌≢◌, ℕ, ◌<◌, ◌≤◌, [], ◌∷◌, All, IfOk, IfSome, IfNone, map, length, slice_set};
+ghost use Rattle.std.specs.Prelude.{◌≡◌, ℕ, ◌<◌, ◌≤◌, [], ◌∷◌, All, IfOk, IfSome, IfNone, map, length, slice_set};
 ghost use Rattle.release_lanes.specs.Lanes.{list_at};
 ghost use Rattle.release_lanes.specs.Plain.{outline, posted, standing, delivered, TakesFirst, IsTeam, AreEmpty, AreBack};
 

@@ -1,10 +1,10 @@
 //! Lanes of rings, for nodes that are served by several threads at a time.
-ghost use Rattle.std.specs.Prelude.{◌≡◌, ◌≢◌, ℕ, ◌<◌, ◌≤◌, [], ◌++◌, All, IfOk, OnOk, IfSome, IfNone, map, length, slice_index_or};
+ghost use Rattle.std.specs.Prelude.{◌≡◌, ◌≢◌, ℕ, ◌<◌, [], ◌++◌, All, IfOk, OnOk, IfSome, IfNone, map, length, slice_index_or};
 ghost use Rattle.rtrb.specs.Ring.{sent};
 ghost use Rattle.release_lanes.specs.Lanes.{Meets, list_at};
 ghost use Rattle.release_lanes.specs.Rings.{AreBack, AreSendersOf, TakesKnown, Ring, ring_out, ring_in, outline, sent_row, received_row, known_row};
 ghost use Rattle.release_lanes.specs.Rings.{IsNewSender, IsNew, received_on, rest_on, sent_on};
-ghost use Rattle.release_lanes.specs.Woven.{Outline, IsWoven, Grows};
+ghost use Rattle.release_lanes.specs.Woven.{IsWoven, Grows};
 
 use crate::lanes::{Lanes, NodeEnd};
 use crate::parcel::Parcel;

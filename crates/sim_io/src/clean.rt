@@ -1,8 +1,8 @@
 //! A source and a sink that never fail.
-ghost use Rattle.std.specs.Prelude.{◌≡◌, ◌<◌, Option, None, Some, List, ℕ, Ok, IfOk, length, min};
+ghost use Rattle.std.specs.Prelude.{◌≡◌, Option, None, Some, List, ℕ, Ok, length, min};
 ghost use Rattle.std.specs.Io.{ReadsAtMost, WritesAtMost};
 ghost use Rattle.std.specs.Io.KnownBytes.{ReadConsumes, WriteAppends};
-ghost use Rattle.sim_io.specs.Causes.{CountsIdle, HasCause, Rose};
+ghost use Rattle.sim_io.specs.Causes.{CountsIdle, HasCause};
 
 use crate::failed::Failed;
 use crate::sink::Sink;

@@ -1,8 +1,8 @@
 //! A sink in memory whose faults are chosen by the numbers of its calls.
-ghost use Rattle.std.specs.Prelude.{◌≡◌, ◌≤◌, ◌<◌, ◌↔◌, Some, [], length, Contains, IsErr, IfOk};
+ghost use Rattle.std.specs.Prelude.{◌≡◌, ◌≤◌, ◌↔◌, Some, [], length, Contains, IsErr, IfOk};
 ghost use Rattle.std.specs.Io.{WritesAtMost};
 ghost use Rattle.std.specs.Io.KnownBytes.{WriteAppends};
-ghost use Rattle.sim_io.specs.Causes.{CountsIdle, HasCause, Rose, next_count};
+ghost use Rattle.sim_io.specs.Causes.{CountsIdle, HasCause, next_count};
 ghost use Rattle.sim_io.specs.Memory.{taken_count, faults_after, KeepsSinkRules};
 
 use crate::failed::Failed;

@@ -1,8 +1,8 @@
 //! Where bytes go.
-ghost use Rattle.std.specs.Prelude.{◌≡◌, ◌<◌, ℕ, List, Option, length, IfOk};
+ghost use Rattle.std.specs.Prelude.{ℕ, List, Option};
 ghost use Rattle.std.specs.Io.{WritesAtMost};
 ghost use Rattle.std.specs.Io.KnownBytes.{WriteAppends};
-ghost use Rattle.sim_io.specs.Causes.{CountsIdle, HasCause, Rose};
+ghost use Rattle.sim_io.specs.Causes.{CountsIdle, HasCause};
 
 use crate::failed::Failed;
 

@@ -1,8 +1,8 @@
 //! A writer of std as a sink.
-ghost use Rattle.std.specs.Prelude.{◌≡◌, ◌<◌, length, IfOk};
+ghost use Rattle.std.specs.Prelude.{◌≡◌};
 ghost use Rattle.std.specs.Io.{WritesAtMost};
 ghost use Rattle.std.specs.Io.KnownBytes.{WriteAppends};
-ghost use Rattle.sim_io.specs.Causes.{CountsIdle, HasCause, Rose, CountsWrites};
+ghost use Rattle.sim_io.specs.Causes.{CountsIdle, HasCause, CountsWrites};
 
 use crate::failed::Failed;
 use crate::sink::Sink;
