@@ -6,7 +6,7 @@ ghost use Rattle.sim_spec.specs.Firing.{has_chain, emissions};
 ghost use Rattle.key_order.specs.Serials.{SerialsBelow};
 
 use event_chain::CellPool;
-use event_firing::{Sending, sent_event};
+use event_firing::sent_event;
 use event_key::Key;
 use model_core::{Event, OutOfMemory, Send};
 use speedes_queue::Queue;

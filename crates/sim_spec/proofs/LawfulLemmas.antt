@@ -13,7 +13,7 @@ use Rattle.sim_spec.specs.declared.terms.Terms.{Terms}
 use Rattle.sim_spec.specs.declared.stop.Stop.TheVariants.{End, Limit, Fault}
 use Rattle.sim_spec.specs.Firing.{ObjectState, Firing, Fired, goes, fails, fire, fired_by, emissions, has_chain}
 use Rattle.key_order.specs.Pending.{enqueue_all}
-use Rattle.key_order.specs.Ascending.{IsAscending}
+use Rattle.key_order.specs.Ascending.{IsAscending, Ascends}
 use Rattle.sim_spec.specs.State.{State, Lawful, AllSound, object_at, no_object}
 use Rattle.sim_spec.specs.Run.{Next, stops, does, next, next_of, next_fired, Leads}
 use Rattle.key_order.proofs.EnqueueLemmas.{length-enqueue_all}
@@ -67,7 +67,7 @@ lawful_goes m s e x (Goes y) long below early laws is_x =
 lawful_done : (m : Meaning) (t : Terms) (s : State) (e : Event) (rest : List Event) (x : Firing)
     → MeaningLaws m → Lawful m t s → s.pending ≡ e ∷ rest → s.count ≢ t.limit → IsLawfulFiring m s e x
     → Lawful m t (record { objects = slice_set s.objects e.key.dest x.state; pending = enqueue_all x.events rest; count = s.count + 1 })
-unfolding IsAscending AllSound
+unfolding Ascends AllSound
 lawful_done m t s e rest x laws lawful is_pending free good =
     let long : length s.objects ≡ m.objects = lawful.objects in
     let upto : s.count ≤ t.limit = lawful.count in

@@ -7,14 +7,13 @@ use Rattle.model_core.specs.declared.event.Event.{Event}
 use Rattle.model_core.specs.Meaning.{Meaning}
 use Rattle.sim_spec.specs.Firing.{ObjectState, Firing}
 use Rattle.key_order.specs.Pending.{enqueue_all}
-use Rattle.key_order.specs.Ascending.{IsAscending, Ascends}
+use Rattle.key_order.specs.Ascending.{IsAscending, Ascends, key_of}
 use Rattle.sim_spec.specs.State.{AllSound}
 use Rattle.sim_spec.specs.Cut.{events_of}
 use Rattle.sim_spec.specs.Replay.{events_at, done_at}
-use Rattle.key_order.proofs.AscendingLemmas.{IsAscending-filter}
+use Rattle.key_order.proofs.AscendingLemmas.{Ascends-filter, Ascends-mapped}
 use Rattle.key_order.proofs.EachLemmas.{Each-filter}
 use Rattle.key_order.proofs.ShareLemmas.{filter-enqueue_all}
-use Rattle.key_order.proofs.AscendsLemmas.{Ascends-mapped, Ascends-events}
 
 pub Each-events_at : (P : Event → Type 0) (object : ℕ) (es : List Event) → Each P es → Each P (events_at object es)
 unfolding events_at
@@ -22,7 +21,7 @@ Each-events_at P object es all = Each-filter P (λ e. eqb e.key.dest object) es 
 
 pub IsAscending-events_at : (object : ℕ) (es : List Event) → IsAscending es → IsAscending (events_at object es)
 unfolding events_at
-IsAscending-events_at object es up = IsAscending-filter (λ e. eqb e.key.dest object) es up
+IsAscending-events_at object es up = Ascends-filter key_of (λ e. eqb e.key.dest object) es up
 
 pub events_at-append : (object : ℕ) (xs ys : List Event) → events_at object (xs ++ ys) ≡ events_at object xs ++ events_at object ys
 unfolding events_at
@@ -92,4 +91,4 @@ Each-parts P n (d ∷ ds) inside parts =
     (one.0, Each-parts P n ds inside.1 (λ object below. other_part P object d ds (parts object below)))
 
 pub Ascends-done : (ds : List (Event × Firing)) → IsAscending (events_of ds) → Ascends (λ (d : Event × Firing). d.0.key) ds
-Ascends-done ds up = Ascends-mapped (λ (e : Event). e.key) (λ (d : Event × Firing). d.0) ds (Ascends-events (events_of ds) up)
+Ascends-done ds up = Ascends-mapped (λ (e : Event). e.key) (λ (d : Event × Firing). d.0) ds up

@@ -12,8 +12,8 @@ use Rattle.sim_spec.specs.Firing.{ObjectState, Firing, goes, fails, fire, fired_
 use Rattle.key_order.specs.Stamps.{NoneBelow}
 use Rattle.sim_spec.specs.Cut.{emissions_of}
 use Rattle.sim_spec.specs.Replay.{EmitsFrom}
-use Rattle.key_order.proofs.EachLemmas.{Each-map}
-use Rattle.key_order.proofs.StampLemmas.{NoneBelow-le, NoneBelow-append}
+use Rattle.key_order.proofs.EachLemmas.{Each-map, Each-append}
+use Rattle.key_order.proofs.StampLemmas.{NoneBelow-le}
 
 -- what events send, bounded one by one or all together
 pub EmitsFrom-le : (g h : ℕ) (ds : List (Event × Firing)) → g ≤ h → EmitsFrom h ds → EmitsFrom g ds
@@ -22,7 +22,7 @@ EmitsFrom-le g h ds le from = Each-map (λ (d : Event × Firing). NoneBelow h d.
 pub NoneBelow-emissions_of : (h : ℕ) (ds : List (Event × Firing)) → EmitsFrom h ds → NoneBelow h (emissions_of ds)
 unfolding emissions_of
 NoneBelow-emissions_of h [] from = tt
-NoneBelow-emissions_of h (d ∷ ds) from = NoneBelow-append h d.1.events (emissions_of ds) from.0 (NoneBelow-emissions_of h ds from.1)
+NoneBelow-emissions_of h (d ∷ ds) from = Each-append (λ (e : Event). h ≤ e.key.stamp) d.1.events (emissions_of ds) from.0 (NoneBelow-emissions_of h ds from.1)
 
 -- what is sent has a later stamp than its cause
 next_stamp-later : (stamp delay : ℕ) → stamp < next_stamp stamp delay

@@ -11,11 +11,11 @@ use Rattle.event_key.specs.declared.key.Key.{Key}
 use Rattle.model_core.specs.Meaning.{Meaning}
 use Rattle.model_core.specs.declared.event.Event.{Event}
 use Rattle.sim_spec.specs.Firing.{ObjectState, fails, fire, goes}
-use Rattle.key_order.specs.Ascending.{IsAscending}
+use Rattle.key_order.specs.Ascending.{IsAscending, key_of, Ascends}
 use Rattle.sim_spec.specs.Replay.{Replay, events_at, replay, replay_fired, taken}
 use Rattle.sim_spec.specs.Run.{next}
 use Rattle.sim_spec.specs.declared.terms.Terms.{Terms}
-use Rattle.key_order.proofs.AscendingLemmas.{ascending-before}
+use Rattle.key_order.proofs.AscendingLemmas.{Ascends-before}
 use Rattle.key_order.proofs.EachLemmas.{Each-append}
 use Rattle.sim_spec.proofs.PartLemmas.{IsAscending-events_at, events_at-first}
 use Rattle.sim_spec.proofs.ReplayLemmas.{replay-append, replay-fault, replay_after}
@@ -91,7 +91,7 @@ module _ (m : Meaning) (t : Terms) (home : ℕ → ℕ) (node bound : ℕ) (shar
       before =
           let split = (next-of (ahead object) (events_at object share.pending) e (events_at object new.unprocessed) (next_here stands step)).2 in
           let P : List Event → Type 0 = IsAscending in
-          ascending-before (take (ahead object) (events_at object share.pending)) e (events_at object new.unprocessed) (subst P split (IsAscending-events_at object share.pending stands.ordered))
+          Ascends-before key_of (take (ahead object) (events_at object share.pending)) e (events_at object new.unprocessed) (subst P split (IsAscending-events_at object share.pending stands.ordered))
 
       by_fault : (f : Option (Key × ℕ)) → (log_of m share object (ahead object)).fault ≡ f → f ≡ None
       by_fault None h = refl
@@ -116,7 +116,7 @@ module _ (m : Meaning) (t : Terms) (home : ℕ → ℕ) (node bound : ℕ) (shar
   raised_there dest object apart = sym (ap (λ b. cond b (suc (ahead object)) (ahead object)) (ne_eqb object dest apart))
 
   pub step_stands : bound ≤ end_stamp t.end → (step : IsStep m home node bound old new) → same_share → StandsFor m t home node share (raised ahead step.event.key.dest) new
-  unfolding IsAscending
+  unfolding Ascends
   step_stands le step stands =
       let e = step.event in
       let dest = e.key.dest in
