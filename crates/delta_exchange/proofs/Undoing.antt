@@ -1,7 +1,6 @@
 -- Undoing the inverses of a list of changes.
-use Rattle.std.proofs.Common.{◌≡◌, ℕ, zero, suc, List, [], ◌∷◌, ◌++◌, take, drop, reverse, refl, ap, sym, ◌∙◌}
+use Rattle.std.proofs.Common.{◌≡◌, ℕ, zero, suc, List, [], ◌∷◌, take, drop, reverse, refl, ap, sym, ◌∙◌}
 use Rattle.std.proofs.lemmas.List.{reverse-append, take-append-drop}
-use Rattle.std.proofs.lemmas.Grind.{reverse_onto}
 use Rattle.delta_exchange.specs.Changes.{CellData, cells_after, inverse_of, AllFit, cells_after_all, inverses_of}
 use Rattle.delta_exchange.specs.Spares.{spare_after, AllFindRoom, spare_after_all}
 use Rattle.delta_exchange.specs.Undoing.{UndoRestores, view_after_all, CanBeDone, UndoingRestores, UndoingTheLastRestores, UndoingTheFirstRestores}

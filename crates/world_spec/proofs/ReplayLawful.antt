@@ -1,12 +1,11 @@
 -- A replay leaves lawful cells.
-use Rattle.std.proofs.Common.{Bool, List, [], cond, false, length, refl, subst, true, ℕ, ◌+◌, ◌<◌, ◌∷◌, ◌≡◌}
+use Rattle.std.proofs.Common.{List, [], refl, subst, ℕ, ◌<◌, ◌∷◌, ◌≡◌}
 use Rattle.std.specs.Prelude.{IsTrue}
-use Rattle.delta_exchange.specs.Changes.{cells_after_all, inverses_of}
 use Rattle.model_core.specs.Meaning.{Meaning, MeaningLaws, OutcomeLaws}
 use Rattle.model_core.specs.declared.effect.Outcome.{Outcome}
 use Rattle.model_core.specs.declared.effect.Outcome.TheVariants.{Fails, Goes}
 use Rattle.model_core.specs.declared.event.Event.{Event}
-use Rattle.sim_spec.specs.Firing.{Fired, Firing, ObjectState, emissions, fails, fire, fired_by, goes, has_chain}
+use Rattle.sim_spec.specs.Firing.{Fired, Firing, ObjectState, fails, fire, fired_by, goes}
 use Rattle.sim_spec.specs.Replay.{replay, replay_fired}
 use Rattle.sim_spec.proofs.FiringLemmas.{goes-firing}
 
