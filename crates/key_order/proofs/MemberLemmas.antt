@@ -1,7 +1,8 @@
 -- Members of lists, and parts of them.
-use Rattle.std.proofs.Common.{Bool, List, [], arith, cond, false, inl, inr, length, subst, suc, true, zero, ℕ, ◌<◌, ◌∷◌, ◌≡◌, ◌⊎◌}
+use Rattle.std.proofs.Common.{Bool, List, [], arith, cond, false, inl, inr, length, refl, subst, suc, true, zero, ℕ, ◌<◌, ◌∷◌, ◌≡◌, ◌⊎◌}
 use Rattle.std.specs.List.{AllByRecursion as Each}
-use Rattle.std.specs.Prelude.{Contains, filter, slice_index_or}
+use Rattle.std.specs.Prelude.{Contains, IsPermutation, filter, slice_index_or}
+use Rattle.std.proofs.lemmas.List.Sorted.{Contains-permutation, IsPermutation-sym}
 
 -- an element is the first one, or one behind it
 pub first-or-later : {X : Type 0} (x y : X) (ys : List X) → Contains (y ∷ ys) x → (y ≡ x) ⊎ Contains ys x
@@ -38,3 +39,11 @@ filter-contains p x (y ∷ ys) is_in = by_test (p y) (filter-contains p x ys) is
           | inr there ↦ is-later x y ys (more there)
         ]
     by_test false more is_in = is-later x y ys (more is_in)
+
+-- what holds of each member holds of each
+pub each-member : {X : Type 0} (P : X → Type 0) (xs : List X) → ((x : X) → Contains xs x → P x) → Each P xs
+each-member P [] all = tt
+each-member P (x ∷ xs) all = (all x (is-first x x xs refl), each-member P xs (λ y is_in. all y (is-later y x xs is_in)))
+
+pub Each-permutation : {X : Type 0} (P : X → Type 0) (xs ys : List X) → IsPermutation xs ys → Each P xs → Each P ys
+Each-permutation P xs ys moves all = each-member P ys (λ x is_in. each-contains P x xs all (Contains-permutation ys xs x (IsPermutation-sym xs ys moves) is_in))

@@ -1,83 +1,80 @@
--- A list in the order of its keys is known by its members, and the order of arrival doesn't matter.
-use Rattle.std.proofs.Common.{◌≡◌, ◌⊎◌, ℕ, zero, suc, ◌<◌, true, List, [], ◌∷◌, length, sym, refl, subst, inl, inr, arith}
-use Rattle.std.specs.Prelude.{Contains, slice_index_or, IsPermutation}
+-- A list in the order of its keys is known by its members, and object by object.
+use Rattle.std.proofs.Common.{Bool, List, [], ap, cond, eq-eqb, eqb, false, inl, inr, refl, subst, sym, true, ℕ, ◌∷◌, ◌≡◌}
+use Rattle.std.specs.Prelude.{Contains, IsPermutation, filter}
 use Rattle.std.proofs.lemmas.List.Sorted.{Contains-permutation, IsPermutation-sym}
-use Rattle.event_key.specs.declared.key.Key.{Key}
+use Rattle.event_key.proofs.Order.{key_lt-trans}
 use Rattle.event_key.specs.Keys.{key_lt}
-use Rattle.event_key.proofs.Order.{key_lt-irrefl, key_lt-trans}
-use Rattle.model_core.specs.declared.event.Event.{Event}
-use Rattle.key_order.specs.Ascending.{AllAfter, IsAscending}
+use Rattle.event_key.specs.declared.key.Key.{Key}
+use Rattle.key_order.specs.Ascending.{After, Ascends}
+use Rattle.key_order.proofs.AscendingLemmas.{key_lt-never}
+use Rattle.key_order.proofs.MemberLemmas.{each-contains, filter-contains, first-or-later, is-first, is-later, none-in}
 
--- an element is the first one, or one behind it
-first_or_later : (x y : Event) (ys : List Event) → Contains (y ∷ ys) x → (y ≡ x) ⊎ Contains ys x
-first_or_later x y ys h = at h.0 h.1 h.2
-  where
-    at : (k : ℕ) → k < length (y ∷ ys) → slice_index_or (y ∷ ys) k x ≡ x → (y ≡ x) ⊎ Contains ys x
-    at zero below is = inl is
-    at (suc k) below is = inr (k, (omega arith), is)
+module _ {X : Type 0} (key : X → Key) where
+  after_member : (k : Key) (x : X) (xs : List X) → After key k xs → Contains xs x → key_lt k (key x) ≡ true
+  after_member k x xs all is_in = each-contains (λ (y : X). key_lt k (key y) ≡ true) x xs all is_in
 
-here : (y : Event) (ys : List Event) → Contains (y ∷ ys) y
-here y ys = (0, (omega arith), refl)
-
-there : (x y : Event) (ys : List Event) → Contains ys x → Contains (y ∷ ys) x
-there x y ys h = (suc h.0, (let lt : h.0 < length ys = h.1 in omega arith), h.2)
-
--- each member comes after
-after_member : (k : Key) (x : Event) (xs : List Event) → AllAfter k xs → Contains xs x → key_lt k x.key ≡ true
-unfolding AllAfter
-after_member k x [] all h = absurd (let lt : h.0 < 0 = h.1 in omega arith)
-after_member k x (y ∷ ys) all h =
-    elim (first_or_later x y ys h) [
-      | inl same ↦ (let P : Event → Type 0 = λ e. key_lt k e.key ≡ true in subst P same all.0)
-      | inr more ↦ after_member k x ys all.1 more
-    ]
-
--- no key comes before itself
-twice : (k : Key) → key_lt k k ≡ true → ⊥
-twice k h = let n = key_lt-irrefl k in cc
-
-turns : (j k : Key) → key_lt j k ≡ true → key_lt k j ≡ true → ⊥
-turns j k h g = twice j (key_lt-trans j k j h g)
-
-Same : List Event → List Event → Type 0
-Same xs ys = (x : Event) → (Contains xs x → Contains ys x) × (Contains ys x → Contains xs x)
-
--- the first elements are one
-same_first : (x y : Event) (xs ys : List Event) → IsAscending (x ∷ xs) → IsAscending (y ∷ ys) → Contains (y ∷ ys) x → Contains (x ∷ xs) y → x ≡ y
-unfolding IsAscending
-same_first x y xs ys up down x_in y_in =
-    elim (first_or_later x y ys x_in) [
-      | inl same ↦ sym same
-      | inr x_later ↦ elim (first_or_later y x xs y_in) [
-        | inl same ↦ same
-        | inr y_later ↦ absurd (turns y.key x.key (after_member y.key x ys down.0 x_later) (after_member x.key y xs up.0 y_later))
+  same_first : (x y : X) (xs ys : List X) → Ascends key (x ∷ xs) → Ascends key (y ∷ ys) → Contains (y ∷ ys) x → Contains (x ∷ xs) y → x ≡ y
+  unfolding Ascends
+  same_first x y xs ys up down x_in y_in =
+      elim (first-or-later x y ys x_in) [
+        | inl same ↦ sym same
+        | inr x_later ↦ elim (first-or-later y x xs y_in) [
+          | inl same ↦ same
+          | inr y_later ↦ absurd (key_lt-never (key y) (key_lt-trans (key y) (key x) (key y) (after_member (key y) x ys down.0 x_later) (after_member (key x) y xs up.0 y_later)))
+        ]
       ]
-    ]
 
--- a member behind the first is not the first
-only_later : (x z : Event) (xs ys : List Event) → IsAscending (x ∷ xs) → Contains xs z → Contains (x ∷ ys) z → Contains ys z
-unfolding IsAscending
-only_later x z xs ys up z_in h =
-    elim (first_or_later z x ys h) [
-      | inl same ↦ (let lt = after_member x.key z xs up.0 z_in in let P : Event → Type 0 = λ e. key_lt x.key e.key ≡ true in absurd (twice x.key (subst P (sym same) lt)))
-      | inr more ↦ more
-    ]
+  only_later : (x z : X) (xs ys : List X) → Ascends key (x ∷ xs) → Contains xs z → Contains (x ∷ ys) z → Contains ys z
+  unfolding Ascends
+  only_later x z xs ys up z_in is_in =
+      elim (first-or-later z x ys is_in) [
+        | inl same ↦ (let P : X → Type 0 = λ e. key_lt (key x) (key e) ≡ true in absurd (key_lt-never (key x) (subst P (sym same) (after_member (key x) z xs up.0 z_in))))
+        | inr more ↦ more
+      ]
 
--- lists in order with the same members are one list
-pub ascending_same : (xs ys : List Event) → IsAscending xs → IsAscending ys → ((x : Event) → Contains xs x → Contains ys x) → ((x : Event) → Contains ys x → Contains xs x) → xs ≡ ys
-unfolding IsAscending
-ascending_same [] [] up down there_in back_in = refl
-ascending_same [] (y ∷ ys) up down there_in back_in = absurd (let h = back_in y (here y ys) in let lt : h.0 < 0 = h.1 in omega arith)
-ascending_same (x ∷ xs) [] up down there_in back_in = absurd (let h = there_in x (here x xs) in let lt : h.0 < 0 = h.1 in omega arith)
-ascending_same (x ∷ xs) (y ∷ ys) up down there_in back_in =
-    let first : x ≡ y = same_first x y xs ys up down (there_in x (here x xs)) (back_in y (here y ys)) in
-    let P : Event → Type 0 = λ e. (z : Event) → Contains xs z → Contains (e ∷ ys) z in
-    let Q : Event → Type 0 = λ e. (z : Event) → Contains ys z → Contains (e ∷ xs) z in
-    let more : xs ≡ ys = ascending_same xs ys up.1 down.1
-    (λ z z_in. only_later x z xs ys up z_in (subst P (sym first) (λ z z_in. there_in z (there z x xs z_in)) z z_in))
-    (λ z z_in. only_later y z ys xs down z_in (subst Q first (λ z z_in. back_in z (there z y ys z_in)) z z_in)) in
-    λ i. first i ∷ more i
+  -- lists in order with the same members are one list
+  pub by-members : (xs ys : List X) → Ascends key xs → Ascends key ys → ((x : X) → Contains xs x → Contains ys x) → ((x : X) → Contains ys x → Contains xs x) → xs ≡ ys
+  unfolding Ascends
+  by-members [] [] up down there back = refl
+  by-members [] (y ∷ ys) up down there back = none-in y (back y (is-first y y ys refl))
+  by-members (x ∷ xs) [] up down there back = none-in x (there x (is-first x x xs refl))
+  by-members (x ∷ xs) (y ∷ ys) up down there back =
+      let first : x ≡ y = same_first x y xs ys up down (there x (is-first x x xs refl)) (back y (is-first y y ys refl)) in
+      let P : X → Type 0 = λ e. (z : X) → Contains xs z → Contains (e ∷ ys) z in
+      let Q : X → Type 0 = λ e. (z : X) → Contains ys z → Contains (e ∷ xs) z in
+      let more : xs ≡ ys = by-members xs ys up.1 down.1
+      (λ z z_in. only_later x z xs ys up z_in (subst P (sym first) (λ z z_in. there z (is-later z x xs z_in)) z z_in))
+      (λ z z_in. only_later y z ys xs down z_in (subst Q first (λ z z_in. back z (is-later z y ys z_in)) z z_in)) in
+      λ i. first i ∷ more i
 
-pub ascending_permutation : (xs ys : List Event) → IsAscending xs → IsAscending ys → IsPermutation xs ys → xs ≡ ys
-ascending_permutation xs ys up down moves =
-    ascending_same xs ys up down (λ x. Contains-permutation xs ys x moves) (λ x. Contains-permutation ys xs x (IsPermutation-sym xs ys moves))
+  pub by-permutation : (xs ys : List X) → Ascends key xs → Ascends key ys → IsPermutation xs ys → xs ≡ ys
+  by-permutation xs ys up down moves =
+      by-members xs ys up down (λ x. Contains-permutation xs ys x moves) (λ x. Contains-permutation ys xs x (IsPermutation-sym xs ys moves))
+
+  abbrev pub part : ℕ → List X → List X
+  part object xs = filter (λ x. eqb (key x).dest object) xs
+
+  -- a member is one of its object's part
+  in_part : (x : X) (xs : List X) → Contains xs x → Contains (part (key x).dest xs) x
+  in_part x [] is_in = is_in
+  in_part x (y ∷ ys) is_in = by_test (eqb (key y).dest (key x).dest) refl (in_part x ys)
+    where
+      by_test : (b : Bool) → eqb (key y).dest (key x).dest ≡ b → (Contains ys x → Contains (part (key x).dest ys) x) → Contains (cond b (y ∷ part (key x).dest ys) (part (key x).dest ys)) x
+      by_test true here more =
+          elim (first-or-later x y ys is_in) [
+            | inl same ↦ is-first x y (part (key x).dest ys) same
+            | inr later ↦ is-later x y (part (key x).dest ys) (more later)
+          ]
+      by_test false there more =
+          elim (first-or-later x y ys is_in) [
+            | inl same ↦ (let yes = eq-eqb (key y).dest (key x).dest (ap (λ (z : X). (key z).dest) same) in absurd (cc))
+            | inr later ↦ more later
+          ]
+
+  -- lists in order with the same parts are one list
+  pub by-objects : (xs ys : List X) → Ascends key xs → Ascends key ys → ((object : ℕ) → part object xs ≡ part object ys) → xs ≡ ys
+  by-objects xs ys up down same =
+      let P : X → List X → Type 0 = λ x zs. Contains zs x in
+      by-members xs ys up down
+      (λ x is_in. filter-contains (λ z. eqb (key z).dest (key x).dest) x ys (subst (P x) (same (key x).dest) (in_part x xs is_in)))
+      (λ x is_in. filter-contains (λ z. eqb (key z).dest (key x).dest) x xs (subst (P x) (sym (same (key x).dest)) (in_part x ys is_in)))

@@ -1,33 +1,22 @@
 -- Bounds on the stamps of events.
-use Rattle.std.proofs.Common.{◌≡◌, ℕ, zero, suc, ◌<◌, ◌≤◌, min, List, [], ◌∷◌, ◌++◌, length, refl, ap, ◌∙◌, subst, arith, get_or}
-use Rattle.std.specs.Prelude.{Contains}
+use Rattle.std.proofs.Common.{◌≡◌, ℕ, ◌<◌, ◌≤◌, min, true, List, [], ◌∷◌, ◌++◌, refl, arith}
 use Rattle.event_key.specs.declared.key.Key.{Key}
-use Rattle.event_key.proofs.Order.{stamp-le}
+use Rattle.event_key.specs.Keys.{key_lt}
+use Rattle.event_key.proofs.Order.{key_lt-stamp, stamp-le}
 use Rattle.model_core.specs.declared.event.Event.{Event}
-use Rattle.key_order.specs.Pending.{enqueue, enqueue_all}
 use Rattle.key_order.specs.Ascending.{AllAfter}
 use Rattle.key_order.specs.Stamps.{least_stamp, NoneBelow}
-use Rattle.key_order.proofs.PendingLemmas.{enqueue-behind}
-use Rattle.key_order.proofs.EachLemmas.{Each-map, Each-append}
+use Rattle.key_order.proofs.EachLemmas.{Each-map}
 
 pub NoneBelow-le : (g h : ℕ) (es : List Event) → g ≤ h → NoneBelow h es → NoneBelow g es
 NoneBelow-le g h es le from = Each-map (λ (e : Event). h ≤ e.key.stamp) (λ (e : Event). g ≤ e.key.stamp) es (λ e late. omega arith) from
 
-pub NoneBelow-append : (h : ℕ) (es fs : List Event) → NoneBelow h es → NoneBelow h fs → NoneBelow h (es ++ fs)
-NoneBelow-append h es fs from more = Each-append (λ (e : Event). h ≤ e.key.stamp) es fs from more
-
+-- what comes after a key has no lower stamp, and an event with a lower stamp than others comes before them
 pub NoneBelow-after : (k : Key) (es : List Event) → AllAfter k es → NoneBelow k.stamp es
-unfolding AllAfter
-NoneBelow-after k [] all = tt
-NoneBelow-after k (e ∷ es) all = (stamp-le k e.key all.0, NoneBelow-after k es all.1)
+NoneBelow-after k es all = Each-map (λ (e : Event). key_lt k e.key ≡ true) (λ (e : Event). k.stamp ≤ e.key.stamp) es (λ e lt. stamp-le k e.key lt) all
 
-pub NoneBelow-contains : (h : ℕ) (es : List Event) (e : Event) → NoneBelow h es → Contains es e → h ≤ e.key.stamp
-NoneBelow-contains h [] e from is_in = absurd (let lt : is_in.0 < 0 = is_in.1 in omega arith)
-NoneBelow-contains h (x ∷ xs) e from is_in = at_place (NoneBelow-contains h xs e from.1) is_in.0 is_in.1 is_in.2
-  where
-    at_place : (Contains xs e → h ≤ e.key.stamp) → (k : ℕ) → k < length (x ∷ xs) → get_or (x ∷ xs) k e ≡ e → h ≤ e.key.stamp
-    at_place more zero inside is_e = let P : Event → Type 0 = λ y. h ≤ y.key.stamp in subst P is_e from.0
-    at_place more (suc k) inside is_e = more (k, (omega arith), is_e)
+pub after-below : (h : ℕ) (k : Key) (es : List Event) → NoneBelow h es → k.stamp < h → AllAfter k es
+after-below h k es from low = Each-map (λ (e : Event). h ≤ e.key.stamp) (λ (e : Event). key_lt k e.key ≡ true) es (λ e late. key_lt-stamp k e.key (omega arith)) from
 
 -- the least stamp is a bound, and no greater one is
 pub least_stamp-le : (h : ℕ) (es : List Event) → least_stamp h es ≤ h
@@ -46,10 +35,7 @@ unfolding least_stamp
 least_stamp-from g h [] le from = le
 least_stamp-from g h (e ∷ es) le from = least_stamp-from g (min h e.key.stamp) es (let one : g ≤ e.key.stamp = from.0 in omega arith) from.1
 
--- an event below all those that go to their places stays the first one
-pub enqueue_all-behind : (h : ℕ) (aside : List Event) (e : Event) (es : List Event) → NoneBelow h aside → e.key.stamp < h → enqueue_all aside (e ∷ es) ≡ e ∷ enqueue_all aside es
-unfolding enqueue_all
-enqueue_all-behind h [] e es from lt = refl
-enqueue_all-behind h (a ∷ rest) e es from lt =
-    let late : h ≤ a.key.stamp = from.0 in
-    ap (enqueue_all rest) (enqueue-behind a e es (omega arith)) ∙ enqueue_all-behind h rest e (enqueue a es) from.1 lt
+pub least_stamp-append : (h : ℕ) (es fs : List Event) → least_stamp h (es ++ fs) ≡ least_stamp (least_stamp h es) fs
+unfolding least_stamp
+least_stamp-append h [] fs = refl
+least_stamp-append h (e ∷ es) fs = least_stamp-append (min h e.key.stamp) es fs

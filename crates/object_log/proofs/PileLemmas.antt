@@ -8,7 +8,8 @@ use Rattle.object_log.specs.declared.done.Done.{Done}
 use Rattle.object_log.specs.declared.entry.Entry.{Entry}
 use Rattle.object_log.specs.Logs.{held_of}
 use Rattle.object_log.specs.Rows.{TellHeld}
-use Rattle.object_log.proofs.HeldLemmas.{least-append, least-join, held-append}
+use Rattle.object_log.proofs.HeldLemmas.{least-join, held-append}
+use Rattle.key_order.proofs.StampLemmas.{least_stamp-append}
 
 abbrev pub dones : List Entry → List Done
 dones = map (λ e. e.done)
@@ -19,7 +20,7 @@ least-one h d = ap (least_stamp h) (append-nil d.sends)
 
 least-first : (h : ℕ) (d : Done) (ds : List Done) → least_stamp h (held_of (d ∷ ds)) ≡ least_stamp (least_stamp h d.sends) (held_of ds)
 unfolding held_of
-least-first h d ds = least-append h d.sends (held_of ds)
+least-first h d ds = least_stamp-append h d.sends (held_of ds)
 
 -- the top one knows the least of all
 pub told-top : (h : ℕ) (es : List Entry) (e : Entry) → TellHeld h (es ++ e ∷ []) → e.held ≡ least_stamp h (held_of (dones (es ++ e ∷ [])))

@@ -26,8 +26,6 @@ pub struct Course {
     queue: Queue,
     // the cells of events that are done
     pool: CellPool<Event>,
-    // what the last event did
-    sheet: Effect,
     count: u64,
 }
 
@@ -50,7 +48,6 @@ impl Course {
             objects: first_objects(alloc, model)?,
             queue: first_events(alloc, model)?,
             pool: CellPool::new(),
-            sheet: Effect::new(alloc)?,
             count: 0,
         })
     }
@@ -86,15 +83,16 @@ impl Course {
         self.queue.merge();
     }
 
-    /// Fires the next event of the bucket, where there is one.
+    /// Fires the next event of the bucket, where there is one, and tells of it in the sheet.
     pub fn turn<M: SimulationModel>(
         &mut self,
         alloc: Global,
         model: &M,
         terms: &Terms,
+        sheet: &mut Effect,
     ) -> Result<Turn, OutOfMemory>
         requires { Lawful (M.meaning model.now) terms.now (state_of self.old) }
-        ensures { IfOk result (λ turn. IsTurn (M.meaning model.now) terms.now self.old turn self.new) }
+        ensures { IfOk result (λ turn. IsTurn (M.meaning model.now) terms.now self.old turn sheet.new.note self.new) }
     {
         let horizon = self.queue.fresh_least().min(end_bound(terms.end));
         let Some(key) = self.queue.first() else {
@@ -106,20 +104,21 @@ impl Course {
         if self.count == terms.limit {
             return Ok(Turn::Limit);
         }
-        self.fire(alloc, model, terms)
+        self.fire(alloc, model, terms, sheet)
     }
 
-    /// Fires the first event in order.
+    /// Fires the first event in order, and tells of it in the sheet.
     fn fire<M: SimulationModel>(
         &mut self,
         alloc: Global,
         model: &M,
         terms: &Terms,
+        sheet: &mut Effect,
     ) -> Result<Turn, OutOfMemory>
         requires lawful { Lawful (M.meaning model.now) terms.now (state_of self.old) }
         requires due { HasDue terms.now self.old }
         requires free { self.old.count < terms.now.limit }
-        ensures { IfOk result (λ turn. IsTurn (M.meaning model.now) terms.now self.old turn self.new) }
+        ensures { IfOk result (λ turn. IsTurn (M.meaning model.now) terms.now self.old turn sheet.new.note self.new) }
     {
         keeps_laws(model);
         let Some(cell) = self.queue.pop() else {
@@ -129,7 +128,7 @@ impl Course {
         let key = event.key;
         let object = &mut self.objects[key.dest as usize];
         let serial = object.sent();
-        match object.fire(model, event, &mut self.sheet)? {
+        match object.fire(model, event, sheet)? {
             Ending::Goes => {
                 self.pool.recycle(cell);
                 send_all(
@@ -138,11 +137,11 @@ impl Course {
                     alloc,
                     &key,
                     serial,
-                    self.sheet.sends.as_slice(),
+                    sheet.sends.as_slice(),
                     model.objects(),
                 )?;
                 self.count += 1;
-                Ok(Turn::Does(key, self.sheet.note))
+                Ok(Turn::Does(key))
             }
             Ending::Fails(code) => {
                 let mut taken = Chain::new();

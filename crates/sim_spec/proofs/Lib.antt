@@ -1,16 +1,13 @@
 pub mod BucketFacts
 pub mod BucketInduction
 pub mod BucketLaw
-pub mod CycleSummary
 pub mod CyclesLaw
-pub mod EarlyFault
-pub mod FaultCycles
+pub mod FiringLemmas
 pub mod HorizonLaw
 pub mod InTurnLemmas
 pub mod InitialLemmas
 pub mod LawfulLemmas
 pub mod MovesLaw
-pub mod NetworkEffects
 pub mod ObjectReplay
 pub mod ObjectsLaw
 pub mod PartLemmas
@@ -18,8 +15,6 @@ pub mod ReplayLemmas
 pub mod RunEndsLemma
 pub mod RunLemmas
 pub mod SerialLemmas
-pub mod ShopCycles
 pub mod SoundLemmas
 pub mod StampLemmas
 pub mod TakenLemmas
-pub mod TieCycles

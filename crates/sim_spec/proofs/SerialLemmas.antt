@@ -7,9 +7,9 @@ use Rattle.sim_spec.specs.Firing.{ObjectState, emission, emissions}
 use Rattle.key_order.specs.Pending.{enqueue, enqueue_all}
 use Rattle.key_order.specs.Ascending.{IsAscending}
 use Rattle.sim_spec.specs.State.{AllSound, object_at}
-use Rattle.key_order.proofs.EnqueueLemmas.{IsAscending-enqueue}
+use Rattle.key_order.proofs.EnqueueLemmas.{IsAscending-enqueue, Each-enqueue}
 use Rattle.key_order.specs.Serials.{SerialsBelow}
-use Rattle.key_order.proofs.SerialLemmas.{SerialsBelow-enqueue, SerialsBelow-le, NoneAt-serial}
+use Rattle.key_order.proofs.SerialLemmas.{SerialsBelow-le, new-serial}
 
 -- what an object sends goes to its places
 pub emissions_ascending : (stamp object serial : ℕ) (ss : List Send) (xs : List Event) → SerialsBelow object serial xs → IsAscending xs
@@ -19,12 +19,12 @@ emissions_ascending stamp object serial [] xs below up = up
 emissions_ascending stamp object serial (s ∷ ss) xs below up =
     let e : Event = emission stamp object serial s in
     emissions_ascending stamp object (serial + 1) ss (enqueue e xs)
-    (SerialsBelow-enqueue object (serial + 1) e xs (λ _. omega arith) (SerialsBelow-le object serial (serial + 1) xs (omega arith) below))
-    (IsAscending-enqueue e xs (NoneAt-serial e.key xs below) up)
+    (Each-enqueue (λ (e : Event). e.key.src ≡ object → e.key.serial < (serial + 1)) e xs (λ _. omega arith) (SerialsBelow-le object serial (serial + 1) xs (omega arith) below))
+    (IsAscending-enqueue e xs (new-serial e.key xs below) up)
 
 pub serials_sound : (m : Meaning) (objects : List ObjectState) (object : ℕ) (xs : List Event) → m.objects ≤ 65536 → object < m.objects → AllSound m objects xs
     → SerialsBelow object (object_at objects object).sent xs
-unfolding AllSound SerialsBelow
+unfolding AllSound
 serials_sound m objects object [] few below all = tt
 serials_sound m objects object (x ∷ xs) few below all = (
   λ same. elim all.0.source [

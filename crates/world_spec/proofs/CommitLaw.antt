@@ -13,10 +13,10 @@ use Rattle.model_core.specs.Meaning.{Meaning, MeaningLaws}
 use Rattle.model_core.specs.declared.event.Event.{Event}
 use Rattle.sim_spec.specs.Cut.{after}
 use Rattle.sim_spec.specs.Firing.{ObjectState}
-use Rattle.key_order.specs.Ascending.{IsAscending}
+use Rattle.key_order.specs.Ascending.{IsAscending, key_of, Ascends}
 use Rattle.sim_spec.specs.Replay.{Replay, events_at, replay, taken}
 use Rattle.sim_spec.specs.declared.terms.Terms.{Terms}
-use Rattle.key_order.proofs.AscendingLemmas.{AllAfter-each, IsAscending-filter}
+use Rattle.key_order.proofs.AscendingLemmas.{Ascends-filter}
 use Rattle.key_order.proofs.EachLemmas.{Each-back, Each-filter, Each-map}
 use Rattle.sim_spec.proofs.PartLemmas.{Each-events_at, IsAscending-events_at}
 use Rattle.sim_spec.proofs.ReplayLemmas.{replay-append, replay-fault, replay-faulted, replay_after}
@@ -54,7 +54,7 @@ module _ (bound : ℕ) (cut : Option Key) where
 
   -- in a list in order, what is due stands at the front
   pub due-front : (es : List Event) → IsAscending es → (filter due es ≡ take (length (filter due es)) es) × (filter stays es ≡ drop (length (filter due es)) es)
-  unfolding IsAscending
+  unfolding Ascends
   due-front [] up = (refl, refl)
   due-front (e ∷ es) up = by_test (due e) refl (due-front es up.1)
     where
@@ -63,7 +63,7 @@ module _ (bound : ℕ) (cut : Option Key) where
           × (cond (not b) (e ∷ filter stays es) (filter stays es) ≡ drop (length (cond b (e ∷ filter due es) (filter due es))) (e ∷ es))
       by_test true h more = (ap (λ xs. e ∷ xs) more.0, more.1)
       by_test false h more =
-          let no = none_due e es h (AllAfter-each e.key es up.0) in
+          let no = none_due e es h up.0 in
           let nothing : filter due es ≡ [] = filter-none due es no in
           let all : filter stays es ≡ es = filter-all stays es (Each-map (λ x. due x ≡ false) (λ x. stays x ≡ true) es (λ x n. ap not n) no) in
           (nothing ∙ sym (ap (λ xs. take (length xs) (e ∷ es)) nothing), ap (λ xs. e ∷ xs) all ∙ sym (ap (λ xs. drop (length xs) (e ∷ es)) nothing))
@@ -187,7 +187,7 @@ module _ (bound : ℕ) (cut : Option Key) where
         let O : List Event → Type 0 = IsAscending in
         let H : List Event → Type 0 = Each (IsAtHome m home node) in
         record {
-          ordered = IsAscending-filter stays share.pending stands.ordered;
+          ordered = Ascends-filter key_of stays share.pending stands.ordered;
           homed = Each-filter (IsAtHome m home node) stays share.pending stands.homed;
           cells = λ object at. replay-lawful m object (share.states object) (take (due_at object) (own_events object)) laws at.0 (stands.cells object at);
           early = λ object at. record {

@@ -14,7 +14,8 @@ use Rattle.key_order.specs.Due.{is_due}
 use Rattle.world_spec.specs.Parcels.{IsHandedOut, done_of}
 use Rattle.world_spec.specs.Share.{IsAtHome, IsHome, NodeData}
 use Rattle.sim_spec.proofs.PartLemmas.{Ascends-done}
-use Rattle.key_order.proofs.AscendsLemmas.{Ascends-filter, by-objects}
+use Rattle.key_order.proofs.AscendingLemmas.{Ascends-filter}
+use Rattle.key_order.proofs.OrderLemmas.{by-objects}
 
 -- an object's part of a node's part
 own_at : (home : ℕ → ℕ) (node object : ℕ) (ds : List (Event × Firing)) → home object ≡ node → done_at object (done_of home node ds) ≡ done_at object ds

@@ -7,11 +7,11 @@ pub mod ClosedLaw
 pub mod ClosesLaw
 pub mod CommitLaw
 pub mod EndsLaw
-pub mod FalseFault
 pub mod FrontLemmas
 pub mod HandedLemmas
 pub mod HeldLemmas
 pub mod HomeLemmas
+pub mod IdleLemmas
 pub mod NextWorld
 pub mod NodeFacts
 pub mod ParcelLemmas

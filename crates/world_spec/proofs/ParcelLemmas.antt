@@ -14,7 +14,8 @@ use Rattle.key_order.specs.Ascending.{IsAscending, Ascends}
 use Rattle.world_spec.specs.Parcels.{done_of, parcels, records_by_node}
 use Rattle.world_spec.specs.Share.{is_at}
 use Rattle.sim_spec.proofs.PartLemmas.{Ascends-done}
-use Rattle.key_order.proofs.AscendsLemmas.{Ascends-map, by-members}
+use Rattle.key_order.proofs.AscendingLemmas.{Ascends-map}
+use Rattle.key_order.proofs.OrderLemmas.{by-members}
 
 module _ {X A : Type 0} (images : X → List A) (node_of : X → ℕ) where
   pub joined_images : List X → List A

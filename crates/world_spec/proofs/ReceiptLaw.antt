@@ -11,7 +11,7 @@ use Rattle.sim_spec.specs.Replay.{events_at, replay, taken}
 use Rattle.sim_spec.specs.declared.terms.Terms.{Terms}
 use Rattle.key_order.proofs.EachLemmas.{Each-take}
 use Rattle.sim_spec.proofs.PartLemmas.{events_at-append, events_at-enqueue_all}
-use Rattle.key_order.proofs.PendingLemmas.{enqueue_all-append}
+use Rattle.key_order.proofs.EnqueueLemmas.{enqueue_all-append}
 use Rattle.world_spec.specs.Early.{is_before_all, leading}
 use Rattle.world_spec.specs.Moves.{IsReceipt, received, received_ahead}
 use Rattle.world_spec.specs.NodeLaws.{ReceiptLaw, ReceiptsLaw}
