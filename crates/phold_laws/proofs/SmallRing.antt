@@ -30,7 +30,7 @@ four_done_reached : Reaches (phold_meaning ring) to_twenty four_done
 unfolding four_done
 four_done_reached = (4, refl)
 
-what_is_pending : map (λ e. (time_part e.key.stamp, e.key.dest, e.key.src)) four_done.pending ≡ (5, 0, 2) ∷ (5, 1, 0) ∷ (5, 2, 1) ∷ (7, 2, 1) ∷ []
+what_is_pending : map {B = ℕ × ℕ × ℕ} (λ e. (time_part e.key.stamp, e.key.dest, e.key.src)) four_done.pending ≡ (5, 0, 2) ∷ (5, 1, 0) ∷ (5, 2, 1) ∷ (7, 2, 1) ∷ []
 unfolding four_done ring to_twenty draw drawn_value words_read starts_of hop_effect hop_delay hop_dest hop_next place_changes phold_meaning key_lt key_cmp next_stamp has_no_step cells_after_all inverses_of enqueue enqueue_all has_chain emissions fired_by fire initial_state next next_of next_fired left_by after_events
 what_is_pending = refl
 
