@@ -1,0 +1,6 @@
+pub mod Cases
+pub mod Leaves
+pub mod NetworkStarts
+pub mod NetworkSteps
+pub mod ServersLaw
+pub mod SmallShop
