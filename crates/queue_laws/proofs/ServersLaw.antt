@@ -35,11 +35,11 @@ use Rattle.queue_laws.proofs.NetworkStarts.{station_exists, station_at_start, st
 use Rattle.queue_laws.proofs.NetworkSteps.{IsNetworkStep, network_step, reached_lawful, cells_here, cells_elsewhere, sum_before, sum_after}
 
 -- how many of the events are ends of services at this object
-ends : ℕ → List Event → ℕ
+unfoldable pub ends : ℕ → List Event → ℕ
 ends i es = count_by (ends_service_at i) es
 
 -- no object sends the end of a service to another one
-ends_elsewhere : (site : Site) (cells : CellData) (e : Event) (role : Role) (x : Effect) (i stamp object serial : ℕ) → site.object ≢ i → EventDoes site cells e role x
+pub ends_elsewhere : (site : Site) (cells : CellData) (e : Event) (role : Role) (x : Effect) (i stamp object serial : ℕ) → site.object ≢ i → EventDoes site cells e role x
     → ends i (emissions stamp object serial x.sends) ≡ 0
 unfolding ends emissions idle_effect last_effect make_effect take_effect wait_effect lose_effect serve_effect free_effect
 ends_elsewhere site cells e role x i stamp object serial apart (idles source none) = refl
@@ -81,7 +81,7 @@ lose_ends : (i stamp object serial : ℕ) (cells : CellData) (e : Event) → end
 unfolding ends emissions lose_effect
 lose_ends i stamp object serial cells e = refl
 
-lose_leaves : (cells : CellData) (e : Event) → cells_after_all (lose_effect cells e).changes cells ≡ cells
+pub lose_leaves : (cells : CellData) (e : Event) → cells_after_all (lose_effect cells e).changes cells ≡ cells
 unfolding lose_effect cells_after_all
 lose_leaves cells e = refl
 

@@ -21,7 +21,9 @@ use Rattle.queue_models.specs.Sinks.{sink_effect}
 use Rattle.queue_models.specs.Sites.{place_changes}
 use Rattle.queue_models.specs.Sources.{idle_effect, last_effect, make_effect, source_effect}
 use Rattle.queue_models.specs.Stations.{take_effect, wait_effect, lose_effect, arrival_outcome, serve_effect, free_effect, done_effect, station_effect}
-use Rattle.run_laws.specs.Reached.{left_by, after_events, Reaches}
+use Rattle.run_laws.specs.Reached.{left_by, after_events, Reaches, gathered}
+use Rattle.run_laws.specs.Sent.{sent_next}
+use Rattle.queue_laws.specs.Orders.{arrived_at, begun_at, done_at, numbers_of}
 use Rattle.queue_laws.specs.Stations.{IsStationAt, busy_at, waiting_at, in_service_at}
 
 pub counter : Station
@@ -56,3 +58,13 @@ is_counter = refl
 who_waits : ◌≡◌ {A = ℕ × List ℕ × List ℕ} (busy_at three_here 1, waiting_at three_here 1, map (λ e. e.a) (in_service_at three_here 1)) (1, 2 ∷ 3 ∷ [], 1 ∷ [])
 unfolding three_here shop counter to_fifty draw drawn_value words_read start_of sources_below place_changes idle_effect last_effect make_effect source_effect sink_effect take_effect wait_effect lose_effect arrival_outcome serve_effect free_effect done_effect station_effect network_meaning key_lt key_cmp next_stamp has_no_step cells_after_all inverses_of enqueue enqueue_all has_chain emissions fired_by fire initial_state next next_of next_fired left_by after_events
 who_waits = refl
+
+-- after eleven events all four jobs came in; three services began, and two of them have ended
+eleven : State
+eleven = after_events 11 (network_meaning shop) to_fifty
+
+in_turn : ◌≡◌ {A = List ℕ × List ℕ × List ℕ × List ℕ × List ℕ}
+    (arrived_at shop to_fifty 1 11, begun_at shop to_fifty 1 11, done_at shop to_fifty 1 11, waiting_at eleven 1, numbers_of (in_service_at eleven 1))
+    (1 ∷ 2 ∷ 3 ∷ 4 ∷ [], 1 ∷ 2 ∷ 3 ∷ [], 1 ∷ 2 ∷ [], 4 ∷ [], 3 ∷ [])
+unfolding eleven gathered sent_next shop counter to_fifty draw drawn_value words_read start_of sources_below place_changes idle_effect last_effect make_effect source_effect sink_effect take_effect wait_effect lose_effect arrival_outcome serve_effect free_effect done_effect station_effect network_meaning key_lt key_cmp next_stamp has_no_step cells_after_all inverses_of enqueue enqueue_all has_chain emissions fired_by fire initial_state next next_of next_fired left_by after_events
+in_turn = refl
