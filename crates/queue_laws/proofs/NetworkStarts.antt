@@ -13,6 +13,7 @@ use Rattle.sim_spec.specs.State.{State, initial_state, start_event, event_of_sta
 use Rattle.queue_models.specs.declared.object.Object.{Object}
 use Rattle.queue_models.specs.declared.object.Role.{Role}
 use Rattle.queue_models.specs.declared.object.Role.TheVariants.{Makes, Serves, Holds, Routes, Ends}
+use Rattle.queue_models.specs.declared.source.Source.{Source}
 use Rattle.queue_models.specs.declared.station.Station.{Station}
 use Rattle.queue_models.specs.Meaning.{network_meaning, source_start, job_start, start_of}
 use Rattle.queue_models.specs.Objects.{NetworkParts, object_at, no_object, source_numbers}
@@ -22,16 +23,22 @@ use Rattle.run_laws.proofs.EnqueueKeeps.{sum_by-enqueue_all}
 use Rattle.queue_laws.specs.Stations.{IsStationAt, cells_at}
 
 -- a number without an object is a sink's
-pub station_exists : (p : NetworkParts) (i : ℕ) (station : Station) → IsStationAt p i station → i < length p.objects
-station_exists p i station is = by (ltb i (length p.objects)) refl
+exists_as : (p : NetworkParts) (i : ℕ) (role : Role) → (object_at p.objects i).role ≡ role → (no_object.role ≡ role → ⊥) → i < length p.objects
+exists_as p i role is no_sink = by (ltb i (length p.objects)) refl
   where
     by : (inside : Bool) → ltb i (length p.objects) ≡ inside → i < length p.objects
     by true inside = ltb-true i (length p.objects) inside
     by false inside = absurd (
       let none : object_at p.objects i ≡ no_object = get_or_past p.objects i no_object (ltb-false i (length p.objects) inside) in
-      let R : Object → Type 0 = λ o. o.role ≡ Serves station in
-      let sink : no_object.role ≡ Serves station = subst R none is in cc
+      let R : Object → Type 0 = λ o. o.role ≡ role in
+      no_sink (subst R none is)
     )
+
+pub station_exists : (p : NetworkParts) (i : ℕ) (station : Station) → IsStationAt p i station → i < length p.objects
+station_exists p i station is = exists_as p i (Serves station) is (λ sink. cc)
+
+pub source_exists : (p : NetworkParts) (i : ℕ) (source : Source) → (object_at p.objects i).role ≡ Makes source → i < length p.objects
+source_exists p i source is = exists_as p i (Makes source) is (λ sink. cc)
 
 pub cells_at_start : (p : NetworkParts) (i : ℕ) → i < length p.objects → cells_at (initial_state (network_meaning p)) i ≡ first_cells_of (object_at p.objects i).role
 unfolding initial_state network_meaning

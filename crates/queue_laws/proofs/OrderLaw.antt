@@ -45,12 +45,12 @@ use Rattle.queue_laws.proofs.ServersLaw.{ends, ends_elsewhere, lose_leaves, stat
 jobs_of : (ℕ → Bool) → Note → List ℕ
 jobs_of is_word note = map (λ (part : Part). part.a) (filter (λ (part : Part). is_word part.word) note)
 
-empty_list : {A : Type 0} (xs : List A) → length xs ≡ 0 → xs ≡ []
+pub empty_list : {A : Type 0} (xs : List A) → length xs ≡ 0 → xs ≡ []
 empty_list [] none = refl
 empty_list (x ∷ xs) none = absurd (omega arith)
 
 -- the first element of a list with one, and the others
-first_of_line : (xs : List ℕ) → 0 < length xs → xs ≡ slice_index xs 0 ∷ drop 1 xs
+pub first_of_line : (xs : List ℕ) → 0 < length xs → xs ≡ slice_index xs 0 ∷ drop 1 xs
 first_of_line [] some = absurd (omega arith)
 first_of_line (x ∷ xs) some = refl
 
