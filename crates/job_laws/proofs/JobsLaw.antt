@@ -21,7 +21,7 @@ use Rattle.queue_laws.specs.Stations.{cells_at}
 use Rattle.queue_laws.proofs.NetworkSteps.{IsNetworkStep, network_step}
 use Rattle.job_laws.specs.Places.{Place, at_event, in_line, has_left, was_lost}
 use Rattle.job_laws.specs.JobLaws.{numbers_from, is_left, is_lost, AreAllThere, NoneLostOrDoubled}
-use Rattle.job_laws.specs.Jobs.{Job, listed, made_by, places_after, first_places, whereabouts, held, in_the_system}
+use Rattle.job_laws.specs.Jobs.{Job, listed, made_by, is_in_system, places_after, first_places, whereabouts, held, in_the_system}
 use Rattle.job_laws.proofs.NamesLaw.{listed_on, made_on, listed_first, made_first}
 use Rattle.job_laws.proofs.Permuted.{same_counts}
 use Rattle.job_laws.proofs.PlacesLaw.{Agree, agree_on, agree_first}
@@ -70,18 +70,22 @@ there p t fine =
 all_somewhere : (jobs : List (Job × Place))
     → length jobs ≡ count_by (λ (job : Job × Place). is_left job.1) jobs + count_by (λ (job : Job × Place). is_lost job.1) jobs + sum_by (job_weight (inside (λ at. 1))) jobs
 all_somewhere [] = refl
-all_somewhere (job ∷ jobs) = by job.1
+all_somewhere (job ∷ jobs) =
+    let left : Job × Place → Bool = λ job. is_left job.1 in
+    let lost : Job × Place → Bool = λ job. is_lost job.1 in
+    let one : ℕ × Place → ℕ = λ at. 1 in
+    by job.1 (count_by left jobs) (count_by left (job ∷ jobs)) (count_by lost jobs) (count_by lost (job ∷ jobs)) (sum_by (job_weight (inside one)) jobs) (sum_by (job_weight (inside one)) (job ∷ jobs))
     (sum_by-cons (λ (job : Job × Place). cond (is_left job.1) 1 0) job jobs)
     (sum_by-cons (λ (job : Job × Place). cond (is_lost job.1) 1 0) job jobs)
-    (sum_by-cons (job_weight (inside (λ at. 1))) job jobs)
+    (sum_by-cons (job_weight (inside one)) job jobs)
     (all_somewhere jobs)
   where
-    by : {l l' o o' h h' : ℕ} (place : Place) → l' ≡ cond (is_left place) 1 0 + l → o' ≡ cond (is_lost place) 1 0 + o → h' ≡ inside (λ at. 1) (0, place) + h
-        → length jobs ≡ l + o + h → suc (length jobs) ≡ l' + o' + h'
-    by (at_event k) a b c d = omega arith
-    by (in_line i k) a b c d = omega arith
-    by has_left a b c d = omega arith
-    by was_lost a b c d = omega arith
+    by : (place : Place) (l m o q h r : ℕ) → m ≡ cond (is_left place) 1 0 + l → q ≡ cond (is_lost place) 1 0 + o → r ≡ cond (is_in_system place) 1 0 + h
+        → length jobs ≡ l + o + h → suc (length jobs) ≡ m + q + r
+    by (at_event k) l m o q h r a b c d = omega arith
+    by (in_line i k) l m o q h r a b c d = omega arith
+    by has_left l m o q h r a b c d = omega arith
+    by was_lost l m o q h r a b c d = omega arith
 
 sum-ones : {X : Type 0} (xs : List X) → sum_by (λ x. 1) xs ≡ length xs
 sum-ones [] = refl

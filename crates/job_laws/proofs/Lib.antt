@@ -5,4 +5,5 @@ pub mod NamesLaw
 pub mod Permuted
 pub mod PlacesLaw
 pub mod SamePlace
+pub mod SmallCrowd
 pub mod Weights

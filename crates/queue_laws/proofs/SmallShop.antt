@@ -26,10 +26,10 @@ use Rattle.run_laws.specs.Sent.{sent_next}
 use Rattle.queue_laws.specs.Orders.{arrived_at, begun_at, done_at, numbers_of}
 use Rattle.queue_laws.specs.Stations.{IsStationAt, busy_at, waiting_at, in_service_at}
 
-pub counter : Station
+unfoldable pub counter : Station
 counter = record { servers = 1; service = Fixed 5; line = 2; strict = false; next = 2 }
 
-pub shop : NetworkParts
+unfoldable pub shop : NetworkParts
 unfolding counter
 shop = record {
   seed = 7;
@@ -40,7 +40,7 @@ shop = record {
   jobs = [];
 }
 
-pub to_fifty : Terms
+unfoldable pub to_fifty : Terms
 to_fifty = record { end = 50; limit = 100; end_in_range = lit< tt; some_event = lit≤ tt; limit_in_range = lit≤ tt }
 
 -- six events are done: three jobs were made; the first is served, the others wait
