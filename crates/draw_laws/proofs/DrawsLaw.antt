@@ -1,5 +1,5 @@
 -- Each object draws from its own stream.
-use Rattle.std.proofs.Common.{◌≡◌, ◌≢◌, ◌⊎◌, ℕ, zero, suc, ◌+◌, ◌<◌, ◌≤◌, Bool, true, false, cond, List, [], ◌∷◌, ◌++◌, length, map, inl, inr, refl, sym, ap, ◌∙◌, subst, arith, eqb, eqb-true, eq-eqb, ne_eqb, append-nil, length-append, get_or}
+use Rattle.std.proofs.Common.{◌≡◌, ◌≢◌, ◌⊎◌, ℕ, suc, ◌+◌, ◌<◌, Bool, true, false, List, [], ◌∷◌, ◌++◌, length, map, inl, inr, refl, sym, ap, ◌∙◌, subst, arith, eqb, eqb-true, eq-eqb, ne_eqb, append-nil, length-append, get_or}
 use Rattle.std.specs.Prelude.{IsTrue, slice_index, ◌==◌, if◌then◌else◌}
 use Rattle.std.specs.List.{range_with_len}
 use Rattle.std.proofs.lemmas.List.FromFn.{map-range_with_len_more, get_or-map-range_with_len}
@@ -13,9 +13,8 @@ use Rattle.model_core.specs.declared.note.Note.{Note}
 use Rattle.random_streams.specs.declared.law.Law.{Law}
 use Rattle.random_streams.specs.Laws.{draw}
 use Rattle.sim_spec.specs.declared.terms.Terms.{Terms}
-use Rattle.sim_spec.specs.declared.stop.Stop.{Stop}
-use Rattle.sim_spec.specs.State.{State, initial_state}
-use Rattle.sim_spec.specs.Run.{Next, stops, does, next}
+use Rattle.sim_spec.specs.State.{State}
+use Rattle.sim_spec.specs.Run.{stops, does}
 use Rattle.queue_models.specs.declared.object.Role.{Role}
 use Rattle.queue_models.specs.declared.object.Role.TheVariants.{Makes, Serves, Holds, Routes, Ends}
 use Rattle.queue_models.specs.declared.site.Site.{Site}
@@ -26,9 +25,8 @@ use Rattle.queue_models.specs.Roles.{is_lawful, first_cells_of}
 use Rattle.queue_models.specs.Sites.{place_of, drawn_at}
 use Rattle.queue_models.specs.Sources.{idle_effect, last_effect, make_effect}
 use Rattle.queue_models.specs.Stations.{take_effect, wait_effect, lose_effect, serve_effect, free_effect}
-use Rattle.run_laws.specs.Reached.{after_events, Reaches, gathered}
+use Rattle.run_laws.specs.Reached.{after_events, gathered}
 use Rattle.run_laws.proofs.Induction.{after_events-does, after_events-stops, gathered-more, each_number}
-use Rattle.run_laws.proofs.Steps.{IsStep}
 use Rattle.queue_laws.specs.Stations.{cells_at}
 use Rattle.queue_laws.proofs.Cases.{EventDoes, idles, makes_last, makes, takes, waits, loses, serves, frees, holds, routes, leaves}
 use Rattle.queue_laws.proofs.Leaves.{station_shape, source_shape, plain_shape, take_leaves, wait_leaves, serve_leaves, free_leaves, last_leaves, make_leaves, plain_leaves}
@@ -147,17 +145,17 @@ own p t i fine exists =
     each_number m t (λ n. DrewItsOwn p i (after_events n m t) (drawn_by p t i n))
     (record { values = refl; place = place_same _ _ (cells_at_start p i exists) ∙ first_place (object_at p.objects i).role })
     (λ n stop is_next before.
-        let D : List ℕ → Type 0 = λ xs. DrewItsOwn p i (after_events (suc n) m t) xs in
-        let S : State → Type 0 = λ s. DrewItsOwn p i s (drawn_by p t i n) in
-        subst D (sym (gathered-more (draws_next p i) m t n (stops stop) is_next ∙ append-nil (drawn_by p t i n)))
-        (subst S (sym (after_events-stops m t n stop is_next)) before))
+    let D : List ℕ → Type 0 = λ xs. DrewItsOwn p i (after_events (suc n) m t) xs in
+    let S : State → Type 0 = λ s. DrewItsOwn p i s (drawn_by p t i n) in
+    subst D (sym (gathered-more (draws_next p i) m t n (stops stop) is_next ∙ append-nil (drawn_by p t i n)))
+    (subst S (sym (after_events-stops m t n stop is_next)) before))
     (λ n told after is_next before.
-        let s : State = after_events n m t in
-        let D : List ℕ → Type 0 = λ xs. DrewItsOwn p i (after_events (suc n) m t) xs in
-        let S : State → Type 0 = λ s. DrewItsOwn p i s (drawn_by p t i n ++ draws_next p i (after_events n m t) (does told after)) in
-        subst D (sym (gathered-more (draws_next p i) m t n (does told after) is_next))
-        (subst S (sym (after_events-does m t n told after is_next))
-        (own_on p t s told after (network_step p t s told after fine (n, refl) is_next) i (drawn_by p t i n) before)))
+    let s : State = after_events n m t in
+    let D : List ℕ → Type 0 = λ xs. DrewItsOwn p i (after_events (suc n) m t) xs in
+    let S : State → Type 0 = λ s. DrewItsOwn p i s (drawn_by p t i n ++ draws_next p i (after_events n m t) (does told after)) in
+    subst D (sym (gathered-more (draws_next p i) m t n (does told after) is_next))
+    (subst S (sym (after_events-does m t n told after is_next))
+    (own_on p t s told after (network_step p t s told after fine (n, refl) is_next) i (drawn_by p t i n) before)))
 
 pub draws_own : EachDrawsItsOwn
 draws_own p t i n fine exists = (own p t i fine exists n).values

@@ -1,8 +1,8 @@
 -- Draws, computed, with fixed laws, whose values can be seen: the shop, and a shop that differs in the law of its source.
-use Rattle.std.proofs.Common.{lit<, lit≤, ◌≡◌, ℕ, ◌+◌, ◌-◌, ◌%◌, ◌^◌, zero, suc, min, false, true, refl, List, [], ◌∷◌, ◌++◌, length, map}
+use Rattle.std.proofs.Common.{◌≡◌, ℕ, refl, List, [], ◌∷◌}
 use Rattle.std.specs.Prelude.{None}
 use Rattle.event_key.specs.Keys.{key_lt, key_cmp}
-use Rattle.event_key.specs.Stamps.{next_stamp, has_no_step, time_part}
+use Rattle.event_key.specs.Stamps.{next_stamp, has_no_step}
 use Rattle.delta_exchange.specs.Changes.{cells_after_all, inverses_of}
 use Rattle.random_streams.specs.declared.law.Law.TheVariants.{Fixed}
 use Rattle.random_streams.specs.Laws.{draw, drawn_value, words_read}

@@ -1,5 +1,5 @@
 -- An event moves its job, the first of the line where a service is done, and the job that a source makes, and none else.
-use Rattle.std.proofs.Common.{◌≡◌, ◌≢◌, ℕ, zero, suc, ◌+◌, ◌-◌, ◌<◌, ◌≤◌, Bool, true, false, cond, not, List, [], ◌∷◌, ◌++◌, length, drop, refl, sym, ap, ◌∙◌, subst, arith}
+use Rattle.std.proofs.Common.{◌≡◌, ℕ, ◌+◌, ◌<◌, true, false, List, [], ◌∷◌, length, drop, refl, ap, ◌∙◌, arith}
 use Rattle.std.specs.Prelude.{IsTrue, sum_by, slice_index}
 use Rattle.event_key.specs.Stamps.{time_part}
 use Rattle.delta_exchange.specs.Changes.{CellData, line_of, cells_after_all}
@@ -20,14 +20,14 @@ use Rattle.queue_models.specs.Objects.{NetworkParts, object_at, is_source}
 use Rattle.queue_models.specs.Parts.{IsLink, IsRole, IsRouter}
 use Rattle.queue_models.specs.PlainLaws.{choice_can_be_drawn, choice_within}
 use Rattle.queue_models.specs.Roles.{is_lawful}
-use Rattle.queue_models.specs.Sites.{place_of, drawn_at, place_changes, job_to}
+use Rattle.queue_models.specs.Sites.{place_of, drawn_at, job_to}
 use Rattle.queue_models.specs.Sources.{made_of, left_of, idle_effect, last_effect, make_effect}
 use Rattle.queue_models.specs.Stations.{done_after, take_effect, wait_effect, lose_effect, serve_effect, free_effect}
 use Rattle.queue_laws.proofs.Cases.{EventDoes, hold_effect, route_effect, leave_effect, idles, makes_last, makes, takes, waits, loses, serves, frees, holds, routes, leaves}
 use Rattle.queue_laws.proofs.Leaves.{HasStationCells, source_cells, place_cells, station_shape, source_shape, plain_shape, take_leaves, wait_leaves, serve_leaves, free_leaves, last_leaves, make_leaves, plain_leaves}
 use Rattle.queue_laws.proofs.OrderLaw.{empty_list, first_of_line}
 use Rattle.queue_laws.proofs.ServersLaw.{lose_leaves}
-use Rattle.job_laws.specs.Places.{Place, at_event, in_line, has_left, was_lost, word_told, job_told, key_number}
+use Rattle.job_laws.specs.Places.{Place, in_line, word_told, job_told}
 use Rattle.job_laws.specs.Jobs.{newly_made}
 use Rattle.job_laws.proofs.Moving.{moved_weight, own_moves, no_job, has_job, line_stays, line_served, line_grows}
 use Rattle.job_laws.proofs.Weights.{Live, job_weight, event_weight, line_weight}

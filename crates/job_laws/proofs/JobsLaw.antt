@@ -1,12 +1,11 @@
 -- No job is lost or doubled.
-use Rattle.std.proofs.Common.{◌≡◌, ℕ, zero, suc, ◌+◌, ◌<◌, ◌≤◌, Bool, true, false, cond, List, [], ◌∷◌, length, refl, sym, ap, ◌∙◌, subst, arith}
-use Rattle.std.specs.Prelude.{sum_by, count_by, IsPermutation}
+use Rattle.std.proofs.Common.{◌≡◌, ℕ, suc, ◌+◌, Bool, cond, List, [], ◌∷◌, length, refl, sym, ap, ◌∙◌, subst, arith}
+use Rattle.std.specs.Prelude.{sum_by, count_by}
 use Rattle.std.specs.List.{range_with_len}
 use Rattle.std.proofs.lemmas.List.Sums.{sum_by-cons}
 use Rattle.event_key.specs.declared.key.Key.{Key}
 use Rattle.model_core.specs.declared.note.Note.{Note}
 use Rattle.sim_spec.specs.declared.terms.Terms.{Terms}
-use Rattle.sim_spec.specs.declared.stop.Stop.{Stop}
 use Rattle.sim_spec.specs.State.{State}
 use Rattle.sim_spec.specs.Run.{Next, stops, does, next}
 use Rattle.queue_models.specs.declared.object.Role.TheVariants.{Makes}
@@ -20,8 +19,8 @@ use Rattle.run_laws.proofs.Induction.{after_events-does, after_events-stops, eac
 use Rattle.queue_laws.specs.Stations.{cells_at}
 use Rattle.queue_laws.proofs.NetworkSteps.{IsNetworkStep, network_step}
 use Rattle.job_laws.specs.Places.{Place, at_event, in_line, has_left, was_lost}
-use Rattle.job_laws.specs.JobLaws.{numbers_from, is_left, is_lost, AreAllThere, NoneLostOrDoubled}
-use Rattle.job_laws.specs.Jobs.{Job, listed, made_by, is_in_system, places_after, first_places, whereabouts, held, in_the_system}
+use Rattle.job_laws.specs.JobLaws.{numbers_from, is_left, is_lost, NoneLostOrDoubled}
+use Rattle.job_laws.specs.Jobs.{Job, listed, made_by, is_in_system, places_after, whereabouts, held, in_the_system}
 use Rattle.job_laws.proofs.NamesLaw.{listed_on, made_on, listed_first, made_first}
 use Rattle.job_laws.proofs.Permuted.{same_counts}
 use Rattle.job_laws.proofs.PlacesLaw.{Agree, agree_on, agree_first}
@@ -55,16 +54,16 @@ there p t fine =
     each_number m t (λ n. AreThere p (after_events n m t) (whereabouts p t n))
     (record { put_in = listed_first p; made = made_first p; agree = agree_first p fine })
     (λ n stop is_next before.
-        let W : List (Job × Place) → Type 0 = λ jobs. AreThere p (after_events (suc n) m t) jobs in
-        let S : State → Type 0 = λ s. AreThere p s (whereabouts p t n) in
-        subst W (sym (whereabouts-next p t n (stops stop) is_next)) (subst S (sym (after_events-stops m t n stop is_next)) before))
+    let W : List (Job × Place) → Type 0 = λ jobs. AreThere p (after_events (suc n) m t) jobs in
+    let S : State → Type 0 = λ s. AreThere p s (whereabouts p t n) in
+    subst W (sym (whereabouts-next p t n (stops stop) is_next)) (subst S (sym (after_events-stops m t n stop is_next)) before))
     (λ n told after is_next before.
-        let s : State = after_events n m t in
-        let W : List (Job × Place) → Type 0 = λ jobs. AreThere p (after_events (suc n) m t) jobs in
-        let S : State → Type 0 = λ s. AreThere p s (places_after p (after_events n m t) (whereabouts p t n) (does told after)) in
-        subst W (sym (whereabouts-next p t n (does told after) is_next))
-        (subst S (sym (after_events-does m t n told after is_next))
-        (there_on p t s told after (whereabouts p t n) fine (network_step p t s told after fine (n, refl) is_next) before)))
+    let s : State = after_events n m t in
+    let W : List (Job × Place) → Type 0 = λ jobs. AreThere p (after_events (suc n) m t) jobs in
+    let S : State → Type 0 = λ s. AreThere p s (places_after p (after_events n m t) (whereabouts p t n) (does told after)) in
+    subst W (sym (whereabouts-next p t n (does told after) is_next))
+    (subst S (sym (after_events-does m t n told after is_next))
+    (there_on p t s told after (whereabouts p t n) fine (network_step p t s told after fine (n, refl) is_next) before)))
 
 -- each job has left, was lost, or is in the system
 all_somewhere : (jobs : List (Job × Place))

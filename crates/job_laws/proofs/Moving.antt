@@ -1,12 +1,11 @@
 -- How the weight of a place moves with an event.
-use Rattle.std.proofs.Common.{◌≡◌, ◌≢◌, ℕ, zero, suc, ◌+◌, ◌<◌, ◌≤◌, Bool, true, false, cond, not, List, [], ◌∷◌, ◌++◌, length, map, refl, sym, ap, ◌∙◌, subst, arith, eqb, eqb-true, eq-eqb}
+use Rattle.std.proofs.Common.{◌≡◌, ◌≢◌, ℕ, suc, ◌+◌, Bool, true, false, cond, not, List, [], ◌∷◌, ◌++◌, length, refl, ap, ◌∙◌, arith, eqb-true, eq-eqb}
 use Rattle.std.specs.Prelude.{sum_by, ◌==◌, ◌&&◌, if◌then◌else◌}
-use Rattle.std.proofs.lemmas.Bool.Decides.{nat_tests}
-use Rattle.std.proofs.lemmas.List.Sums.{sum_by-cons, sum_by-append}
+use Rattle.std.proofs.lemmas.List.Sums.{sum_by-cons}
 use Rattle.event_key.specs.declared.key.Key.{Key}
 use Rattle.model_core.specs.declared.event.Event.{Event}
 use Rattle.queue_models.specs.Objects.{NetworkParts, object_at, is_source}
-use Rattle.job_laws.specs.Places.{Place, at_event, in_line, has_left, was_lost, same_key, key_number, own_place, moved_up, place_after}
+use Rattle.job_laws.specs.Places.{Place, at_event, in_line, same_key, key_number, own_place, moved_up, place_after}
 use Rattle.job_laws.specs.Jobs.{is_of_job, places_in_line}
 use Rattle.job_laws.proofs.Weights.{event_weight, line_weight}
 

@@ -1,5 +1,5 @@
 -- The names of the jobs: those of the list, and those that each source has made, each once.
-use Rattle.std.proofs.Common.{◌≡◌, ◌≢◌, ℕ, zero, suc, ◌+◌, ◌-◌, ◌<◌, ◌≤◌, Bool, true, false, cond, List, [], ◌∷◌, ◌++◌, length, map, refl, sym, ap, ◌∙◌, subst, arith, eqb, eqb-true, eq-eqb, ne_eqb, append-nil}
+use Rattle.std.proofs.Common.{◌≡◌, ◌≢◌, ℕ, zero, suc, ◌+◌, Bool, true, false, cond, List, [], ◌∷◌, ◌++◌, length, map, refl, sym, ap, ◌∙◌, subst, arith, eqb, eqb-true, eq-eqb, ne_eqb, append-nil}
 use Rattle.std.specs.Prelude.{IsTrue, filter, ◌==◌}
 use Rattle.std.specs.List.{range_with_len}
 use Rattle.std.proofs.lemmas.List.{map-append}
@@ -13,7 +13,7 @@ use Rattle.model_core.specs.declared.note.Note.{Note}
 use Rattle.sim_spec.specs.declared.terms.Terms.{Terms}
 use Rattle.sim_spec.specs.Firing.{emissions}
 use Rattle.sim_spec.specs.State.{State, initial_state, start_event, object_at as state_at}
-use Rattle.sim_spec.specs.Run.{Next, stops, does, next}
+use Rattle.sim_spec.specs.Run.{does}
 use Rattle.queue_models.specs.declared.object.Role.{Role}
 use Rattle.queue_models.specs.declared.object.Role.TheVariants.{Makes}
 use Rattle.queue_models.specs.declared.site.Site.{Site}
@@ -21,9 +21,9 @@ use Rattle.queue_models.specs.declared.source.Source.{Source}
 use Rattle.queue_models.specs.Meaning.{network_meaning, site_of}
 use Rattle.queue_models.specs.Objects.{NetworkParts, object_at, source_numbers}
 use Rattle.queue_models.specs.Roles.{is_lawful, first_cells_of}
-use Rattle.queue_models.specs.Sources.{made_of, left_of, is_source_cells, idle_effect, last_effect, make_effect}
+use Rattle.queue_models.specs.Sources.{made_of, left_of, idle_effect, last_effect, make_effect}
 use Rattle.queue_models.specs.Sites.{place_of}
-use Rattle.run_laws.proofs.Steps.{IsStep, firing_of}
+use Rattle.run_laws.proofs.Steps.{firing_of}
 use Rattle.queue_laws.specs.Stations.{cells_at}
 use Rattle.queue_laws.proofs.Cases.{EventDoes, idles, makes_last, makes}
 use Rattle.queue_laws.proofs.Leaves.{source_cells, source_shape, last_leaves, make_leaves}
@@ -156,8 +156,8 @@ made_on p t s told after jobs n i source is so_far =
     by true here_is =
         let same : i ≡ n.step.event.key.dest = eqb-true i n.step.event.key.dest here_is in
         let P : ℕ → Type 0 = λ j. (object_at p.objects j).role ≡ Makes source → numbers_from (made_by j) jobs ≡ range_with_len 1 (made_of (cells_at s j))
-            → numbers_from (made_by j) jobs ++ numbers_from (made_by j) (newly_made (word_told n.step.effect.note) n.step.event.key.dest (job_told n.step.effect.note) (firing_of s n.step.event n.step.effect).events)
-            ≡ range_with_len 1 (made_of (cells_at after j)) in
+        → numbers_from (made_by j) jobs ++ numbers_from (made_by j) (newly_made (word_told n.step.effect.note) n.step.event.key.dest (job_told n.step.effect.note) (firing_of s n.step.event n.step.effect).events)
+        ≡ range_with_len 1 (made_of (cells_at after j)) in
         subst P (sym same) (at_source source) is so_far
     by false apart_is =
         let apart : i ≢ n.step.event.key.dest = λ same. let yes = eq-eqb i n.step.event.key.dest same in cc in

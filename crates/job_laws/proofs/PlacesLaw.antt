@@ -1,7 +1,7 @@
 -- The places that jobs hold are those of the state, after each event.
-use Rattle.std.proofs.Common.{◌≡◌, ◌≢◌, ℕ, zero, suc, ◌+◌, ◌-◌, ◌<◌, ◌≤◌, Bool, true, false, cond, not, List, [], ◌∷◌, ◌++◌, length, map, refl, sym, ap, ◌∙◌, subst, arith, eqb, ne_eqb}
-use Rattle.std.specs.Prelude.{IsTrue, sum_by, filter, slice_index, ◌==◌, ◌&&◌}
-use Rattle.std.specs.List.{range_with_len, AllByRecursion as Each}
+use Rattle.std.proofs.Common.{◌≡◌, ℕ, zero, suc, ◌+◌, ◌-◌, ◌<◌, ◌≤◌, Bool, true, false, List, [], ◌∷◌, ◌++◌, length, map, refl, sym, ap, ◌∙◌, subst, arith, ne_eqb}
+use Rattle.std.specs.Prelude.{sum_by, slice_index, ◌==◌, ◌&&◌}
+use Rattle.std.specs.List.{range_with_len}
 use Rattle.std.proofs.lemmas.List.Elements.{filter_passes}
 use Rattle.std.proofs.lemmas.List.Sums.{sum_by-cons, sum_by-append}
 use Rattle.event_key.specs.declared.key.Key.{Key}
@@ -14,23 +14,23 @@ use Rattle.model_core.specs.declared.note.Note.{Note}
 use Rattle.sim_spec.specs.declared.terms.Terms.{Terms}
 use Rattle.sim_spec.specs.Pending.{IsAscending}
 use Rattle.sim_spec.specs.State.{State, initial_state, start_event, event_of_start, object_at as state_at}
-use Rattle.sim_spec.specs.Run.{Next, stops, does, next}
+use Rattle.sim_spec.specs.Run.{does}
 use Rattle.sim_spec.proofs.AscendingLemmas.{AllAfter-each}
 use Rattle.sim_spec.proofs.EachLemmas.{Each-map}
 use Rattle.queue_models.specs.declared.object.Role.{Role}
 use Rattle.queue_models.specs.declared.object.Role.TheVariants.{Makes, Serves, Holds, Routes, Ends}
-use Rattle.queue_models.specs.Meaning.{network_meaning, site_of, source_start, job_start}
+use Rattle.queue_models.specs.Meaning.{network_meaning, source_start, job_start}
 use Rattle.queue_models.specs.ModelLaws.{object_fine}
 use Rattle.queue_models.specs.Objects.{NetworkParts, object_at, is_source, source_numbers, sources_below}
 use Rattle.queue_models.specs.Parts.{IsNetwork}
 use Rattle.queue_models.specs.Roles.{first_cells_of}
 use Rattle.run_laws.specs.Sent.{sent_next}
-use Rattle.run_laws.proofs.Steps.{IsStep, firing_of, sent_next-step}
+use Rattle.run_laws.proofs.Steps.{firing_of, sent_next-step}
 use Rattle.queue_laws.specs.Stations.{cells_at, waiting_at}
 use Rattle.queue_laws.proofs.NetworkStarts.{cells_at_start, start_cases, sum_at_start}
 use Rattle.queue_laws.proofs.NetworkSteps.{IsNetworkStep, cells_here, cells_elsewhere, sum_before, sum_after}
 use Rattle.job_laws.specs.Places.{Place, at_event, in_line, has_left, was_lost, word_told, job_told, place_after}
-use Rattle.job_laws.specs.Jobs.{Job, Origin, listed, held, newly_made, places_after, first_places, places_in_line, in_the_system}
+use Rattle.job_laws.specs.Jobs.{Job, listed, held, newly_made, places_after, first_places, in_the_system}
 use Rattle.job_laws.proofs.Balance.{balances}
 use Rattle.job_laws.proofs.Moving.{moved_weight, no_job, has_job, other_stays, line_stays}
 use Rattle.job_laws.proofs.Weights.{sum_by-map, sum_by-same, sum_by-equal, range-change, Live, inside, inside-live, job_weight, sum-held, event_weight, line_weight, sum-in_the_system, sum-inside}
@@ -86,9 +86,9 @@ rest_stays p t s told after n v word waiting sent =
     sum_by-same (event_weight p (moved_weight v key word waiting sent)) (event_weight p v) n.step.rest
     (Each-map (λ (x : Event). key_lt key x.key ≡ true) (λ (x : Event). event_weight p (moved_weight v key word waiting sent) x ≡ event_weight p v x) n.step.rest
     (λ x later. other_stays p v key word waiting sent x (λ same.
-        let K : Key → Type 0 = λ k. key_lt key k ≡ true in
-        let twice : key_lt key key ≡ true = subst K same later in
-        let never : key_lt key key ≡ false = key_lt-irrefl key in cc))
+    let K : Key → Type 0 = λ k. key_lt key k ≡ true in
+    let twice : key_lt key key ≡ true = subst K same later in
+    let never : key_lt key key ≡ false = key_lt-irrefl key in cc))
     (AllAfter-each key n.step.rest up.0))
 
 -- the lines of the other objects stay
@@ -102,7 +102,7 @@ lines_change p t s told after n v word waiting sent =
     let move : ℕ × Place → ℕ = moved_weight v key word waiting sent in
     range-change (λ i. line_weight move i (waiting_at s i)) (λ i. line_weight v i (waiting_at after i)) 0 (length p.objects) key.dest (omega arith) (omega (arith, n.exists))
     (λ i apart. line_stays v key word waiting sent i 0 (waiting_at s i) (none (word == 6) (i == key.dest) (ne_eqb i key.dest apart))
-        ∙ ap (line_weight v i) (sym (ap (λ (c : CellData). line_of c 0) (cells_elsewhere p t s told after n i apart))))
+    ∙ ap (line_weight v i) (sym (ap (λ (c : CellData). line_of c 0) (cells_elsewhere p t s told after n i apart))))
   where
     none : (a b : Bool) → b ≡ false → (a && b) ≡ false
     none true b is = is
@@ -164,10 +164,10 @@ listed_weight p w i fine within =
     start_cases (λ e. event_weight p w e ≡ w (i + 1, at_event e.key)) p (S + i)
     (λ early. absurd (omega arith))
     (λ past.
-        let back : S + i - S ≡ i = omega arith in
-        let e : Event = event_of_start (S + i) (job_start p (S + i - S)) in
-        let job = fine.jobs (S + i - S) (record { time = 0; at = 0; rank = 0 }) (omega arith) in
-        has_job p w e job.at.takes ∙ ap (λ (j : ℕ). w (j + 1, at_event e.key)) back)
+    let back : S + i - S ≡ i = omega arith in
+    let e : Event = event_of_start (S + i) (job_start p (S + i - S)) in
+    let job = fine.jobs (S + i - S) (record { time = 0; at = 0; rank = 0 }) (omega arith) in
+    has_job p w e job.at.takes ∙ ap (λ (j : ℕ). w (j + 1, at_event e.key)) back)
 
 -- a sum over all numbers from a on, of which the first weigh nothing
 skip_first : (F : ℕ → ℕ) (S J a n : ℕ) → a + n ≡ S → ((k : ℕ) → k < S → F k ≡ 0) → sum_by F (range_with_len a (n + J)) ≡ sum_by F (range_with_len S J)

@@ -1,7 +1,6 @@
 -- A test of places.
-use Rattle.std.proofs.Common.{◌≡◌, ℕ, Bool, true, false, refl, sym, ap, ◌∙◌, eqb, eqb-true, eq-eqb}
+use Rattle.std.proofs.Common.{◌≡◌, ℕ, Bool, true, false, refl, ap, ◌∙◌, eqb-true, eq-eqb}
 use Rattle.std.specs.Prelude.{◌==◌, ◌&&◌}
-use Rattle.event_key.specs.declared.key.Key.{Key}
 use Rattle.job_laws.specs.Places.{Place, at_event, in_line, has_left, was_lost, same_key}
 use Rattle.job_laws.proofs.Moving.{same_key-same, same_key-true, and_first, and_second, and_both}
 

@@ -1,17 +1,16 @@
 -- A small network with a job of its own, computed: at 0 the job of the list comes to a station with one server, which
 -- serves each for five ticks, and one may wait; a source makes two jobs, at 1 and at 3; a sink takes jobs out.
-use Rattle.std.proofs.Common.{lit<, lit≤, ◌≡◌, ℕ, ◌+◌, ◌-◌, ◌%◌, ◌^◌, zero, suc, min, not, false, true, refl, List, [], ◌∷◌, ◌++◌, length, map}
+use Rattle.std.proofs.Common.{lit<, lit≤, ◌≡◌, ℕ, false, refl, [], ◌∷◌}
 use Rattle.std.specs.Prelude.{None}
-use Rattle.event_key.specs.declared.key.TheConstants.{INITIAL}
 use Rattle.event_key.specs.Keys.{key_lt, key_cmp}
-use Rattle.event_key.specs.Stamps.{next_stamp, has_no_step, time_part}
+use Rattle.event_key.specs.Stamps.{next_stamp, has_no_step}
 use Rattle.delta_exchange.specs.Changes.{cells_after_all, inverses_of}
 use Rattle.random_streams.specs.declared.law.Law.TheVariants.{Fixed}
 use Rattle.random_streams.specs.Laws.{draw, drawn_value, words_read}
 use Rattle.sim_spec.specs.declared.terms.Terms.{Terms}
 use Rattle.sim_spec.specs.Pending.{enqueue, enqueue_all}
 use Rattle.sim_spec.specs.Firing.{has_chain, emissions, fired_by, fire}
-use Rattle.sim_spec.specs.State.{State, initial_state}
+use Rattle.sim_spec.specs.State.{initial_state}
 use Rattle.sim_spec.specs.Run.{next, next_of, next_fired}
 use Rattle.sim_spec.proofs.CycleSummary.{key_at}
 use Rattle.queue_models.specs.declared.object.Role.TheVariants.{Makes, Serves, Ends}
@@ -21,9 +20,9 @@ use Rattle.queue_models.specs.Sinks.{sink_effect}
 use Rattle.queue_models.specs.Sites.{place_changes}
 use Rattle.queue_models.specs.Sources.{idle_effect, last_effect, make_effect, source_effect}
 use Rattle.queue_models.specs.Stations.{take_effect, wait_effect, lose_effect, arrival_outcome, serve_effect, free_effect, done_effect, station_effect}
-use Rattle.run_laws.specs.Reached.{left_by, after_events, Reaches}
+use Rattle.run_laws.specs.Reached.{left_by, after_events}
 use Rattle.run_laws.specs.Sent.{sent_next}
-use Rattle.job_laws.specs.Places.{Place, at_event, in_line, has_left, was_lost}
+use Rattle.job_laws.specs.Places.{at_event, in_line, has_left, was_lost}
 use Rattle.job_laws.specs.Jobs.{Job, listed, made_by, whereabouts, in_the_system}
 
 crowd : NetworkParts

@@ -1,8 +1,7 @@
 -- No job is lost or doubled.
-use Rattle.std.specs.Prelude.{◌≡◌, ℕ, ◌+◌, Bool, true, false, ◌==◌, List, length, map, filter, count_by, sum_by, IsPermutation}
+use Rattle.std.specs.Prelude.{◌≡◌, ℕ, ◌+◌, Bool, true, false, ◌==◌, List, length, map, filter, count_by, IsPermutation}
 use Rattle.std.specs.List.{range_with_len}
 use Rattle.sim_spec.specs.declared.terms.Terms.{Terms}
-use Rattle.sim_spec.specs.State.{State}
 use Rattle.queue_models.specs.declared.object.Role.TheVariants.{Makes}
 use Rattle.queue_models.specs.declared.source.Source.{Source}
 use Rattle.queue_models.specs.Meaning.{network_meaning}

@@ -1,11 +1,10 @@
 -- Each event of PHOLD sends one event.
-use Rattle.std.proofs.Common.{◌≡◌, ℕ, ◌+◌, List, [], ◌∷◌, length, map, refl, sym, ap, ◌∙◌, subst, arith}
+use Rattle.std.proofs.Common.{◌≡◌, ◌+◌, List, [], ◌∷◌, length, map, sym, ap, ◌∙◌, arith}
 use Rattle.std.specs.List.{range_with_len}
 use Rattle.std.proofs.lemmas.List.FromFn.{length-map-range_with_len}
 use Rattle.event_key.specs.declared.key.Key.{Key}
 use Rattle.model_core.specs.declared.effect.Effect.{Effect}
-use Rattle.model_core.specs.declared.effect.Outcome.{Outcome}
-use Rattle.model_core.specs.declared.effect.Outcome.TheVariants.{Goes, Fails}
+use Rattle.model_core.specs.declared.effect.Outcome.TheVariants.{Goes}
 use Rattle.model_core.specs.declared.event.Event.{Event}
 use Rattle.model_core.specs.declared.event.Send.{Send}
 use Rattle.model_core.specs.declared.note.Note.{Note}

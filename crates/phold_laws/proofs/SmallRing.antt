@@ -1,11 +1,10 @@
 -- A ring of three objects, computed: one event at each at time 0, and a further one.
-use Rattle.std.proofs.Common.{lit<, lit≤, ◌≡◌, ℕ, ◌+◌, ◌-◌, ◌%◌, ◌^◌, zero, suc, min, false, true, refl, List, [], ◌∷◌, ◌++◌, length, map}
+use Rattle.std.proofs.Common.{lit<, lit≤, ◌≡◌, ℕ, false, refl, [], ◌∷◌, length, map}
 use Rattle.event_key.specs.Keys.{key_lt, key_cmp}
 use Rattle.event_key.specs.Stamps.{next_stamp, has_no_step, time_part}
 use Rattle.delta_exchange.specs.Changes.{cells_after_all, inverses_of}
 use Rattle.random_streams.specs.declared.law.Law.TheVariants.{Fixed}
 use Rattle.random_streams.specs.Laws.{draw, drawn_value, words_read}
-use Rattle.random_streams.specs.Words.{word_of}
 use Rattle.sim_spec.specs.declared.terms.Terms.{Terms}
 use Rattle.sim_spec.specs.Pending.{enqueue, enqueue_all}
 use Rattle.sim_spec.specs.Firing.{has_chain, emissions, fired_by, fire}

@@ -1,20 +1,18 @@
 -- The cells that an event leaves.
-use Rattle.std.proofs.Common.{◌≡◌, ℕ, ◌+◌, ◌-◌, ◌<◌, ◌≤◌, Bool, true, false, cond, List, [], ◌∷◌, ◌++◌, length, drop, refl, sym, ap, ◌∙◌, subst, arith, eqb, eqb-true, get_or, append-nil}
-use Rattle.std.specs.Prelude.{IsTrue, ◌==◌, ◌&&◌, if◌then◌else◌}
+use Rattle.std.proofs.Common.{◌≡◌, ℕ, ◌+◌, ◌-◌, Bool, true, false, List, [], ◌∷◌, ◌++◌, length, drop, refl, sym, ap, ◌∙◌, arith, eqb-true, get_or, append-nil}
+use Rattle.std.specs.Prelude.{IsTrue, ◌==◌, if◌then◌else◌}
 use Rattle.std.proofs.lemmas.Bool.Decides.{nat_tests}
 use Rattle.delta_exchange.specs.declared.change.Change.{Change}
 use Rattle.delta_exchange.specs.declared.change.Change.TheVariants.{Set, Push, Pop}
 use Rattle.delta_exchange.specs.Changes.{CellData, line_of, cells_after_all}
 use Rattle.model_core.specs.declared.event.Event.{Event}
-use Rattle.queue_models.specs.declared.router.Router.{Router}
-use Rattle.queue_models.specs.declared.delay.Delay.{Delay}
 use Rattle.queue_models.specs.declared.site.Site.{Site}
 use Rattle.queue_models.specs.declared.source.Source.{Source}
 use Rattle.queue_models.specs.declared.station.Station.{Station}
 use Rattle.queue_models.specs.Keeping.{two_elements, three_elements, one_element}
 use Rattle.queue_models.specs.Sites.{place_of, drawn_at, place_changes, is_plain_cells}
 use Rattle.queue_models.specs.Sources.{made_of, left_of, is_source_cells, last_effect, make_effect}
-use Rattle.queue_models.specs.Stations.{busy_servers, waiting_jobs, is_station_cells, take_effect, wait_effect, serve_effect, free_effect}
+use Rattle.queue_models.specs.Stations.{busy_servers, is_station_cells, take_effect, wait_effect, serve_effect, free_effect}
 
 -- a station's cells: its place, how many servers are busy, who waits, and when each of them was born
 abbrev pub station_cells : ℕ → ℕ → List ℕ → List ℕ → CellData

@@ -1,18 +1,17 @@
 -- Where a network begins.
-use Rattle.std.proofs.Common.{◌≡◌, ◌≢◌, ℕ, zero, suc, ◌+◌, ◌-◌, ◌<◌, ◌≤◌, Bool, true, false, cond, List, [], ◌∷◌, length, map, refl, sym, ap, ◌∙◌, subst, arith, ltb, ltb-true, ltb-false, get_or}
-use Rattle.std.specs.Prelude.{sum_by, nat_lt, slice_index, slice_index_or, if◌then◌else◌}
+use Rattle.std.proofs.Common.{◌≡◌, ℕ, zero, suc, ◌+◌, ◌-◌, ◌<◌, ◌≤◌, Bool, true, false, [], length, map, refl, ap, ◌∙◌, subst, arith, ltb, ltb-true, ltb-false}
+use Rattle.std.specs.Prelude.{sum_by, nat_lt, slice_index, if◌then◌else◌}
 use Rattle.std.specs.List.{range_with_len}
 use Rattle.std.proofs.lemmas.List.{get_or_past}
 use Rattle.std.proofs.lemmas.List.FromFn.{get_or-map-range_with_len}
 use Rattle.std.proofs.lemmas.List.Sums.{sum_by-cons}
-use Rattle.delta_exchange.specs.Changes.{CellData}
 use Rattle.model_core.specs.declared.event.Event.{Event}
 use Rattle.model_core.specs.Meaning.{Meaning}
 use Rattle.sim_spec.specs.Firing.{ObjectState}
-use Rattle.sim_spec.specs.State.{State, initial_state, start_event, event_of_start, first_object, no_object as no_state}
+use Rattle.sim_spec.specs.State.{initial_state, start_event, event_of_start, first_object, no_object as no_state}
 use Rattle.queue_models.specs.declared.object.Object.{Object}
 use Rattle.queue_models.specs.declared.object.Role.{Role}
-use Rattle.queue_models.specs.declared.object.Role.TheVariants.{Makes, Serves, Holds, Routes, Ends}
+use Rattle.queue_models.specs.declared.object.Role.TheVariants.{Makes, Serves}
 use Rattle.queue_models.specs.declared.source.Source.{Source}
 use Rattle.queue_models.specs.declared.station.Station.{Station}
 use Rattle.queue_models.specs.Meaning.{network_meaning, source_start, job_start, start_of}
@@ -29,10 +28,10 @@ exists_as p i role is no_sink = by (ltb i (length p.objects)) refl
     by : (inside : Bool) → ltb i (length p.objects) ≡ inside → i < length p.objects
     by true inside = ltb-true i (length p.objects) inside
     by false inside = absurd (
-      let none : object_at p.objects i ≡ no_object = get_or_past p.objects i no_object (ltb-false i (length p.objects) inside) in
-      let R : Object → Type 0 = λ o. o.role ≡ role in
-      no_sink (subst R none is)
-    )
+        let none : object_at p.objects i ≡ no_object = get_or_past p.objects i no_object (ltb-false i (length p.objects) inside) in
+        let R : Object → Type 0 = λ o. o.role ≡ role in
+        no_sink (subst R none is)
+        )
 
 pub station_exists : (p : NetworkParts) (i : ℕ) (station : Station) → IsStationAt p i station → i < length p.objects
 station_exists p i station is = exists_as p i (Serves station) is (λ sink. cc)

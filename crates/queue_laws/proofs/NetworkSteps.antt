@@ -1,16 +1,16 @@
 -- What an event of a network leaves, object by object.
-use Rattle.std.proofs.Common.{◌≡◌, ◌≢◌, ℕ, ◌+◌, ◌<◌, Bool, true, false, cond, List, [], ◌∷◌, length, refl, sym, ap, ◌∙◌, subst, arith, eqb, eqb-true, eq-eqb, get_or-set_same, get_or-set_other}
-use Rattle.std.specs.Prelude.{IsTrue, sum_by, slice_set}
+use Rattle.std.proofs.Common.{◌≡◌, ◌≢◌, ℕ, ◌+◌, ◌<◌, length, ap, ◌∙◌, arith, get_or-set_same, get_or-set_other}
+use Rattle.std.specs.Prelude.{IsTrue, sum_by}
 use Rattle.std.proofs.lemmas.List.Sums.{sum_by-cons}
 use Rattle.event_key.specs.declared.key.Key.{Key}
-use Rattle.delta_exchange.specs.Changes.{CellData, cells_after_all}
+use Rattle.delta_exchange.specs.Changes.{cells_after_all}
 use Rattle.model_core.specs.declared.event.Event.{Event}
 use Rattle.model_core.specs.declared.note.Note.{Note}
 use Rattle.sim_spec.specs.declared.terms.Terms.{Terms}
-use Rattle.sim_spec.specs.Firing.{ObjectState, emissions}
-use Rattle.sim_spec.specs.State.{State, Lawful, no_object, object_at as state_at}
+use Rattle.sim_spec.specs.Firing.{ObjectState}
+use Rattle.sim_spec.specs.State.{State, Lawful, no_object}
 use Rattle.sim_spec.specs.Run.{does, next}
-use Rattle.sim_spec.proofs.RunLemmas.{first_sound, state_after}
+use Rattle.sim_spec.proofs.RunLemmas.{first_sound}
 use Rattle.queue_models.specs.Meaning.{network_meaning, site_of}
 use Rattle.queue_models.specs.ModelLaws.{network_laws}
 use Rattle.queue_models.specs.Objects.{NetworkParts, object_at}

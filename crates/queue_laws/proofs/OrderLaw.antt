@@ -1,7 +1,6 @@
 -- First come, first served.
-use Rattle.std.proofs.Common.{◌≡◌, ◌≢◌, ℕ, zero, suc, ◌+◌, ◌-◌, ◌<◌, ◌≤◌, Bool, true, false, cond, List, [], ◌∷◌, ◌++◌, length, drop, map, refl, sym, ap, ◌∙◌, subst, arith, eqb, eqb-true, eq-eqb, ne_eqb, append_assoc, append-nil, get_or}
-use Rattle.std.specs.Prelude.{IsTrue, filter, ◌==◌, ◌&&◌, ◌||◌, slice_index, if◌then◌else◌}
-use Rattle.std.proofs.lemmas.Bool.Decides.{nat_tests}
+use Rattle.std.proofs.Common.{◌≡◌, ◌≢◌, ℕ, zero, suc, ◌+◌, ◌<◌, ◌≤◌, Bool, true, false, cond, List, [], ◌∷◌, ◌++◌, length, drop, map, refl, sym, ap, ◌∙◌, subst, arith, eqb, eqb-true, eq-eqb, ne_eqb, append_assoc, append-nil}
+use Rattle.std.specs.Prelude.{IsTrue, filter, ◌==◌, ◌&&◌, slice_index, if◌then◌else◌}
 use Rattle.std.proofs.lemmas.List.Sums.{length-filter}
 use Rattle.event_key.specs.declared.key.Key.{Key}
 use Rattle.delta_exchange.specs.Changes.{CellData, line_of, cells_after_all}
@@ -13,12 +12,12 @@ use Rattle.sim_spec.specs.declared.terms.Terms.{Terms}
 use Rattle.sim_spec.specs.declared.stop.Stop.{Stop}
 use Rattle.sim_spec.specs.Firing.{emission, emissions}
 use Rattle.sim_spec.specs.Pending.{enqueue, enqueue_all, IsAscending}
-use Rattle.sim_spec.specs.State.{State, Lawful, initial_state, object_at as state_at}
-use Rattle.sim_spec.specs.Run.{Next, stops, does, next}
+use Rattle.sim_spec.specs.State.{State, initial_state, object_at as state_at}
+use Rattle.sim_spec.specs.Run.{stops, does, next}
 use Rattle.sim_spec.proofs.LawfulLemmas.{next-lawful}
 use Rattle.sim_spec.proofs.ShareLemmas.{filter-enqueue_all}
 use Rattle.queue_models.specs.declared.object.Role.{Role}
-use Rattle.queue_models.specs.declared.object.Role.TheVariants.{Makes, Serves, Holds, Routes, Ends}
+use Rattle.queue_models.specs.declared.object.Role.TheVariants.{Serves}
 use Rattle.queue_models.specs.declared.site.Site.{Site}
 use Rattle.queue_models.specs.declared.station.Station.{Station}
 use Rattle.queue_models.specs.Meaning.{network_meaning, site_of}
@@ -26,18 +25,17 @@ use Rattle.queue_models.specs.ModelLaws.{network_laws}
 use Rattle.queue_models.specs.Objects.{NetworkParts, object_at}
 use Rattle.queue_models.specs.Parts.{IsNetwork}
 use Rattle.queue_models.specs.Sites.{drawn_at}
-use Rattle.queue_models.specs.Stations.{busy_servers, waiting_jobs, is_station_cells, first_station_cells, done_after, take_effect, wait_effect, lose_effect, serve_effect, free_effect}
+use Rattle.queue_models.specs.Stations.{busy_servers, waiting_jobs, is_station_cells, done_after, take_effect, wait_effect, lose_effect, serve_effect, free_effect}
 use Rattle.run_laws.specs.Reached.{after_events, Reaches, gathered}
-use Rattle.run_laws.specs.Sent.{sent_next}
 use Rattle.run_laws.proofs.Induction.{after_events-does, after_events-stops, gathered-more, each_number}
-use Rattle.run_laws.proofs.Steps.{IsStep, firing_of, sent_next-step}
+use Rattle.run_laws.proofs.Steps.{firing_of, sent_next-step}
 use Rattle.queue_laws.specs.OrderLaws.{IsFirstComeFirstServed, FirstComeFirstServed}
 use Rattle.queue_laws.specs.Orders.{jobs_told, is_coming, is_done, arrived_at, done_at, numbers_of, begins_at, begun_at}
 use Rattle.queue_laws.specs.ServerLaws.{AreServing}
 use Rattle.queue_laws.specs.Stations.{IsStationAt, cells_at, busy_at, waiting_at, ends_service_at, in_service_at}
-use Rattle.queue_laws.proofs.Cases.{EventDoes, idles, makes_last, makes, takes, waits, loses, serves, frees, holds, routes, leaves}
+use Rattle.queue_laws.proofs.Cases.{EventDoes, takes, waits, loses, serves, frees}
 use Rattle.queue_laws.proofs.Leaves.{HasStationCells, station_shape, take_leaves, wait_leaves, serve_leaves, free_leaves}
-use Rattle.queue_laws.proofs.NetworkStarts.{station_exists, station_at_start}
+use Rattle.queue_laws.proofs.NetworkStarts.{station_at_start}
 use Rattle.queue_laws.proofs.NetworkSteps.{IsNetworkStep, network_step, reached_lawful, cells_here, cells_elsewhere}
 use Rattle.queue_laws.proofs.ServersLaw.{ends, ends_elsewhere, lose_leaves, station_lawful, servers_law}
 

@@ -1,34 +1,29 @@
 -- Servers keep their count, and none idles while a job waits.
-use Rattle.std.proofs.Common.{◌≡◌, ◌≢◌, ℕ, zero, suc, ◌+◌, ◌-◌, ◌<◌, ◌≤◌, Bool, true, false, cond, List, [], ◌∷◌, length, drop, map, refl, sym, ap, ◌∙◌, subst, arith, eqb, eqb-true, eq-eqb, ne_eqb, length-drop, length-append}
-use Rattle.std.specs.Prelude.{IsTrue, count_by, sum_by, filter, slice_index, ◌==◌, ◌&&◌}
-use Rattle.std.specs.List.{AllByRecursion as Each, range_with_len}
+use Rattle.std.proofs.Common.{◌≡◌, ◌≢◌, ℕ, ◌+◌, ◌-◌, ◌<◌, ◌≤◌, Bool, true, false, cond, List, length, refl, sym, ap, ◌∙◌, subst, arith, eqb, eqb-true, eq-eqb, ne_eqb}
+use Rattle.std.specs.Prelude.{IsTrue, count_by, slice_index, ◌==◌, ◌&&◌}
 use Rattle.std.proofs.lemmas.Bool.Decides.{nat_tests}
 use Rattle.std.proofs.lemmas.List.Sums.{length-filter}
 use Rattle.event_key.specs.declared.key.Key.{Key}
-use Rattle.delta_exchange.specs.Changes.{CellData, line_of, cells_after_all}
+use Rattle.delta_exchange.specs.Changes.{CellData, cells_after_all}
 use Rattle.model_core.specs.declared.effect.Effect.{Effect}
 use Rattle.model_core.specs.declared.event.Event.{Event}
-use Rattle.model_core.specs.declared.event.Send.{Send}
 use Rattle.model_core.specs.declared.note.Note.{Note}
 use Rattle.sim_spec.specs.declared.terms.Terms.{Terms}
 use Rattle.sim_spec.specs.Firing.{emissions}
-use Rattle.sim_spec.specs.State.{State, Lawful, initial_state, start_event, event_of_start, object_at as state_at}
-use Rattle.sim_spec.specs.Run.{does, next}
+use Rattle.sim_spec.specs.State.{State, initial_state, start_event, event_of_start, object_at as state_at}
 use Rattle.queue_models.specs.declared.object.Role.{Role}
-use Rattle.queue_models.specs.declared.object.Role.TheVariants.{Makes, Serves, Holds, Routes, Ends}
+use Rattle.queue_models.specs.declared.object.Role.TheVariants.{Serves}
 use Rattle.queue_models.specs.declared.site.Site.{Site}
 use Rattle.queue_models.specs.declared.station.Station.{Station}
 use Rattle.queue_models.specs.Meaning.{network_meaning, site_of, source_start, job_start}
 use Rattle.queue_models.specs.Objects.{NetworkParts, object_at, source_numbers}
-use Rattle.queue_models.specs.Parts.{IsNetwork}
 use Rattle.queue_models.specs.Roles.{is_lawful}
 use Rattle.queue_models.specs.Sources.{idle_effect, last_effect, make_effect}
-use Rattle.queue_models.specs.Stations.{busy_servers, waiting_jobs, is_station_cells, first_station_cells, take_effect, wait_effect, lose_effect, serve_effect, free_effect}
-use Rattle.run_laws.specs.Reached.{Reaches}
+use Rattle.queue_models.specs.Stations.{busy_servers, waiting_jobs, is_station_cells, take_effect, wait_effect, lose_effect, serve_effect, free_effect}
 use Rattle.run_laws.proofs.Induction.{each_reached}
-use Rattle.run_laws.proofs.Steps.{IsStep, firing_of}
-use Rattle.queue_laws.specs.ServerLaws.{AreServing, ServersLaw}
-use Rattle.queue_laws.specs.Stations.{IsStationAt, cells_at, busy_at, waiting_at, ends_service_at, in_service_at}
+use Rattle.run_laws.proofs.Steps.{firing_of}
+use Rattle.queue_laws.specs.ServerLaws.{ServersLaw}
+use Rattle.queue_laws.specs.Stations.{IsStationAt, cells_at, ends_service_at}
 use Rattle.queue_laws.proofs.Cases.{EventDoes, idles, makes_last, makes, takes, waits, loses, serves, frees, holds, routes, leaves}
 use Rattle.queue_laws.proofs.Leaves.{HasStationCells, station_shape, take_leaves, wait_leaves, serve_leaves, free_leaves}
 use Rattle.queue_laws.proofs.NetworkStarts.{station_exists, station_at_start, start_cases, sum_at_start, starts_none}
@@ -59,10 +54,7 @@ record Serving (station : Station) (cells : CellData) (services : ℕ) : Type 0 
   pub under_way : busy_servers cells ≡ services
   pub none_idle : 0 < waiting_jobs cells → busy_servers cells ≡ station.servers
 
--- the end of a service comes back to its station
-ends_here : (i : ℕ) (events : List Event) (e : Event) → e.kind ≡ 2 → e.key.dest ≡ i → ends_service_at i e ≡ true
-ends_here i events e done here = ap (λ b. b && (e.key.dest == i)) (eq-eqb e.kind 2 done) ∙ eq-eqb e.key.dest i here
-
+-- how many ends of services an event sends to its own station
 take_ends : (site : Site) (station : Station) (cells : CellData) (e : Event) (stamp object serial : ℕ)
     → ends site.object (emissions stamp object serial (take_effect site station cells e).sends) ≡ 1
 unfolding ends emissions take_effect

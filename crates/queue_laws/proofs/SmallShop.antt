@@ -1,9 +1,9 @@
 -- A shop, computed: a source makes four jobs, one every two ticks from tick 1 on; a station with one server serves each
 -- for five ticks, and two may wait; a sink takes them out.
-use Rattle.std.proofs.Common.{lit<, lit≤, ◌≡◌, ℕ, ◌+◌, ◌-◌, ◌%◌, ◌^◌, ◌<◌, ◌≤◌, zero, suc, min, false, true, refl, List, [], ◌∷◌, ◌++◌, length, map}
+use Rattle.std.proofs.Common.{lit<, lit≤, ◌≡◌, ℕ, false, refl, List, [], ◌∷◌, map}
 use Rattle.std.specs.Prelude.{None}
 use Rattle.event_key.specs.Keys.{key_lt, key_cmp}
-use Rattle.event_key.specs.Stamps.{next_stamp, has_no_step, time_part}
+use Rattle.event_key.specs.Stamps.{next_stamp, has_no_step}
 use Rattle.delta_exchange.specs.Changes.{cells_after_all, inverses_of}
 use Rattle.random_streams.specs.declared.law.Law.TheVariants.{Fixed}
 use Rattle.random_streams.specs.Laws.{draw, drawn_value, words_read}
@@ -12,7 +12,6 @@ use Rattle.sim_spec.specs.Pending.{enqueue, enqueue_all}
 use Rattle.sim_spec.specs.Firing.{has_chain, emissions, fired_by, fire}
 use Rattle.sim_spec.specs.State.{State, initial_state}
 use Rattle.sim_spec.specs.Run.{next, next_of, next_fired}
-use Rattle.queue_models.specs.declared.object.Object.{Object}
 use Rattle.queue_models.specs.declared.object.Role.TheVariants.{Makes, Serves, Ends}
 use Rattle.queue_models.specs.declared.station.Station.{Station}
 use Rattle.queue_models.specs.Meaning.{network_meaning, start_of}

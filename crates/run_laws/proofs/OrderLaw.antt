@@ -1,19 +1,17 @@
 -- The records of a run are in ascending order.
-use Rattle.std.proofs.Common.{◌≡◌, ℕ, zero, suc, ◌<◌, ◌≤◌, true, List, [], ◌∷◌, ◌++◌, length, refl, sym, ap, ◌∙◌, subst, append-nil, arith, get_or}
+use Rattle.std.proofs.Common.{◌≡◌, suc, ◌≤◌, true, List, [], ◌∷◌, ◌++◌, refl, sym, ap, ◌∙◌, subst, append-nil, arith, get_or}
 use Rattle.std.specs.Prelude.{All}
 use Rattle.std.specs.List.{AllPairs, AllByRecursion as Each}
-use Rattle.std.proofs.lemmas.List.Elements.{All-nil, All-push, All-weaker, All-head}
+use Rattle.std.proofs.lemmas.List.Elements.{All-nil, All-push, All-weaker}
 use Rattle.std.proofs.lemmas.List.Quantifiers.{all_pairs_push}
 use Rattle.event_key.specs.declared.key.Key.{Key}
 use Rattle.event_key.specs.Keys.{key_lt}
-use Rattle.event_key.proofs.Order.{key_lt-trans, key_lt-stamp, stamp-le}
+use Rattle.event_key.proofs.Order.{key_lt-stamp, stamp-le}
 use Rattle.model_core.specs.declared.event.Event.{Event}
 use Rattle.model_core.specs.declared.note.Note.{Note}
 use Rattle.model_core.specs.Meaning.{Meaning, MeaningLaws}
 use Rattle.sim_spec.specs.declared.terms.Terms.{Terms}
-use Rattle.sim_spec.specs.Firing.{emissions}
 use Rattle.sim_spec.specs.Pending.{IsAscending}
-use Rattle.sim_spec.specs.Replay.{NoneBelow}
 use Rattle.sim_spec.specs.State.{State, Lawful}
 use Rattle.sim_spec.specs.Run.{stops, does, next}
 use Rattle.sim_spec.proofs.AscendingLemmas.{AllAfter-each}
@@ -85,14 +83,14 @@ records_ascend m t laws n =
     (each_number m t (λ n. Ordered (first_records n m t) (after_events n m t).pending)
     (record { ordered = λ i j d lt below. absurd (omega arith); later = All-nil (λ (r : Key × Note). AllLater r.0 (after_events 0 m t).pending) })
     (λ n stop is_next before.
-        let R : List (Key × Note) → Type 0 = λ records. Ordered records (after_events (suc n) m t).pending in
-        let S : State → Type 0 = λ s. Ordered (first_records n m t) s.pending in
-        subst R (sym (gathered-more record_of m t n (stops stop) is_next ∙ append-nil (first_records n m t)))
-        (subst S (sym (after_events-stops m t n stop is_next)) before))
+    let R : List (Key × Note) → Type 0 = λ records. Ordered records (after_events (suc n) m t).pending in
+    let S : State → Type 0 = λ s. Ordered (first_records n m t) s.pending in
+    subst R (sym (gathered-more record_of m t n (stops stop) is_next ∙ append-nil (first_records n m t)))
+    (subst S (sym (after_events-stops m t n stop is_next)) before))
     (λ n told after is_next before.
-        let R : List (Key × Note) → Type 0 = λ records. Ordered records (after_events (suc n) m t).pending in
-        let S : State → Type 0 = λ s. Ordered (first_records n m t ++ told ∷ []) s.pending in
-        subst R (sym (gathered-more record_of m t n (does told after) is_next))
-        (subst S (sym (after_events-does m t n told after is_next))
-        (ordered_more m t (after_events n m t) told after (first_records n m t) (reached-lawful m t (after_events n m t) laws (n, refl)) is_next before)))
+    let R : List (Key × Note) → Type 0 = λ records. Ordered records (after_events (suc n) m t).pending in
+    let S : State → Type 0 = λ s. Ordered (first_records n m t ++ told ∷ []) s.pending in
+    subst R (sym (gathered-more record_of m t n (does told after) is_next))
+    (subst S (sym (after_events-does m t n told after is_next))
+    (ordered_more m t (after_events n m t) told after (first_records n m t) (reached-lawful m t (after_events n m t) laws (n, refl)) is_next before)))
     n).ordered

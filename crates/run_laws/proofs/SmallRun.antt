@@ -1,8 +1,8 @@
 -- A run, computed: jobs come at 5 and 10 to a station that serves each for four ticks, and then to a sink.
-use Rattle.std.proofs.Common.{lit<, lit≤, ◌≡◌, ℕ, true, refl, [], ◌∷◌, length}
+use Rattle.std.proofs.Common.{lit<, lit≤, ◌≡◌, refl, [], ◌∷◌}
 use Rattle.event_key.specs.declared.key.TheConstants.{INITIAL}
 use Rattle.event_key.specs.Keys.{key_lt, key_cmp}
-use Rattle.event_key.specs.Stamps.{next_stamp, has_no_step, stamp_at}
+use Rattle.event_key.specs.Stamps.{next_stamp, has_no_step}
 use Rattle.delta_exchange.specs.Changes.{cells_after_all, inverses_of}
 use Rattle.model_core.specs.declared.event.Event.{Event}
 use Rattle.sim_spec.specs.declared.terms.Terms.{Terms}

@@ -1,6 +1,5 @@
 -- What is known of an event that happens.
-use Rattle.std.proofs.Common.{◌≡◌, ◌≢◌, ℕ, ◌+◌, ◌<◌, Bool, true, false, cond, List, [], ◌∷◌, length, sym, refl, ap, ◌∙◌, subst, arith, eqb, ltb, ltb-true, eq-eqb}
-use Rattle.std.specs.Prelude.{slice_set}
+use Rattle.std.proofs.Common.{◌≡◌, ◌+◌, ◌<◌, Bool, true, false, cond, List, [], ◌∷◌, length, refl, ap, ◌∙◌, eqb, ltb, ltb-true}
 use Rattle.event_key.specs.declared.key.Key.{Key}
 use Rattle.event_key.specs.Stamps.{end_stamp}
 use Rattle.delta_exchange.specs.Changes.{cells_after_all, inverses_of}
@@ -11,11 +10,10 @@ use Rattle.model_core.specs.declared.effect.Outcome.TheVariants.{Goes, Fails}
 use Rattle.model_core.specs.declared.note.Note.{Note}
 use Rattle.model_core.specs.Meaning.{Meaning}
 use Rattle.sim_spec.specs.declared.terms.Terms.{Terms}
-use Rattle.sim_spec.specs.declared.stop.Stop.TheVariants.{End, Limit, Fault}
-use Rattle.sim_spec.specs.Firing.{Firing, Fired, goes, fails, fire, fired_by, has_chain, emissions}
-use Rattle.sim_spec.specs.Pending.{enqueue_all}
+use Rattle.sim_spec.specs.declared.stop.Stop.TheVariants.{End, Limit}
+use Rattle.sim_spec.specs.Firing.{Firing, goes, fails, fire, fired_by, has_chain, emissions}
 use Rattle.sim_spec.specs.State.{State, object_at}
-use Rattle.sim_spec.specs.Run.{Next, stops, does, next, next_of, next_fired}
+use Rattle.sim_spec.specs.Run.{stops, does, next, next_of, next_fired}
 use Rattle.sim_spec.proofs.RunLemmas.{state_after}
 use Rattle.run_laws.specs.Sent.{sent_by, sent_by_first, sent_next}
 
