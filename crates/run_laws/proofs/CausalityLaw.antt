@@ -10,7 +10,7 @@ use Rattle.model_core.specs.declared.note.Note.{Note}
 use Rattle.model_core.specs.Meaning.{Meaning}
 use Rattle.sim_spec.specs.declared.terms.Terms.{Terms}
 use Rattle.sim_spec.specs.State.{State, initial_state, start_event}
-use Rattle.sim_spec.proofs.EachLemmas.{Each-map, Each-both}
+use Rattle.key_order.proofs.EachLemmas.{Each-map, Each-both}
 use Rattle.sim_spec.proofs.StampLemmas.{fire-later}
 use Rattle.run_laws.specs.Reached.{after_events}
 use Rattle.run_laws.specs.RunLaws.{IsCause, EachHasACause}
