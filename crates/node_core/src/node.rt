@@ -86,12 +86,13 @@ impl<M: SimulationModel> Node<M> {
     {
         keeps_laws(&*model);
         let logs = first_logs(alloc, &*model, number, &homes)?;
+        let store = Store::new(alloc, logs)?;
         Ok(Node {
             model,
             terms,
             number,
             homes,
-            store: Store::new(alloc, logs),
+            store,
             work: 0,
             met: 0,
             processed: 0,

@@ -1,6 +1,9 @@
 -- A node that is driven by hand keeps what its driver knows of it.
-use Rattle.std.proofs.Common.{◌≡◌, ◌⊎◌, inl, inr, ℕ, ◌+◌, ◌*◌, ◌<◌, ◌≤◌, ◌^◌, Bool, true, false, cond, ◌||◌, List, [], ◌∷◌, ◌++◌, length, take, drop, map, Option, Some, None, refl, sym, ap, ◌∙◌, subst, arith, length-append}
-use Rattle.std.specs.Prelude.{filter, nat_lt, not, ◌==◌}
+use Rattle.std.proofs.Common.{◌≡◌, ◌⊎◌, inl, inr, zero, suc, ℕ, ◌+◌, ◌*◌, ◌<◌, ◌≤◌, ◌^◌, Bool, true, false, cond, ◌||◌, List, [], ◌∷◌, ◌++◌, length, take, drop, map, Option, Some, None, refl, sym, ap, ◌∙◌, subst, arith, length-append}
+use Rattle.std.specs.Prelude.{filter, not, slice_get, ◌==◌}
+use Rattle.std.proofs.lemmas.Bool.Decides.{nat_tests}
+use Rattle.event_key.proofs.Order.{key_lt-apart}
+use Rattle.key_order.proofs.DueLemmas.{due-down}
 use Rattle.std.specs.List.{AllByRecursion as Each, list_any}
 use Rattle.std.proofs.lemmas.List.{length-map}
 use Rattle.std.proofs.lemmas.List.Folds.{list_any-append}
@@ -19,13 +22,13 @@ use Rattle.key_order.proofs.EachLemmas.{Each-append, Each-back, Each-drop, Each-
 use Rattle.key_order.proofs.EnqueueLemmas.{IsAscending-enqueue, length-enqueue_all}
 use Rattle.sim_spec.proofs.PartLemmas.{Each-events_at, IsAscending-events_at}
 use Rattle.key_order.specs.Due.{is_due}
-use Rattle.world_spec.specs.Moves.{IsDueDone, received, received_ahead}
+use Rattle.world_spec.specs.Moves.{IsDueDone, IsIdle, IsPastFaultOf, received, received_ahead}
 use Rattle.world_spec.specs.Share.{IsHome, Share}
 use Rattle.key_order.proofs.FilterLemmas.{length-filter_le}
 use Rattle.object_log.specs.declared.done.Done.{Done}
 use Rattle.object_log.specs.Logs.{LogView, events_of, keys_of, undone}
 use Rattle.object_log.specs.Parts.{left_of}
-use Rattle.node_core.specs.Calls.{HasCommitted, HasReceived, HaveOwnKeys, HaveSentFew, IsNewNode}
+use Rattle.node_core.specs.Calls.{HasCommitted, HasReceived, HaveOwnKeys, HaveSentFew, IsLeastFaultOf, IsNewNode}
 use Rattle.node_core.specs.Homes.{home_of}
 use Rattle.node_core.specs.Marks.{same_key}
 use Rattle.node_core.specs.Nodes.{IsAsBefore, IsSameNode, NodeView, Stands, ahead_of, base_at, data_of, home, log_at, log_or, pending_at, share_of, slot_at}
@@ -38,7 +41,7 @@ use Rattle.node_core.proofs.GiveBackFacts.{each-enqueue_all}
 use Rattle.node_core.proofs.MarkLemmas.{same_key-itself}
 use Rattle.node_core.proofs.ReceiveLoop.{events-take}
 use Rattle.node_core.proofs.StoreLemmas.{by_object}
-use Rattle.node_runs.specs.Drives.{IsDriven}
+use Rattle.node_runs.specs.Drives.{IsDriven, fault_is_due}
 
 abbrev pub Known : List Key → Event → Type 0
 Known keys e = list_any (same_key e.key) keys ≡ true
@@ -168,6 +171,7 @@ module _ {M : Type 0} (m : Meaning) where
 
   -- it made a step, or was idle
   pub driven-step : (bound : ℕ) (old new : NodeView M) (step : Step) (keys : List Key) (sent : ℕ) → IsDriven m old keys sent → HasStepped m bound old new step → IsDriven m new keys sent
+  unfolding log_at
   driven-step bound old new Idle keys sent d s = let D : NodeView M → Type 0 = λ n. IsDriven m n keys sent in subst D (sym s.unchanged) d
   driven-step bound old new (Did key least) keys sent d s =
       let E : List Event → Type 0 = Each (Known keys) in
@@ -207,3 +211,78 @@ module _ {M : Type 0} (m : Meaning) where
              let le = ahead-le old object parts in
              omega arith);
       }
+
+late-stamp : (horizon : ℕ) (cut : Option Key) (key : Key) → horizon ≤ key.stamp → is_due horizon cut key ≡ false
+unfolding is_due
+late-stamp horizon None key le = grind (arith, nat_tests)
+late-stamp horizon (Some c) key le = grind (arith, nat_tests)
+
+-- what comes after an event that isn't due isn't due
+late-after : (horizon : ℕ) (cut : Option Key) (j k : Key) → key_lt k j ≡ false → is_due horizon cut j ≡ false → is_due horizon cut k ≡ false
+late-after horizon cut j k behind late = by_due (is_due horizon cut k) refl (key_lt j k) refl
+  where
+    by_due : (b : Bool) → is_due horizon cut k ≡ b → (c : Bool) → key_lt j k ≡ c → b ≡ false
+    by_due false h c g = refl
+    by_due true h true g = let due = due-down horizon cut j k g h in absurd (cc)
+    by_due true h false g = let same = key_lt-apart j k g behind in let due = ap (is_due horizon cut) same in absurd (cc)
+
+module _ {M : Type 0} (m : Meaning) (n : NodeView M) (horizon bound : ℕ) (cut : Option Key) (fault : Option (Key × ℕ)) (least : IsLeastFaultOf m n fault) (late : fault_is_due horizon cut fault ≡ false) where
+  late-fault : (object : ℕ) → IsHome m (home n) n.number object → (met : Key × ℕ) → ((data_of n).log object).fault ≡ Some met → is_due horizon cut met.0 ≡ false
+  late-fault object at met is = by_fault fault least late
+    where
+      by_fault : (f : Option (Key × ℕ)) → IsLeastFaultOf m n f → fault_is_due horizon cut f ≡ false → is_due horizon cut met.0 ≡ false
+      by_fault None none stays = (let none_here = none object at in absurd (cc))
+      by_fault (Some first) some stays = late-after horizon cut first.0 met.0 (some.2 object at met is) stays
+
+  -- an idle node none of whose faults is due may commit
+  pub may-commit : IsIdle m (home n) n.number bound (data_of n) → horizon ≤ bound → IsDueDone m (home n) n.number horizon cut (data_of n)
+  may-commit idle low = record {
+    waiting = Each-map (λ (e : Event). (bound ≤ e.key.stamp) ⊎ IsPastFaultOf m (home n) n.number (data_of n) e.key) (λ (e : Event). is_due horizon cut e.key ≡ false) n.waiting
+        (λ e stays. elim stays [
+            | inl high ↦ late-stamp horizon cut e.key (omega arith)
+            | inr past ↦ late-after horizon cut past.2.0 e.key (let lt = past.4 in key_lt-turned past.2.0 e.key lt) (late-fault past.0 past.1 past.2 past.3)
+          ]) idle;
+    faults = late-fault;
+  }
+
+any-found : (p : Key → Bool) (xs : List Key) (i : ℕ) (x : Key) → slice_get xs i ≡ Some x → p x ≡ true → list_any p xs ≡ true
+any-found p [] zero x at is = absurd (cc)
+any-found p [] (suc i) x at is = absurd (cc)
+any-found p (y ∷ xs) zero x at is = let same : y ≡ x = cc in either (p y) (list_any p xs) (ap p same ∙ is)
+any-found p (y ∷ xs) (suc i) x at is = later (p y) (list_any p xs) (any-found p xs i x at is)
+
+neither : (a b : Bool) → a ≡ false → b ≡ false → (a || b) ≡ false
+neither true b g h = absurd (cc)
+neither false b g h = h
+
+any-next : (p : Key → Bool) (xs : List Key) (i : ℕ) (x : Key) → slice_get xs i ≡ Some x → p x ≡ false → list_any p (take i xs) ≡ false → list_any p (take (suc i) xs) ≡ false
+any-next p [] zero x at is none = absurd (cc)
+any-next p [] (suc i) x at is none = absurd (cc)
+any-next p (y ∷ xs) zero x at is none = let same : y ≡ x = cc in neither (p y) (list_any p (take 0 xs)) (ap p same ∙ is) (any-none p xs)
+  where
+    any-none : (p : Key → Bool) (xs : List Key) → list_any p (take 0 xs) ≡ false
+    any-none p [] = refl
+    any-none p (x ∷ xs) = refl
+any-next p (y ∷ xs) (suc i) x at is none = by_first (p y) refl none (λ rest. any-next p xs i x at is rest)
+  where
+    by_first : (b : Bool) → p y ≡ b → (b || list_any p (take i xs)) ≡ false → (list_any p (take i xs) ≡ false → list_any p (take (suc i) xs) ≡ false) → (p y || list_any p (take (suc i) xs)) ≡ false
+    by_first true h no more = absurd (cc)
+    by_first false h no more = neither (p y) (list_any p (take (suc i) xs)) h (more no)
+
+-- the key at a place is the one, or is passed by
+pub known-found : (key : Key) (keys : List Key) (i : ℕ) (k : Key) → slice_get keys i ≡ Some k → same_key key k ≡ true → list_any (same_key key) keys ≡ true
+known-found key keys i k at is = any-found (same_key key) keys i k at is
+
+pub known-next : (key : Key) (keys : List Key) (i : ℕ) (k : Key) → slice_get keys i ≡ Some k → same_key key k ≡ false → list_any (same_key key) (take i keys) ≡ false → list_any (same_key key) (take (i + 1) keys) ≡ false
+known-next key keys i k at is none =
+    let next : suc i ≡ i + 1 = omega arith in
+    ap (λ n. list_any (same_key key) (take n keys)) (sym next) ∙ any-next (same_key key) keys i k at is none
+
+pub known-all : (key : Key) (keys : List Key) (i : ℕ) → length keys ≤ i → list_any (same_key key) (take i keys) ≡ false → list_any (same_key key) keys ≡ false
+known-all key keys i le none = ap (list_any (same_key key)) (sym (take-long i keys le)) ∙ none
+  where
+    take-long : (i : ℕ) (xs : List Key) → length xs ≤ i → take i xs ≡ xs
+    take-long zero [] le = refl
+    take-long (suc i) [] le = refl
+    take-long zero (x ∷ xs) le = absurd (omega arith)
+    take-long (suc i) (x ∷ xs) le = ap (λ ys. x ∷ ys) (take-long i xs (omega arith))

@@ -1,7 +1,10 @@
 //! A node that is driven by hand: each call is made once all that the node asks is seen to hold.
-ghost use Rattle.std.specs.Prelude.{◌≡◌, ◌≤◌, ℕ, List, true, IfOk};
+ghost use Rattle.std.specs.Prelude.{◌≡◌, IfOk};
 ghost use Rattle.std.specs.List.{list_any};
+ghost use Rattle.event_key.specs.Stamps.{end_stamp};
 ghost use Rattle.node_core.specs.Marks.{same_key};
+ghost use Rattle.node_core.specs.Steps.{HasStepped};
+ghost use Rattle.node_runs.specs.Drives.{fault_is_due};
 
 use event_chain::{Cell, Chain};
 use event_key::{Key, end_bound};
@@ -38,16 +41,39 @@ impl<M: SimulationModel> Model for Driven<M> {
     ghost invariant = { λ d. (d.node.homes ≡ arc_value d.homes) × IsDriven (M.meaning d.node.model) d.node d.keys.items d.sent };
 }
 
+/// Whether two keys are the same.
+#[tactic(auto, unfolding(node_core::specs::Marks::same_key, event_key::specs::Keys::key_cmp))]
+fn is_same(one: &Key, other: &Key) -> bool
+    ensures { result ≡ same_key one.now other.now }
+{
+    one.cmp(other).is_eq()
+}
+
 /// Whether a key is among others.
 fn is_known(keys: &[Key], key: &Key) -> bool
     ensures { result ≡ list_any (same_key key.now) keys.now }
 {
     for known in keys {
-        if key.cmp(known).is_eq() {
+        if is_same(key, known) {
             return true;
         }
     }
     false
+}
+
+/// Whether a fault is below a horizon and a cut.
+#[tactic(auto, unfolding(key_order::specs::Due::is_due))]
+fn is_due(fault: Option<(Key, u32)>, horizon: u64, cut: &Option<Key>) -> bool
+    ensures { result ≡ fault_is_due horizon cut.now fault }
+{
+    let Some((key, _code)) = fault else {
+        return false;
+    };
+    key.stamp < horizon
+        && match cut {
+            Some(cut) => key.is_before(cut),
+            None => true,
+        }
 }
 
 impl<M: SimulationModel> Driven<M> {
@@ -66,8 +92,10 @@ impl<M: SimulationModel> Driven<M> {
         let homes = Arc::new(alloc, homes)?;
         let model = Arc::new(alloc, model)?;
         let shared = Arc::clone(&homes)?;
+        let node = Node::new(alloc, model, terms, number, shared)?;
+        node.tells_keys();
         Ok(Driven {
-            node: Node::new(alloc, model, terms, number, shared)?,
+            node,
             homes,
             keys: Vec::new(alloc),
             sent: 0,
@@ -76,25 +104,27 @@ impl<M: SimulationModel> Driven<M> {
 
     /// An event arrives, whose key no other has that came before. Answers how many events it undid.
     pub fn receive<R: Abort>(&mut self, rt: &R, alloc: Global, event: Event) -> Result<u64, Fail> {
-        self.node.tells_share();
         assert!(rt; event.key.dest < self.node.model().objects());
         assert!(rt; self.homes.home(event.key.dest) == self.node.number());
         assert!(rt; !is_known(&self.keys, &event.key));
         assert!(rt; self.keys.len() < 100);
-        let mut events = Chain::new();
         let Ok(cell) = Cell::new(alloc, event) else {
             return Err(Fail::from("no memory"));
         };
+        let mut events = Chain::new();
         events.push_back(cell);
-        self.keys.push(event.key)?;
         self.node.room(alloc, 1)?;
+        self.keys.push(event.key)?;
+        self.node.tells_share();
         let undone = self.node.receive(events);
         self.node.tells_share();
         Ok(undone)
     }
 
     /// Processes the least event that waits below the end.
-    pub fn step<R: Abort>(&mut self, rt: &R, alloc: Global) -> Result<Step, OutOfMemory> {
+    pub fn step<R: Abort>(&mut self, rt: &R, alloc: Global) -> Result<Step, OutOfMemory>
+        ensures { IfOk result (λ step. HasStepped (M.meaning self.old.model) (end_stamp self.old.terms.end) self.old self.new step) }
+    {
         self.node.tells_sent();
         self.node.tells_keys();
         assert!(rt; self.keys.len() <= 100);
@@ -110,25 +140,19 @@ impl<M: SimulationModel> Driven<M> {
         alloc: Global,
         horizon: u64,
         cut: Option<Key>,
-    ) -> Result<Committed, OutOfMemory> {
-        assert!(rt; self.step(rt, alloc)? == Step::Idle);
+    ) -> Result<Committed, Fail> {
+        let Step::Idle = self.step(rt, alloc)? else {
+            return Err(Fail::from("an event waits"));
+        };
         assert!(rt; horizon <= end_bound(self.node.terms().end));
-        assert!(rt; !is_due(self.node.faulted(), horizon, &cut));
+        let fault = self.node.faulted();
+        assert!(rt; !is_due(fault, horizon, &cut));
+        assert!(rt; self.keys.len() <= 100);
+        assert!(rt; self.sent < 1000000);
         self.node.tells_sent();
         self.node.tells_keys();
+        let committed = self.node.commit(alloc, horizon, cut)?;
         self.sent += 800;
-        self.node.commit(alloc, horizon, cut)
+        Ok(committed)
     }
-}
-
-/// Whether a fault is below a horizon and a cut.
-fn is_due(fault: Option<(Key, u32)>, horizon: u64, cut: &Option<Key>) -> bool {
-    let Some((key, _)) = fault else {
-        return false;
-    };
-    key.stamp < horizon
-        && match cut {
-            Some(cut) => key.is_before(cut),
-            None => true,
-        }
 }
