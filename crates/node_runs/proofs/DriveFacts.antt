@@ -29,7 +29,7 @@ use Rattle.object_log.specs.declared.done.Done.{Done}
 use Rattle.object_log.specs.Logs.{LogView, events_of, keys_of, undone}
 use Rattle.object_log.specs.Parts.{left_of}
 use Rattle.node_core.specs.Calls.{HasCommitted, HasReceived, HaveOwnKeys, HaveSentFew, IsLeastFaultOf, IsNewNode}
-use Rattle.node_core.specs.Homes.{home_of}
+use Rattle.node_core.specs.Homes.{HomesView, home_of}
 use Rattle.node_core.specs.Marks.{same_key}
 use Rattle.node_core.specs.Nodes.{IsAsBefore, IsSameNode, NodeView, Stands, ahead_of, base_at, data_of, home, log_at, log_or, pending_at, share_of, slot_at}
 use Rattle.node_core.specs.Shares.{AreProcessedKeys, IsOwnShare, SendAtMostEight, StandsForItsOwn}
@@ -286,3 +286,29 @@ known-all key keys i le none = ap (list_any (same_key key)) (sym (take-long i ke
     take-long (suc i) [] le = refl
     take-long zero (x ∷ xs) le = absurd (omega arith)
     take-long (suc i) (x ∷ xs) le = ap (λ ys. x ∷ ys) (take-long i xs (omega arith))
+
+stepped-same : {M : Type 0} (m : Meaning) (bound : ℕ) (old new : NodeView M) (step : Step) → HasStepped m bound old new step → IsSameNode old new
+stepped-same m bound old new (Did key least) s = s.same
+stepped-same {M} m bound old new Idle s = let P : NodeView M → Type 0 = λ n. IsSameNode old n in subst P (sym s.unchanged) (record { model = refl; terms = refl; number = refl; homes = refl })
+
+-- what stands of a driven node stands after each call
+module _ {M : Type 0} (meaning : M → Meaning) (old new : NodeView M) (homes : HomesView) (keys : List Key) (sent : ℕ) (d : (old.homes ≡ homes) × IsDriven (meaning old.model) old keys sent) where
+  moved : (keys' : List Key) (sent' : ℕ) → IsSameNode old new → IsDriven (meaning old.model) new keys' sent' → (new.homes ≡ homes) × IsDriven (meaning new.model) new keys' sent'
+  moved keys' sent' same driven = (same.homes ∙ d.0, (let D : M → Type 0 = λ x. IsDriven (meaning x) new keys' sent' in subst D (sym same.model) driven))
+
+  pub keeps-same : IsAsBefore old new → (new.homes ≡ homes) × IsDriven (meaning new.model) new keys sent
+  keeps-same same = moved keys sent same.same (driven-same (meaning old.model) old new keys sent d.1 same)
+
+  pub keeps-step : (bound : ℕ) (step : Step) → HasStepped (meaning old.model) bound old new step → (new.homes ≡ homes) × IsDriven (meaning new.model) new keys sent
+  keeps-step bound step s = moved keys sent (stepped-same (meaning old.model) bound old new step s) (driven-step (meaning old.model) bound old new step keys sent d.1 s)
+
+  pub keeps-received : (e : Event) (count : ℕ) → HasReceived (meaning old.model) (e ∷ []) old new count → Stands (meaning old.model) old (share_of old) (ahead_of old)
+      → length old.processed + length old.waiting ≡ length (share_of old).pending → StandsForItsOwn (meaning new.model) new → length new.processed + length new.waiting ≡ length (share_of new).pending
+      → (new.homes ≡ homes) × IsDriven (meaning new.model) new (keys ++ e.key ∷ []) sent
+  keeps-received e count r st size only size' =
+      let S : M → Type 0 = λ x. StandsForItsOwn (meaning x) new in
+      moved (keys ++ e.key ∷ []) sent r.same (driven-received (meaning old.model) old new keys sent e count d.1 r st size (subst S r.same.model only) size')
+
+  pub keeps-committed : (horizon : ℕ) (cut : Option Key) (records : List (Key × Note)) (out : List (List Event)) → HasCommitted (meaning old.model) horizon cut old new records out → SendAtMostEight old
+      → AreProcessedKeys (meaning old.model) old → length keys ≤ 100 → (new.homes ≡ homes) × IsDriven (meaning new.model) new keys (sent + 800)
+  keeps-committed horizon cut records out c most parts low = moved keys (sent + 800) c.same (driven-commit (meaning old.model) horizon cut old new records out keys sent d.1 c most parts low)

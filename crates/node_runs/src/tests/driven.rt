@@ -130,7 +130,8 @@ impl<M: SimulationModel> Driven<M> {
         assert!(rt; self.keys.len() <= 100);
         assert!(rt; self.sent < 1000000);
         let end = end_bound(self.node.terms().end);
-        self.node.step(alloc, end)
+        let step = self.node.step(alloc, end)?;
+        Ok(step)
     }
 
     /// Commits what is due, once no event waits below the end and no fault is due.
