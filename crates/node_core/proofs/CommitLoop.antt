@@ -19,6 +19,7 @@ use Rattle.object_log.specs.Logs.{LogView, undone}
 use Rattle.object_log.specs.Replays.{IsLogOf, firing_of, replay_of, told}
 use Rattle.key_order.specs.Due.{is_due}
 use Rattle.world_spec.specs.Share.{is_at}
+use Rattle.key_order.proofs.FilterLemmas.{length-filter_le}
 use Rattle.node_core.specs.Handed.{AddsOne, AreTaken, CanCommit, IsFaultLate, IsLogLess, IsNoted, IsTellingOf, told_of, with_front}
 use Rattle.node_core.specs.Homes.{HomesView, home_of}
 use Rattle.node_core.specs.Marks.{MarkView, code_of, fault_or, first_fault, first_mark}
@@ -245,7 +246,7 @@ module _ (homes : HomesView) (horizon : ℕ) (cut : Option Key) (old now next : 
       let done = is.so_far.done in
       let at = is_at (home_of homes) to in
       let parcel = ap length (is.so_far.tells.parcels to within) in
-      let part = at_most at (emissions_of done) in
+      let part = length-filter_le at (emissions_of done) in
       let sent = t.few in
       let own = next-few in
       let total = ap length t.keys ∙ length-append (map (λ (d : Event × Firing). d.0.key) done) (keys_of now.marks) in
@@ -255,12 +256,6 @@ module _ (homes : HomesView) (horizon : ℕ) (cut : Option Key) (old now next : 
       let left = ap length is.is_due_now.one.marks in
       let small = is.can.few in
       omega arith
-    where
-      at_most : (p : Event → Bool) (xs : List Event) → length (filter p xs) ≤ length xs
-      at_most p [] = omega arith
-      at_most p (x ∷ xs) =
-          let le = at_most p xs in
-          elim (p x) as (λ b. length (cond b (x ∷ filter p xs) (filter p xs)) ≤ length (x ∷ xs)) [ true ↦ omega arith | false ↦ omega arith ]
 
   pub handing-step : (told' : List (Key × Note)) (out' : List (List Event)) (later : StoreView) → AddsOne homes d.event d.sends d.verdict told told' out out' → later ≡ next → (room' : ℕ) → room' ≡ room → IsHandingOut homes horizon cut old later told' out' room'
   handing-step told' out' later a is_next room' same =

@@ -24,6 +24,7 @@ use Rattle.world_spec.specs.Moves.{without_first}
 use Rattle.key_order.proofs.AscendingLemmas.{Ascends-map}
 use Rattle.key_order.proofs.DueLemmas.{due-down}
 use Rattle.key_order.proofs.FilterLemmas.{filter-all, filter-front, filter-none}
+use Rattle.node_core.proofs.StoreLemmas.{events_of-append}
 use Rattle.node_core.specs.Handed.{AreTaken, IsLogLess}
 use Rattle.node_core.specs.Marks.{MarkView, AreInOrder, first_mark, mark_of}
 use Rattle.node_core.specs.Nodes.{log_at}
@@ -148,11 +149,7 @@ module _ (horizon : ℕ) (cut : Option Key) (old now : List (Option LogView)) (d
 
   module _ (waits pending : List Event) (list : pending ≡ log_events (log_at old object).done ++ waits) (later : Each (λ (e : Event). due e ≡ false) waits) where
     events-parts : pending ≡ log_events gone ++ (log_events kept ++ waits)
-    events-parts = list ∙ ap (λ ds. log_events ds ++ waits) at.less.front ∙ ap (λ es. es ++ waits) (log-append gone kept) ∙ append_assoc (log_events gone) (log_events kept) waits
-      where
-        log-append : (xs ys : List Done) → log_events (xs ++ ys) ≡ log_events xs ++ log_events ys
-        log-append [] ys = refl
-        log-append (d ∷ xs) ys = ap (λ es. d.event ∷ es) (log-append xs ys)
+    events-parts = list ∙ ap (λ ds. log_events ds ++ waits) at.less.front ∙ ap (λ es. es ++ waits) (events_of-append gone kept) ∙ append_assoc (log_events gone) (log_events kept) waits
 
     behind : Each (λ (e : Event). due e ≡ false) (log_events kept ++ waits)
     behind = Each-append (λ (e : Event). due e ≡ false) (log_events kept) waits (each-log (λ (e : Event). due e ≡ false) kept at.stays) later

@@ -142,7 +142,8 @@ impl<M: SimulationModel> Driven<M> {
         horizon: u64,
         cut: Option<Key>,
     ) -> Result<Committed, Fail> {
-        let Step::Idle = self.step(rt, alloc)? else {
+        let step = self.step(rt, alloc)?;
+        let Step::Idle = step else {
             return Err(Fail::from("an event waits"));
         };
         assert!(rt; horizon <= end_bound(self.node.terms().end));
