@@ -17,6 +17,7 @@ use Rattle.key_order.specs.Keys.{KeysDiffer}
 use Rattle.key_order.proofs.KeyLemmas.{Ascends-differ}
 use Rattle.key_order.proofs.ArrivalLemmas.{enqueue_all-ascending}
 use Rattle.key_order.proofs.FilterLemmas.{filter-all, filter-none}
+use Rattle.world_spec.proofs.HomeLemmas.{homed-same}
 use Rattle.object_log.specs.declared.done.Done.{Done}
 use Rattle.object_log.specs.Logs.{LogView, events_of}
 use Rattle.object_log.proofs.ReplayLemmas.{taken_is}
@@ -31,7 +32,6 @@ use Rattle.node_core.proofs.QueueFacts.{parts-differ}
 use Rattle.node_core.proofs.RollbackFacts.{ahead-is, home-here, left-log, rest-waits, take-front}
 use Rattle.node_core.proofs.OldestFacts.{here-done}
 use Rattle.node_core.proofs.TotalLemmas.{eqb-apart, length-parts, total-same}
-use Rattle.node_core.proofs.WholeLemmas.{homed-same}
 
 -- each slot has the events of its own object, the first one of the object at the base
 AreOwnFrom : ℕ → List (Option LogView) → Type 0
