@@ -102,7 +102,7 @@ module _ {M : Type 0} (m : Meaning) where
   unfolding events_at
   driven-new n new keys =
       let none : (object : ℕ) → (log_at n.logs object).done ≡ [] = λ object.
-          none-of (log_at n.logs object).done (ap length (sym (keys.parts object)) ∙ ap (λ ks. length (filter (λ (k : Key). k.dest == object) ks)) new.processed) in
+      none-of (log_at n.logs object).done (ap length (sym (keys.parts object)) ∙ ap (λ ks. length (filter (λ (k : Key). k.dest == object) ks)) new.processed) in
       let K : List Event → Type 0 = Each (Known []) in
       record {
         known = λ object. subst K (sym (λ i. events_of (none object i) ++ events_at object (new.waiting i))) tt;
@@ -145,17 +145,17 @@ module _ {M : Type 0} (m : Meaning) where
       record {
         known = λ object.
             (let k = kept_count (e ∷ []) old.logs object in
-             let ds = (log_at old.logs object).done in
-             let all = known-more keys e.key (pending_at old.logs old.waiting object) (d.known object) in
-             let done = Each-front (Known more) (events_of ds) (events_at object old.waiting) all in
-             let rest = Each-back (Known more) (events_of ds) (events_at object old.waiting) all in
-             let E : List Event → Type 0 = Each (Known more) in
-             Each-append (Known more) (events_of (log_at new.logs object).done) (events_at object new.waiting)
-             (subst E (sym (ap events_of (r.kept object) ∙ events-take k ds)) (Each-take (Known more) k (events_of ds) done))
-             (subst E (sym (r.waiting object))
-              (each-enqueue_all (Known more) (events_at object (e ∷ [])) (drop k (events_of ds) ++ events_at object old.waiting)
-               (Each-events_at (Known more) object (e ∷ []) (known-itself keys e, tt))
-               (Each-append (Known more) (drop k (events_of ds)) (events_at object old.waiting) (Each-drop (Known more) k (events_of ds) done) rest))));
+            let ds = (log_at old.logs object).done in
+            let all = known-more keys e.key (pending_at old.logs old.waiting object) (d.known object) in
+            let done = Each-front (Known more) (events_of ds) (events_at object old.waiting) all in
+            let rest = Each-back (Known more) (events_of ds) (events_at object old.waiting) all in
+            let E : List Event → Type 0 = Each (Known more) in
+            Each-append (Known more) (events_of (log_at new.logs object).done) (events_at object new.waiting)
+            (subst E (sym (ap events_of (r.kept object) ∙ events-take k ds)) (Each-take (Known more) k (events_of ds) done))
+            (subst E (sym (r.waiting object))
+            (each-enqueue_all (Known more) (events_at object (e ∷ [])) (drop k (events_of ds) ++ events_at object old.waiting)
+            (Each-events_at (Known more) object (e ∷ []) (known-itself keys e, tt))
+            (Each-append (Known more) (drop k (events_of ds)) (events_at object old.waiting) (Each-drop (Known more) k (events_of ds) done) rest))));
         few = omega arith;
         sent_few = λ object at. (let was = d.sent_few object (was-home old new object r.same at) in let base = ap (λ (s : ObjectState). s.sent) (r.base object) in omega arith);
       }
@@ -183,9 +183,9 @@ module _ {M : Type 0} (m : Meaning) where
         few = omega arith;
         sent_few = λ object at.
             (let was = d.sent_few object (was-home old new object s.same at) in
-             let B : ℕ → Type 0 = λ o. base_at new.logs o ≡ base_at old.logs o in
-             let base = ap (λ (s : ObjectState). s.sent) (by_object B key.dest object s.base (λ apart. ap (λ slot. undone (log_or slot).state (log_or slot).done) (s.others object apart))) in
-             omega arith);
+            let B : ℕ → Type 0 = λ o. base_at new.logs o ≡ base_at old.logs o in
+            let base = ap (λ (s : ObjectState). s.sent) (by_object B key.dest object s.base (λ apart. ap (λ slot. undone (log_or slot).state (log_or slot).done) (s.others object apart))) in
+            omega arith);
       }
 
   -- what was due was committed
@@ -199,17 +199,17 @@ module _ {M : Type 0} (m : Meaning) where
       record {
         known = λ object.
             (let ds = (log_at old.logs object).done in
-             Each-append (Known keys) (events_of (log_at new.logs object).done) (events_at object new.waiting)
-             (subst E (sym (ap events_of (c.left object))) (each-left (Known keys) horizon cut ds (Each-front (Known keys) (events_of ds) (events_at object old.waiting) (d.known object))))
-             (subst E (sym (ap (events_at object) c.waiting)) (Each-back (Known keys) (events_of ds) (events_at object old.waiting) (d.known object))));
+            Each-append (Known keys) (events_of (log_at new.logs object).done) (events_at object new.waiting)
+            (subst E (sym (ap events_of (c.left object))) (each-left (Known keys) horizon cut ds (Each-front (Known keys) (events_of ds) (events_at object old.waiting) (d.known object))))
+            (subst E (sym (ap (events_at object) c.waiting)) (Each-back (Known keys) (events_of ds) (events_at object old.waiting) (d.known object))));
         few = omega arith;
         sent_few = λ object at.
             (let was = d.sent_few object (was-home old new object c.same at) in
-             let base = undone-le (log_at new.logs object).state (log_at new.logs object).done in
-             let state = ap (λ (s : ObjectState). s.sent) (c.states object) in
-             let own = most object in
-             let le = ahead-le old object parts in
-             omega arith);
+            let base = undone-le (log_at new.logs object).state (log_at new.logs object).done in
+            let state = ap (λ (s : ObjectState). s.sent) (c.states object) in
+            let own = most object in
+            let le = ahead-le old object parts in
+            omega arith);
       }
 
 late-stamp : (horizon : ℕ) (cut : Option Key) (key : Key) → horizon ≤ key.stamp → is_due horizon cut key ≡ false
@@ -239,9 +239,9 @@ module _ {M : Type 0} (m : Meaning) (n : NodeView M) (horizon bound : ℕ) (cut 
   may-commit idle low = record {
     waiting = Each-map (λ (e : Event). (bound ≤ e.key.stamp) ⊎ IsPastFaultOf m (home n) n.number (data_of n) e.key) (λ (e : Event). is_due horizon cut e.key ≡ false) n.waiting
         (λ e stays. elim stays [
-            | inl high ↦ late-stamp horizon cut e.key (omega arith)
-            | inr past ↦ late-after horizon cut past.2.0 e.key (let lt = past.4 in key_lt-turned past.2.0 e.key lt) (late-fault past.0 past.1 past.2 past.3)
-          ]) idle;
+          | inl high ↦ late-stamp horizon cut e.key (omega arith)
+          | inr past ↦ late-after horizon cut past.2.0 e.key (let lt = past.4 in key_lt-turned past.2.0 e.key lt) (late-fault past.0 past.1 past.2 past.3)
+        ]) idle;
     faults = late-fault;
   }
 

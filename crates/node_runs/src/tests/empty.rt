@@ -23,7 +23,12 @@ fn a_node_without_objects_is_idle(rt: HostRuntime) -> Result<(), Fail> {
     let committed = driven.commit(&rt, alloc, at(9), None)?;
     assert_eq!(rt; committed.done.len(), 0);
     assert_eq!(rt; committed.out.len(), 2);
-    let none = Tallies { processed: 0, undone: 0, committed: 0, left: 0 };
+    let none = Tallies {
+        processed: 0,
+        undone: 0,
+        committed: 0,
+        left: 0,
+    };
     assert!(rt; driven.node.tallies() == none);
     Ok(())
 }

@@ -55,9 +55,17 @@ fn a_straggler_rolls_back_its_own_object_alone(rt: HostRuntime) -> Result<(), Fa
     let mut committed = driven.commit(&rt, alloc, at(5), None)?;
     assert_eq!(rt; committed.done.len(), 1);
     assert_eq!(rt; committed.out[0].len(), 1);
-    let late = committed.out[0].pop_front().ok_or("nothing was sent")?.into_inner();
+    let late = committed.out[0]
+        .pop_front()
+        .ok_or("nothing was sent")?
+        .into_inner();
     assert_eq!(rt; driven.receive(&rt, alloc, late)?, 1);
-    let counted = Tallies { processed: 3, undone: 1, committed: 1, left: 1 };
+    let counted = Tallies {
+        processed: 3,
+        undone: 1,
+        committed: 1,
+        left: 1,
+    };
     assert!(rt; driven.node.tallies() == counted);
     assert_eq!(rt; driven.node.open_cycle(), at(13));
     let least = driven.node.least().ok_or("no event")?;

@@ -80,12 +80,23 @@ fn a_straggler_takes_back_a_fault(rt: HostRuntime) -> Result<(), Fail> {
     assert_eq!(rt; driven.node.open_cycle(), at(9));
 
     let mut committed = driven.commit(&rt, alloc, at(9), None)?;
-    assert_eq!(rt; committed.done.as_slice(), [(arrival(5, 0).key, told(3, 1, 0))].as_slice());
-    let sent = committed.out[0].pop_front().ok_or("nothing was sent")?.into_inner();
+    assert_eq!(rt;
+        committed.done.as_slice(),
+        [(arrival(5, 0).key, told(3, 1, 0))].as_slice()
+    );
+    let sent = committed.out[0]
+        .pop_front()
+        .ok_or("nothing was sent")?
+        .into_inner();
     assert!(rt; sent == first_done());
     assert_eq!(rt; driven.receive(&rt, alloc, sent)?, 2);
     assert!(rt; driven.node.faulted().is_none());
-    let counted = Tallies { processed: 3, undone: 2, committed: 1, left: 0 };
+    let counted = Tallies {
+        processed: 3,
+        undone: 2,
+        committed: 1,
+        left: 0,
+    };
     assert!(rt; driven.node.tallies() == counted);
     Ok(())
 }

@@ -7,8 +7,8 @@ use Rattle.node_runs.proofs.tests.driven.is_known.Goals as goal
 pub returns-then-is_same : goal.returns-then-is_same
 returns-then-is_same c =
     sym (known-found c.args.key.now c.args.keys.now c.loop-known.known-index c.known-item.result
-         (slice_get_read c.args.keys.now (length c.args.keys.now) c.loop-known.known-index c.known-item.result refl (omega arith) c.known-item.is)
-         (sym c.is_same.ensures ∙ c.if-is_same.true))
+    (slice_get_read c.args.keys.now (length c.args.keys.now) c.loop-known.known-index c.known-item.result refl (omega arith) c.known-item.is)
+    (sym c.is_same.ensures ∙ c.if-is_same.true))
 
 pub loop-known-preserved : goal.loop-known-preserved
 loop-known-preserved c =
