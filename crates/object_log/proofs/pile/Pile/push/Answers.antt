@@ -1,5 +1,5 @@
 -- The new one knows the least of all.
-use Rattle.std.proofs.Common.{◌≡◌, sym, ap, ◌∙◌, subst}
+use Rattle.std.proofs.Common.{sym, ap, ◌∙◌, subst}
 use Rattle.event_key.specs.declared.stamp.TheConstants.{NO_STAMP}
 use Rattle.key_order.specs.Stamps.{least_stamp}
 use Rattle.object_log.specs.Logs.{held_of}
