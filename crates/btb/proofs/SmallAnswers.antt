@@ -3,7 +3,7 @@ use Rattle.std.proofs.Common.{◌≡◌, ℕ, true, false, List, [], ◌∷◌, 
 use Rattle.std.specs.Prelude.{codes, pos}
 use Rattle.std.specs.Str.{is_utf8, chars}
 use Rattle.std.specs.Fmt.{digits}
-use Rattle.toml.specs.Data.{Data, string, integer, array, table, Items, no_items, item, Members, no_members, member}
+use Rattle.toml.specs.Data.{Data, string, integer, array, table, no_items, item, Members, no_members, member}
 use Rattle.toml.specs.Parse.{parse_document, lines, skip_bom}
 use Rattle.toml_parser.specs.Lexical.{skip_from, skip_ws}
 use Rattle.event_key.specs.Keys.{key_lt, key_cmp}
@@ -16,11 +16,12 @@ use Rattle.model_text.specs.Phold.{phold, destination}
 use Rattle.model_text.specs.LawTexts.{law, fixed_law}
 use Rattle.model_text.specs.Starts.{start_entry}
 use Rattle.model_text.specs.TermsOf.{terms_of}
-use Rattle.sim_spec.specs.Pending.{enqueue, enqueue_all}
+use Rattle.key_order.specs.Pending.{enqueue, enqueue_all}
 use Rattle.sim_spec.specs.Firing.{has_chain, emissions, fired_by, fire}
 use Rattle.sim_spec.specs.State.{initial_state}
 use Rattle.sim_spec.specs.Run.{next, next_of, next_fired, run, run_for, run_on}
-use Rattle.sim_spec.specs.Horizon.{least_stamp, bucket_fired, bucket_below, horizon_bucket}
+use Rattle.key_order.specs.Stamps.{least_stamp}
+use Rattle.sim_spec.specs.Horizon.{bucket_fired, bucket_below, horizon_bucket}
 use Rattle.sim_spec.specs.Cut.{emissions_of, objects_after, state_with_done, is_limited, committed_events, after, cut}
 use Rattle.sim_spec.specs.Cycles.{cycles_behind, cycles_on, cycles_for, cycles}
 use Rattle.sim_io.specs.Texts.{stamp_text, word_text, part_text, place_text, part_line, event_lines, record_lines, stop_line}

@@ -1,56 +1,69 @@
--- What an outcome makes of an event.
-use Rattle.std.proofs.Common.{◌≡◌, ℕ, ◌+◌, Bool, true, false, cond, List, length, sym, ap, ◌∙◌, subst}
-use Rattle.delta_exchange.specs.declared.change.Change.{Change}
+-- What an event that is settled says of its firing.
+use Rattle.std.proofs.Common.{◌≡◌, ℕ, ◌+◌, Bool, true, false, cond, length, refl, sym, ap, ◌∙◌, subst}
+use Rattle.std.specs.Prelude.{IsTrue, ◌<◌}
 use Rattle.delta_exchange.specs.Changes.{CellData, cells_after_all, inverses_of}
-use Rattle.model_core.specs.declared.event.Event.{Event}
-use Rattle.model_core.specs.declared.event.Send.{Send}
 use Rattle.model_core.specs.declared.effect.Effect.{Effect}
 use Rattle.model_core.specs.declared.effect.Outcome.{Outcome}
 use Rattle.model_core.specs.declared.effect.Outcome.TheVariants.{Goes, Fails}
-use Rattle.model_core.specs.Meaning.{Meaning, OutcomeLaws, EffectLaws}
-use Rattle.sim_spec.specs.Firing.{ObjectState, Firing, goes, fails, fire, fired_by, has_chain, emissions}
+use Rattle.model_core.specs.declared.event.Event.{Event}
+use Rattle.model_core.specs.Meaning.{Meaning, MeaningLaws, EffectLaws, OutcomeLaws}
+use Rattle.sim_spec.specs.Firing.{ObjectState, Firing, Fired, goes, fails, fired_by, fire, has_chain, emissions}
+use Rattle.event_firing.specs.Settling.{settled}
 
--- what the laws say of the outcome at hand
-pub laws_of : (m : Meaning) (o : ObjectState) (e : Event) (x : Effect) → OutcomeLaws m e.key.dest o.cells (m.effect e.key.dest o.cells e)
-    → Goes x ≡ m.effect e.key.dest o.cells e → EffectLaws m e.key.dest o.cells x
-laws_of m o e x laws is_outcome = let P : Outcome → Type 0 = OutcomeLaws m e.key.dest o.cells in subst P (sym is_outcome) laws
+outcome_inside : (x y : Effect) → Goes x ≡ Goes y → x ≡ y
+outcome_inside x y is = cc
 
--- an event that the model refuses
-pub fire-fails : (m : Meaning) (o : ObjectState) (e : Event) (code : ℕ) → Fails code ≡ m.effect e.key.dest o.cells e → fire m e.key.dest o e ≡ fails code
-unfolding fire fired_by
-fire-fails m o e code is_outcome = ap (fired_by e.key.dest o e) (sym is_outcome)
+no_effect : (x : Effect) (code : ℕ) → Goes x ≡ Fails code → ⊥
+no_effect x code is = cc
+
+-- a settled effect is the model's, and chains nothing
+pub settled-goes : (stamp : ℕ) (o : Outcome) (x : Effect) → Goes x ≡ settled stamp o → (o ≡ Goes x) × (has_chain stamp x.sends ≡ false)
+settled-goes stamp (Fails code) x is = absurd (no_effect x code is)
+settled-goes stamp (Goes y) x is = by_test (has_chain stamp y.sends) refl is
+  where
+    by_test : (b : Bool) → has_chain stamp y.sends ≡ b → Goes x ≡ cond b (Fails 1) (Goes y) → (Goes y ≡ Goes x) × (has_chain stamp x.sends ≡ false)
+    by_test true chained is = absurd (no_effect x 1 is)
+    by_test false chained is = (sym is, ap (λ (z : Effect). has_chain stamp z.sends) (outcome_inside x y is) ∙ chained)
+
+-- a settled fault is that of firing
+fails_by : (object : ℕ) (s : ObjectState) (e : Event) (o : Outcome) (code : ℕ) → Fails code ≡ settled e.key.stamp o → fired_by object s e o ≡ fails code
+unfolding fired_by
+fails_by object s e (Fails word) code is = ap fails (inside word code (sym is))
+  where
+    inside : (a b : ℕ) → ◌≡◌ {A = Outcome} (Fails a) (Fails b) → a ≡ b
+    inside a b is = cc
+fails_by object s e (Goes x) code is = by_test (has_chain e.key.stamp x.sends) _ is
+  where
+    by_test : (b : Bool) (f : Fired) → Fails code ≡ cond b (Fails 1) (Goes x) → cond b (fails 1) f ≡ fails code
+    by_test true f is = ap fails (one (sym is))
+      where
+        one : ◌≡◌ {A = Outcome} (Fails 1) (Fails code) → 1 ≡ code
+        one is = cc
+    by_test false f is = absurd (let no : Goes x ≡ Fails code = sym is in cc)
+
+pub settled-fails : (m : Meaning) (object : ℕ) (s : ObjectState) (e : Event) (code : ℕ) → Fails code ≡ settled e.key.stamp (m.effect object s.cells e) → fire m object s e ≡ fails code
+unfolding fire
+settled-fails m object s e code is = fails_by object s e (m.effect object s.cells e) code is
 
 -- the firing of an effect
-abbrev pub firing_of : ObjectState → Event → Effect → Firing
-firing_of o e x = record {
-  state = record { cells = cells_after_all x.changes o.cells; sent = o.sent + length x.sends };
-  events = emissions e.key.stamp e.key.dest o.sent x.sends;
-  undo = inverses_of x.changes o.cells;
+abbrev pub firing_of : ℕ → ObjectState → Event → Effect → Firing
+firing_of object s e x = record {
+  state = record { cells = cells_after_all x.changes s.cells; sent = s.sent + length x.sends };
+  events = emissions e.key.stamp object s.sent x.sends;
+  undo = inverses_of x.changes s.cells;
   note = x.note;
 }
 
-fire-effect : (m : Meaning) (o : ObjectState) (e : Event) (x : Effect) (chain : Bool) → Goes x ≡ m.effect e.key.dest o.cells e → has_chain e.key.stamp x.sends ≡ chain
-    → fire m e.key.dest o e ≡ cond chain (fails 1) (goes (firing_of o e x))
+pub fire-goes : (m : Meaning) (object : ℕ) (s : ObjectState) (e : Event) (x : Effect) → Goes x ≡ settled e.key.stamp (m.effect object s.cells e) → fire m object s e ≡ goes (firing_of object s e x)
 unfolding fire fired_by
-fire-effect m o e x chain is_outcome is_chain =
-    ap (fired_by e.key.dest o e) (sym is_outcome) ∙ ap (λ b. cond b (fails 1) (goes (firing_of o e x))) is_chain
+fire-goes m object s e x is =
+    let known = settled-goes e.key.stamp (m.effect object s.cells e) x is in
+    ap (fired_by object s e) known.0
+    ∙ ap (λ b. cond b (fails 1) (goes (firing_of object s e x))) known.1
 
--- an event that has no step left for what it sends, and one that goes
-pub fire-chain : (m : Meaning) (o : ObjectState) (e : Event) (x : Effect) → Goes x ≡ m.effect e.key.dest o.cells e → has_chain e.key.stamp x.sends ≡ true
-    → fire m e.key.dest o e ≡ fails 1
-fire-chain m o e x is_outcome is_chain = fire-effect m o e x true is_outcome is_chain
-
-pub fire-goes : (m : Meaning) (o : ObjectState) (e : Event) (x : Effect) → Goes x ≡ m.effect e.key.dest o.cells e → has_chain e.key.stamp x.sends ≡ false
-    → fire m e.key.dest o e ≡ goes (firing_of o e x)
-fire-goes m o e x is_outcome is_chain = fire-effect m o e x false is_outcome is_chain
-
--- what the model answers for the cells that were read is its effect on those of the object
-pub outcome_of : (m : Meaning) (o : ObjectState) (e : Event) (cells : CellData) (answer outcome : Outcome) → answer ≡ outcome → answer ≡ m.effect e.key.dest cells e → cells ≡ o.cells
-    → outcome ≡ m.effect e.key.dest o.cells e
-outcome_of m o e cells answer outcome is_outcome is_answer is_cells = sym is_outcome ∙ is_answer ∙ ap (λ cells. m.effect e.key.dest cells e) is_cells
-
--- the object after an effect whose changes and sends are known by other names
-pub state_of : (o new : ObjectState) (e : Event) (x : Effect) (changes : List Change) (sends : List Send)
-    → new ≡ record { cells = cells_after_all changes o.cells; sent = o.sent + length sends } → changes ≡ x.changes → sends ≡ x.sends → new ≡ (firing_of o e x).state
-state_of o new e x changes sends is_new is_changes is_sends =
-    is_new ∙ (λ i. record { cells = cells_after_all (is_changes i) o.cells; sent = o.sent + length (is_sends i) })
+-- the laws of a settled effect
+pub settled-laws : (m : Meaning) (object : ℕ) (cells : CellData) (e : Event) (x : Effect) → MeaningLaws m → object < m.objects → IsTrue (m.lawful object cells)
+    → Goes x ≡ settled e.key.stamp (m.effect object cells e) → EffectLaws m object cells x
+settled-laws m object cells e x laws below lawful is =
+    let P : Outcome → Type 0 = OutcomeLaws m object cells in
+    subst P (settled-goes e.key.stamp (m.effect object cells e) x is).0 (laws.outcome object cells e below lawful)

@@ -3,10 +3,10 @@
 
 mod beginning;
 mod object;
-mod reaction;
 mod sending;
+mod settling;
 
 pub use beginning::{first_event, first_objects};
 pub use object::Object;
-pub use reaction::{Reaction, Sending};
-pub use sending::{has_chain, sent_event};
+pub use sending::{has_endless_chain, sent_event};
+pub use settling::{ENDLESS_CHAIN, settle};

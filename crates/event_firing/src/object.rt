@@ -2,18 +2,15 @@
 ghost use Rattle.std.specs.Prelude.{◌≡◌, ◌+◌, ◌<◌, ◌^◌, IfOk, OnOk, OnErr, IsTrue};
 ghost use Rattle.delta_exchange.specs.Changes.{AllFit, cells_after_all};
 ghost use Rattle.event_key.specs.Stamps.{time_part};
+ghost use Rattle.model_core.specs.Effects.{outcome_by};
 ghost use Rattle.event_firing.specs.Reactions.{IsReaction};
+ghost use Rattle.event_firing.specs.Settling.{settled};
 
-use crate::reaction::{Reaction, Sending};
-use crate::sending::has_chain;
+use crate::settling::settle;
 use model_core::model::{Model as SimulationModel, keeps_laws};
-use model_core::{Cells, Change, Effect, Event, OutOfMemory, Outcome};
+use model_core::{Cells, Change, Effect, Ending, Event, OutOfMemory};
 use random_streams::Stream;
-use std::alloc::Global;
 use std::marker::Model;
-
-/// The code of an event that sends without delay at the last step of a tick.
-const CHAIN: u32 = 1;
 
 /// An object's cells, and how many events it has sent. Its random words are kept from one event to the next, since
 /// they are made many at once.
@@ -72,57 +69,43 @@ impl Object {
         Ok(())
     }
 
-    /// What the model makes of an event here. The object stays as it is but for the words that it has at hand.
-    fn outcome_of<M: SimulationModel>(
+    /// What an event comes to here. The object stays as it is but for the words that it has at hand.
+    fn settle<M: SimulationModel>(
         &mut self,
-        alloc: Global,
         model: &M,
         event: &Event,
-    ) -> Result<Outcome, OutOfMemory>
+        sheet: &mut Effect,
+    ) -> Result<Ending, OutOfMemory>
         requires object { event.now.key.dest < (M.meaning model.now).objects }
         requires lawful { IsTrue ((M.meaning model.now).lawful event.now.key.dest self.old.cells) }
         requires time { time_part event.now.key.stamp < 2 ^ 46 }
         ensures same { self.new ≡ self.old }
-        ensures outcome { IfOk result (λ outcome. outcome ≡ (M.meaning model.now).effect event.now.key.dest self.old.cells event.now) }
+        ensures outcome { IfOk result (λ ending. outcome_by ending sheet.new
+            ≡ settled event.now.key.stamp ((M.meaning model.now).effect event.now.key.dest self.old.cells event.now)) }
     {
-        model.react_with(alloc, &mut self.words, event.key.dest, &self.cells, event)
+        settle(model, &mut self.words, &self.cells, event, sheet)
     }
 
-    /// Fires an event at this object. After a refusal the object is as it was.
+    /// Fires an event at this object: what it sends and tells stands in the sheet. After a refusal the object is as it was.
     pub fn fire<M: SimulationModel>(
         &mut self,
-        alloc: Global,
         model: &M,
         event: &Event,
-    ) -> Result<Reaction, OutOfMemory>
+        sheet: &mut Effect,
+    ) -> Result<Ending, OutOfMemory>
         requires object { event.now.key.dest < (M.meaning model.now).objects }
         requires lawful { IsTrue ((M.meaning model.now).lawful event.now.key.dest self.old.cells) }
         requires time { time_part event.now.key.stamp < 2 ^ 46 }
         requires sent { self.old.sent < 2 ^ 60 }
-        ensures ok { IfOk result (λ reaction. IsReaction (M.meaning model.now) self.old event.now reaction self.new) }
+        ensures ok { IfOk result (λ ending. IsReaction (M.meaning model.now) self.old event.now sheet.new ending self.new) }
         ensures err { OnErr result (self.new ≡ self.old) }
     {
         keeps_laws(model);
-        match self.outcome_of(alloc, model, event)? {
-            Outcome::Fails(code) => Ok(Reaction::Fails(code)),
-            Outcome::Goes(
-                Effect {
-                    changes,
-                    sends,
-                    note,
-                },
-            ) => {
-                if has_chain(event.key.stamp, sends.as_slice()) {
-                    return Ok(Reaction::Fails(CHAIN));
-                }
-                let serial = self.sent();
-                self.take_effect(changes.as_slice(), sends.as_slice().len() as u64)?;
-                Ok(Reaction::Goes(Sending {
-                    serial,
-                    sends,
-                    note,
-                }))
-            }
+        let ending = self.settle(model, event, sheet)?;
+        if let Ending::Goes = ending {
+            let sends = sheet.sends.as_slice().len() as u64;
+            self.take_effect(sheet.changes.as_slice(), sends)?;
         }
+        Ok(ending)
     }
 }

@@ -1,5 +1,5 @@
 -- What contracts see of a horizon word and of a seat of it.
-use Rattle.std.specs.Prelude.{◌≡◌, ℕ, ◌+◌, ◌≤◌, min}
+use Rattle.std.specs.Prelude.{◌≡◌, ℕ, ◌+◌, min}
 use Rattle.atomic_table.specs.Seated.{TableId}
 
 -- which word it is
@@ -16,10 +16,6 @@ pub record SeatView : Type 0 where
 
 abbrev pub IsSeatOf : WordId → SeatView → Type 0
 IsSeatOf word seat = seat.word ≡ word
-
--- the seat finds a word of which this holds: at least the floor, and at most what it has offered and what it was answered
-abbrev pub FindsWord : SeatView → (ℕ → Type 0) → Type 0
-FindsWord seat P = (word : ℕ) × (seat.floor ≤ word) × (word ≤ seat.least) × (word ≤ seat.seen) × P word
 
 -- a seat that has taken no step
 abbrev pub new_seat : WordId → ℕ → ℕ → SeatView

@@ -3,7 +3,7 @@ ghost use Rattle.std.specs.Prelude.{◌≡◌, ◌+◌, ◌*◌, ◌<◌, ◌≤
 ghost use Rattle.horizon_word.specs.Views.{IsSeatOf};
 
 use crate::{HorizonWord, WordSeat};
-use event_chain::OutOfMemory;
+use delta_exchange::OutOfMemory;
 use std::alloc::Global;
 use std::sync::atomic::{AtomicU64, Ordering};
 use std::test::Fail;

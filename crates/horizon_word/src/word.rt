@@ -1,11 +1,11 @@
 //! The shared word, and its seats.
-ghost use Rattle.std.specs.Prelude.{◌≡◌, ◌≤◌, All, IfOk, min, vec_len};
-ghost use Rattle.horizon_word.specs.Views.{FindsWord, IsSeatOf, new_seat, seat_after_lower, seat_after_read};
+ghost use Rattle.std.specs.Prelude.{◌≡◌, ◌≤◌, All, IfOk, vec_len};
+ghost use Rattle.horizon_word.specs.Views.{IsSeatOf, new_seat, seat_after_lower, seat_after_read};
 
 use crate::note::{Note, Opening};
 use crate::rule::{Copied, Falling, Lower, Read};
 use atomic_table::{Seat, Table};
-use event_chain::OutOfMemory;
+use delta_exchange::OutOfMemory;
 use std::alloc::Global;
 use std::marker::Model;
 
@@ -79,11 +79,11 @@ impl HorizonWord {
     }
 
     /// Offers a stamp, by one fetch-min, and answers the word that it left: the lesser of the word before and the
-    /// stamp. It never waits.
+    /// stamp. So it answers at most the stamp, and at most what the seat had offered and was answered before. It never
+    /// waits.
     pub fn lower(&self, seat: &mut WordSeat, stamp: u64) -> u64
         requires seat { IsSeatOf self.now seat.old }
         requires stamp { seat.old.floor ≤ stamp }
-        ensures lesser { FindsWord seat.old (λ before. result ≡ min before stamp) }
         ensures floor { seat.old.floor ≤ result }
         ensures stamp { result ≤ stamp }
         ensures least { result ≤ seat.old.least }

@@ -12,11 +12,10 @@ use Rattle.model_core.specs.declared.effect.Effect.{Effect}
 use Rattle.model_core.specs.declared.event.Event.{Event}
 use Rattle.model_core.specs.declared.note.Note.{Note}
 use Rattle.sim_spec.specs.declared.terms.Terms.{Terms}
-use Rattle.sim_spec.specs.Pending.{IsAscending}
+use Rattle.key_order.specs.Ascending.{IsAscending, Ascends}
 use Rattle.sim_spec.specs.State.{State, initial_state, start_event, event_of_start, object_at as state_at}
 use Rattle.sim_spec.specs.Run.{does}
-use Rattle.sim_spec.proofs.AscendingLemmas.{AllAfter-each}
-use Rattle.sim_spec.proofs.EachLemmas.{Each-map}
+use Rattle.key_order.proofs.EachLemmas.{Each-map}
 use Rattle.queue_models.specs.declared.object.Role.{Role}
 use Rattle.queue_models.specs.declared.object.Role.TheVariants.{Makes, Serves, Holds, Routes, Ends}
 use Rattle.queue_models.specs.Meaning.{network_meaning, source_start, job_start}
@@ -78,7 +77,7 @@ moved_sum v key note waiting sent jobs live =
 -- the pending events besides the one that is done keep their places
 rest_stays : (p : NetworkParts) (t : Terms) (s : State) (told : Key × Note) (after : State) (n : IsNetworkStep p t s told after) (v : ℕ × Place → ℕ) (word waiting : ℕ) (sent : List Event)
     → sum_by (event_weight p (moved_weight v n.step.event.key word waiting sent)) n.step.rest ≡ sum_by (event_weight p v) n.step.rest
-unfolding IsAscending
+unfolding Ascends
 rest_stays p t s told after n v word waiting sent =
     let key : Key = n.step.event.key in
     let A : List Event → Type 0 = IsAscending in
@@ -89,7 +88,7 @@ rest_stays p t s told after n v word waiting sent =
     let K : Key → Type 0 = λ k. key_lt key k ≡ true in
     let twice : key_lt key key ≡ true = subst K same later in
     let never : key_lt key key ≡ false = key_lt-irrefl key in cc))
-    (AllAfter-each key n.step.rest up.0))
+    up.0)
 
 -- the lines of the other objects stay
 lines_change : (p : NetworkParts) (t : Terms) (s : State) (told : Key × Note) (after : State) (n : IsNetworkStep p t s told after) (v : ℕ × Place → ℕ) (word waiting : ℕ) (sent : List Event)

@@ -2,8 +2,6 @@
 //! prints how many parcels were received.
 #![tactic(auto)]
 
-ghost use Rattle.std.specs.Prelude.{◌≤◌};
-
 mod cycle;
 
 use crate::cycle::cycles;
@@ -12,9 +10,7 @@ use std::alloc::Global;
 use std::{env, io};
 
 /// How many parcels so many cycles hand over, by plain slots or by rings. None for want of memory.
-fn parcels(alloc: Global, by_rings: bool, nodes: u32, count: u32) -> Option<u64>
-    requires { (1 ≤ nodes) × (nodes ≤ 64) }
-{
+fn parcels(alloc: Global, by_rings: bool, nodes: u32, count: u32) -> Option<u64> {
     if by_rings {
         cycles(alloc, &mut RingLanes::new(alloc, nodes).ok()?, nodes, count)
     } else {

@@ -1,3 +1,3 @@
-pub mod Items
+pub mod Effects
 pub mod Meaning
 pub mod Notes

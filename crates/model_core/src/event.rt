@@ -1,8 +1,9 @@
 //! What happens at objects.
 use event_key::Key;
 
-/// Something that happens at one object.
-#[derive(Clone, Copy, Debug, PartialEq, Eq)]
+/// Something that happens at one object. Events are ordered by their fields in turn, so by their keys where these
+/// differ.
+#[derive(Clone, Copy, Debug, PartialEq, Eq, PartialOrd, Ord)]
 pub struct Event {
     pub key: Key,
     /// What happens: the model says what a kind means.

@@ -1,9 +1,10 @@
 //! What a simulation asks of a model.
 ghost use Rattle.std.specs.Prelude.{◌≡◌, ◌<◌, ◌≤◌, ◌^◌, ◌++◌, IfOk, OnOk, OnErr, IsTrue};
 ghost use Rattle.event_key.specs.Stamps.{time_part};
+ghost use Rattle.model_core.specs.Effects.{outcome_by};
 ghost use Rattle.model_core.specs.Meaning.{Meaning, MeaningLaws};
 
-use crate::effect::Outcome;
+use crate::effect::{Effect, Ending, Outcome};
 use crate::event::{Event, Start};
 use delta_exchange::{Cells, OutOfMemory};
 use random_streams::Stream;
@@ -37,7 +38,25 @@ pub trait Model: std::marker::Send + Sync + Drop {
         requires { object < (meaning self.now).objects }
         ensures { result ≡ (meaning self.now).lawful object cells.now.contents };
 
-    /// What an event does at an object with these cells.
+    /// What an event does at an object with these cells, written into a sheet: whatever that held before plays no part.
+    /// A model that wants memory of its own may refuse, and then the sheet may hold anything.
+    /// The stream belongs to the object, and an engine keeps it from one of its events to the next, so that the random
+    /// words that are at hand there needn't be made again. Wherever the stream stands, the effect is the same.
+    fn respond(
+        &self,
+        words: &mut Stream,
+        object: u32,
+        cells: &Cells,
+        event: &Event,
+        sheet: &mut Effect,
+    ) -> Result<Ending, OutOfMemory>
+        requires object { object < (meaning self.now).objects }
+        requires lawful { IsTrue ((meaning self.now).lawful object cells.now.contents) }
+        requires time { time_part event.now.key.stamp < 2 ^ 46 }
+        ensures { IfOk result (λ ending. outcome_by ending sheet.new
+            ≡ (meaning self.now).effect object cells.now.contents event.now) };
+
+    /// The same on a stream and a sheet of its own, for a caller with a single event.
     fn react(
         &self,
         alloc: Global,
@@ -48,25 +67,14 @@ pub trait Model: std::marker::Send + Sync + Drop {
         requires object { object < (meaning self.now).objects }
         requires lawful { IsTrue ((meaning self.now).lawful object cells.now.contents) }
         requires time { time_part event.now.key.stamp < 2 ^ 46 }
-        ensures { IfOk result (λ outcome. outcome ≡ (meaning self.now).effect object cells.now.contents event.now) };
-
-    /// The same, by an engine that keeps a stream of words for each object from one of its events to the next, so that
-    /// the words that are at hand there needn't be made again.
-    fn react_with(
-        &self,
-        alloc: Global,
-        words: &mut Stream,
-        object: u32,
-        cells: &Cells,
-        event: &Event,
-    ) -> Result<Outcome, OutOfMemory>
-        requires object { object < (meaning self.now).objects }
-        requires lawful { IsTrue ((meaning self.now).lawful object cells.now.contents) }
-        requires time { time_part event.now.key.stamp < 2 ^ 46 }
         ensures { IfOk result (λ outcome. outcome ≡ (meaning self.now).effect object cells.now.contents event.now) }
     {
-        let _words = words;
-        self.react(alloc, object, cells, event)
+        let mut words = Stream::new(0, object, 0);
+        let mut sheet = Effect::new(alloc)?;
+        match self.respond(&mut words, object, cells, event, &mut sheet)? {
+            Ending::Goes => Ok(Outcome::Goes(sheet)),
+            Ending::Fails(code) => Ok(Outcome::Fails(code)),
+        }
     }
 
     /// Appends the name of an object, or nothing where no memory is left.

@@ -36,10 +36,22 @@ fn a_name_is_its_bytes(rt: HostRuntime) -> Result<(), Fail> {
 fn a_sequence_is_its_values(rt: HostRuntime) -> Result<(), Fail> {
     let sends = Sequence::new(vec![in rt.alloc(); 3, 1, 2]?);
     assert_eq!(rt; sends.as_slice(), [3, 1, 2].as_slice());
-    assert_eq!(rt; Sequence::three(3, 1, 2).as_slice(), sends.as_slice());
-    assert_eq!(rt; Sequence::two(3, 1).as_slice(), [3, 1].as_slice());
-    assert_eq!(rt; Sequence::one(3).as_slice(), [3].as_slice());
-    let nothing: Sequence<u64> = Sequence::none();
-    assert!(rt; nothing.as_slice().is_empty());
+    Ok(())
+}
+
+#[test]
+fn a_sheet_is_written_again(rt: HostRuntime) -> Result<(), Fail> {
+    let mut sheet = Effect::new(rt.alloc())?;
+    sheet.changes.push(Change::Set { word: 1, value: 9 });
+    sheet.changes.push(Change::Pop { line: 0 });
+    sheet.note = Note::of(part(1));
+    sheet.clear();
+    assert!(rt; sheet.sends.as_slice().is_empty());
+    assert_eq!(rt; sheet.note, Note::none());
+    sheet.changes.push(Change::Pop { line: 2 });
+    assert_eq!(rt;
+        sheet.changes.as_slice(),
+        [Change::Pop { line: 2 }].as_slice()
+    );
     Ok(())
 }

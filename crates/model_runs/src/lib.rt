@@ -1,7 +1,7 @@
 //! A model of any kind, run on one thread to the end of its text.
 #![tactic(auto)]
 
-mod engine;
+mod one_thread_run;
 mod running;
 
 pub use running::run_model;

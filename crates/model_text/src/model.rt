@@ -1,7 +1,7 @@
 //! The models that a text can describe.
 use delta_exchange::{Cells, OutOfMemory};
 use model_core::model::Model as SimulationModel;
-use model_core::{Event, Outcome, Start};
+use model_core::{Effect, Ending, Event, Start};
 use phold_model::Phold;
 use queue_models::Network;
 use random_streams::Stream;
@@ -56,30 +56,17 @@ impl SimulationModel for AnyModel {
         }
     }
 
-    fn react(
+    fn respond(
         &self,
-        alloc: Global,
-        object: u32,
-        cells: &Cells,
-        event: &Event,
-    ) -> Result<Outcome, OutOfMemory> {
-        match self {
-            AnyModel::Phold(phold) => phold.react(alloc, object, cells, event),
-            AnyModel::Network(network) => network.react(alloc, object, cells, event),
-        }
-    }
-
-    fn react_with(
-        &self,
-        alloc: Global,
         words: &mut Stream,
         object: u32,
         cells: &Cells,
         event: &Event,
-    ) -> Result<Outcome, OutOfMemory> {
+        sheet: &mut Effect,
+    ) -> Result<Ending, OutOfMemory> {
         match self {
-            AnyModel::Phold(phold) => phold.react_with(alloc, words, object, cells, event),
-            AnyModel::Network(network) => network.react_with(alloc, words, object, cells, event),
+            AnyModel::Phold(phold) => phold.respond(words, object, cells, event, sheet),
+            AnyModel::Network(network) => network.respond(words, object, cells, event, sheet),
         }
     }
 

@@ -1,5 +1,5 @@
 -- A bucket by its events so far: what is done, and the bucket from here.
-use Rattle.std.proofs.Common.{◌≡◌, ℕ, ◌+◌, min, List, [], ◌∷◌, ◌++◌, length, sym, refl, ap, ◌∙◌, subst, arith, length-append, append_assoc}
+use Rattle.std.proofs.Common.{◌≡◌, ◌+◌, List, [], ◌∷◌, ◌++◌, length, sym, refl, ap, ◌∙◌, subst, arith, length-append, append_assoc}
 use Rattle.std.proofs.lemmas.List.{append-nil}
 use Rattle.std.specs.Prelude.{slice_set}
 use Rattle.event_key.specs.declared.key.Key.{Key}
@@ -9,17 +9,18 @@ use Rattle.model_core.specs.declared.note.Note.{Note}
 use Rattle.model_core.specs.Meaning.{Meaning, MeaningLaws}
 use Rattle.sim_spec.specs.declared.terms.Terms.{Terms}
 use Rattle.sim_spec.specs.Firing.{ObjectState, Firing}
-use Rattle.sim_spec.specs.Pending.{enqueue_all}
+use Rattle.key_order.specs.Pending.{enqueue_all}
 use Rattle.sim_spec.specs.State.{State, Lawful}
 use Rattle.sim_spec.specs.Run.{next_fired}
-use Rattle.sim_spec.specs.Horizon.{HorizonBucket, bucket_with, bucket_below, horizon_bucket, least_stamp}
+use Rattle.sim_spec.specs.Horizon.{HorizonBucket, bucket_with, bucket_below, horizon_bucket}
+use Rattle.key_order.specs.Stamps.{least_stamp}
 use Rattle.sim_spec.specs.Cut.{events_of, records_of, emissions_of, objects_after}
 use Rattle.sim_spec.proofs.BucketInduction.{bucket-goes}
 use Rattle.sim_spec.proofs.LawfulLemmas.{next-lawful}
-use Rattle.sim_spec.proofs.PartLemmas.{events_of-append}
-use Rattle.sim_spec.proofs.PendingLemmas.{enqueue_all-append}
+use Rattle.sim_spec.proofs.PartLemmas.{events_of-append, emissions_of-append, records_of-append}
+use Rattle.key_order.proofs.EnqueueLemmas.{enqueue_all-append, enqueue_all-behind}
 use Rattle.sim_spec.proofs.RunLemmas.{next-fires}
-use Rattle.sim_spec.proofs.StampLemmas.{enqueue_all-behind, NoneBelow-least_stamp, least_stamp-le}
+use Rattle.key_order.proofs.StampLemmas.{after-below, NoneBelow-least_stamp, least_stamp-le, least_stamp-append}
 use Rattle.one_thread.specs.Engines.{Course, state_of}
 use Rattle.one_thread.specs.Turns.{horizon_of, IsDone}
 
@@ -67,19 +68,9 @@ unfolding objects_after
 objects_after-append objects [] d = refl
 objects_after-append objects (x ∷ ds) d = objects_after-append (slice_set objects x.0.key.dest x.1.state) ds d
 
-emissions_of-append : (ds : List (Event × Firing)) (d : Event × Firing) → emissions_of (ds ++ d ∷ []) ≡ emissions_of ds ++ d.1.events
+emissions_of-more : (ds : List (Event × Firing)) (d : Event × Firing) → emissions_of (ds ++ d ∷ []) ≡ emissions_of ds ++ d.1.events
 unfolding emissions_of
-emissions_of-append [] d = append-nil d.1.events
-emissions_of-append (x ∷ ds) d = ap (λ es. x.1.events ++ es) (emissions_of-append ds d) ∙ sym (append_assoc x.1.events (emissions_of ds) d.1.events)
-
-records_of-append : (xs ys : List (Event × Firing)) → records_of (xs ++ ys) ≡ records_of xs ++ records_of ys
-records_of-append [] ys = refl
-records_of-append (x ∷ xs) ys = ap (λ zs. (x.0.key, x.1.note) ∷ zs) (records_of-append xs ys)
-
-least_stamp-append : (h : ℕ) (es fs : List Event) → least_stamp h (es ++ fs) ≡ least_stamp (least_stamp h es) fs
-unfolding least_stamp
-least_stamp-append h [] fs = refl
-least_stamp-append h (e ∷ es) fs = least_stamp-append (min h e.key.stamp) es fs
+emissions_of-more ds d = emissions_of-append ds (d ∷ []) ∙ ap (λ es. emissions_of ds ++ es) (append-nil d.1.events)
 
 -- the event that is due comes next, and leaves a lawful state
 lawful_done : (m : Meaning) (t : Terms) (c : Course) (key : Key) (note : Note) (new : Course) → MeaningLaws m → Lawful m t (state_of c) → IsDone m t c key note new → Lawful m t (state_of new)
@@ -92,7 +83,7 @@ lawful_done m t c key note new laws lawful one =
     let le = least_stamp-le (end_stamp t.end) c.fresh in
     let free = one.free in
     let first : enqueue_all c.fresh c.primary ≡ e ∷ enqueue_all c.fresh one.rest =
-    ap (enqueue_all c.fresh) one.due.first ∙ enqueue_all-behind h c.fresh e one.rest (NoneBelow-least_stamp (end_stamp t.end) c.fresh) early in
+    ap (enqueue_all c.fresh) one.due.first ∙ enqueue_all-behind c.fresh e one.rest (after-below h e.key c.fresh (NoneBelow-least_stamp (end_stamp t.end) c.fresh) early) in
     let s = state_of c in
     let is_next = next-fires m t s e (enqueue_all c.fresh one.rest) first (omega arith) (λ full. omega arith) ∙ ap (next_fired s e (enqueue_all c.fresh one.rest)) one.fires in
     let left = next-lawful m t s (e.key, x.note) _ laws lawful is_next in
@@ -127,7 +118,7 @@ goes_on m t s told now c new key note laws so_far one is_now =
       objects = objects ∙ ap (λ os. slice_set os e.key.dest x.state) so_far.objects ∙ sym (objects_after-append s.objects ds d);
       pending = so_far.pending ∙ ap (λ es. events_of ds ++ es) (one.due.first ∙ ap (λ es. e ∷ es) (sym primary))
           ∙ sym (append_assoc (events_of ds) (e ∷ []) new.primary) ∙ ap (λ es. es ++ new.primary) (sym (events_of-append ds (d ∷ [])));
-      fresh = fresh ∙ ap (λ es. es ++ x.events) so_far.fresh ∙ sym (emissions_of-append ds d);
+      fresh = fresh ∙ ap (λ es. es ++ x.events) so_far.fresh ∙ sym (emissions_of-more ds d);
       count = omega arith;
       lawful = lawful_done m t c key note new laws so_far.lawful one;
     }

@@ -8,12 +8,12 @@ use Rattle.model_core.specs.Meaning.{Meaning}
 use Rattle.sim_spec.specs.declared.stop.Stop.TheVariants.{End, Limit}
 use Rattle.sim_spec.specs.declared.terms.Terms.{Terms}
 use Rattle.sim_spec.specs.Firing.{Fired, goes, fails, fire}
-use Rattle.sim_spec.specs.Pending.{enqueue_all}
+use Rattle.key_order.specs.Pending.{enqueue_all}
 use Rattle.sim_spec.specs.State.{State, object_at}
 use Rattle.sim_spec.specs.Run.{next, next_fired}
 use Rattle.sim_spec.specs.Standing.{end_or_limit}
 use Rattle.sim_spec.proofs.RunLemmas.{next-none, next-late, next-full, next-fires}
-use Rattle.speedes_queue.specs.Keys.{first_key}
+use Rattle.key_order.specs.Keys.{first_key}
 
 -- the first event of a list that has one
 pub record HasFirst (es : List Event) (k : Key) : Type 0 where

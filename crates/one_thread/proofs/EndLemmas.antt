@@ -10,7 +10,7 @@ use Rattle.model_core.specs.Meaning.{Meaning}
 use Rattle.sim_spec.specs.declared.bucket.Bucket.{Bucket}
 use Rattle.sim_spec.specs.declared.terms.Terms.{Terms}
 use Rattle.sim_spec.specs.Firing.{Firing, Fired, goes, fails}
-use Rattle.sim_spec.specs.Pending.{enqueue_all}
+use Rattle.key_order.specs.Pending.{enqueue_all}
 use Rattle.sim_spec.specs.State.{State, Lawful}
 use Rattle.sim_spec.specs.Horizon.{HorizonBucket, empty_bucket, bucket_below, horizon_bucket}
 use Rattle.sim_spec.specs.Cut.{records_of, state_with_done, is_limited, committed_events, cut, after}

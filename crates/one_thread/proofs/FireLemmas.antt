@@ -1,53 +1,29 @@
 -- What is known of the event that is due, and what its firing leaves.
-use Rattle.std.proofs.Common.{◌≡◌, ℕ, zero, suc, ◌+◌, ◌^◌, ◌<◌, ◌≤◌, true, false, cond, List, [], ◌∷◌, ◌++◌, length, get_or, sym, refl, ap, ◌∙◌, subst, arith}
+use Rattle.std.proofs.Common.{◌≡◌, ℕ, zero, suc, ◌+◌, ◌^◌, ◌<◌, ◌≤◌, List, [], ◌∷◌, ◌++◌, length, get_or, sym, refl, ap, ◌∙◌, subst, arith}
 use Rattle.std.specs.Prelude.{IsTrue, slice_set}
 use Rattle.std.proofs.lemmas.List.{set-get_or}
-use Rattle.event_key.specs.Keys.{key_lt}
 use Rattle.event_key.specs.Stamps.{time_part, end_stamp}
 use Rattle.model_core.specs.declared.event.Event.{Event}
 use Rattle.model_core.specs.declared.event.Send.{Send}
 use Rattle.model_core.specs.Meaning.{Meaning, MeaningLaws, SendsInRange}
 use Rattle.sim_spec.specs.declared.terms.Terms.{Terms}
 use Rattle.sim_spec.specs.Firing.{ObjectState, fails, fire, emissions}
-use Rattle.sim_spec.specs.Pending.{enqueue, enqueue_all, AllAfter, IsAscending}
-use Rattle.sim_spec.specs.Horizon.{least_stamp}
+use Rattle.key_order.specs.Pending.{enqueue_all}
+use Rattle.key_order.specs.Ascending.{IsAscending, Ascends}
+use Rattle.key_order.specs.Stamps.{least_stamp}
 use Rattle.sim_spec.specs.State.{Lawful, AllSound, object_at, no_object}
-use Rattle.sim_spec.proofs.AscendingLemmas.{IsAscending-without_all}
-use Rattle.sim_spec.proofs.EnqueueLemmas.{length-enqueue_all}
+use Rattle.key_order.proofs.EnqueueLemmas.{IsAscending-without_all, length-enqueue_all, enqueue_all-behind, Each-enqueued_all, enqueue-first}
 use Rattle.sim_spec.proofs.LawfulLemmas.{time_early}
 use Rattle.sim_spec.proofs.RunLemmas.{first_sound}
-use Rattle.sim_spec.proofs.SerialLemmas.{SerialsBelow, serials_sound}
-use Rattle.sim_spec.proofs.StampLemmas.{enqueue_all-behind, NoneBelow-least_stamp, least_stamp-le}
-use Rattle.speedes_queue.specs.Keys.{IsAhead}
+use Rattle.key_order.specs.Serials.{SerialsBelow}
+use Rattle.sim_spec.proofs.SerialLemmas.{serials_sound}
+use Rattle.key_order.proofs.StampLemmas.{after-below, NoneBelow-least_stamp, least_stamp-le}
+use Rattle.key_order.specs.Keys.{IsAhead}
 use Rattle.speedes_queue.specs.Queues.{QueueView, TakesPrimary}
-use Rattle.speedes_queue.proofs.LeastLemmas.{after_least}
-use Rattle.event_firing.specs.declared.reaction.Sending.{Sending}
+use Rattle.model_core.specs.declared.effect.Effect.{Effect}
 use Rattle.event_firing.specs.Reactions.{IsSending}
 use Rattle.one_thread.specs.Engines.{Course, state_of}
 use Rattle.one_thread.specs.Turns.{IsDue, HasDue, IsDone, IsFailed}
-
--- what is left of serials that were below a bound
-serials_left : (object n : ℕ) (e : Event) (xs : List Event) → SerialsBelow object n (enqueue e xs) → (e.key.src ≡ object → e.key.serial < n) × SerialsBelow object n xs
-unfolding SerialsBelow enqueue
-serials_left object n e [] all = all
-serials_left object n e (x ∷ xs) all =
-    elim (key_lt e.key x.key) as (λ b. SerialsBelow object n (cond b (e ∷ x ∷ xs) (x ∷ enqueue e xs)) → (e.key.src ≡ object → e.key.serial < n) × SerialsBelow object n (x ∷ xs)) [
-      | true ↦ (λ all. all)
-      | false ↦ (λ all. let more = serials_left object n e xs all.1 in (more.0, (all.0, more.1)))
-    ] all
-
-pub serials_of_both : (object n : ℕ) (es xs : List Event) → SerialsBelow object n (enqueue_all es xs) → SerialsBelow object n es × SerialsBelow object n xs
-unfolding SerialsBelow enqueue_all
-serials_of_both object n [] xs all = (tt, all)
-serials_of_both object n (e ∷ es) xs all =
-    let more = serials_of_both object n es (enqueue e xs) all in
-    let one = serials_left object n e xs more.1 in
-    ((one.0, more.0), one.1)
-
-enqueue-first : (e : Event) (xs : List Event) → AllAfter e.key xs → enqueue e xs ≡ e ∷ xs
-unfolding AllAfter enqueue
-enqueue-first e [] all = refl
-enqueue-first e (x ∷ xs) all = ap (λ b. cond b (e ∷ x ∷ xs) (x ∷ enqueue e xs)) all.0
 
 -- the event that is due, taken out of the events in order
 pub record IsTaken (m : Meaning) (t : Terms) (old : Course) (e : Event) (primary fresh : List Event) : Type 0 where
@@ -66,12 +42,12 @@ pub record IsTaken (m : Meaning) (t : Terms) (old : Course) (e : Event) (primary
 
 taken_by : (m : Meaning) (t : Terms) (old : Course) (e : Event) (primary fresh : List Event) → MeaningLaws m → Lawful m t (state_of old) → IsDue t old e primary → fresh ≡ old.fresh
     → IsTaken m t old e primary fresh
-unfolding AllSound IsAscending enqueue_all
+unfolding AllSound Ascends enqueue_all
 taken_by m t old e primary fresh laws lawful due same =
     let s = state_of old in
     let early = due.early in
     let first : enqueue_all old.fresh old.primary ≡ e ∷ enqueue_all old.fresh primary =
-    ap (enqueue_all old.fresh) due.first ∙ enqueue_all-behind (least_stamp (end_stamp t.end) old.fresh) old.fresh e primary (NoneBelow-least_stamp (end_stamp t.end) old.fresh) early in
+    ap (enqueue_all old.fresh) due.first ∙ enqueue_all-behind old.fresh e primary (after-below (least_stamp (end_stamp t.end) old.fresh) e.key old.fresh (NoneBelow-least_stamp (end_stamp t.end) old.fresh) early) in
     let sound = first_sound m t s e (enqueue_all old.fresh primary) lawful first in
     let below = sound.dest in
     let le = least_stamp-le (end_stamp t.end) old.fresh in
@@ -84,7 +60,7 @@ taken_by m t old e primary fresh laws lawful due same =
     let fresh_long = ap length same in
     let objects_long = lawful.objects in
     let S : List Event → Type 0 = λ es. AllSound m old.objects es in
-    let both = serials_of_both e.key.dest (object_at old.objects e.key.dest).sent old.fresh primary
+    let both = Each-enqueued_all (λ (x : Event). x.key.src ≡ e.key.dest → x.key.serial < (object_at old.objects e.key.dest).sent) old.fresh primary
     (serials_sound m old.objects e.key.dest (enqueue_all old.fresh primary) laws.objects below (subst S first lawful.sound).1) in
     let F : List Event → Type 0 = SerialsBelow e.key.dest (object_at old.objects e.key.dest).sent in
     let A : List Event → Type 0 = IsAscending in
@@ -111,7 +87,7 @@ taken m t old e primary fresh laws lawful due takes =
     let first = due.0 in
     let is_due = due.2 in
     let P : List Event → Type 0 = λ es. IsAhead es old.fresh in
-    let ahead : IsAhead old.primary old.fresh = subst P (sym is_due.first) (after_least (end_stamp t.end) first.key old.fresh is_due.early) in
+    let ahead : IsAhead old.primary old.fresh = subst P (sym is_due.first) (after-below (least_stamp (end_stamp t.end) old.fresh) first.key old.fresh (NoneBelow-least_stamp (end_stamp t.end) old.fresh) is_due.early) in
     let took = takes ahead in
     let head : first ≡ e = heads first e due.1 primary (sym is_due.first ∙ took.0) in
     let Q : Event → Type 0 = λ e. e.key.stamp < least_stamp (end_stamp t.end) old.fresh in
@@ -127,13 +103,13 @@ object_read (x ∷ xs) zero o below is = is
 object_read (x ∷ xs) (suc i) o below is = object_read xs i o (omega arith) is
 
 -- the event went
-pub done : (m : Meaning) (t : Terms) (old new : Course) (e : Event) (primary fresh : List Event) (o after : ObjectState) (s : Sending) (sends : List Send)
-    → IsTaken m t old e primary fresh → old.count < t.limit → o ≡ object_at old.objects e.key.dest → IsSending m o e s after → sends ≡ s.sends
-    → new ≡ record { objects = slice_set old.objects e.key.dest after; primary = primary; fresh = fresh ++ emissions e.key.stamp e.key.dest s.serial sends; count = old.count + 1 }
-    → IsDone m t old e.key s.note new
-done m t old new e primary fresh o after s sends is_taken free is_o sent is_sends is_new =
-    let events : emissions e.key.stamp e.key.dest s.serial sends ≡ sent.firing.events =
-    ap (λ n. emissions e.key.stamp e.key.dest n sends) sent.serial ∙ ap (emissions e.key.stamp e.key.dest o.sent) is_sends ∙ sym sent.events in
+pub done : (m : Meaning) (t : Terms) (old new : Course) (e : Event) (primary fresh : List Event) (o after : ObjectState) (sheet : Effect) (serial : ℕ) (sends : List Send)
+    → IsTaken m t old e primary fresh → old.count < t.limit → o ≡ object_at old.objects e.key.dest → IsSending m o e sheet after → serial ≡ o.sent → sends ≡ sheet.sends
+    → new ≡ record { objects = slice_set old.objects e.key.dest after; primary = primary; fresh = fresh ++ emissions e.key.stamp e.key.dest serial sends; count = old.count + 1 }
+    → IsDone m t old e.key sheet.note new
+done m t old new e primary fresh o after sheet serial sends is_taken free is_o sent is_serial is_sends is_new =
+    let events : emissions e.key.stamp e.key.dest serial sends ≡ sent.firing.events =
+    ap (λ n. emissions e.key.stamp e.key.dest n sends) is_serial ∙ ap (emissions e.key.stamp e.key.dest o.sent) is_sends ∙ sym sent.events in
     record {
       event = e;
       rest = primary;
@@ -180,7 +156,7 @@ serials_read i n objects o es is_o is_n below =
 
 -- one event is in order
 pub one_ascending : (es : List Event) (e : Event) → es ≡ e ∷ [] → IsAscending es
-unfolding IsAscending AllAfter
+unfolding Ascends
 one_ascending es e is = let P : List Event → Type 0 = IsAscending in subst P (sym is) (tt, tt)
 
 -- the event that failed is where it was

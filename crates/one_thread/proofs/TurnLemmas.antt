@@ -6,8 +6,8 @@ use Rattle.event_key.specs.declared.stamp.TheConstants.{NO_STAMP}
 use Rattle.event_key.specs.Stamps.{end_stamp}
 use Rattle.model_core.specs.declared.event.Event.{Event}
 use Rattle.sim_spec.specs.declared.terms.Terms.{Terms}
-use Rattle.sim_spec.specs.Horizon.{least_stamp}
-use Rattle.speedes_queue.specs.Keys.{first_key}
+use Rattle.key_order.specs.Stamps.{least_stamp}
+use Rattle.key_order.specs.Keys.{first_key}
 use Rattle.one_thread.specs.Engines.{Course}
 use Rattle.one_thread.specs.Turns.{horizon_of, NoneDue, HasDue, IsFull}
 use Rattle.one_thread.proofs.CourseLemmas.{has_first, has_none}

@@ -4,7 +4,7 @@ use Rattle.event_key.specs.declared.key.Key.{Key}
 use Rattle.model_core.specs.declared.event.Event.{Event}
 use Rattle.sim_spec.specs.declared.terms.Terms.{Terms}
 use Rattle.sim_spec.specs.Firing.{ObjectState}
-use Rattle.sim_spec.specs.Pending.{enqueue_all}
+use Rattle.key_order.specs.Pending.{enqueue_all}
 use Rattle.sim_spec.specs.State.{State}
 use Rattle.sim_spec.specs.Standing.{Standing, stands, spent}
 

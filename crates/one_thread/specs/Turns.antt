@@ -8,7 +8,7 @@ use Rattle.model_core.specs.Meaning.{Meaning}
 use Rattle.sim_spec.specs.declared.terms.Terms.{Terms}
 use Rattle.sim_spec.specs.Firing.{Firing, goes, fails, fire}
 use Rattle.sim_spec.specs.State.{object_at}
-use Rattle.sim_spec.specs.Horizon.{least_stamp}
+use Rattle.key_order.specs.Stamps.{least_stamp}
 use Rattle.one_thread.specs.Engines.{Course}
 use Rattle.one_thread.specs.declared.turn.Turn.{Turn}
 use Rattle.one_thread.specs.declared.turn.Turn.TheVariants.{Does, Ends, Limit, Fault}
@@ -64,9 +64,9 @@ pub record IsFull (t : Terms) (c : Course) : Type 0 where
   pub due : IsDue t c event rest
   pub full : c.count ≡ t.limit
 
--- what a turn says and leaves
-abbrev pub IsTurn : Meaning → Terms → Course → Turn → Course → Type 0
-IsTurn m t old (Does key note) new = IsDone m t old key note new
-IsTurn m t old (Ends horizon) new = (horizon ≡ horizon_of t old) × NoneDue horizon old.primary × (new ≡ old)
-IsTurn m t old Limit new = IsFull t old × (new ≡ old)
-IsTurn m t old (Fault key code) new = IsFailed m t old key code × (new ≡ old)
+-- what a turn says, tells and leaves
+abbrev pub IsTurn : Meaning → Terms → Course → Turn → Note → Course → Type 0
+IsTurn m t old (Does key) note new = IsDone m t old key note new
+IsTurn m t old (Ends horizon) note new = (horizon ≡ horizon_of t old) × NoneDue horizon old.primary × (new ≡ old)
+IsTurn m t old Limit note new = IsFull t old × (new ≡ old)
+IsTurn m t old (Fault key code) note new = IsFailed m t old key code × (new ≡ old)

@@ -8,7 +8,7 @@ use crate::course::Course;
 use crate::turn::Turn;
 use event_key::Key;
 use model_core::model::{Model, keeps_laws};
-use model_core::{Note, OutOfMemory, Sequence};
+use model_core::{Effect, Note, OutOfMemory, Sequence};
 use sim_spec::{Bucket, Terms};
 use std::alloc::Global;
 
@@ -36,12 +36,13 @@ fn partial(done: Vec<(Key, Note)>, fault: Option<(Key, u32)>) -> Bucket
     }
 }
 
-/// Fires the events of one bucket in their order.
+/// Fires the events of one bucket in their order, each over the same sheet.
 pub fn fire_bucket<M: Model>(
     course: &mut Course,
     alloc: Global,
     model: &M,
     terms: &Terms,
+    sheet: &mut Effect,
 ) -> Result<Bucket, OutOfMemory>
     requires { Lawful (M.meaning model.now) terms.now (state_of course.old) }
     ensures bucket { IfOk result (λ bucket. bucket ≡ cut (M.meaning model.now) terms.now (state_of course.old)) }
@@ -52,8 +53,8 @@ pub fn fire_bucket<M: Model>(
     course.merge();
     let mut done = Vec::new(alloc);
     'turns: loop {
-        match course.turn(alloc, model, terms)? {
-            Turn::Does(key, note) => done.push((key, note))?,
+        match course.turn(alloc, model, terms, sheet)? {
+            Turn::Does(key) => done.push((key, sheet.note))?,
             Turn::Ends(horizon) => return Ok(whole(done, horizon)),
             Turn::Limit => return Ok(partial(done, None)),
             Turn::Fault(key, code) => return Ok(partial(done, Some((key, code)))),

@@ -10,10 +10,10 @@ use crate::beginning::first_events;
 use crate::sending::send_all;
 use crate::turn::Turn;
 use event_chain::{CellPool, Chain};
-use event_firing::{Object, Reaction, first_objects};
+use event_firing::{Object, first_objects};
 use event_key::end_bound;
 use model_core::model::{Model as SimulationModel, keeps_laws};
-use model_core::{Event, OutOfMemory};
+use model_core::{Effect, Ending, Event, OutOfMemory};
 use sim_spec::{Stop, Terms};
 use speedes_queue::Queue;
 use std::alloc::Global;
@@ -83,15 +83,16 @@ impl Course {
         self.queue.merge();
     }
 
-    /// Fires the next event of the bucket, where there is one.
+    /// Fires the next event of the bucket, where there is one, and tells of it in the sheet.
     pub fn turn<M: SimulationModel>(
         &mut self,
         alloc: Global,
         model: &M,
         terms: &Terms,
+        sheet: &mut Effect,
     ) -> Result<Turn, OutOfMemory>
         requires { Lawful (M.meaning model.now) terms.now (state_of self.old) }
-        ensures { IfOk result (λ turn. IsTurn (M.meaning model.now) terms.now self.old turn self.new) }
+        ensures { IfOk result (λ turn. IsTurn (M.meaning model.now) terms.now self.old turn sheet.new.note self.new) }
     {
         let horizon = self.queue.fresh_least().min(end_bound(terms.end));
         let Some(key) = self.queue.first() else {
@@ -103,20 +104,21 @@ impl Course {
         if self.count == terms.limit {
             return Ok(Turn::Limit);
         }
-        self.fire(alloc, model, terms)
+        self.fire(alloc, model, terms, sheet)
     }
 
-    /// Fires the first event in order.
+    /// Fires the first event in order, and tells of it in the sheet.
     fn fire<M: SimulationModel>(
         &mut self,
         alloc: Global,
         model: &M,
         terms: &Terms,
+        sheet: &mut Effect,
     ) -> Result<Turn, OutOfMemory>
         requires lawful { Lawful (M.meaning model.now) terms.now (state_of self.old) }
         requires due { HasDue terms.now self.old }
         requires free { self.old.count < terms.now.limit }
-        ensures { IfOk result (λ turn. IsTurn (M.meaning model.now) terms.now self.old turn self.new) }
+        ensures { IfOk result (λ turn. IsTurn (M.meaning model.now) terms.now self.old turn sheet.new.note self.new) }
     {
         keeps_laws(model);
         let Some(cell) = self.queue.pop() else {
@@ -125,22 +127,23 @@ impl Course {
         let event = cell.get();
         let key = event.key;
         let object = &mut self.objects[key.dest as usize];
-        match object.fire(alloc, model, event)? {
-            Reaction::Goes(sending) => {
+        let serial = object.sent();
+        match object.fire(model, event, sheet)? {
+            Ending::Goes => {
                 self.pool.recycle(cell);
                 send_all(
                     &mut self.queue,
                     &mut self.pool,
                     alloc,
                     &key,
-                    sending.serial,
-                    sending.sends.as_slice(),
+                    serial,
+                    sheet.sends.as_slice(),
                     model.objects(),
                 )?;
                 self.count += 1;
-                Ok(Turn::Does(key, sending.note))
+                Ok(Turn::Does(key))
             }
-            Reaction::Fails(code) => {
+            Ending::Fails(code) => {
                 let mut taken = Chain::new();
                 taken.push_back(cell);
                 self.queue.give_back(taken);

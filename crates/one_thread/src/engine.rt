@@ -8,7 +8,7 @@ ghost use Rattle.sim_spec.specs.Standing.{stands, spent, ended, CycleGives};
 use crate::bucket::fire_bucket;
 use crate::course::Course;
 use event_key::Key;
-use model_core::OutOfMemory;
+use model_core::{Effect, OutOfMemory};
 use model_core::model::Model as SimulationModel;
 use sim_spec::laws::law_initial;
 use sim_spec::{Bucket, Stop, Terms};
@@ -23,6 +23,8 @@ pub struct OneThread<M: SimulationModel> {
     terms: Terms,
     // None once memory has run out
     course: Option<Course>,
+    // what the last event did, whose room serves for the next
+    sheet: Effect,
     fault: Option<(Key, u32)>,
 }
 
@@ -51,6 +53,7 @@ impl<M: SimulationModel> OneThread<M> {
             model,
             terms,
             course: Some(course),
+            sheet: Effect::new(alloc)?,
             fault: None,
         })
     }
@@ -103,7 +106,7 @@ impl<M: SimulationModel> OneThread<M> {
         let Some(course) = &mut self.course else {
             return Err(OutOfMemory);
         };
-        match fire_bucket(course, alloc, &*self.model, &self.terms) {
+        match fire_bucket(course, alloc, &*self.model, &self.terms, &mut self.sheet) {
             Ok(bucket) => {
                 self.fault = bucket.fault;
                 Ok(bucket)

@@ -3,10 +3,10 @@ ghost use Rattle.std.specs.Prelude.{◌≡◌, ◌<◌, ◌≤◌, ◌+◌, ◌+
 ghost use Rattle.event_key.specs.Stamps.{time_part};
 ghost use Rattle.model_core.specs.Meaning.{SendsInRange};
 ghost use Rattle.sim_spec.specs.Firing.{has_chain, emissions};
-ghost use Rattle.sim_spec.proofs.SerialLemmas.{SerialsBelow};
+ghost use Rattle.key_order.specs.Serials.{SerialsBelow};
 
 use event_chain::CellPool;
-use event_firing::{Sending, sent_event};
+use event_firing::sent_event;
 use event_key::Key;
 use model_core::{Event, OutOfMemory, Send};
 use speedes_queue::Queue;

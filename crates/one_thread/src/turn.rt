@@ -1,12 +1,11 @@
 //! What an engine does next within a bucket.
 use event_key::Key;
-use model_core::Note;
 
 /// What an engine does next within a bucket.
 #[derive(Clone, Copy, Debug, PartialEq, Eq)]
 pub enum Turn {
-    /// An event was done and told.
-    Does(Key, Note),
+    /// The event of this key was done, and the sheet tells of it.
+    Does(Key),
     /// No event is below this horizon.
     Ends(u64),
     /// An event is below the horizon, but as many are done as may be.

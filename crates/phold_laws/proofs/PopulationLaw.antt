@@ -11,7 +11,7 @@ use Rattle.model_core.specs.declared.note.Note.{Note}
 use Rattle.sim_spec.specs.declared.terms.Terms.{Terms}
 use Rattle.sim_spec.specs.State.{State, object_at, start_event, initial_state}
 use Rattle.sim_spec.specs.Run.{does, next}
-use Rattle.sim_spec.proofs.EnqueueLemmas.{length-enqueue_all}
+use Rattle.key_order.proofs.EnqueueLemmas.{length-enqueue_all}
 use Rattle.sim_spec.proofs.SerialLemmas.{length-emissions}
 use Rattle.phold_model.specs.Meaning.{phold_meaning, hop_effect}
 use Rattle.phold_model.specs.Parts.{PholdParts}

@@ -6,7 +6,7 @@ use Rattle.delta_exchange.specs.Changes.{cells_after_all, inverses_of}
 use Rattle.random_streams.specs.declared.law.Law.TheVariants.{Fixed}
 use Rattle.random_streams.specs.Laws.{draw, drawn_value, words_read}
 use Rattle.sim_spec.specs.declared.terms.Terms.{Terms}
-use Rattle.sim_spec.specs.Pending.{enqueue, enqueue_all}
+use Rattle.key_order.specs.Pending.{enqueue, enqueue_all}
 use Rattle.sim_spec.specs.Firing.{has_chain, emissions, fired_by, fire}
 use Rattle.sim_spec.specs.State.{State, initial_state}
 use Rattle.sim_spec.specs.Run.{next, next_of, next_fired}

@@ -1,12 +1,12 @@
 //! The model PHOLD.
-ghost use Rattle.std.specs.Prelude.{◌≡◌, ◌<◌, IsOkAnd};
+ghost use Rattle.std.specs.Prelude.{◌≡◌, ◌<◌, [], IsOkAnd};
 ghost use Rattle.phold_model.specs.Parts.{IsPhold, phold_parts};
 ghost use Rattle.phold_model.specs.Meaning.{phold_meaning, hop_start, place_changes};
 
 use itoa::Buffer;
 use model_core::model::Model as SimulationModel;
 use model_core::{
-    Cells, Change, Effect, Entry, Event, Note, OutOfMemory, Outcome, Part, Send, Sequence, Start,
+    Cells, Change, Effect, Ending, Entry, Event, Few, Note, OutOfMemory, Part, Send, Start,
 };
 use random_streams::{Law, Stream};
 use std::alloc::Global;
@@ -82,18 +82,18 @@ fn hop_start(time: u64, dest: u32, rank: u32) -> Start
     }
 }
 
-/// The change by which an object keeps its place, where words were read.
+/// Keeps an object's place, where words were read.
 #[tactic(auto, unfolding(crate::specs::Meaning::place_changes))]
-fn place_changes(place: u64, next: u64) -> Sequence<Change>
-    ensures { result ≡ place_changes place next }
+fn keep_place(changes: &mut Few<Change, 16>, place: u64, next: u64)
+    requires { changes.old ≡ [] }
+    ensures { changes.new ≡ place_changes place next }
 {
-    if next == place {
-        return Sequence::none();
+    if next != place {
+        changes.push(Change::Set {
+            word: 0,
+            value: next,
+        });
     }
-    Sequence::one(Change::Set {
-        word: 0,
-        value: next,
-    })
 }
 
 impl Phold {
@@ -159,44 +159,33 @@ impl SimulationModel for Phold {
         cells.words() == 1 && cells.lines() == 0
     }
 
-    fn react(
+    #[tactic(auto, unfolding(crate::specs::Meaning::phold_meaning, crate::specs::Meaning::hop_effect))]
+    fn respond(
         &self,
-        alloc: Global,
-        object: u32,
-        cells: &Cells,
-        event: &Event,
-    ) -> Result<Outcome, OutOfMemory> {
-        let mut words = Stream::new(self.seed, object, cells.word(0));
-        self.react_with(alloc, &mut words, object, cells, event)
-    }
-
-    fn react_with(
-        &self,
-        _alloc: Global,
         words: &mut Stream,
         object: u32,
         cells: &Cells,
         _event: &Event,
-    ) -> Result<Outcome, OutOfMemory> {
+        sheet: &mut Effect,
+    ) -> Result<Ending, OutOfMemory> {
         let place = cells.word(0);
         let hop = self.hop(words, object, place);
-        let send = Send {
+        sheet.clear();
+        keep_place(&mut sheet.changes, place, hop.next);
+        sheet.sends.push(Send {
             dest: hop.dest,
             delay: hop.delay,
             kind: HOP_KIND,
             a: 0,
             b: 0,
             rank: self.rank,
-        };
-        Ok(Outcome::Goes(Effect {
-            changes: place_changes(place, hop.next),
-            sends: Sequence::one(send),
-            note: Note::of(Part {
-                word: HOP_WORD,
-                a: hop.delay,
-                b: u64::from(hop.dest),
-            }),
-        }))
+        });
+        sheet.note = Note::of(Part {
+            word: HOP_WORD,
+            a: hop.delay,
+            b: u64::from(hop.dest),
+        });
+        Ok(Ending::Goes)
     }
 
     fn put_name(&self, _alloc: Global, object: u32, into: &mut Vec<u8>) -> Result<(), OutOfMemory> {

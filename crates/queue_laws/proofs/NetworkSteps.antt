@@ -17,7 +17,7 @@ use Rattle.queue_models.specs.Objects.{NetworkParts, object_at}
 use Rattle.queue_models.specs.Parts.{IsNetwork}
 use Rattle.queue_models.specs.Roles.{is_lawful}
 use Rattle.run_laws.specs.Reached.{Reaches}
-use Rattle.run_laws.proofs.EnqueueKeeps.{sum_by-enqueue_all}
+use Rattle.run_laws.proofs.EnqueueSums.{sum_by-enqueue_all}
 use Rattle.run_laws.proofs.ReachedLemmas.{reached-lawful}
 use Rattle.run_laws.proofs.Steps.{IsStep, is_step, firing_of}
 use Rattle.queue_laws.specs.Stations.{cells_at}

@@ -11,11 +11,12 @@ use Rattle.model_core.specs.declared.note.Part.{Part}
 use Rattle.sim_spec.specs.declared.terms.Terms.{Terms}
 use Rattle.sim_spec.specs.declared.stop.Stop.{Stop}
 use Rattle.sim_spec.specs.Firing.{emission, emissions}
-use Rattle.sim_spec.specs.Pending.{enqueue, enqueue_all, IsAscending}
+use Rattle.key_order.specs.Pending.{enqueue, enqueue_all}
+use Rattle.key_order.specs.Ascending.{IsAscending}
 use Rattle.sim_spec.specs.State.{State, initial_state, object_at as state_at}
 use Rattle.sim_spec.specs.Run.{stops, does, next}
 use Rattle.sim_spec.proofs.LawfulLemmas.{next-lawful}
-use Rattle.sim_spec.proofs.ShareLemmas.{filter-enqueue_all}
+use Rattle.key_order.proofs.ShareLemmas.{filter-enqueue_all}
 use Rattle.queue_models.specs.declared.object.Role.{Role}
 use Rattle.queue_models.specs.declared.object.Role.TheVariants.{Serves}
 use Rattle.queue_models.specs.declared.site.Site.{Site}

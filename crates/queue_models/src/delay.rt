@@ -1,11 +1,12 @@
 //! Delays: where jobs are held for a while.
 ghost use Rattle.std.specs.Prelude.{◌≡◌, IsTrue};
 ghost use Rattle.random_streams.specs.Laws.{is_drawable};
+ghost use Rattle.model_core.specs.Effects.{blank, outcome_by};
 ghost use Rattle.queue_models.specs.Sites.{is_plain_cells};
 ghost use Rattle.queue_models.specs.Delays.{delay_effect};
 
-use crate::site::{Site, place_changes, told};
-use model_core::{Cells, Effect, Event, Outcome, Sequence};
+use crate::site::{Site, keep_place, told};
+use model_core::{Cells, Effect, Ending, Event};
 use random_streams::{Law, Stream, draw_by};
 
 /// The word that tells of a job that is held.
@@ -21,18 +22,26 @@ pub struct Delay {
 impl Delay {
     /// Holds a job.
     #[tactic(auto, unfolding(crate::specs::Delays::delay_effect))]
-    pub fn react(&self, words: &mut Stream, site: Site, cells: &Cells, event: &Event) -> Outcome
+    pub fn react(
+        &self,
+        words: &mut Stream,
+        site: Site,
+        cells: &Cells,
+        event: &Event,
+        sheet: &mut Effect,
+    ) -> Ending
         requires delay { IsTrue (is_drawable self.now.delay) }
         requires cells { IsTrue (is_plain_cells cells.now.contents) }
-        ensures { result ≡ delay_effect site self.now cells.now.contents event.now }
+        requires blank { sheet.old ≡ blank }
+        ensures { outcome_by result sheet.new ≡ delay_effect site self.now cells.now.contents event.now }
     {
         let place = cells.word(0);
         let (delay, next_place) = draw_by(words, site.seed, site.object, place, &self.delay);
-        let send = site.job_to(self.next, delay, event.a, event.b);
-        Outcome::Goes(Effect {
-            changes: place_changes(place, next_place),
-            sends: Sequence::one(send),
-            note: told(HELD_WORD, event.a, delay),
-        })
+        keep_place(&mut sheet.changes, place, next_place);
+        sheet
+            .sends
+            .push(site.job_to(self.next, delay, event.a, event.b));
+        sheet.note = told(HELD_WORD, event.a, delay);
+        Ending::Goes
     }
 }

@@ -9,7 +9,7 @@ use crate::kind::Item;
 use crate::object::{Object, Role};
 use crate::site::{ARRIVE, MAKE, Site};
 use model_core::model::Model as SimulationModel;
-use model_core::{Cells, Entry, Event, OutOfMemory, Outcome, Start};
+use model_core::{Cells, Effect, Ending, Entry, Event, OutOfMemory, Start};
 use random_streams::Stream;
 use std::alloc::Global;
 
@@ -170,28 +170,18 @@ impl SimulationModel for Network {
         role.is_lawful(cells)
     }
 
-    fn react(
+    fn respond(
         &self,
-        alloc: Global,
-        object: u32,
-        cells: &Cells,
-        event: &Event,
-    ) -> Result<Outcome, OutOfMemory> {
-        let mut words = Stream::new(self.seed, object, 0);
-        self.react_with(alloc, &mut words, object, cells, event)
-    }
-
-    fn react_with(
-        &self,
-        _alloc: Global,
         words: &mut Stream,
         object: u32,
         cells: &Cells,
         event: &Event,
-    ) -> Result<Outcome, OutOfMemory> {
+        sheet: &mut Effect,
+    ) -> Result<Ending, OutOfMemory> {
         let site = self.site(object);
         let role = self.role_of(object);
-        Ok(role.react(words, site, cells, event))
+        sheet.clear();
+        Ok(role.react(words, site, cells, event, sheet))
     }
 
     fn put_name(&self, _alloc: Global, object: u32, into: &mut Vec<u8>) -> Result<(), OutOfMemory> {

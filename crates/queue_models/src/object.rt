@@ -1,5 +1,6 @@
 //! An object as a network keeps it.
 ghost use Rattle.std.specs.Prelude.{◌≡◌, IfOk, IsTrue};
+ghost use Rattle.model_core.specs.Effects.{blank, outcome_by};
 ghost use Rattle.queue_models.specs.Objects.{object_of, role_of, first_time_of, is_source};
 ghost use Rattle.queue_models.specs.Roles.{RoleCanDraw, is_lawful, effect_at, first_cells_of};
 
@@ -10,7 +11,7 @@ use crate::sink::Sink;
 use crate::site::Site;
 use crate::source::Source;
 use crate::station::Station;
-use model_core::{Cells, Event, Name, OutOfMemory, Outcome};
+use model_core::{Cells, Effect, Ending, Event, Name, OutOfMemory};
 use random_streams::{Law, Stream};
 use std::alloc::Global;
 
@@ -110,18 +111,26 @@ impl Role {
         }
     }
 
-    /// What an event does.
-    pub fn react(&self, words: &mut Stream, site: Site, cells: &Cells, event: &Event) -> Outcome
+    /// What an event does, written into a blank sheet.
+    pub fn react(
+        &self,
+        words: &mut Stream,
+        site: Site,
+        cells: &Cells,
+        event: &Event,
+        sheet: &mut Effect,
+    ) -> Ending
         requires role { RoleCanDraw self.now }
         requires lawful { IsTrue (is_lawful self.now cells.now.contents) }
-        ensures { result ≡ effect_at site self.now cells.now.contents event.now }
+        requires blank { sheet.old ≡ blank }
+        ensures { outcome_by result sheet.new ≡ effect_at site self.now cells.now.contents event.now }
     {
         match self {
-            Role::Makes(source) => source.react(words, site, cells, event),
-            Role::Serves(station) => station.react(words, site, cells, event),
-            Role::Holds(delay) => delay.react(words, site, cells, event),
-            Role::Routes(router) => router.react(words, site, cells, event),
-            Role::Ends(sink) => sink.react(event),
+            Role::Makes(source) => source.react(words, site, cells, event, sheet),
+            Role::Serves(station) => station.react(words, site, cells, event, sheet),
+            Role::Holds(delay) => delay.react(words, site, cells, event, sheet),
+            Role::Routes(router) => router.react(words, site, cells, event, sheet),
+            Role::Ends(sink) => sink.react(event, sheet),
         }
     }
 }

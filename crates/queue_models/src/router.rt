@@ -1,10 +1,11 @@
 //! Routers: where jobs part.
 ghost use Rattle.std.specs.Prelude.{◌≡◌, ◌<◌, IsTrue, length, slice_index};
+ghost use Rattle.model_core.specs.Effects.{blank, outcome_by};
 ghost use Rattle.queue_models.specs.Sites.{is_plain_cells};
 ghost use Rattle.queue_models.specs.Routers.{IsChoiceOf, router_effect};
 
-use crate::site::{Site, place_changes, told};
-use model_core::{Cells, Effect, Event, Outcome, Sequence};
+use crate::site::{Site, keep_place, told};
+use model_core::{Cells, Effect, Ending, Event};
 use random_streams::{Law, Stream, draw_by};
 use std::marker::Model;
 
@@ -52,20 +53,26 @@ pub struct Router {
 impl Router {
     /// Routes a job. A word is drawn also where there is no choice.
     #[tactic(auto, unfolding(crate::specs::Routers::router_effect))]
-    pub fn react(&self, words: &mut Stream, site: Site, cells: &Cells, event: &Event) -> Outcome
+    pub fn react(
+        &self,
+        words: &mut Stream,
+        site: Site,
+        cells: &Cells,
+        event: &Event,
+        sheet: &mut Effect,
+    ) -> Ending
         requires choice { IsChoiceOf self.now.next self.now.choice }
         requires cells { IsTrue (is_plain_cells cells.now.contents) }
-        ensures { result ≡ router_effect site self.now cells.now.contents event.now }
+        requires blank { sheet.old ≡ blank }
+        ensures { outcome_by result sheet.new ≡ router_effect site self.now cells.now.contents event.now }
     {
         let place = cells.word(0);
         let (way, next_place) = draw_by(words, site.seed, site.object, place, &self.choice);
         let dest = self.chosen(way);
-        let send = site.job_to(dest, 0, event.a, event.b);
-        Outcome::Goes(Effect {
-            changes: place_changes(place, next_place),
-            sends: Sequence::one(send),
-            note: told(ROUTED_WORD, event.a, u64::from(dest)),
-        })
+        keep_place(&mut sheet.changes, place, next_place);
+        sheet.sends.push(site.job_to(dest, 0, event.a, event.b));
+        sheet.note = told(ROUTED_WORD, event.a, u64::from(dest));
+        Ending::Goes
     }
 
     /// The object that is chosen by its place.

@@ -1,10 +1,11 @@
 //! Sinks: where jobs leave.
 ghost use Rattle.std.specs.Prelude.{◌≡◌};
+ghost use Rattle.model_core.specs.Effects.{blank, outcome_by};
 ghost use Rattle.queue_models.specs.Sinks.{is_late, sink_effect};
 
 use crate::site::told;
 use event_key::time_of;
-use model_core::{Effect, Event, Outcome, Sequence};
+use model_core::{Effect, Ending, Event};
 
 /// The word that tells of a job that leaves.
 const LEFT_WORD: u32 = 9;
@@ -21,18 +22,16 @@ pub struct Sink {
 impl Sink {
     /// A job leaves, at its age since it was born.
     #[tactic(auto, unfolding(crate::specs::Sinks::sink_effect))]
-    pub fn react(&self, event: &Event) -> Outcome
-        ensures { result ≡ sink_effect self.now event.now }
+    pub fn react(&self, event: &Event, sheet: &mut Effect) -> Ending
+        requires blank { sheet.old ≡ blank }
+        ensures { outcome_by result sheet.new ≡ sink_effect self.now event.now }
     {
         let age = time_of(event.key.stamp).saturating_sub(event.b);
         if self.is_late(age) {
-            return Outcome::Fails(LATE);
+            return Ending::Fails(LATE);
         }
-        Outcome::Goes(Effect {
-            changes: Sequence::none(),
-            sends: Sequence::none(),
-            note: told(LEFT_WORD, event.a, age),
-        })
+        sheet.note = told(LEFT_WORD, event.a, age);
+        Ending::Goes
     }
 
     /// Whether a job of this age is late.

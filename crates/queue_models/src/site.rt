@@ -1,8 +1,8 @@
 //! Where an event happens, and what objects of several kinds do there.
-ghost use Rattle.std.specs.Prelude.{◌≡◌, ◌++◌, ◌∷◌, [], IfOk};
+ghost use Rattle.std.specs.Prelude.{◌≡◌, ◌≤◌, [], length, IfOk};
 ghost use Rattle.queue_models.specs.Sites.{job_to, told, place_changes, is_plain_cells, plain_cells};
 
-use model_core::{Cells, Change, Note, OutOfMemory, Part, Send, Sequence};
+use model_core::{Cells, Change, Few, Note, OutOfMemory, Part, Send};
 use std::alloc::Global;
 
 /// The kind of an event at which a source makes a job.
@@ -60,45 +60,17 @@ pub fn told(word: u32, a: u64, b: u64) -> Note
     Note::of(Part { word, a, b })
 }
 
-/// The change by which an object keeps its random place, where words were read.
+/// Keeps an object's random place, where words were read.
 #[tactic(auto, unfolding(crate::specs::Sites::place_changes))]
-pub fn place_changes(place: u64, next: u64) -> Sequence<Change>
-    ensures { result ≡ place_changes place next }
+pub fn keep_place(changes: &mut Few<Change, 16>, place: u64, next: u64)
+    requires { changes.old ≡ [] }
+    ensures place { changes.new ≡ place_changes place next }
+    ensures few { length changes.new ≤ 1 }
 {
-    if next == place {
-        return Sequence::none();
-    }
-    Sequence::one(place_change(next))
-}
-
-/// That change, and another one.
-#[tactic(auto, unfolding(crate::specs::Sites::place_changes))]
-pub fn place_and(place: u64, next: u64, change: Change) -> Sequence<Change>
-    ensures { result ≡ place_changes place next ++ change ∷ [] }
-{
-    if next == place {
-        return Sequence::one(change);
-    }
-    Sequence::two(place_change(next), change)
-}
-
-/// That change, and two others.
-#[tactic(auto, unfolding(crate::specs::Sites::place_changes))]
-pub fn place_and_both(place: u64, next: u64, first: Change, second: Change) -> Sequence<Change>
-    ensures { result ≡ place_changes place next ++ first ∷ second ∷ [] }
-{
-    if next == place {
-        return Sequence::two(first, second);
-    }
-    Sequence::three(place_change(next), first, second)
-}
-
-/// The random place of an object becomes this one.
-fn place_change(next: u64) -> Change
-    ensures { result ≡ Change.Set 0 next }
-{
-    Change::Set {
-        word: 0,
-        value: next,
+    if next != place {
+        changes.push(Change::Set {
+            word: 0,
+            value: next,
+        });
     }
 }

@@ -2,11 +2,12 @@
 ghost use Rattle.std.specs.Prelude.{◌≡◌, ◌<◌, ◌≤◌, ◌+◌, ◌^◌, IfOk, IsTrue};
 ghost use Rattle.event_key.specs.Stamps.{time_part};
 ghost use Rattle.random_streams.specs.Laws.{is_drawable};
+ghost use Rattle.model_core.specs.Effects.{blank, outcome_by};
 ghost use Rattle.queue_models.specs.Sources.{is_source_cells, first_source_cells, idle_effect, last_effect, make_effect, source_effect, left_of};
 
-use crate::site::{MAKE, Site, place_and_both, told};
+use crate::site::{MAKE, Site, keep_place, told};
 use event_key::time_of;
-use model_core::{Cells, Change, Effect, Event, OutOfMemory, Outcome, Send, Sequence};
+use model_core::{Cells, Change, Effect, Ending, Event, OutOfMemory, Send};
 use random_streams::{Law, Stream, draw_by};
 use std::alloc::Global;
 
@@ -47,84 +48,86 @@ impl Source {
 
     /// Makes the next job, where one is left.
     #[tactic(auto, unfolding(crate::specs::Sources::source_effect))]
-    pub fn react(&self, words: &mut Stream, site: Site, cells: &Cells, event: &Event) -> Outcome
+    pub fn react(
+        &self,
+        words: &mut Stream,
+        site: Site,
+        cells: &Cells,
+        event: &Event,
+        sheet: &mut Effect,
+    ) -> Ending
         requires every { IsTrue (is_drawable self.now.every) }
         requires cells { IsTrue (is_source_cells self.now cells.now.contents) }
-        ensures { result ≡ source_effect site self.now cells.now.contents event.now }
+        requires blank { sheet.old ≡ blank }
+        ensures { outcome_by result sheet.new ≡ source_effect site self.now cells.now.contents event.now }
     {
         let time = time_of(event.key.stamp);
-        let effect = match cells.word(2) {
-            0 => self.idle(cells),
-            1 => self.make_last(site, cells, time),
-            _ => self.make(words, site, cells, time),
-        };
-        Outcome::Goes(effect)
+        match cells.word(2) {
+            0 => self.idle(cells, sheet),
+            1 => self.make_last(site, cells, time, sheet),
+            _ => self.make(words, site, cells, time, sheet),
+        }
+        Ending::Goes
     }
 
     /// No job is left.
     #[tactic(auto, unfolding(crate::specs::Sources::idle_effect))]
-    fn idle(&self, cells: &Cells) -> Effect
-        requires { IsTrue (is_source_cells self.now cells.now.contents) }
-        ensures { result ≡ idle_effect cells.now.contents }
+    fn idle(&self, cells: &Cells, sheet: &mut Effect)
+        requires cells { IsTrue (is_source_cells self.now cells.now.contents) }
+        requires blank { sheet.old ≡ blank }
+        ensures { sheet.new ≡ idle_effect cells.now.contents }
     {
-        Effect {
-            changes: Sequence::none(),
-            sends: Sequence::none(),
-            note: told(MADE_WORD, cells.word(1), 0),
-        }
+        sheet.note = told(MADE_WORD, cells.word(1), 0);
     }
 
     /// Makes the last job.
     #[tactic(auto, unfolding(crate::specs::Sources::last_effect))]
-    fn make_last(&self, site: Site, cells: &Cells, time: u64) -> Effect
-        requires { IsTrue (is_source_cells self.now cells.now.contents) }
-        ensures { result ≡ last_effect site self.now cells.now.contents time }
+    fn make_last(&self, site: Site, cells: &Cells, time: u64, sheet: &mut Effect)
+        requires cells { IsTrue (is_source_cells self.now cells.now.contents) }
+        requires blank { sheet.old ≡ blank }
+        ensures { sheet.new ≡ last_effect site self.now cells.now.contents time }
     {
         let job = cells.word(1) + 1;
-        let made = Change::Set {
+        sheet.changes.push(Change::Set {
             word: 1,
             value: job,
-        };
-        let left = Change::Set { word: 2, value: 0 };
-        Effect {
-            changes: Sequence::two(made, left),
-            sends: Sequence::one(site.job_to(self.next, 0, job, time)),
-            note: told(MADE_WORD, job, 0),
-        }
+        });
+        sheet.changes.push(Change::Set { word: 2, value: 0 });
+        sheet.sends.push(site.job_to(self.next, 0, job, time));
+        sheet.note = told(MADE_WORD, job, 0);
     }
 
     /// Makes a job, and will make another after a drawn delay.
     #[tactic(auto, unfolding(crate::specs::Sources::make_effect))]
-    fn make(&self, words: &mut Stream, site: Site, cells: &Cells, time: u64) -> Effect
+    fn make(&self, words: &mut Stream, site: Site, cells: &Cells, time: u64, sheet: &mut Effect)
         requires every { IsTrue (is_drawable self.now.every) }
         requires cells { IsTrue (is_source_cells self.now cells.now.contents) }
         requires left { 1 ≤ left_of cells.now.contents }
-        ensures { result ≡ make_effect site self.now cells.now.contents time }
+        requires blank { sheet.old ≡ blank }
+        ensures { sheet.new ≡ make_effect site self.now cells.now.contents time }
     {
         let place = cells.word(0);
         let job = cells.word(1) + 1;
         let left = cells.word(2) - 1;
         let (delay, next_place) = draw_by(words, site.seed, site.object, place, &self.every);
-        let made = Change::Set {
+        keep_place(&mut sheet.changes, place, next_place);
+        sheet.changes.push(Change::Set {
             word: 1,
             value: job,
-        };
-        let fewer = Change::Set {
+        });
+        sheet.changes.push(Change::Set {
             word: 2,
             value: left,
-        };
-        let again = Send {
+        });
+        sheet.sends.push(site.job_to(self.next, 0, job, time));
+        sheet.sends.push(Send {
             dest: site.object,
             delay,
             kind: MAKE,
             a: 0,
             b: 0,
             rank: site.rank,
-        };
-        Effect {
-            changes: place_and_both(place, next_place, made, fewer),
-            sends: Sequence::two(site.job_to(self.next, 0, job, time), again),
-            note: told(MADE_WORD, job, left),
-        }
+        });
+        sheet.note = told(MADE_WORD, job, left);
     }
 }

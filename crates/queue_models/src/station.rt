@@ -1,10 +1,11 @@
 //! Stations: where jobs are served.
 ghost use Rattle.std.specs.Prelude.{◌≡◌, ◌<◌, IfOk, IsTrue};
 ghost use Rattle.random_streams.specs.Laws.{is_drawable};
+ghost use Rattle.model_core.specs.Effects.{blank, outcome_by};
 ghost use Rattle.queue_models.specs.Stations.{is_station_cells, first_station_cells, busy_servers, waiting_jobs, done_after, take_effect, wait_effect, lose_effect, arrival_outcome, serve_effect, free_effect, done_effect, station_effect};
 
-use crate::site::{DONE, Site, place_and, place_and_both, told};
-use model_core::{Cells, Change, Effect, Event, OutOfMemory, Outcome, Send, Sequence};
+use crate::site::{DONE, Site, keep_place, told};
+use model_core::{Cells, Change, Effect, Ending, Event, OutOfMemory, Send};
 use random_streams::{Law, Stream, draw_by};
 use std::alloc::Global;
 
@@ -77,147 +78,167 @@ impl Station {
 
     /// A service is done, or a job arrives, whatever else the kind of the event.
     #[tactic(auto, unfolding(crate::specs::Stations::station_effect))]
-    pub fn react(&self, words: &mut Stream, site: Site, cells: &Cells, event: &Event) -> Outcome
+    pub fn react(
+        &self,
+        words: &mut Stream,
+        site: Site,
+        cells: &Cells,
+        event: &Event,
+        sheet: &mut Effect,
+    ) -> Ending
         requires service { IsTrue (is_drawable self.now.service) }
         requires cells { IsTrue (is_station_cells self.now cells.now.contents) }
-        ensures { result ≡ station_effect site self.now cells.now.contents event.now }
+        requires blank { sheet.old ≡ blank }
+        ensures { outcome_by result sheet.new ≡ station_effect site self.now cells.now.contents event.now }
     {
         match event.kind {
-            DONE => Outcome::Goes(self.done(words, site, cells, event)),
-            _ => self.arrival(words, site, cells, event),
+            DONE => {
+                self.done(words, site, cells, event, sheet);
+                Ending::Goes
+            }
+            _ => self.arrival(words, site, cells, event, sheet),
         }
     }
 
     /// A job arrives: it is taken, waits, or finds the line full.
     #[tactic(auto, unfolding(crate::specs::Stations::arrival_outcome))]
-    fn arrival(&self, words: &mut Stream, site: Site, cells: &Cells, event: &Event) -> Outcome
+    fn arrival(
+        &self,
+        words: &mut Stream,
+        site: Site,
+        cells: &Cells,
+        event: &Event,
+        sheet: &mut Effect,
+    ) -> Ending
         requires service { IsTrue (is_drawable self.now.service) }
         requires cells { IsTrue (is_station_cells self.now cells.now.contents) }
-        ensures { result ≡ arrival_outcome site self.now cells.now.contents event.now }
+        requires blank { sheet.old ≡ blank }
+        ensures { outcome_by result sheet.new ≡ arrival_outcome site self.now cells.now.contents event.now }
     {
         if cells.word(BUSY) < u64::from(self.servers) {
-            return Outcome::Goes(self.take(words, site, cells, event));
+            self.take(words, site, cells, event, sheet);
+        } else if cells.line_len(JOBS) < self.line as usize {
+            self.wait(cells, event, sheet);
+        } else if self.strict {
+            return Ending::Fails(LINE_FULL);
+        } else {
+            self.lose(cells, event, sheet);
         }
-        if cells.line_len(JOBS) < self.line as usize {
-            return Outcome::Goes(self.wait(cells, event));
-        }
-        if self.strict {
-            return Outcome::Fails(LINE_FULL);
-        }
-        Outcome::Goes(self.lose(cells, event))
+        Ending::Goes
     }
 
     /// A free server takes the job.
     #[tactic(auto, unfolding(crate::specs::Stations::take_effect))]
-    fn take(&self, words: &mut Stream, site: Site, cells: &Cells, event: &Event) -> Effect
+    fn take(&self, words: &mut Stream, site: Site, cells: &Cells, event: &Event, sheet: &mut Effect)
         requires service { IsTrue (is_drawable self.now.service) }
         requires cells { IsTrue (is_station_cells self.now cells.now.contents) }
-        ensures { result ≡ take_effect site self.now cells.now.contents event.now }
+        requires blank { sheet.old ≡ blank }
+        ensures { sheet.new ≡ take_effect site self.now cells.now.contents event.now }
     {
         let place = cells.word(0);
         let (service, next_place) = draw_by(words, site.seed, site.object, place, &self.service);
-        let busy = Change::Set {
+        keep_place(&mut sheet.changes, place, next_place);
+        sheet.changes.push(Change::Set {
             word: BUSY,
             value: cells.word(BUSY) + 1,
-        };
-        Effect {
-            changes: place_and(place, next_place, busy),
-            sends: Sequence::one(done_after(&site, service, event.a, event.b)),
-            note: told(TAKEN_WORD, event.a, cells.line_len(JOBS) as u64),
-        }
+        });
+        sheet
+            .sends
+            .push(done_after(&site, service, event.a, event.b));
+        sheet.note = told(TAKEN_WORD, event.a, cells.line_len(JOBS) as u64);
     }
 
     /// The job goes to the end of the line.
     #[tactic(auto, unfolding(crate::specs::Stations::wait_effect))]
-    fn wait(&self, cells: &Cells, event: &Event) -> Effect
-        requires { IsTrue (is_station_cells self.now cells.now.contents) }
-        ensures { result ≡ wait_effect cells.now.contents event.now }
+    fn wait(&self, cells: &Cells, event: &Event, sheet: &mut Effect)
+        requires cells { IsTrue (is_station_cells self.now cells.now.contents) }
+        requires blank { sheet.old ≡ blank }
+        ensures { sheet.new ≡ wait_effect cells.now.contents event.now }
     {
         let waiting = cells.line_len(JOBS) as u64;
-        let job = Change::Push {
+        sheet.changes.push(Change::Push {
             line: JOBS,
             value: event.a,
-        };
-        let birth = Change::Push {
+        });
+        sheet.changes.push(Change::Push {
             line: BIRTHS,
             value: event.b,
-        };
-        Effect {
-            changes: Sequence::two(job, birth),
-            sends: Sequence::none(),
-            note: told(WAITING_WORD, event.a, waiting + 1),
-        }
+        });
+        sheet.note = told(WAITING_WORD, event.a, waiting + 1);
     }
 
     /// The job is turned away.
     #[tactic(auto, unfolding(crate::specs::Stations::lose_effect))]
-    fn lose(&self, cells: &Cells, event: &Event) -> Effect
-        requires { IsTrue (is_station_cells self.now cells.now.contents) }
-        ensures { result ≡ lose_effect cells.now.contents event.now }
+    fn lose(&self, cells: &Cells, event: &Event, sheet: &mut Effect)
+        requires cells { IsTrue (is_station_cells self.now cells.now.contents) }
+        requires blank { sheet.old ≡ blank }
+        ensures { sheet.new ≡ lose_effect cells.now.contents event.now }
     {
-        Effect {
-            changes: Sequence::none(),
-            sends: Sequence::none(),
-            note: told(LOST_WORD, event.a, cells.line_len(JOBS) as u64),
-        }
+        sheet.note = told(LOST_WORD, event.a, cells.line_len(JOBS) as u64);
     }
 
     /// A job is done: the next one is served, or the server is free.
     #[tactic(auto, unfolding(crate::specs::Stations::done_effect))]
-    fn done(&self, words: &mut Stream, site: Site, cells: &Cells, event: &Event) -> Effect
+    fn done(&self, words: &mut Stream, site: Site, cells: &Cells, event: &Event, sheet: &mut Effect)
         requires service { IsTrue (is_drawable self.now.service) }
         requires cells { IsTrue (is_station_cells self.now cells.now.contents) }
-        ensures { result ≡ done_effect site self.now cells.now.contents event.now }
+        requires blank { sheet.old ≡ blank }
+        ensures { sheet.new ≡ done_effect site self.now cells.now.contents event.now }
     {
         if cells.line_len(JOBS) > 0 {
-            self.serve(words, site, cells, event)
+            self.serve(words, site, cells, event, sheet);
         } else {
-            self.free(site, cells, event)
+            self.free(site, cells, event, sheet);
         }
     }
 
     /// The server goes on with the job that has waited longest.
     #[tactic(auto, unfolding(crate::specs::Stations::serve_effect))]
-    fn serve(&self, words: &mut Stream, site: Site, cells: &Cells, event: &Event) -> Effect
+    fn serve(
+        &self,
+        words: &mut Stream,
+        site: Site,
+        cells: &Cells,
+        event: &Event,
+        sheet: &mut Effect,
+    )
         requires service { IsTrue (is_drawable self.now.service) }
         requires cells { IsTrue (is_station_cells self.now cells.now.contents) }
         requires waiting { 0 < waiting_jobs cells.now.contents }
-        ensures { result ≡ serve_effect site self.now cells.now.contents event.now }
+        requires blank { sheet.old ≡ blank }
+        ensures { sheet.new ≡ serve_effect site self.now cells.now.contents event.now }
     {
         let job = cells.line_at(JOBS, 0);
         let birth = cells.line_at(BIRTHS, 0);
         let place = cells.word(0);
         let (service, next_place) = draw_by(words, site.seed, site.object, place, &self.service);
-        let next_job = Change::Pop { line: JOBS };
-        let its_birth = Change::Pop { line: BIRTHS };
-        let gone = site.job_to(self.next, 0, event.a, event.b);
-        let served = done_after(&site, service, job, birth);
-        Effect {
-            changes: place_and_both(place, next_place, next_job, its_birth),
-            sends: Sequence::two(gone, served),
-            note: told(DONE_WORD, event.a, cells.line_len(JOBS) as u64 - 1),
-        }
+        keep_place(&mut sheet.changes, place, next_place);
+        sheet.changes.push(Change::Pop { line: JOBS });
+        sheet.changes.push(Change::Pop { line: BIRTHS });
+        sheet
+            .sends
+            .push(site.job_to(self.next, 0, event.a, event.b));
+        sheet.sends.push(done_after(&site, service, job, birth));
+        sheet.note = told(DONE_WORD, event.a, cells.line_len(JOBS) as u64 - 1);
     }
 
     /// Nobody waits: the server is free.
     #[tactic(auto, unfolding(crate::specs::Stations::free_effect))]
-    fn free(&self, site: Site, cells: &Cells, event: &Event) -> Effect
-        requires { IsTrue (is_station_cells self.now cells.now.contents) }
-        ensures { result ≡ free_effect site self.now cells.now.contents event.now }
+    fn free(&self, site: Site, cells: &Cells, event: &Event, sheet: &mut Effect)
+        requires cells { IsTrue (is_station_cells self.now cells.now.contents) }
+        requires blank { sheet.old ≡ blank }
+        ensures { sheet.new ≡ free_effect site self.now cells.now.contents event.now }
     {
         let busy = cells.word(BUSY);
-        let changes = if busy > 0 {
-            Sequence::one(Change::Set {
+        if busy > 0 {
+            sheet.changes.push(Change::Set {
                 word: BUSY,
                 value: busy - 1,
-            })
-        } else {
-            Sequence::none()
-        };
-        Effect {
-            changes,
-            sends: Sequence::one(site.job_to(self.next, 0, event.a, event.b)),
-            note: told(DONE_WORD, event.a, 0),
+            });
         }
+        sheet
+            .sends
+            .push(site.job_to(self.next, 0, event.a, event.b));
+        sheet.note = told(DONE_WORD, event.a, 0);
     }
 }

@@ -10,11 +10,11 @@ use Rattle.model_core.specs.declared.note.Note.{Note}
 use Rattle.model_core.specs.Meaning.{Meaning}
 use Rattle.sim_spec.specs.declared.terms.Terms.{Terms}
 use Rattle.sim_spec.specs.State.{State, initial_state, start_event}
-use Rattle.sim_spec.proofs.EachLemmas.{Each-map, Each-both}
+use Rattle.key_order.proofs.EachLemmas.{Each-map, Each-both}
 use Rattle.sim_spec.proofs.StampLemmas.{fire-later}
 use Rattle.run_laws.specs.Reached.{after_events}
 use Rattle.run_laws.specs.RunLaws.{IsCause, EachHasACause}
-use Rattle.run_laws.proofs.EnqueueKeeps.{Each-enqueue_all}
+use Rattle.key_order.proofs.EnqueueLemmas.{Each-enqueue_all}
 use Rattle.run_laws.proofs.Induction.{after_events-does, after_events-stops, each_number}
 use Rattle.run_laws.proofs.OrderLaw.{step_keeps}
 use Rattle.run_laws.proofs.Steps.{IsStep, is_step, step_fires, sent_next-step, firing_of}

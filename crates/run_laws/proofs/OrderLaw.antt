@@ -11,15 +11,14 @@ use Rattle.model_core.specs.declared.event.Event.{Event}
 use Rattle.model_core.specs.declared.note.Note.{Note}
 use Rattle.model_core.specs.Meaning.{Meaning, MeaningLaws}
 use Rattle.sim_spec.specs.declared.terms.Terms.{Terms}
-use Rattle.sim_spec.specs.Pending.{IsAscending}
+use Rattle.key_order.specs.Ascending.{IsAscending, Ascends}
 use Rattle.sim_spec.specs.State.{State, Lawful}
 use Rattle.sim_spec.specs.Run.{stops, does, next}
-use Rattle.sim_spec.proofs.AscendingLemmas.{AllAfter-each}
-use Rattle.sim_spec.proofs.EachLemmas.{Each-map}
+use Rattle.key_order.proofs.EachLemmas.{Each-map}
 use Rattle.sim_spec.proofs.StampLemmas.{fire-later}
 use Rattle.run_laws.specs.Reached.{after_events, gathered, record_of, first_records}
 use Rattle.run_laws.specs.RunLaws.{RecordsAscend}
-use Rattle.run_laws.proofs.EnqueueKeeps.{Each-enqueue_all}
+use Rattle.key_order.proofs.EnqueueLemmas.{Each-enqueue_all}
 use Rattle.run_laws.proofs.Induction.{after_events-does, after_events-stops, gathered-more, each_number}
 use Rattle.run_laws.proofs.ReachedLemmas.{reached-lawful}
 use Rattle.run_laws.proofs.Steps.{IsStep, is_step, step_fires, firing_of}
@@ -53,12 +52,12 @@ sent_later m t s told after k step upto =
 
 ordered_more : (m : Meaning) (t : Terms) (s : State) (told : Key × Note) (after : State) (records : List (Key × Note)) → Lawful m t s → next m t s ≡ does told after
     → Ordered records s.pending → Ordered (records ++ told ∷ []) after.pending
-unfolding IsAscending
+unfolding Ascends
 ordered_more m t s told after records lawful is_next before =
     let step : IsStep m t s told after = is_step m t s told after is_next in
     let P : List Event → Type 0 = IsAscending in
     let up : IsAscending (step.event ∷ step.rest) = subst P step.pending lawful.ordered in
-    let rest_later : AllLater step.event.key step.rest = AllAfter-each step.event.key step.rest up.0 in
+    let rest_later : AllLater step.event.key step.rest = up.0 in
     let key : told.0 ≡ step.event.key = ap (λ (r : Key × Note). r.0) step.tells in
     let pending : (r : Key × Note) → AllLater r.0 s.pending → AllLater r.0 (step.event ∷ step.rest) = λ r later. (let Q : List Event → Type 0 = AllLater r.0 in subst Q step.pending later) in
     let kept : (r : Key × Note) → AllLater r.0 s.pending → AllLater r.0 after.pending =

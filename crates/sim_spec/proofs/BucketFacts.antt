@@ -8,15 +8,17 @@ use Rattle.event_key.proofs.Order.{key_lt-irrefl, stamp-le}
 use Rattle.model_core.specs.declared.event.Event.{Event}
 use Rattle.model_core.specs.Meaning.{Meaning}
 use Rattle.sim_spec.specs.Firing.{ObjectState, Firing, goes, fails}
-use Rattle.sim_spec.specs.Pending.{AllAfter, IsAscending}
+use Rattle.key_order.specs.Ascending.{AllAfter, IsAscending, Ascends}
 use Rattle.sim_spec.specs.State.{object_at}
-use Rattle.sim_spec.specs.Horizon.{bucket_below, least_stamp, reach_of}
+use Rattle.sim_spec.specs.Horizon.{bucket_below, reach_of}
+use Rattle.key_order.specs.Stamps.{least_stamp, NoneBelow}
 use Rattle.sim_spec.specs.Cut.{events_of, objects_after}
-use Rattle.sim_spec.specs.Replay.{NoneBelow, EmitsFrom}
+use Rattle.sim_spec.specs.Replay.{EmitsFrom}
 use Rattle.sim_spec.specs.HorizonLaws.{IsBefore, IsPast, IsNextFault}
-use Rattle.sim_spec.proofs.EachLemmas.{Each-map}
-use Rattle.sim_spec.proofs.AscendingLemmas.{AllAfter-each, key_lt-turned}
-use Rattle.sim_spec.proofs.StampLemmas.{NoneBelow-le, NoneBelow-least_stamp, least_stamp-le, least_stamp-from, fire-later}
+use Rattle.key_order.proofs.EachLemmas.{Each-map}
+use Rattle.key_order.proofs.AscendingLemmas.{key_lt-turned}
+use Rattle.key_order.proofs.StampLemmas.{NoneBelow-le, NoneBelow-least_stamp, least_stamp-le, least_stamp-from}
+use Rattle.sim_spec.proofs.StampLemmas.{fire-later}
 use Rattle.sim_spec.proofs.BucketInduction.{fire_at, objects_with, bucket-induction}
 
 -- each event goes, from the states that those before it leave
@@ -83,7 +85,6 @@ reach-le m = bucket-induction m (λ h objects pending b. reach_of b ≤ h) (reco
 -- a key below the horizon at the start and before all pending events is before the bucket's end
 pub first-before : (m : Meaning) (k : Key) (h : ℕ) (objects : List ObjectState) (pending : List Event) → AllAfter k pending → k.stamp < h
     → IsBefore (bucket_below m h objects pending).horizon (bucket_below m h objects pending).fault k
-unfolding AllAfter
 first-before m k = bucket-induction m (λ h objects pending b. AllAfter k pending → k.stamp < h → IsBefore b.horizon b.fault k) (record {
   none = λ h objects after below. below;
   past = λ h objects e rest late after below. below;
@@ -97,7 +98,7 @@ first-before m k = bucket-induction m (λ h objects pending b. AllAfter k pendin
 -- each of its events is before its end
 pub bucket-before : (m : Meaning) (h : ℕ) (objects : List ObjectState) (pending : List Event) → IsAscending pending
     → Each (λ (e : Event). IsBefore (bucket_below m h objects pending).horizon (bucket_below m h objects pending).fault e.key) (events_of (bucket_below m h objects pending).done)
-unfolding IsAscending
+unfolding Ascends
 bucket-before m = bucket-induction m (λ h objects pending b. IsAscending pending → Each (λ (e : Event). IsBefore b.horizon b.fault e.key) (events_of b.done)) (record {
   none = λ h objects up. tt;
   past = λ h objects e rest late up. tt;
@@ -112,13 +113,13 @@ bucket-before m = bucket-induction m (λ h objects pending b. IsAscending pendin
 -- and each pending event behind them is past it
 pub bucket-past : (m : Meaning) (h : ℕ) (objects : List ObjectState) (pending : List Event) → IsAscending pending
     → Each (λ (e : Event). IsPast (bucket_below m h objects pending).horizon (bucket_below m h objects pending).fault e.key) (drop (length (bucket_below m h objects pending).done) pending)
-unfolding IsAscending
+unfolding Ascends
 bucket-past m = bucket-induction m (λ h objects pending b. IsAscending pending → Each (λ (e : Event). IsPast b.horizon b.fault e.key) (drop (length b.done) pending)) (record {
   none = λ h objects up. tt;
   past = λ h objects e rest late up.
-      (late, Each-map (λ (x : Event). key_lt e.key x.key ≡ true) (λ (x : Event). h ≤ x.key.stamp) rest (λ x lt. let le = stamp-le e.key x.key lt in omega arith) (AllAfter-each e.key rest up.0));
+      (late, Each-map (λ (x : Event). key_lt e.key x.key ≡ true) (λ (x : Event). h ≤ x.key.stamp) rest (λ x lt. let le = stamp-le e.key x.key lt in omega arith) up.0);
   faults = λ h objects e rest code early is_f up.
-      (key_lt-irrefl e.key, Each-map (λ (x : Event). key_lt e.key x.key ≡ true) (λ (x : Event). key_lt x.key e.key ≡ false) rest (λ x lt. key_lt-turned e.key x.key lt) (AllAfter-each e.key rest up.0));
+      (key_lt-irrefl e.key, Each-map (λ (x : Event). key_lt e.key x.key ≡ true) (λ (x : Event). key_lt x.key e.key ≡ false) rest (λ x lt. key_lt-turned e.key x.key lt) up.0);
   goes = λ h objects e rest x early is_x more up. more up.1;
 })
 

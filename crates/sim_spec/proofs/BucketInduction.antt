@@ -5,7 +5,8 @@ use Rattle.model_core.specs.declared.event.Event.{Event}
 use Rattle.model_core.specs.Meaning.{Meaning}
 use Rattle.sim_spec.specs.Firing.{ObjectState, Firing, Fired, goes, fails, fire}
 use Rattle.sim_spec.specs.State.{object_at}
-use Rattle.sim_spec.specs.Horizon.{HorizonBucket, empty_bucket, bucket_with, bucket_fired, bucket_below, least_stamp}
+use Rattle.sim_spec.specs.Horizon.{HorizonBucket, empty_bucket, bucket_with, bucket_fired, bucket_below}
+use Rattle.key_order.specs.Stamps.{least_stamp}
 use Rattle.sim_spec.specs.Replay.{Replay, replay_with, replay_fired, replay}
 
 -- an event at its object

@@ -10,13 +10,13 @@ use Rattle.model_core.specs.Meaning.{Meaning, MeaningLaws}
 use Rattle.sim_spec.specs.declared.stop.Stop.TheVariants.{Limit, Fault}
 use Rattle.sim_spec.specs.declared.terms.Terms.{Terms}
 use Rattle.sim_spec.specs.Firing.{Firing}
-use Rattle.sim_spec.specs.Pending.{enqueue_all}
+use Rattle.key_order.specs.Pending.{enqueue_all}
 use Rattle.sim_spec.specs.State.{State, Lawful}
 use Rattle.sim_spec.specs.Run.{next, next_fired, stops, Leads}
 use Rattle.sim_spec.specs.Horizon.{HorizonBucket, horizon_bucket}
 use Rattle.sim_spec.specs.Cut.{events_of, emissions_of, state_with_done, is_limited, committed_events, after, cut}
 use Rattle.sim_spec.specs.HorizonLaws.{BucketLaw}
-use Rattle.sim_spec.proofs.EachLemmas.{Each-back}
+use Rattle.key_order.proofs.EachLemmas.{Each-back}
 use Rattle.sim_spec.proofs.StampLemmas.{NoneBelow-emissions_of}
 use Rattle.sim_spec.proofs.LawfulLemmas.{leads-lawful}
 use Rattle.sim_spec.proofs.RunLemmas.{run-leads, next-full, next-fires}

@@ -12,9 +12,9 @@ use Rattle.sim_spec.specs.Firing.{ObjectState, Firing}
 use Rattle.sim_spec.specs.State.{State, Lawful}
 use Rattle.sim_spec.specs.Horizon.{horizon_bucket}
 use Rattle.sim_spec.specs.Cut.{events_of}
-use Rattle.sim_spec.specs.Replay.{NoneBelow}
+use Rattle.key_order.specs.Stamps.{NoneBelow}
 use Rattle.sim_spec.specs.HorizonLaws.{IsBefore, IsBelowHorizon, HorizonLaw}
-use Rattle.sim_spec.proofs.EachLemmas.{Each-map, Each-front, Each-take}
+use Rattle.key_order.proofs.EachLemmas.{Each-map, Each-front, Each-take}
 use Rattle.sim_spec.proofs.PartLemmas.{events_of-append}
 use Rattle.sim_spec.proofs.BucketInduction.{objects_with}
 use Rattle.sim_spec.proofs.BucketFacts.{GoInTurn, bucket-in-turn, bucket-first, horizon-le, bucket-emits, horizon-from, bucket-before, bucket-past, bucket-fault}

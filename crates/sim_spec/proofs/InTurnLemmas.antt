@@ -8,15 +8,17 @@ use Rattle.model_core.specs.declared.event.Event.{Event}
 use Rattle.model_core.specs.Meaning.{Meaning}
 use Rattle.sim_spec.specs.declared.terms.Terms.{Terms}
 use Rattle.sim_spec.specs.Firing.{ObjectState, Firing, goes}
-use Rattle.sim_spec.specs.Pending.{enqueue_all}
+use Rattle.key_order.specs.Pending.{enqueue_all}
 use Rattle.sim_spec.specs.State.{State}
 use Rattle.sim_spec.specs.Run.{does, next, next_fired, Leads}
 use Rattle.sim_spec.specs.Cut.{events_of, records_of, emissions_of, objects_after, state_with_done}
-use Rattle.sim_spec.specs.Replay.{NoneBelow, EmitsFrom}
-use Rattle.sim_spec.proofs.PendingLemmas.{enqueue_all-append}
+use Rattle.key_order.specs.Stamps.{NoneBelow}
+use Rattle.sim_spec.specs.Replay.{EmitsFrom}
+use Rattle.key_order.proofs.EnqueueLemmas.{enqueue_all-append, enqueue_all-behind}
 use Rattle.sim_spec.proofs.PartLemmas.{length-events_of}
 use Rattle.sim_spec.proofs.RunLemmas.{next-fires}
-use Rattle.sim_spec.proofs.StampLemmas.{NoneBelow-append, enqueue_all-behind}
+use Rattle.key_order.proofs.EachLemmas.{Each-append}
+use Rattle.key_order.proofs.StampLemmas.{after-below}
 use Rattle.sim_spec.proofs.BucketInduction.{fire_at, objects_with}
 use Rattle.sim_spec.proofs.BucketFacts.{GoInTurn}
 
@@ -37,7 +39,7 @@ next-below : (m : Meaning) (t : Terms) (h : ℕ) (objects : List ObjectState) (a
 unfolding next_fired
 next-below m t h objects aside e rest count x late early within room is_x =
     let s = state_with_aside objects aside (e ∷ rest) count in
-    next-fires m t s e (enqueue_all aside rest) (enqueue_all-behind h aside e rest late early) (omega arith) (λ full. omega arith)
+    next-fires m t s e (enqueue_all aside rest) (enqueue_all-behind aside e rest (after-below h e.key aside late early)) (omega arith) (λ full. omega arith)
     ∙ ap (next_fired s e (enqueue_all aside rest)) is_x
     ∙ ap (λ p. does (e.key, x.note) (record { objects = objects_with objects e x; pending = p; count = count + 1 })) (sym (enqueue_all-append aside x.events rest))
 
@@ -69,7 +71,7 @@ aside_leads m t h (d ∷ ds) objects aside rest count come late within room =
     let mid = state_with_aside (objects_with objects d.0 d.1) (aside ++ d.1.events) (events_of ds ++ rest) (count + 1) in
     let behind : ComeBelow m (objects_with objects d.0 d.1) h ds = record { turn = come.turn.1; early = come.early.1; emits = come.emits.1 } in
     let lead = aside_leads m t h ds (objects_with objects d.0 d.1) (aside ++ d.1.events) rest (count + 1) behind
-    (NoneBelow-append h aside d.1.events late come.emits.0) within (omega arith) in
+    (Each-append (λ (e : Event). h ≤ e.key.stamp) aside d.1.events late come.emits.0) within (omega arith) in
     let Q : State → Type 0 = Leads m t mid (records_of ds) in (
       mid,
       next-below m t h objects aside d.0 (events_of ds ++ rest) count d.1 late come.early.0 within (omega arith) come.turn.0,
@@ -96,4 +98,4 @@ pub done-pending : (s : State) (h : ℕ) (ds : List (Event × Firing)) (e : Even
     → drop (length ds) s.pending ≡ e ∷ behind → NoneBelow h (emissions_of ds) → e.key.stamp < h
     → (state_with_done s ds).pending ≡ e ∷ enqueue_all (emissions_of ds) behind
 unfolding state_with_done
-done-pending s h ds e behind is_first late early = ap (enqueue_all (emissions_of ds)) is_first ∙ enqueue_all-behind h (emissions_of ds) e behind late early
+done-pending s h ds e behind is_first late early = ap (enqueue_all (emissions_of ds)) is_first ∙ enqueue_all-behind (emissions_of ds) e behind (after-below h e.key (emissions_of ds) late early)

@@ -14,9 +14,10 @@ use Rattle.sim_spec.specs.Firing.{Firing, fire, fails}
 use Rattle.sim_spec.specs.State.{State, Lawful, object_at}
 use Rattle.sim_spec.specs.Horizon.{HorizonBucket, horizon_bucket, reach_with, reach_of}
 use Rattle.sim_spec.specs.Cut.{events_of, objects_after}
-use Rattle.sim_spec.specs.Replay.{Replay, replay, events_at, done_at, early_replay, NoneBelow, EmitsFrom}
+use Rattle.sim_spec.specs.Replay.{Replay, replay, events_at, done_at, early_replay, EmitsFrom}
+use Rattle.key_order.specs.Stamps.{NoneBelow}
 use Rattle.sim_spec.specs.HorizonLaws.{IsPast, IsBelowHorizon, ObjectsLaw}
-use Rattle.sim_spec.proofs.EachLemmas.{Each-map, Each-append, Each-take, Each-filter}
+use Rattle.key_order.proofs.EachLemmas.{Each-map, Each-append, Each-take, Each-filter}
 use Rattle.sim_spec.proofs.PartLemmas.{Each-events_at, events_at-append, events_at-first}
 use Rattle.sim_spec.proofs.StampLemmas.{EmitsFrom-le}
 use Rattle.sim_spec.proofs.BucketFacts.{bucket-in-turn}

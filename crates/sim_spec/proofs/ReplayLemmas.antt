@@ -7,8 +7,10 @@ use Rattle.model_core.specs.declared.event.Event.{Event}
 use Rattle.model_core.specs.Meaning.{Meaning}
 use Rattle.sim_spec.specs.Firing.{ObjectState, Firing, goes, fire}
 use Rattle.sim_spec.specs.Cut.{events_of}
-use Rattle.sim_spec.specs.Replay.{Replay, replay_with, replay, NoneBelow, EmitsFrom}
-use Rattle.sim_spec.proofs.StampLemmas.{NoneBelow-le, fire-later}
+use Rattle.sim_spec.specs.Replay.{Replay, replay_with, replay, EmitsFrom}
+use Rattle.key_order.specs.Stamps.{NoneBelow}
+use Rattle.key_order.proofs.StampLemmas.{NoneBelow-le}
+use Rattle.sim_spec.proofs.StampLemmas.{fire-later}
 use Rattle.sim_spec.proofs.BucketInduction.{replay-induction, replay-goes, replay-fails}
 
 -- a replay with events before its own

@@ -12,7 +12,7 @@ use Rattle.sim_spec.specs.declared.stop.Stop.TheVariants.{End, Limit, Fault}
 use Rattle.model_core.specs.declared.effect.Effect.{Effect}
 use Rattle.model_core.specs.declared.effect.Outcome.TheVariants.{Goes, Fails}
 use Rattle.delta_exchange.specs.Changes.{cells_after_all, inverses_of}
-use Rattle.sim_spec.specs.Pending.{enqueue_all}
+use Rattle.key_order.specs.Pending.{enqueue_all}
 use Rattle.sim_spec.specs.Firing.{Fired, Firing, goes, fails, fire, fired_by, has_chain, emissions}
 use Rattle.sim_spec.specs.State.{State, object_at, Lawful, IsSound, AllSound}
 use Rattle.sim_spec.specs.Run.{Next, stops, does, next, next_of, next_fired, run, run_for, run_on, after_records, Leads}

@@ -7,7 +7,7 @@ use Rattle.model_core.specs.declared.event.Event.{Event}
 use Rattle.model_core.specs.declared.event.Send.{Send}
 use Rattle.model_core.specs.Meaning.{Meaning, SendsInRange}
 use Rattle.sim_spec.specs.Firing.{ObjectState, emissions}
-use Rattle.sim_spec.specs.Pending.{enqueue, enqueue_all}
+use Rattle.key_order.specs.Pending.{enqueue, enqueue_all}
 use Rattle.sim_spec.specs.State.{IsSound, AllSound, object_at, no_object}
 
 pub AllSound-enqueue : (m : Meaning) (objects : List ObjectState) (e : Event) (xs : List Event) → IsSound m objects e → AllSound m objects xs → AllSound m objects (enqueue e xs)

@@ -7,7 +7,7 @@ use Rattle.model_core.specs.Meaning.{Meaning}
 use Rattle.sim_spec.specs.declared.bucket.Bucket.{Bucket}
 use Rattle.sim_spec.specs.declared.terms.Terms.{Terms}
 use Rattle.sim_spec.specs.Firing.{ObjectState, Firing}
-use Rattle.sim_spec.specs.Pending.{enqueue_all}
+use Rattle.key_order.specs.Pending.{enqueue_all}
 use Rattle.sim_spec.specs.State.{State}
 use Rattle.sim_spec.specs.Horizon.{HorizonBucket, horizon_bucket}
 

@@ -1,6 +1,6 @@
 -- The event horizon (Steinman, "Discrete-Event Simulation and the Event Horizon", 1994): of all that is sent
 -- in a cycle nothing has an earlier stamp, so the pending events below it can be fired together.
-use Rattle.std.specs.Prelude.{ℕ, ◌+◌, min, List, [], ◌∷◌, if◌then◌else◌, nat_lt, slice_set, Option, Some, None}
+use Rattle.std.specs.Prelude.{ℕ, ◌+◌, List, [], ◌∷◌, if◌then◌else◌, nat_lt, slice_set, Option, Some, None}
 use Rattle.event_key.specs.declared.key.Key.{Key}
 use Rattle.event_key.specs.Stamps.{end_stamp}
 use Rattle.model_core.specs.declared.event.Event.{Event}
@@ -8,11 +8,7 @@ use Rattle.model_core.specs.Meaning.{Meaning}
 use Rattle.sim_spec.specs.declared.terms.Terms.{Terms}
 use Rattle.sim_spec.specs.Firing.{ObjectState, Firing, Fired, goes, fails, fire}
 use Rattle.sim_spec.specs.State.{State, object_at}
-
--- the least of h and the stamps of these events
-unfoldable pub least_stamp : ℕ → List Event → ℕ
-least_stamp h [] = h
-least_stamp h (e ∷ es) = least_stamp (min h e.key.stamp) es
+use Rattle.key_order.specs.Stamps.{least_stamp}
 
 -- the events that go, with what they leave, the horizon, and the event that fails with its code
 pub record HorizonBucket : Type 0 where

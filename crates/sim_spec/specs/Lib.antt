@@ -4,7 +4,6 @@ pub mod Firing
 pub mod Horizon
 pub mod HorizonLaws
 pub mod Laws
-pub mod Pending
 pub mod Replay
 pub mod Run
 pub mod Standing

@@ -1,11 +1,12 @@
 -- The events of one object, one after another.
-use Rattle.std.specs.Prelude.{ℕ, List, [], ◌∷◌, filter, take, ◌==◌, ◌≤◌, Option, Some, None}
+use Rattle.std.specs.Prelude.{ℕ, ◌+◌, List, [], ◌∷◌, length, filter, take, ◌==◌, Option, Some, None}
 use Rattle.std.specs.List.{AllByRecursion}
 use Rattle.event_key.specs.declared.key.Key.{Key}
 use Rattle.model_core.specs.declared.event.Event.{Event}
 use Rattle.model_core.specs.Meaning.{Meaning}
 use Rattle.sim_spec.specs.Firing.{ObjectState, Firing, Fired, goes, fails, fire}
 use Rattle.sim_spec.specs.State.{State, object_at}
+use Rattle.key_order.specs.Stamps.{NoneBelow}
 
 -- the events that go, with what they leave, the event that fails with its code, and the state in the end
 pub record Replay : Type 0 where
@@ -27,6 +28,14 @@ unfoldable pub replay : Meaning → ℕ → ObjectState → List Event → Repla
 replay m object state [] = record { done = []; fault = None; state = state }
 replay m object state (e ∷ es) = replay_fired state e (λ x. replay m object x.state es) (fire m object state e)
 
+abbrev pub fault_count : Option (Key × ℕ) → ℕ
+fault_count None = 0
+fault_count (Some fault) = 1
+
+-- how many events a replay has taken: those that went, and the one that failed
+abbrev pub taken : Replay → ℕ
+taken r = length r.done + fault_count r.fault
+
 -- the events at one object
 unfoldable pub events_at : ℕ → List Event → List Event
 events_at object es = filter (λ e. e.key.dest == object) es
@@ -38,10 +47,6 @@ done_at object ds = filter (λ d. d.0.key.dest == object) ds
 -- an object runs ahead: its first n pending events, whatever the others do
 unfoldable pub early_replay : Meaning → State → ℕ → ℕ → Replay
 early_replay m s object n = replay m object (object_at s.objects object) (take n (events_at object s.pending))
-
--- no event has a stamp below h
-abbrev pub NoneBelow : ℕ → List Event → Type 0
-NoneBelow h es = AllByRecursion (λ e. h ≤ e.key.stamp) es
 
 -- nothing that is sent has a stamp below h
 abbrev pub EmitsFrom : ℕ → List (Event × Firing) → Type 0

@@ -9,7 +9,7 @@ use Rattle.sim_spec.specs.declared.terms.Terms.{Terms}
 use Rattle.sim_spec.specs.declared.stop.Stop.{Stop}
 use Rattle.sim_spec.specs.declared.stop.Stop.TheVariants.{End, Limit, Fault}
 use Rattle.sim_spec.specs.Firing.{Fired, goes, fails, fire}
-use Rattle.sim_spec.specs.Pending.{enqueue_all}
+use Rattle.key_order.specs.Pending.{enqueue_all}
 use Rattle.sim_spec.specs.State.{State, object_at}
 
 -- what comes next: the simulation stops, or an event is done and told, and leaves a state

@@ -50,3 +50,16 @@ pub record IsCycle (m : Meaning) (t : Terms) (old : Standing) (bucket : Bucket) 
 unfoldable pub CycleGives : Meaning → Terms → Standing → Result Bucket OutOfMemory → Standing → Type 0
 CycleGives m t old (Ok bucket) new = IsCycle m t old bucket new
 CycleGives m t old (Err refused) new = new ≡ spent
+
+-- an engine that stood there has done a cycle of its simulation, and has its model and its terms still
+pub record DoesCycle {E : Type 0} (meaning : E → Meaning) (terms : E → Terms) (StandsIn : E → Standing → Type 0) (old : E) (at : Standing) (answer : Result Bucket OutOfMemory) (new : E) : Type 0 where
+  pub left : Standing
+  pub stands : StandsIn new left
+  pub gives : CycleGives (meaning old) (terms old) at answer left
+  pub same_meaning : meaning new ≡ meaning old
+  pub same_terms : terms new ≡ terms old
+
+-- wherever the engine stood and had not ended, it has done a cycle
+abbrev pub DoesCycles : {E : Type 0} → (E → Meaning) → (E → Terms) → (E → Standing → Type 0) → E → Result Bucket OutOfMemory → E → Type 0
+DoesCycles meaning terms StandsIn old answer new =
+    (at : Standing) → StandsIn old at → ended (meaning old) (terms old) at ≡ None → DoesCycle meaning terms StandsIn old at answer new

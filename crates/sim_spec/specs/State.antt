@@ -8,7 +8,8 @@ use Rattle.model_core.specs.declared.event.Start.{Start}
 use Rattle.model_core.specs.Meaning.{Meaning}
 use Rattle.sim_spec.specs.declared.terms.Terms.{Terms}
 use Rattle.sim_spec.specs.Firing.{ObjectState}
-use Rattle.sim_spec.specs.Pending.{IsAscending, enqueue_all}
+use Rattle.key_order.specs.Ascending.{IsAscending}
+use Rattle.key_order.specs.Pending.{enqueue_all}
 
 -- the states of the objects, the pending events in the order of their keys, and how many events are done
 pub record State : Type 0 where

@@ -1,15 +1,14 @@
-//! What every engine does.
-ghost use Rattle.std.specs.Prelude.{◌≡◌, ℕ, None};
+//! What every engine tells of itself.
+ghost use Rattle.std.specs.Prelude.{◌≡◌};
 ghost use Rattle.model_core.specs.Meaning.{Meaning};
 ghost use Rattle.sim_spec.specs.declared.terms.Terms.{Terms};
-ghost use Rattle.sim_spec.specs.Standing.{Standing, ended, IsCountAt, CycleGives};
+ghost use Rattle.sim_spec.specs.Standing.{Standing, ended, IsCountAt};
 
-use crate::bucket::Bucket;
 use crate::stop::Stop;
-use model_core::OutOfMemory;
-use std::alloc::Global;
 
 /// An engine that simulates cycle by cycle: a bucket of events below one event horizon, and then the next one.
+///
+/// Its cycle is a closure over it and no method here: one that starts threads needs a runtime, which no engine holds.
 pub trait Engine {
     /// What its model means.
     ghost meaning: { Self → Meaning };
@@ -17,21 +16,14 @@ pub trait Engine {
     /// How far its simulation goes.
     ghost terms: { Self → Terms };
 
-    /// Where it stands.
-    ghost standing: { Self → Standing };
+    /// That it stands there. What nodes hold stands for a state, and no function computes it.
+    ghost stands_at: { Self → Standing → Type 0 };
 
     /// Why no cycle comes any more, where none does: the end or the limit is met, or the last bucket ended at a fault.
     fn ended(&self) -> Option<Stop>
-        ensures { result ≡ ended (meaning self.now) (terms self.now) (standing self.now) };
+        ensures { (at : Standing) → stands_at self.now at → result ≡ ended (meaning self.now) (terms self.now) at };
 
     /// How many events are done. An engine that is spent has no count that is told.
     fn count(&self) -> u64
-        ensures { IsCountAt (standing self.now) result };
-
-    /// Does one cycle. Where memory runs out the engine is spent: each later call is refused too.
-    fn bucket(&mut self, alloc: Global) -> Result<Bucket, OutOfMemory>
-        requires { ended (meaning self.old) (terms self.old) (standing self.old) ≡ None }
-        ensures gives { CycleGives (meaning self.old) (terms self.old) (standing self.old) result (standing self.new) }
-        ensures meaning { meaning self.new ≡ meaning self.old }
-        ensures terms { terms self.new ≡ terms self.old };
+        ensures { (at : Standing) → stands_at self.now at → IsCountAt at result };
 }

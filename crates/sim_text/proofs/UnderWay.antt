@@ -1,10 +1,11 @@
 -- A simulation under way: what was written and gathered so far, and what is still to come.
-use Rattle.std.proofs.Common.{◌≡◌, ℕ, suc, ◌+◌, ◌-◌, ◌≤◌, ◌<◌, Bool, List, [], ◌∷◌, ◌++◌, length, Option, Some, None, Ok, refl, sym, ap, ◌∙◌, subst, rules, arith, ◌⊎◌, inl, inr}
+use Rattle.std.proofs.Common.{◌≡◌, ℕ, ◌+◌, ◌≤◌, ◌<◌, Bool, List, [], ◌∷◌, ◌++◌, length, Option, Some, None, Ok, refl, sym, ap, ◌∙◌, subst, rules, arith, ◌⊎◌, inl, inr}
 use Rattle.std.proofs.lemmas.Bool.{false≢true}
 use Rattle.std.proofs.lemmas.List.{append-nil}
 use Rattle.std.proofs.lemmas.List.Elements.{All-cons}
 use Rattle.std.proofs.KnownBytes.{Appends-nil}
-use Rattle.std.specs.Prelude.{IsSome}
+use Rattle.std.specs.Prelude.{IsSome, Result}
+use Rattle.delta_exchange.specs.declared.memory.OutOfMemory.{OutOfMemory}
 use Rattle.event_key.specs.declared.key.Key.{Key}
 use Rattle.model_core.specs.declared.note.Note.{Note}
 use Rattle.model_core.specs.Meaning.{Meaning}
@@ -18,7 +19,7 @@ use Rattle.sim_spec.specs.Cut.{cut, after}
 use Rattle.sim_spec.specs.Cycles.{cycles}
 use Rattle.sim_spec.specs.Laws.{NextLawful}
 use Rattle.sim_spec.specs.HorizonLaws.{BucketLaw, EndsLaw, MovesLaw, CyclesLaw}
-use Rattle.sim_spec.specs.Standing.{Standing, stands, spent, ended, end_or_limit, IsCycle, CycleGives, IsCountAt}
+use Rattle.sim_spec.specs.Standing.{Standing, stands, ended, end_or_limit, IsCycle, CycleGives, DoesCycle, IsCountAt}
 use Rattle.sim_spec.proofs.CyclesLaw.{after-count}
 use Rattle.sim_spec.proofs.LawfulLemmas.{next-placed, IsPlaced}
 use Rattle.sim_spec.proofs.RunLemmas.{run-stops}
@@ -49,12 +50,6 @@ pub record IsUnderWay (m : Meaning) (t : Terms) (told : Bool) (standing : Standi
   pub stop : (run m t (initial_state m)).stop ≡ (run m t state).stop
   pub numbered : number ≤ state.count + 2
   pub numbered_whole : fault ≡ None → number ≤ state.count + 1
-
--- how many cycles may still come
-pub turns_left : Terms → Standing → ℕ
-turns_left t spent = 0
-turns_left t (stands s None) = suc (t.limit - s.count)
-turns_left t (stands s (Some fault)) = 0
 
 -- what happens happens at objects of the model
 leads-at_objects : (m : Meaning) (t : Terms) → NextLawful m t → (s : State) (records : List (Key × Note)) (last : State) → Lawful m t s → Leads m t s records last → AllAtObjects m records
@@ -154,20 +149,9 @@ module _ (m : Meaning) (t : Terms) (laws : SimulationLaws m t) (told : Bool) (st
         numbered_whole = λ whole. omega (arith, counted, numbered, here.some_record whole);
       }
 
-  fewer : (later : State) (fault : Option (Key × ℕ)) → later.count ≤ t.limit → (fault ≡ None → way.state.count < later.count) → turns_left t (stands later fault) < turns_left t (stands way.state None)
-  unfolding turns_left
-  fewer later None within more = let rises = more refl in omega arith
-  fewer later (Some f) within more = omega arith
-
-  -- fewer cycles may still come
-  pub fewer_turns : (bucket : Bucket) (new : Standing) → ended m t standing ≡ None → IsCycle m t standing bucket new → turns_left t new < turns_left t standing
-  fewer_turns bucket new not_ended cycle =
-      let here = cycle-here bucket new not_ended cycle in
-      let counted = after-count m t way.state in
-      let less = fewer (after m t way.state) bucket.fault (laws.buckets way.state way.lawful).lawful.count (λ whole. omega (arith, counted, here.some_record whole)) in
-      let before : turns_left t standing ≡ turns_left t (stands way.state None) = ap (turns_left t) (way.at_state ∙ ap (stands way.state) here.no_fault) in
-      let behind : turns_left t new ≡ turns_left t (stands (after m t way.state) bucket.fault) = ap (turns_left t) here.ends in
-      rw (before, behind) less
+  -- each cycle but the last two has an event, so that the limit bounds their number
+  pub few_cycles : number < t.limit + 3
+  few_cycles = let many = way.lawful.count in let told_already = way.numbered in omega (arith, many, told_already)
 
 -- what an engine says by its own meaning and terms, where these are the model's
 pub ended-same : (m m' : Meaning) (t t' : Terms) (standing : Standing) (r : Option Stop) → m' ≡ m → t' ≡ t → r ≡ ended m' t' standing → ended m t standing ≡ r
@@ -180,6 +164,26 @@ cycle-same m m' t t' old new bucket same_meaning same_terms cycle =
     let P : Meaning → Type 0 = λ x. IsCycle x t' old bucket new in
     let Q : Terms → Type 0 = λ x. IsCycle m x old bucket new in
     subst Q same_terms (subst P same_meaning cycle)
+
+-- an engine has answered a bucket by a cycle of the model, and stands after it
+pub record HasDone (m : Meaning) (t : Terms) {E : Type 0} (meaning : E → Meaning) (terms : E → Terms) (StandsIn : E → Standing → Type 0) (at : Standing) (bucket : Bucket) (new : E) : Type 0 where
+  pub left : Standing
+  pub stands : StandsIn new left
+  pub cycle : IsCycle m t at bucket left
+  pub meaning_is : meaning new ≡ m
+  pub terms_is : terms new ≡ t
+
+pub has_done : (m : Meaning) (t : Terms) {E : Type 0} (meaning : E → Meaning) (terms : E → Terms) (StandsIn : E → Standing → Type 0) (old : E) (at : Standing) (answer : Result Bucket OutOfMemory) (bucket : Bucket) (new : E)
+    → meaning old ≡ m → terms old ≡ t → answer ≡ Ok bucket → DoesCycle meaning terms StandsIn old at answer new → HasDone m t meaning terms StandsIn at bucket new
+has_done m t meaning terms StandsIn old at answer bucket new same_meaning same_terms is_ok made =
+    let P : Result Bucket OutOfMemory → Type 0 = λ r. CycleGives (meaning old) (terms old) at r made.left in
+    record {
+      left = made.left;
+      stands = made.stands;
+      cycle = cycle-same m (meaning old) t (terms old) at made.left bucket same_meaning same_terms (subst P is_ok made.gives);
+      meaning_is = made.same_meaning ∙ same_meaning;
+      terms_is = made.same_terms ∙ same_terms;
+    }
 
 -- a simulation begins under way
 pub begins : (m : Meaning) (t : Terms) (told : Bool) (standing : Standing) (start : Option (List ℕ)) (gathered : List ℕ) → SimulationLaws m t → Lawful m t (initial_state m) → standing ≡ stands (initial_state m) None → gathered ≡ []

@@ -1,8 +1,5 @@
-pub mod Counting
 pub mod FreshLemmas
 pub mod HeadLemmas
-pub mod InOrder
-pub mod LeastLemmas
 pub mod Merging
 pub mod PairLemmas
 pub mod Placing
@@ -11,5 +8,4 @@ pub mod QueueLemmas
 pub mod RunLemmas
 pub mod SerialLemmas
 pub mod SlotLemmas
-pub mod Sorting
 pub mod TwoHeads

@@ -1,6 +1,5 @@
 pub mod Fresh
 pub mod Heads
-pub mod Keys
 pub mod Pairs
 pub mod Queues
 pub mod Serials

@@ -1,7 +1,8 @@
 //! The events that have come since the last merge.
 ghost use Rattle.std.specs.Prelude.{◌≡◌, ◌+◌, ◌<◌, ◌≤◌, ◌^◌, [], ◌∷◌, ◌++◌, length, OnOk, vec_len, vec_capacity};
-ghost use Rattle.sim_spec.specs.Horizon.{least_stamp};
-ghost use Rattle.speedes_queue.specs.Keys.{KeysDiffer, first_key, in_order};
+ghost use Rattle.key_order.specs.Stamps.{least_stamp};
+ghost use Rattle.key_order.specs.Keys.{KeysDiffer, first_key};
+ghost use Rattle.key_order.specs.Pending.{in_order};
 
 use crate::least::lesser;
 use delta_exchange::OutOfMemory;

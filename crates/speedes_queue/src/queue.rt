@@ -1,8 +1,9 @@
 //! The queue of two lists.
 ghost use Rattle.std.specs.Prelude.{◌≡◌, ◌+◌, ◌<◌, ◌≤◌, ◌^◌, ◌↔◌, [], ◌∷◌, ◌++◌, length, IsTrue, IsNone, IfSome, IfNone, OnOk, All};
-ghost use Rattle.sim_spec.specs.Pending.{IsAscending, enqueue_all};
-ghost use Rattle.sim_spec.specs.Horizon.{least_stamp};
-ghost use Rattle.speedes_queue.specs.Keys.{IsNewKey, IsAhead, first_key};
+ghost use Rattle.key_order.specs.Ascending.{IsAscending};
+ghost use Rattle.key_order.specs.Pending.{enqueue_all};
+ghost use Rattle.key_order.specs.Stamps.{least_stamp};
+ghost use Rattle.key_order.specs.Keys.{IsNewKey, IsAhead, first_key};
 ghost use Rattle.speedes_queue.specs.Queues.{pending_of, IsEmpty, IsOrderly, TakesPrimary, HasMerged};
 
 use crate::fresh::Fresh;

@@ -9,20 +9,22 @@ use Rattle.model_core.specs.Meaning.{Meaning}
 use Rattle.model_core.specs.declared.event.Event.{Event}
 use Rattle.sim_spec.specs.Cut.{events_of}
 use Rattle.sim_spec.specs.Horizon.{horizon_bucket}
-use Rattle.sim_spec.specs.Pending.{IsAscending}
+use Rattle.key_order.specs.Ascending.{IsAscending, key_of}
 use Rattle.sim_spec.specs.Replay.{done_at, events_at}
 use Rattle.sim_spec.specs.State.{Lawful, State}
 use Rattle.sim_spec.specs.declared.terms.Terms.{Terms}
-use Rattle.sim_spec.proofs.EachLemmas.{Each-front, Each-take}
+use Rattle.key_order.proofs.EachLemmas.{Each-front, Each-take}
 use Rattle.sim_spec.proofs.HorizonLaw.{horizon_law}
 use Rattle.sim_spec.proofs.PartLemmas.{AllSound-dest, Each-events_at}
 use Rattle.world_spec.specs.Answer.{AreKeysBelow, keys_of}
 use Rattle.world_spec.specs.Closed.{fault_key}
-use Rattle.world_spec.specs.Early.{IsClosed, RunsAhead, early_events, is_due, is_uncut}
-use Rattle.world_spec.proofs.AscendsLemmas.{Ascends-events, Ascends-filter, Ascends-map, IsAscending-front, by-objects}
+use Rattle.world_spec.specs.Early.{IsClosed, RunsAhead, early_events}
+use Rattle.key_order.specs.Due.{is_due, is_uncut}
+use Rattle.key_order.proofs.AscendingLemmas.{Ascends-filter, Ascends-map, Ascends-prefix}
+use Rattle.key_order.proofs.OrderLemmas.{by-objects}
 use Rattle.world_spec.proofs.ClosedFacts.{behind_bucket}
 use Rattle.world_spec.proofs.ClosedLaw.{behind_stays, bucket_due, bucket_processed}
-use Rattle.world_spec.proofs.FilterLemmas.{filter-all, filter-both, filter-map, filter-none, filter-swap}
+use Rattle.key_order.proofs.FilterLemmas.{filter-all, filter-both, filter-map, filter-none, filter-swap}
 use Rattle.world_spec.proofs.ProcessedLemmas.{events-split, further_events}
 
 no_events_at : (n object : ℕ) (es : List Event) → n ≤ object → Each (λ (e : Event). e.key.dest < n) es → events_at object es ≡ []
@@ -49,8 +51,8 @@ bucket-keys m t s ahead bound keys lawful runs closed below =
     let P : List Event → Type 0 = Each (λ (e : Event). e.key.dest < m.objects) in
     let dests : Each (λ (e : Event). e.key.dest < m.objects) (events_of done) = Each-front (λ (e : Event). e.key.dest < m.objects) (events_of done) rest (subst P split (AllSound-dest m s.objects s.pending lawful.sound)) in
     let U : List Event → Type 0 = IsAscending in
-    let up : IsAscending (events_of done) = IsAscending-front (events_of done) rest (subst U split lawful.ordered) in
-    by-objects (λ (k : Key). k) (filter (is_uncut cut) keys) (keys_of (events_of done)) (Ascends-filter (λ (k : Key). k) (is_uncut cut) keys below.ordered) (Ascends-map (λ (k : Key). k) (λ (e : Event). e.key) (events_of done) (Ascends-events (events_of done) up))
+    let up : IsAscending (events_of done) = Ascends-prefix key_of (events_of done) rest (subst U split lawful.ordered) in
+    by-objects (λ (k : Key). k) (filter (is_uncut cut) keys) (keys_of (events_of done)) (Ascends-filter (λ (k : Key). k) (is_uncut cut) keys below.ordered) (Ascends-map (λ (k : Key). k) (λ (e : Event). e.key) (events_of done) up)
     (λ object. elim (inside_or object m.objects) [
       | inl low ↦ (
           let p = bucket_processed m t s ahead bound lawful runs closed object low in

@@ -6,12 +6,12 @@ use Rattle.model_core.specs.Meaning.{Meaning, MeaningLaws}
 use Rattle.model_core.specs.declared.event.Event.{Event}
 use Rattle.sim_spec.specs.Cut.{after, committed_events, emissions_of, events_of}
 use Rattle.sim_spec.specs.Firing.{Firing}
-use Rattle.sim_spec.specs.Pending.{IsAscending}
+use Rattle.key_order.specs.Ascending.{IsAscending}
 use Rattle.sim_spec.specs.Replay.{events_at}
 use Rattle.sim_spec.specs.State.{Lawful, State}
 use Rattle.sim_spec.specs.declared.terms.Terms.{Terms}
 use Rattle.sim_spec.proofs.BucketLaw.{bucket_law}
-use Rattle.sim_spec.proofs.EachLemmas.{Each-take}
+use Rattle.key_order.proofs.EachLemmas.{Each-take}
 use Rattle.sim_spec.proofs.InTurnLemmas.{drop-front}
 use Rattle.sim_spec.proofs.PartLemmas.{events_at-dest}
 use Rattle.world_spec.specs.Closed.{CarriedLaw, is_late, undone_at, undone_upto}
@@ -19,7 +19,7 @@ use Rattle.world_spec.specs.Early.{IsClosed, RunsAhead, early_events, is_before_
 use Rattle.world_spec.proofs.CarriedLemmas.{carried, undone-le}
 use Rattle.world_spec.proofs.ClosedFacts.{left_of}
 use Rattle.world_spec.proofs.ClosedLaw.{committed_processed, pending_is}
-use Rattle.world_spec.proofs.MemberLemmas.{each-contains, filter-contains}
+use Rattle.key_order.proofs.MemberLemmas.{each-contains, filter-contains}
 use Rattle.world_spec.proofs.ProcessedLemmas.{IsProcessed}
 
 -- at an object of a list the late events are those that come late for its messages

@@ -15,12 +15,12 @@ use Rattle.sim_spec.specs.HorizonLaws.{IsBefore, IsPast}
 use Rattle.sim_spec.specs.Replay.{Replay, done_at, early_replay, events_at, replay}
 use Rattle.sim_spec.specs.State.{State, object_at}
 use Rattle.sim_spec.specs.declared.terms.Terms.{Terms}
-use Rattle.sim_spec.proofs.EachLemmas.{Each-filter, Each-take}
+use Rattle.key_order.proofs.EachLemmas.{Each-filter, Each-take}
 use Rattle.sim_spec.proofs.PartLemmas.{Each-events_at}
 use Rattle.sim_spec.proofs.ReplayLemmas.{replay-each}
 use Rattle.world_spec.specs.Closed.{fault_key}
-use Rattle.world_spec.specs.Early.{is_due}
-use Rattle.world_spec.proofs.FilterLemmas.{filter-front}
+use Rattle.key_order.specs.Due.{is_due}
+use Rattle.key_order.proofs.FilterLemmas.{filter-front}
 use Rattle.world_spec.proofs.ProcessedLemmas.{IsProcessed, further_events, replay-split}
 
 -- where none of the first events waits, and each event from place n on does, the first ones stand before place n

@@ -13,20 +13,23 @@ use Rattle.sim_spec.specs.Cut.{after, committed_events, emissions_of, events_of}
 use Rattle.sim_spec.specs.Firing.{Firing}
 use Rattle.sim_spec.specs.Horizon.{HorizonBucket, horizon_bucket, reach_of, reach_with}
 use Rattle.sim_spec.specs.HorizonLaws.{IsBefore, IsBelowHorizon, IsOwnReplay, IsPast}
-use Rattle.sim_spec.specs.Pending.{IsAscending}
-use Rattle.sim_spec.specs.Replay.{EmitsFrom, NoneBelow, Replay, done_at, early_replay, events_at}
+use Rattle.key_order.specs.Ascending.{IsAscending, key_of}
+use Rattle.sim_spec.specs.Replay.{EmitsFrom, Replay, done_at, early_replay, events_at}
+use Rattle.key_order.specs.Stamps.{NoneBelow}
 use Rattle.sim_spec.specs.State.{Lawful, State}
 use Rattle.sim_spec.specs.declared.terms.Terms.{Terms}
-use Rattle.sim_spec.proofs.AscendingLemmas.{ascending-before, ascending-from}
+use Rattle.key_order.proofs.AscendingLemmas.{Ascends-before, Ascends-from}
 use Rattle.sim_spec.proofs.BucketFacts.{GoInTurn, bucket-in-turn, reach-le}
 use Rattle.sim_spec.proofs.BucketLaw.{bucket_law}
-use Rattle.sim_spec.proofs.EachLemmas.{Each-append, Each-back, Each-both, Each-front, Each-map}
+use Rattle.key_order.proofs.EachLemmas.{Each-append, Each-back, Each-both, Each-front, Each-map}
 use Rattle.sim_spec.proofs.HorizonLaw.{GoInTurn-take, events_of-split, horizon_law, pending-split}
 use Rattle.sim_spec.proofs.ObjectsLaw.{objects_law}
 use Rattle.sim_spec.proofs.PartLemmas.{AllSound-dest, Each-events_at, Each-parts, done_at-append, events_at-events_of, events_at-first, length-events_of}
-use Rattle.sim_spec.proofs.StampLemmas.{NoneBelow-contains, NoneBelow-emissions_of}
+use Rattle.key_order.proofs.MemberLemmas.{each-contains}
+use Rattle.sim_spec.proofs.StampLemmas.{NoneBelow-emissions_of}
 use Rattle.world_spec.specs.Closed.{CycleLaw, IsLeastFault, cut_key, fault_key, first_key}
-use Rattle.world_spec.specs.Early.{IsClosed, IsPastFault, RunsAhead, is_due, kept}
+use Rattle.world_spec.specs.Early.{IsClosed, IsPastFault, RunsAhead, kept}
+use Rattle.key_order.specs.Due.{is_due}
 use Rattle.world_spec.proofs.ClosedFacts.{before_reach, behind_bucket, due-is, due_before, left_of, none-waits, past_before, past_stays}
 use Rattle.world_spec.proofs.ProcessedLemmas.{IsProcessed, kept-early, replay-split}
 
@@ -52,7 +55,7 @@ module _ (m : Meaning) (t : Terms) (s : State) (ahead : ℕ → ℕ) (bound : �
         | inr held ↦
             (let sent = (early_replay m s held.0 (ahead held.0)).done in
             let le : reach_with b.horizon b.fault ≤ held.2.key.stamp =
-            NoneBelow-contains (reach_of b) (emissions_of sent) held.2 (NoneBelow-emissions_of (reach_of b) sent ((own held.0 held.1).sends (ahead held.0))) held.3 in
+            each-contains (λ (e : Event). (reach_of b) ≤ e.key.stamp) held.2 (emissions_of sent) (NoneBelow-emissions_of (reach_of b) sent ((own held.0 held.1).sends (ahead held.0))) held.3 in
             let same : held.2.key.stamp ≡ bound = held.4 in
             omega arith)
       ]
@@ -225,9 +228,9 @@ module _ (m : Meaning) (t : Terms) (s : State) (ahead : ℕ → ℕ) (bound : �
       let before : B (events_of (take k b.done)) =
       Each-front (λ (e : Event). IsBefore b.horizon b.fault e.key) (events_of (take k b.done)) (events_of (drop k b.done)) (subst B (events_of-split k b.done) law.before) in (
         Each-both (λ (e : Event). IsBefore b.horizon b.fault e.key) (λ (e : Event). key_lt e.key x.0.key ≡ true) Due (events_of (take k b.done)) (due_first x.0.key) before
-            (ascending-before (events_of (take k b.done)) x.0 (events_of xs ++ tail) up),
+            (Ascends-before key_of (events_of (take k b.done)) x.0 (events_of xs ++ tail) up),
         Each-map (λ (e : Event). key_lt e.key x.0.key ≡ false) (λ (e : Event). is_due bound (Some x.0.key) e.key ≡ false) (x.0 ∷ (events_of xs ++ tail)) (not_due x.0.key)
-            (ascending-from (events_of (take k b.done)) x.0 (events_of xs ++ tail) up),
+            (Ascends-from key_of (events_of (take k b.done)) x.0 (events_of xs ++ tail) up),
       )
     where
       due_first : (cut : Key) (e : Event) → IsBefore b.horizon b.fault e.key → key_lt e.key cut ≡ true → is_due bound (Some cut) e.key ≡ true

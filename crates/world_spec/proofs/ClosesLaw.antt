@@ -10,11 +10,11 @@ use Rattle.event_key.proofs.Order.{key_lt-apart, key_lt-trans, stamp-le}
 use Rattle.model_core.specs.declared.event.Event.{Event}
 use Rattle.model_core.specs.Meaning.{Meaning}
 use Rattle.sim_spec.specs.declared.terms.Terms.{Terms}
-use Rattle.sim_spec.specs.Pending.{IsAscending}
+use Rattle.key_order.specs.Ascending.{IsAscending, key_of, Ascends}
 use Rattle.sim_spec.specs.Cut.{emissions_of}
 use Rattle.sim_spec.specs.Replay.{Replay, replay, events_at, EmitsFrom}
-use Rattle.sim_spec.proofs.AscendingLemmas.{AllAfter-each, ascending-before}
-use Rattle.sim_spec.proofs.EachLemmas.{Each-map, Each-take}
+use Rattle.key_order.proofs.AscendingLemmas.{Ascends-before}
+use Rattle.key_order.proofs.EachLemmas.{Each-map, Each-take}
 use Rattle.sim_spec.proofs.PartLemmas.{IsAscending-events_at, events_at-dest, events_at-first}
 use Rattle.sim_spec.proofs.ReplayLemmas.{replay-fault}
 use Rattle.sim_spec.proofs.StampLemmas.{EmitsFrom-le}
@@ -68,7 +68,7 @@ module _ (m : Meaning) (t : Terms) (home : ℕ → ℕ) (node h : ℕ) (share : 
         let split = (next-of (ahead dest) (events_at dest share.pending) e (events_at dest rest) next).2 in
         let U : List Event → Type 0 = IsAscending in
         let before : Each (λ (x : Event). key_lt x.key e.key ≡ true) (take (ahead dest) (events_at dest share.pending)) =
-        ascending-before (take (ahead dest) (events_at dest share.pending)) e (events_at dest rest) (subst U split (IsAscending-events_at dest share.pending stands.ordered)) in
+        Ascends-before key_of (take (ahead dest) (events_at dest share.pending)) e (events_at dest rest) (subst U split (IsAscending-events_at dest share.pending stands.ordered)) in
         let B : ℕ → Type 0 = λ o. Each (λ (x : Event). key_lt x.key e.key ≡ true) (take (ahead o) (events_at o share.pending)) in
         replay-fault (λ k. key_lt k e.key ≡ true) m object (share.states object) (take (ahead object) (events_at object share.pending)) (subst B here before) fault met
 
@@ -98,23 +98,23 @@ module _ (m : Meaning) (t : Terms) (home : ℕ → ℕ) (node h : ℕ) (share : 
 
     -- where the first event is not to be processed, none behind it is
     idle_late : (bound : ℕ) → bound ≤ e.key.stamp → IsIdle m home node bound held
-    unfolding IsAscending
+    unfolding Ascends
     idle_late bound late =
         let P : List Event → Type 0 = Each (λ (x : Event). (bound ≤ x.key.stamp) ⊎ IsPastFaultOf m home node held x.key) in
         subst P (sym waits) (
           inl late,
           Each-map (λ (x : Event). key_lt e.key x.key ≡ true) (λ (x : Event). (bound ≤ x.key.stamp) ⊎ IsPastFaultOf m home node held x.key) rest
-              (λ x lt. let le = stamp-le e.key x.key lt in inl (omega arith)) (AllAfter-each e.key rest ordered.0),
+              (λ x lt. let le = stamp-le e.key x.key lt in inl (omega arith)) ordered.0,
         )
 
     idle_past : (bound : ℕ) → IsPastSome m home node held e.key m.objects → IsIdle m home node bound held
-    unfolding IsAscending
+    unfolding Ascends
     idle_past bound some =
         let P : List Event → Type 0 = Each (λ (x : Event). (bound ≤ x.key.stamp) ⊎ IsPastFaultOf m home node held x.key) in
         subst P (sym waits) (
           inr (some.0, some.2, some.3, some.4, some.5),
           Each-map (λ (x : Event). key_lt e.key x.key ≡ true) (λ (x : Event). (bound ≤ x.key.stamp) ⊎ IsPastFaultOf m home node held x.key) rest
-              (λ x lt. inr (some.0, some.2, some.3, some.4, key_lt-trans some.3.0 e.key x.key some.5 lt)) (AllAfter-each e.key rest ordered.0),
+              (λ x lt. inr (some.0, some.2, some.3, some.4, key_lt-trans some.3.0 e.key x.key some.5 lt)) ordered.0,
         )
 
     closes_with : ((further : ℕ → ℕ) → StandsFor m t home node share further stepped → NodeCloses m t home node h stepped) → NodeCloses m t home node h held

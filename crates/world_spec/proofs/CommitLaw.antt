@@ -1,12 +1,11 @@
 -- A commit leaves a node that stands for the share without what was due.
-use Rattle.std.proofs.Common.{Bool, List, [], ap, arith, cond, drop, eqb, false, length, length-take, lt-ltb, ltb, ltb-true, min, not, refl, subst, suc, sym, take, take-append-drop, true, zero, ℕ, ◌++◌, ◌+◌, ◌-◌, ◌<◌, ◌∙◌, ◌∷◌, ◌≡◌, ◌≤◌}
+use Rattle.std.proofs.Common.{Bool, List, [], ap, arith, cond, drop, eqb, false, length, length-take, min, not, refl, subst, suc, sym, take, take-append-drop, true, zero, ℕ, ◌++◌, ◌+◌, ◌-◌, ◌<◌, ◌∙◌, ◌∷◌, ◌≡◌, ◌≤◌}
 use Rattle.std.proofs.Math.Seq.{drop-append_seam}
-use Rattle.std.proofs.lemmas.Bool.{and_from, and_parts, false_from_ne_true}
+use Rattle.std.proofs.lemmas.Bool.{false_from_ne_true}
 use Rattle.std.proofs.lemmas.List.{append-nil, drop-drop, length-append}
 use Rattle.std.proofs.lemmas.List.Elements.{filter-append}
 use Rattle.std.specs.List.{AllByRecursion as Each}
 use Rattle.std.specs.Prelude.{None, Option, Some, filter}
-use Rattle.event_key.proofs.Order.{key_lt-trans, stamp-le}
 use Rattle.event_key.specs.Keys.{key_lt}
 use Rattle.event_key.specs.Stamps.{end_stamp}
 use Rattle.event_key.specs.declared.key.Key.{Key}
@@ -14,33 +13,21 @@ use Rattle.model_core.specs.Meaning.{Meaning, MeaningLaws}
 use Rattle.model_core.specs.declared.event.Event.{Event}
 use Rattle.sim_spec.specs.Cut.{after}
 use Rattle.sim_spec.specs.Firing.{ObjectState}
-use Rattle.sim_spec.specs.Pending.{IsAscending}
-use Rattle.sim_spec.specs.Replay.{Replay, events_at, replay}
+use Rattle.key_order.specs.Ascending.{IsAscending, key_of, Ascends}
+use Rattle.sim_spec.specs.Replay.{Replay, events_at, replay, taken}
 use Rattle.sim_spec.specs.declared.terms.Terms.{Terms}
-use Rattle.sim_spec.proofs.AscendingLemmas.{AllAfter-each, IsAscending-filter}
-use Rattle.sim_spec.proofs.EachLemmas.{Each-back, Each-filter, Each-map}
+use Rattle.key_order.proofs.AscendingLemmas.{Ascends-filter}
+use Rattle.key_order.proofs.EachLemmas.{Each-back, Each-filter, Each-map}
 use Rattle.sim_spec.proofs.PartLemmas.{Each-events_at, IsAscending-events_at}
 use Rattle.sim_spec.proofs.ReplayLemmas.{replay-append, replay-fault, replay-faulted, replay_after}
-use Rattle.world_spec.specs.Early.{is_due, taken}
+use Rattle.key_order.specs.Due.{is_due}
 use Rattle.world_spec.specs.Moves.{IsCommit, IsDueDone, committed, committed_ahead, due_count, without_first}
 use Rattle.world_spec.specs.NodeLaws.{CommitLaw}
 use Rattle.world_spec.specs.Share.{IsAtHome, IsHome, NodeData, Share, StandsFor, log_of}
-use Rattle.world_spec.proofs.FilterLemmas.{filter-all, filter-none, filter-passes, filter-swap, length-filter_le}
+use Rattle.key_order.proofs.FilterLemmas.{filter-all, filter-none, filter-passes, filter-swap, length-filter_le}
 use Rattle.world_spec.proofs.ReplayLawful.{replay-lawful}
-use Rattle.world_spec.proofs.TakenLemmas.{taken-le, taken-rest}
-
--- what comes before an event that is due is due
-pub due-down : (bound : ℕ) (cut : Option Key) (j k : Key) → key_lt j k ≡ true → is_due bound cut k ≡ true → is_due bound cut j ≡ true
-unfolding is_due
-due-down bound None j k lt due =
-    let low = ltb-true k.stamp bound (and_parts (ltb k.stamp bound) true due).0 in
-    let le = stamp-le j k lt in
-    and_from (ltb j.stamp bound) true (lt-ltb j.stamp bound (omega arith)) refl
-due-down bound (Some c) j k lt due =
-    let p = and_parts (ltb k.stamp bound) (key_lt k c) due in
-    let low = ltb-true k.stamp bound p.0 in
-    let le = stamp-le j k lt in
-    and_from (ltb j.stamp bound) (key_lt j c) (lt-ltb j.stamp bound (omega arith)) (key_lt-trans j k c lt p.1)
+use Rattle.sim_spec.proofs.TakenLemmas.{taken-le, taken-rest}
+use Rattle.key_order.proofs.DueLemmas.{due-down}
 
 -- the first events, and those behind them
 abbrev no_events : List Event
@@ -67,7 +54,7 @@ module _ (bound : ℕ) (cut : Option Key) where
 
   -- in a list in order, what is due stands at the front
   pub due-front : (es : List Event) → IsAscending es → (filter due es ≡ take (length (filter due es)) es) × (filter stays es ≡ drop (length (filter due es)) es)
-  unfolding IsAscending
+  unfolding Ascends
   due-front [] up = (refl, refl)
   due-front (e ∷ es) up = by_test (due e) refl (due-front es up.1)
     where
@@ -76,7 +63,7 @@ module _ (bound : ℕ) (cut : Option Key) where
           × (cond (not b) (e ∷ filter stays es) (filter stays es) ≡ drop (length (cond b (e ∷ filter due es) (filter due es))) (e ∷ es))
       by_test true h more = (ap (λ xs. e ∷ xs) more.0, more.1)
       by_test false h more =
-          let no = none_due e es h (AllAfter-each e.key es up.0) in
+          let no = none_due e es h up.0 in
           let nothing : filter due es ≡ [] = filter-none due es no in
           let all : filter stays es ≡ es = filter-all stays es (Each-map (λ x. due x ≡ false) (λ x. stays x ≡ true) es (λ x n. ap not n) no) in
           (nothing ∙ sym (ap (λ xs. take (length xs) (e ∷ es)) nothing), ap (λ xs. e ∷ xs) all ∙ sym (ap (λ xs. drop (length xs) (e ∷ es)) nothing))
@@ -200,7 +187,7 @@ module _ (bound : ℕ) (cut : Option Key) where
         let O : List Event → Type 0 = IsAscending in
         let H : List Event → Type 0 = Each (IsAtHome m home node) in
         record {
-          ordered = IsAscending-filter stays share.pending stands.ordered;
+          ordered = Ascends-filter key_of stays share.pending stands.ordered;
           homed = Each-filter (IsAtHome m home node) stays share.pending stands.homed;
           cells = λ object at. replay-lawful m object (share.states object) (take (due_at object) (own_events object)) laws at.0 (stands.cells object at);
           early = λ object at. record {

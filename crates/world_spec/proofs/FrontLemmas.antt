@@ -9,13 +9,14 @@ use Rattle.std.specs.Prelude.{Contains, IsPermutation}
 use Rattle.event_key.proofs.Order.{key_lt-trans}
 use Rattle.event_key.specs.Keys.{key_lt}
 use Rattle.model_core.specs.declared.event.Event.{Event}
-use Rattle.sim_spec.specs.Pending.{IsAscending, enqueue, enqueue_all}
+use Rattle.key_order.specs.Ascending.{IsAscending, Ascends}
+use Rattle.key_order.specs.Pending.{enqueue, enqueue_all}
 use Rattle.sim_spec.specs.Replay.{events_at}
-use Rattle.sim_spec.proofs.AscendingLemmas.{AllAfter-each, key_lt-turned}
-use Rattle.sim_spec.proofs.EachLemmas.{Each-map}
-use Rattle.sim_spec.proofs.EnqueueLemmas.{length-enqueue}
+use Rattle.key_order.proofs.AscendingLemmas.{key_lt-turned}
+use Rattle.key_order.proofs.EachLemmas.{Each-map}
+use Rattle.key_order.proofs.EnqueueLemmas.{length-enqueue}
 use Rattle.world_spec.specs.Early.{is_before_all, leading}
-use Rattle.world_spec.proofs.MemberLemmas.{each-contains, first-or-later, is-first, is-later}
+use Rattle.key_order.proofs.MemberLemmas.{each-contains, first-or-later, is-first, is-later}
 
 -- those at the front are some of all, and each of them passes
 pub leading-le : (p : Event → Bool) (es : List Event) → leading p es ≤ length es
@@ -65,14 +66,14 @@ before_all-trans (m ∷ ms) x y lt all =
 
 -- in a list in order, what comes before all messages stays at the front
 pub leading-keeps : (messages xs : List Event) (x : Event) → IsAscending xs → Contains xs x → is_before_all messages x ≡ true → Contains (take (leading (is_before_all messages) xs) xs) x
-unfolding IsAscending leading
+unfolding Ascends leading
 leading-keeps messages [] x up is_in before = is_in
 leading-keeps messages (y ∷ ys) x up is_in before =
     let n = leading (is_before_all messages) ys in
     let passes : is_before_all messages y ≡ true =
     elim (first-or-later x y ys is_in) [
       | inl same ↦ (let P : Event → Type 0 = λ e. is_before_all messages e ≡ true in subst P (sym same) before)
-      | inr more ↦ before_all-trans messages y x (each-contains (λ (e : Event). key_lt y.key e.key ≡ true) x ys (AllAfter-each y.key ys up.0) more) before
+      | inr more ↦ before_all-trans messages y x (each-contains (λ (e : Event). key_lt y.key e.key ≡ true) x ys up.0 more) before
     ] in
     let Q : ℕ → Type 0 = λ n. Contains (take n (y ∷ ys)) x in
     let there : Q (suc n) =

@@ -8,12 +8,14 @@ use Rattle.model_core.specs.Meaning.{Meaning}
 use Rattle.model_core.specs.declared.event.Event.{Event}
 use Rattle.sim_spec.specs.Cut.{events_of}
 use Rattle.sim_spec.specs.Firing.{Firing}
-use Rattle.sim_spec.specs.Pending.{IsAscending}
+use Rattle.key_order.specs.Ascending.{IsAscending}
 use Rattle.sim_spec.specs.Replay.{done_at}
-use Rattle.world_spec.specs.Early.{is_due}
+use Rattle.key_order.specs.Due.{is_due}
 use Rattle.world_spec.specs.Parcels.{IsHandedOut, done_of}
 use Rattle.world_spec.specs.Share.{IsAtHome, IsHome, NodeData}
-use Rattle.world_spec.proofs.AscendsLemmas.{Ascends-done, Ascends-filter, by-objects}
+use Rattle.sim_spec.proofs.PartLemmas.{Ascends-done}
+use Rattle.key_order.proofs.AscendingLemmas.{Ascends-filter}
+use Rattle.key_order.proofs.OrderLemmas.{by-objects}
 
 -- an object's part of a node's part
 own_at : (home : ℕ → ℕ) (node object : ℕ) (ds : List (Event × Firing)) → home object ≡ node → done_at object (done_of home node ds) ≡ done_at object ds

@@ -7,13 +7,14 @@ use Rattle.event_key.specs.Keys.{key_lt}
 use Rattle.model_core.specs.declared.event.Event.{Event}
 use Rattle.model_core.specs.Meaning.{Meaning}
 use Rattle.sim_spec.specs.Firing.{Firing}
-use Rattle.sim_spec.specs.Horizon.{least_stamp}
+use Rattle.key_order.specs.Stamps.{least_stamp, NoneBelow}
 use Rattle.sim_spec.specs.Cut.{emissions_of}
-use Rattle.sim_spec.specs.Replay.{NoneBelow, EmitsFrom}
-use Rattle.sim_spec.proofs.EachLemmas.{Each-front, Each-back}
-use Rattle.sim_spec.proofs.StampLemmas.{EmitsFrom-le, NoneBelow-least_stamp, least_stamp-le}
+use Rattle.sim_spec.specs.Replay.{EmitsFrom}
+use Rattle.key_order.proofs.EachLemmas.{Each-front, Each-back}
+use Rattle.sim_spec.proofs.StampLemmas.{EmitsFrom-le}
+use Rattle.key_order.proofs.StampLemmas.{NoneBelow-least_stamp, least_stamp-le}
 use Rattle.world_spec.specs.Share.{IsHome, NodeData}
-use Rattle.world_spec.proofs.MemberLemmas.{is-first, is-later}
+use Rattle.key_order.proofs.MemberLemmas.{is-first, is-later}
 
 -- one of these has this stamp
 abbrev pub HasStamp : List Event → ℕ → Type 0

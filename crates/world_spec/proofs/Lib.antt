@@ -1,6 +1,4 @@
 pub mod AnswerLaw
-pub mod ArrivalLemmas
-pub mod AscendsLemmas
 pub mod BucketKeys
 pub mod CarriedLaw
 pub mod CarriedLemmas
@@ -9,13 +7,11 @@ pub mod ClosedLaw
 pub mod ClosesLaw
 pub mod CommitLaw
 pub mod EndsLaw
-pub mod FalseFault
-pub mod FilterLemmas
 pub mod FrontLemmas
 pub mod HandedLemmas
 pub mod HeldLemmas
 pub mod HomeLemmas
-pub mod MemberLemmas
+pub mod IdleLemmas
 pub mod NextWorld
 pub mod NodeFacts
 pub mod ParcelLemmas
@@ -25,7 +21,6 @@ pub mod ReplayLawful
 pub mod RollbackLaw
 pub mod ShareLaw
 pub mod StepsLaw
-pub mod TakenLemmas
 pub mod WaitingLemmas
 pub mod WorldFacts
 pub mod WorldStepsLaw

@@ -10,23 +10,23 @@ use Rattle.model_core.specs.Meaning.{Meaning, MeaningLaws}
 use Rattle.model_core.specs.declared.event.Event.{Event}
 use Rattle.sim_spec.specs.Cut.{after, committed_events, emissions_of, events_of, objects_after, state_with_done}
 use Rattle.sim_spec.specs.Firing.{Firing}
-use Rattle.sim_spec.specs.Pending.{IsAscending}
+use Rattle.key_order.specs.Ascending.{IsAscending, key_of}
 use Rattle.sim_spec.specs.Replay.{Replay, done_at, events_at, replay}
 use Rattle.sim_spec.specs.State.{Lawful, State, object_at}
 use Rattle.sim_spec.specs.declared.terms.Terms.{Terms}
-use Rattle.sim_spec.proofs.AscendingLemmas.{IsAscending-filter}
+use Rattle.key_order.proofs.AscendingLemmas.{Ascends-filter, Ascends-prefix}
 use Rattle.sim_spec.proofs.BucketLaw.{bucket_law}
-use Rattle.sim_spec.proofs.EachLemmas.{Each-both, Each-drop, Each-filter, Each-front, Each-take}
+use Rattle.key_order.proofs.EachLemmas.{Each-both, Each-drop, Each-filter, Each-front, Each-take}
 use Rattle.sim_spec.proofs.PartLemmas.{AllSound-dest, Each-events_at, events_at-append, events_at-events_of, length-events_of}
 use Rattle.sim_spec.proofs.ReplayLemmas.{replay-fault, replay_after}
 use Rattle.world_spec.specs.Closed.{cut_key}
-use Rattle.world_spec.specs.Early.{IsClosed, RunsAhead, is_due, kept}
+use Rattle.world_spec.specs.Early.{IsClosed, RunsAhead, kept}
+use Rattle.key_order.specs.Due.{is_due}
 use Rattle.world_spec.specs.Moves.{IsCommit, IsDueDone, committed, committed_ahead}
 use Rattle.world_spec.specs.Parcels.{IsHandedOut, done_of, parcels}
 use Rattle.world_spec.specs.Share.{IsAtHome, NodeData, Share, StandsFor, is_at}
 use Rattle.world_spec.specs.World.{IsMadeFor, Setting, WorldData, WorldIsClosed, WorldStands}
 use Rattle.world_spec.specs.WorldLaws.{EndsCycle, IsCycle, WorldLaw, next_share}
-use Rattle.world_spec.proofs.AscendsLemmas.{IsAscending-front}
 use Rattle.world_spec.proofs.ClosedFacts.{left_of}
 use Rattle.world_spec.proofs.ClosedLaw.{committed_processed, cycle_law, due_parts, pending_is}
 use Rattle.world_spec.proofs.CommitLaw.{commit_law}
@@ -112,7 +112,7 @@ module _ (m : Meaning) (t : Terms) (laws : MeaningLaws m) (home : ℕ → ℕ) (
       each_placed (x ∷ xs) all = (stands.homes x.0.key.dest all.0, each_placed xs all.1)
 
   ordered : IsAscending (events_of happened)
-  ordered = let U : List Event → Type 0 = IsAscending in IsAscending-front (events_of happened) rest (subst U (pending_is m t s stands.lawful) stands.lawful.ordered)
+  ordered = let U : List Event → Type 0 = IsAscending in Ascends-prefix key_of (events_of happened) rest (subst U (pending_is m t s stands.lawful) stands.lawful.ordered)
 
   -- what a node hands out is its part of the bucket
   handed : (node : ℕ) → node < nodes → (done : List (Event × Firing)) → IsHandedOut m home node bound cut (world.node node) done → done ≡ done_of home node happened
@@ -137,7 +137,7 @@ module _ (m : Meaning) (t : Terms) (laws : MeaningLaws m) (home : ℕ → ℕ) (
       → IsAscending (next_share m t s bound (shares node) (es node)).pending
   next_ordered es arrivals node inside =
       let P : List Event → Type 0 = IsAscending in
-      subst P (sym (share_next es arrivals node inside).share_of.pending) (IsAscending-filter (is_at home node) (after m t s).pending next_lawful.ordered)
+      subst P (sym (share_next es arrivals node inside).share_of.pending) (Ascends-filter key_of (is_at home node) (after m t s).pending next_lawful.ordered)
 
   pub next_homed : (es : ℕ → List Event) → ((node : ℕ) → node < nodes → IsPermutation (parcels home happened node nodes) (es node)) → (node : ℕ) → node < nodes
       → Each (IsAtHome m home node) (next_share m t s bound (shares node) (es node)).pending

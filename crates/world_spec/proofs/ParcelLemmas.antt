@@ -10,11 +10,12 @@ use Rattle.model_core.specs.declared.event.Event.{Event}
 use Rattle.model_core.specs.declared.note.Note.{Note}
 use Rattle.sim_spec.specs.Cut.{emissions_of, events_of, records_of}
 use Rattle.sim_spec.specs.Firing.{Firing}
-use Rattle.sim_spec.specs.Pending.{IsAscending}
-use Rattle.world_spec.specs.Answer.{Ascends}
+use Rattle.key_order.specs.Ascending.{IsAscending, Ascends}
 use Rattle.world_spec.specs.Parcels.{done_of, parcels, records_by_node}
 use Rattle.world_spec.specs.Share.{is_at}
-use Rattle.world_spec.proofs.AscendsLemmas.{Ascends-done, Ascends-map, by-members}
+use Rattle.sim_spec.proofs.PartLemmas.{Ascends-done}
+use Rattle.key_order.proofs.AscendingLemmas.{Ascends-map}
+use Rattle.key_order.proofs.OrderLemmas.{by-members}
 
 module _ {X A : Type 0} (images : X → List A) (node_of : X → ℕ) where
   pub joined_images : List X → List A

@@ -5,18 +5,19 @@ use Rattle.std.specs.List.{AllByRecursion as Each}
 use Rattle.event_key.specs.Stamps.{end_stamp}
 use Rattle.model_core.specs.Meaning.{Meaning}
 use Rattle.model_core.specs.declared.event.Event.{Event}
-use Rattle.sim_spec.specs.Pending.{IsAscending, enqueue_all}
-use Rattle.sim_spec.specs.Replay.{events_at, replay}
+use Rattle.key_order.specs.Ascending.{IsAscending}
+use Rattle.key_order.specs.Pending.{enqueue_all}
+use Rattle.sim_spec.specs.Replay.{events_at, replay, taken}
 use Rattle.sim_spec.specs.declared.terms.Terms.{Terms}
-use Rattle.sim_spec.proofs.EachLemmas.{Each-take}
+use Rattle.key_order.proofs.EachLemmas.{Each-take}
 use Rattle.sim_spec.proofs.PartLemmas.{events_at-append, events_at-enqueue_all}
-use Rattle.sim_spec.proofs.PendingLemmas.{enqueue_all-append}
-use Rattle.world_spec.specs.Early.{is_before_all, leading, taken}
+use Rattle.key_order.proofs.EnqueueLemmas.{enqueue_all-append}
+use Rattle.world_spec.specs.Early.{is_before_all, leading}
 use Rattle.world_spec.specs.Moves.{IsReceipt, received, received_ahead}
 use Rattle.world_spec.specs.NodeLaws.{ReceiptLaw, ReceiptsLaw}
 use Rattle.world_spec.specs.Share.{IsAhead, IsAtHome, IsHome, NodeData, Share, StandsFor, ahead_events, log_of}
 use Rattle.world_spec.proofs.FrontLemmas.{before_all-append, front-enqueue_all, leading-both, leading-le, leading-pass}
-use Rattle.world_spec.proofs.TakenLemmas.{taken-le, taken-take}
+use Rattle.sim_spec.proofs.TakenLemmas.{taken-le, taken-take}
 
 -- the front of a log that was taken to its end
 pub front-ahead : (m : Meaning) (t : Terms) (share : Share) (object n j : ℕ) (es : List Event) → IsAhead m t share object n → IsAscending (enqueue_all es share.pending) → j ≤ length (ahead_events share object n)

@@ -5,14 +5,13 @@ use Rattle.std.specs.List.{AllByRecursion as Each}
 use Rattle.event_key.specs.Stamps.{end_stamp}
 use Rattle.model_core.specs.Meaning.{Meaning}
 use Rattle.model_core.specs.declared.event.Event.{Event}
-use Rattle.sim_spec.specs.Replay.{events_at, replay}
+use Rattle.sim_spec.specs.Replay.{events_at, replay, taken}
 use Rattle.sim_spec.specs.declared.terms.Terms.{Terms}
-use Rattle.sim_spec.proofs.EachLemmas.{Each-take}
-use Rattle.world_spec.specs.Early.{taken}
+use Rattle.key_order.proofs.EachLemmas.{Each-take}
 use Rattle.world_spec.specs.Moves.{IsRollback}
 use Rattle.world_spec.specs.NodeLaws.{RollbackLaw}
 use Rattle.world_spec.specs.Share.{IsAhead, IsHome, NodeData, Share, StandsFor, log_of}
-use Rattle.world_spec.proofs.TakenLemmas.{taken-le, taken-take}
+use Rattle.sim_spec.proofs.TakenLemmas.{taken-le, taken-take}
 
 -- an object that is less far ahead
 pub less-ahead : (m : Meaning) (t : Terms) (share : Share) (object n j : ℕ) → IsAhead m t share object n → j ≤ n → IsAhead m t share object j

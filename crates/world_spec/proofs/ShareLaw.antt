@@ -10,25 +10,28 @@ use Rattle.model_core.specs.Meaning.{Meaning, MeaningLaws}
 use Rattle.model_core.specs.declared.event.Event.{Event}
 use Rattle.sim_spec.specs.Cut.{after, committed_events, emissions_of, events_of, objects_after, state_with_done}
 use Rattle.sim_spec.specs.Firing.{Firing}
-use Rattle.sim_spec.specs.Pending.{IsAscending, enqueue_all}
+use Rattle.key_order.specs.Ascending.{IsAscending, key_of}
+use Rattle.key_order.specs.Pending.{enqueue_all}
 use Rattle.sim_spec.specs.Replay.{Replay, done_at, events_at, replay}
 use Rattle.sim_spec.specs.State.{Lawful, State, object_at}
 use Rattle.sim_spec.specs.declared.terms.Terms.{Terms}
-use Rattle.sim_spec.proofs.AscendingLemmas.{IsAscending-filter, IsAscending-without_all}
+use Rattle.key_order.proofs.AscendingLemmas.{Ascends-filter}
+use Rattle.key_order.proofs.EnqueueLemmas.{IsAscending-without_all}
 use Rattle.sim_spec.proofs.BucketLaw.{bucket_law}
-use Rattle.sim_spec.proofs.EachLemmas.{Each-filter, Each-map}
+use Rattle.key_order.proofs.EachLemmas.{Each-filter, Each-map}
 use Rattle.sim_spec.proofs.InTurnLemmas.{drop-front}
 use Rattle.sim_spec.proofs.ObjectReplay.{in-turn-replay}
 use Rattle.sim_spec.proofs.PartLemmas.{Each-events_at, events_at-append, events_at-events_of, length-events_of}
-use Rattle.sim_spec.proofs.ShareLemmas.{filter-enqueue_all}
+use Rattle.key_order.proofs.ShareLemmas.{filter-enqueue_all}
 use Rattle.world_spec.specs.Closed.{cut_key}
-use Rattle.world_spec.specs.Early.{IsClosed, RunsAhead, is_before_all, is_due, kept, leading}
+use Rattle.world_spec.specs.Early.{IsClosed, RunsAhead, is_before_all, kept, leading}
+use Rattle.key_order.specs.Due.{is_due}
 use Rattle.world_spec.specs.Moves.{committed, committed_ahead, due_count, received, received_ahead}
 use Rattle.world_spec.specs.Share.{IsHome, IsShareOf, Share, ahead_events, is_at, log_of}
-use Rattle.world_spec.proofs.ArrivalLemmas.{arrival}
+use Rattle.key_order.proofs.ArrivalLemmas.{arrival}
 use Rattle.world_spec.proofs.ClosedFacts.{left_of}
 use Rattle.world_spec.proofs.ClosedLaw.{committed_processed, due_parts, pending_is}
-use Rattle.world_spec.proofs.FilterLemmas.{filter-all, filter-none}
+use Rattle.key_order.proofs.FilterLemmas.{filter-all, filter-none}
 use Rattle.world_spec.proofs.FrontLemmas.{before-permutation, leading-same}
 use Rattle.world_spec.proofs.HomeLemmas.{at-home}
 use Rattle.world_spec.proofs.ProcessedLemmas.{IsProcessed, further-is, further_events}
@@ -88,7 +91,7 @@ module _ (m : Meaning) (t : Terms) (laws : MeaningLaws m) (home : ℕ → ℕ) (
   events_parts : (object : ℕ) → IsHome m home node object → events_at object share.pending ≡ events_at object (events_of happened) ++ events_at object rest
   events_parts object at = events_is object at ∙ ap (events_at object) (processed object at.0).goes_first.pending ∙ events_at-append object (events_of happened) rest
 
-  due_is : (object : ℕ) → IsHome m home node object → due_count bound (cut_key m t s) share object ≡ length (done_at object happened)
+  pub due_is : (object : ℕ) → IsHome m home node object → due_count bound (cut_key m t s) share object ≡ length (done_at object happened)
   unfolding due_count
   due_is object at =
       ap (λ xs. length (filter due xs)) (events_parts object at)
@@ -117,9 +120,9 @@ module _ (m : Meaning) (t : Terms) (laws : MeaningLaws m) (home : ℕ → ℕ) (
       let up : IsAscending (enqueue_all (emissions_of happened) rest) = subst P dropped after_up in
       let whole : filter here (enqueue_all (emissions_of happened) rest) ≡ enqueue_all (filter here (emissions_of happened)) (filter here rest) = filter-enqueue_all here (emissions_of happened) rest up in
       let Q : List Event → Type 0 = IsAscending in
-      let part_up : IsAscending (enqueue_all (filter here (emissions_of happened)) (filter here rest)) = subst Q whole (IsAscending-filter here (enqueue_all (emissions_of happened) rest) up) in
+      let part_up : IsAscending (enqueue_all (filter here (emissions_of happened)) (filter here rest)) = subst Q whole (Ascends-filter key_of here (enqueue_all (emissions_of happened) rest) up) in
       ap (enqueue_all es) left_is
-      ∙ arrival (filter here (emissions_of happened)) es (filter here rest) moves (IsAscending-filter here rest (IsAscending-without_all (emissions_of happened) rest up)) part_up
+      ∙ arrival (filter here (emissions_of happened)) es (filter here rest) moves (Ascends-filter key_of here rest (IsAscending-without_all (emissions_of happened) rest up)) part_up
       ∙ sym whole
       ∙ ap (λ xs. filter here (enqueue_all (emissions_of happened) xs)) (sym dropped)
 

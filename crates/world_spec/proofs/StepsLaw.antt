@@ -11,19 +11,18 @@ use Rattle.event_key.specs.declared.key.Key.{Key}
 use Rattle.model_core.specs.Meaning.{Meaning}
 use Rattle.model_core.specs.declared.event.Event.{Event}
 use Rattle.sim_spec.specs.Firing.{ObjectState, fails, fire, goes}
-use Rattle.sim_spec.specs.Pending.{IsAscending}
-use Rattle.sim_spec.specs.Replay.{Replay, events_at, replay, replay_fired}
+use Rattle.key_order.specs.Ascending.{IsAscending, key_of, Ascends}
+use Rattle.sim_spec.specs.Replay.{Replay, events_at, replay, replay_fired, taken}
 use Rattle.sim_spec.specs.Run.{next}
 use Rattle.sim_spec.specs.declared.terms.Terms.{Terms}
-use Rattle.sim_spec.proofs.AscendingLemmas.{ascending-before}
-use Rattle.sim_spec.proofs.EachLemmas.{Each-append}
+use Rattle.key_order.proofs.AscendingLemmas.{Ascends-before}
+use Rattle.key_order.proofs.EachLemmas.{Each-append}
 use Rattle.sim_spec.proofs.PartLemmas.{IsAscending-events_at, events_at-first}
 use Rattle.sim_spec.proofs.ReplayLemmas.{replay-append, replay-fault, replay_after}
-use Rattle.world_spec.specs.Early.{taken}
 use Rattle.world_spec.specs.Moves.{IsStep, Steps, one_more, raised}
 use Rattle.world_spec.specs.NodeLaws.{AdvanceLaw, StepsLaw}
 use Rattle.world_spec.specs.Share.{IsAhead, IsAtHome, IsHome, NodeData, Share, StandsFor, log_of}
-use Rattle.world_spec.proofs.TakenLemmas.{taken-whole}
+use Rattle.sim_spec.proofs.TakenLemmas.{taken-whole}
 
 -- the first event that is not taken
 pub next-of : (n : ℕ) (xs : List Event) (e : Event) (ys : List Event) → drop n xs ≡ e ∷ ys → (take (suc n) xs ≡ take n xs ++ (e ∷ [])) × (drop (suc n) xs ≡ ys) × (xs ≡ take n xs ++ (e ∷ ys))
@@ -68,17 +67,17 @@ module _ (m : Meaning) (t : Terms) (home : ℕ → ℕ) (node bound : ℕ) (shar
   abbrev same_share : Type 0
   same_share = StandsFor m t home node share ahead old
 
-  waits_here : same_share → (step : IsStep m home node bound old new) → Each (IsAtHome m home node) (step.event ∷ new.unprocessed)
+  pub waits_here : same_share → (step : IsStep m home node bound old new) → Each (IsAtHome m home node) (step.event ∷ new.unprocessed)
   waits_here stands step = let P : List Event → Type 0 = Each (IsAtHome m home node) in subst P step.waits stands.waiting_homed
 
-  dest_home : same_share → (step : IsStep m home node bound old new) → IsHome m home node step.event.key.dest
+  pub dest_home : same_share → (step : IsStep m home node bound old new) → IsHome m home node step.event.key.dest
   dest_home stands step = (waits_here stands step).0
 
   next_here : same_share → (step : IsStep m home node bound old new) → drop (ahead step.event.key.dest) (events_at step.event.key.dest share.pending) ≡ step.event ∷ events_at step.event.key.dest new.unprocessed
   next_here stands step =
       sym (stands.waiting step.event.key.dest (dest_home stands step)) ∙ ap (events_at step.event.key.dest) step.waits ∙ events_at-first step.event new.unprocessed
 
-  no_fault_here : same_share → (step : IsStep m home node bound old new) → (log_of m share step.event.key.dest (ahead step.event.key.dest)).fault ≡ None
+  pub no_fault_here : same_share → (step : IsStep m home node bound old new) → (log_of m share step.event.key.dest (ahead step.event.key.dest)).fault ≡ None
   unfolding log_of
   no_fault_here stands step = by_fault (log_of m share object (ahead object)).fault refl
     where
@@ -92,7 +91,7 @@ module _ (m : Meaning) (t : Terms) (home : ℕ → ℕ) (node bound : ℕ) (shar
       before =
           let split = (next-of (ahead object) (events_at object share.pending) e (events_at object new.unprocessed) (next_here stands step)).2 in
           let P : List Event → Type 0 = IsAscending in
-          ascending-before (take (ahead object) (events_at object share.pending)) e (events_at object new.unprocessed) (subst P split (IsAscending-events_at object share.pending stands.ordered))
+          Ascends-before key_of (take (ahead object) (events_at object share.pending)) e (events_at object new.unprocessed) (subst P split (IsAscending-events_at object share.pending stands.ordered))
 
       by_fault : (f : Option (Key × ℕ)) → (log_of m share object (ahead object)).fault ≡ f → f ≡ None
       by_fault None h = refl
@@ -117,7 +116,7 @@ module _ (m : Meaning) (t : Terms) (home : ℕ → ℕ) (node bound : ℕ) (shar
   raised_there dest object apart = sym (ap (λ b. cond b (suc (ahead object)) (ahead object)) (ne_eqb object dest apart))
 
   pub step_stands : bound ≤ end_stamp t.end → (step : IsStep m home node bound old new) → same_share → StandsFor m t home node share (raised ahead step.event.key.dest) new
-  unfolding IsAscending
+  unfolding Ascends
   step_stands le step stands =
       let e = step.event in
       let dest = e.key.dest in

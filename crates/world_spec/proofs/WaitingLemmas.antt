@@ -7,9 +7,8 @@ use Rattle.event_key.specs.Keys.{key_lt}
 use Rattle.model_core.specs.declared.event.Event.{Event}
 use Rattle.model_core.specs.Meaning.{Meaning}
 use Rattle.sim_spec.specs.declared.terms.Terms.{Terms}
-use Rattle.sim_spec.specs.Pending.{IsAscending}
+use Rattle.key_order.specs.Ascending.{IsAscending, Ascends}
 use Rattle.sim_spec.specs.Replay.{events_at}
-use Rattle.sim_spec.proofs.AscendingLemmas.{AllAfter-each, each-AllAfter}
 use Rattle.world_spec.specs.Share.{Share, IsHome, IsAtHome, IsAhead, NodeData, StandsFor, log_of}
 
 -- one less at this object
@@ -78,12 +77,12 @@ waiting_events-each P ahead (e ∷ es) all =
     [ true ↦ (all.0, waiting_events-each P ahead es all.1) | false ↦ waiting_events-each P (lowered ahead e.key.dest) es all.1 ]
 
 pub waiting_events-ascending : (ahead : ℕ → ℕ) (es : List Event) → IsAscending es → IsAscending (waiting_events ahead es)
-unfolding waiting_events IsAscending
+unfolding waiting_events Ascends
 waiting_events-ascending ahead [] up = tt
 waiting_events-ascending ahead (e ∷ es) up =
     elim (eqb (ahead e.key.dest) 0) as (λ b. IsAscending (cond b (e ∷ waiting_events ahead es) (waiting_events (lowered ahead e.key.dest) es))) [
       | true ↦ (
-        each-AllAfter e.key (waiting_events ahead es) (waiting_events-each (λ (x : Event). key_lt e.key x.key ≡ true) ahead es (AllAfter-each e.key es up.0)),
+        (waiting_events-each (λ (x : Event). key_lt e.key x.key ≡ true) ahead es up.0),
         waiting_events-ascending ahead es up.1,
       )
       | false ↦ waiting_events-ascending (lowered ahead e.key.dest) es up.1

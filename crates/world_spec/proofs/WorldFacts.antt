@@ -7,12 +7,12 @@ use Rattle.event_key.specs.declared.key.Key.{Key}
 use Rattle.model_core.specs.Meaning.{Meaning}
 use Rattle.model_core.specs.declared.event.Event.{Event}
 use Rattle.sim_spec.specs.Cut.{emissions_of}
-use Rattle.sim_spec.specs.Replay.{EmitsFrom, Replay, early_replay, events_at, replay}
+use Rattle.sim_spec.specs.Replay.{EmitsFrom, Replay, early_replay, events_at, replay, taken}
 use Rattle.sim_spec.specs.State.{State}
 use Rattle.sim_spec.specs.declared.terms.Terms.{Terms}
-use Rattle.sim_spec.proofs.EachLemmas.{Each-map}
+use Rattle.key_order.proofs.EachLemmas.{Each-map}
 use Rattle.sim_spec.proofs.PartLemmas.{Each-events_at}
-use Rattle.world_spec.specs.Early.{IsClosed, IsPastFault, RunsAhead, taken}
+use Rattle.world_spec.specs.Early.{IsClosed, IsPastFault, RunsAhead}
 use Rattle.world_spec.specs.Moves.{IsPastFaultOf}
 use Rattle.world_spec.specs.Share.{IsHome, IsShareOf, Share, log_of}
 use Rattle.world_spec.specs.World.{WorldData, WorldIsClosed, WorldStands}
@@ -43,7 +43,7 @@ module _ (m : Meaning) (t : Terms) (home : ℕ → ℕ) (nodes : ℕ) (s : State
         below = subst P (share-events m home s node (shares node) own object at) early_here.below;
       }
 
-  log_is : (node object : ℕ) → node < nodes → IsHome m home node object → (world.node node).log object ≡ early_replay m s object (ahead object)
+  pub log_is : (node object : ℕ) → node < nodes → IsHome m home node object → (world.node node).log object ≡ early_replay m s object (ahead object)
   log_is node object inside at =
       (stands.stands node inside).logs object at ∙ share-log m home s node (shares node) (stands.shares_of node inside) object (ahead object) at
 

@@ -11,8 +11,9 @@ use Rattle.sim_spec.specs.declared.placement.Placement.TheVariants.{Round, Block
 use Rattle.sim_spec.specs.declared.terms.Terms.{Terms}
 use Rattle.world_spec.specs.World.{PlacementLaw}
 use Rattle.sim_spec.specs.State.{State, object_at}
-use Rattle.sim_spec.proofs.AscendingLemmas.{IsAscending-filter}
-use Rattle.world_spec.specs.Early.{taken}
+use Rattle.key_order.proofs.AscendingLemmas.{Ascends-filter}
+use Rattle.key_order.specs.Ascending.{key_of}
+use Rattle.sim_spec.specs.Replay.{taken}
 use Rattle.world_spec.specs.Share.{Share, IsHome, is_at, IsShareOf, IsAhead}
 use Rattle.world_spec.specs.WorldLaws.{WorldsLaw}
 use Rattle.world_spec.proofs.NextWorld.{share-homed}
@@ -48,7 +49,7 @@ worlds_law m t home nodes s ahead lawful homes runs = record {
     made = λ node inside. record { model = refl; terms = refl; number = refl; homes = λ object below. refl };
     shares_of = λ node inside. share_at-is m home s node;
     stands = λ node inside.
-        node_with-stands m t home node (share_at home s node) ahead (IsAscending-filter (is_at home node) s.pending lawful.ordered) (share-homed m t s home node lawful)
+        node_with-stands m t home node (share_at home s node) ahead (Ascends-filter key_of (is_at home node) s.pending lawful.ordered) (share-homed m t s home node lawful)
         (λ object at. lawful.cells object at.0) (early node);
     count = refl;
     fault = λ fault is_fault. absurd (cc);

@@ -1,7 +1,6 @@
 -- What a cycle answers, from the keys that are processed below its bound, the least fault among them, and the records.
-use Rattle.std.specs.Prelude.{◌≡◌, ℕ, ◌-◌, ◌<◌, ◌≤◌, true, Bool, List, [], ◌∷◌, map, filter, drop, length, ◌==◌, Option, Some, None, nat_lt, ◌||◌, ◌&&◌, is_some, if◌then◌else◌}
+use Rattle.std.specs.Prelude.{◌≡◌, ℕ, ◌-◌, ◌<◌, ◌≤◌, Bool, List, [], ◌∷◌, map, filter, drop, length, ◌==◌, Option, Some, None, nat_lt, ◌||◌, ◌&&◌, is_some, if◌then◌else◌}
 use Rattle.event_key.specs.declared.key.Key.{Key}
-use Rattle.event_key.specs.Keys.{key_lt}
 use Rattle.model_core.specs.declared.event.Event.{Event}
 use Rattle.model_core.specs.declared.note.Note.{Note}
 use Rattle.model_core.specs.Meaning.{Meaning}
@@ -9,18 +8,10 @@ use Rattle.sim_spec.specs.declared.bucket.Bucket.{Bucket}
 use Rattle.sim_spec.specs.declared.terms.Terms.{Terms}
 use Rattle.sim_spec.specs.State.{State, Lawful}
 use Rattle.sim_spec.specs.Cut.{committed_events, cut, records_of}
-use Rattle.world_spec.specs.Early.{early_events, RunsAhead, IsClosed, is_uncut}
+use Rattle.world_spec.specs.Early.{early_events, RunsAhead, IsClosed}
+use Rattle.key_order.specs.Due.{is_uncut}
 use Rattle.world_spec.specs.Closed.{IsLeastFault, fault_key, cut_key}
-
--- elements in the order of their keys
-module _ {X : Type 0} (key : X → Key) where
-  unfoldable pub After : Key → List X → Type 0
-  After k [] = Unit {0}
-  After k (x ∷ xs) = (key_lt k (key x) ≡ true) × After k xs
-
-  unfoldable pub Ascends : List X → Type 0
-  Ascends [] = Unit {0}
-  Ascends (x ∷ xs) = After (key x) xs × Ascends xs
+use Rattle.key_order.specs.Ascending.{Ascends}
 
 abbrev pub keys_of : List Event → List Key
 keys_of = map (λ e. e.key)

@@ -10,7 +10,8 @@ use Rattle.sim_spec.specs.State.{State, Lawful}
 use Rattle.sim_spec.specs.Horizon.{horizon_bucket, reach}
 use Rattle.sim_spec.specs.Cut.{events_of, emissions_of, committed_events, after}
 use Rattle.sim_spec.specs.Replay.{early_replay, events_at, done_at}
-use Rattle.world_spec.specs.Early.{early_events, is_before_all, RunsAhead, IsClosed, is_due, kept}
+use Rattle.world_spec.specs.Early.{early_events, is_before_all, RunsAhead, IsClosed, kept}
+use Rattle.key_order.specs.Due.{is_due}
 
 -- the least fault below the bound, or none
 abbrev pub IsLeastFault : Meaning → State → (ℕ → ℕ) → ℕ → Option (Key × ℕ) → Type 0

@@ -1,6 +1,6 @@
 -- How far each object has run ahead of a state, whatever the others did: optimistic processing, which is undone
 -- where a message comes late (Jefferson, "Virtual Time", 1985).
-use Rattle.std.specs.Prelude.{◌≡◌, ◌⊎◌, ℕ, ◌+◌, ◌<◌, ◌≤◌, Bool, true, ◌&&◌, List, [], ◌∷◌, length, take, drop, if◌then◌else◌, nat_lt, Option, Some, None, Contains}
+use Rattle.std.specs.Prelude.{◌≡◌, ◌⊎◌, ℕ, ◌+◌, ◌<◌, ◌≤◌, Bool, true, List, [], ◌∷◌, length, take, drop, if◌then◌else◌, Some, Contains}
 use Rattle.std.specs.List.{list_all, AllByRecursion}
 use Rattle.event_key.specs.declared.key.Key.{Key}
 use Rattle.event_key.specs.Keys.{key_lt}
@@ -11,15 +11,7 @@ use Rattle.sim_spec.specs.declared.terms.Terms.{Terms}
 use Rattle.sim_spec.specs.Firing.{Firing}
 use Rattle.sim_spec.specs.State.{State}
 use Rattle.sim_spec.specs.Cut.{emissions_of}
-use Rattle.sim_spec.specs.Replay.{Replay, early_replay, events_at, done_at, EmitsFrom}
-
-abbrev pub fault_count : Option (Key × ℕ) → ℕ
-fault_count None = 0
-fault_count (Some fault) = 1
-
--- how many events a replay has taken: those that went, and the one that failed
-abbrev pub taken : Replay → ℕ
-taken r = length r.done + fault_count r.fault
+use Rattle.sim_spec.specs.Replay.{early_replay, events_at, done_at, EmitsFrom, taken}
 
 -- the first n pending events of an object
 abbrev pub early_events : State → ℕ → ℕ → List Event
@@ -53,15 +45,6 @@ pub record IsClosed (m : Meaning) (t : Terms) (s : State) (ahead : ℕ → ℕ) 
   pub held : (object : ℕ) → object < m.objects → EmitsFrom bound (early_replay m s object (ahead object)).done
   pub waiting : (object : ℕ) → object < m.objects
       → AllByRecursion (λ e. (bound ≤ e.key.stamp) ⊎ IsPastFault m s ahead e.key) (drop (ahead object) (events_at object s.pending))
-
--- the key comes before the cut, if there is one
-abbrev pub is_uncut : Option Key → Key → Bool
-is_uncut None key = true
-is_uncut (Some cut) key = key_lt key cut
-
--- what a commit at this bound and cut takes
-unfoldable pub is_due : ℕ → Option Key → Key → Bool
-is_due bound cut key = nat_lt key.stamp bound && is_uncut cut key
 
 -- the event comes before each of these messages
 unfoldable pub is_before_all : List Event → Event → Bool

@@ -7,9 +7,11 @@ use Rattle.event_key.specs.Stamps.{end_stamp}
 use Rattle.model_core.specs.declared.event.Event.{Event}
 use Rattle.model_core.specs.Meaning.{Meaning}
 use Rattle.sim_spec.specs.declared.terms.Terms.{Terms}
-use Rattle.sim_spec.specs.Pending.{enqueue_all, IsAscending}
+use Rattle.key_order.specs.Pending.{enqueue_all}
+use Rattle.key_order.specs.Ascending.{IsAscending}
 use Rattle.sim_spec.specs.Replay.{Replay, replay, events_at}
-use Rattle.world_spec.specs.Early.{is_due, is_before_all, leading}
+use Rattle.key_order.specs.Due.{is_due}
+use Rattle.world_spec.specs.Early.{is_before_all, leading}
 use Rattle.world_spec.specs.Share.{Share, IsHome, IsAtHome, NodeData, ahead_events, log_of}
 
 -- a log with one event more

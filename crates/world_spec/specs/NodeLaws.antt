@@ -6,7 +6,8 @@ use Rattle.event_key.specs.Stamps.{end_stamp}
 use Rattle.model_core.specs.declared.event.Event.{Event}
 use Rattle.model_core.specs.Meaning.{Meaning}
 use Rattle.sim_spec.specs.declared.terms.Terms.{Terms}
-use Rattle.sim_spec.specs.Pending.{IsAscending, enqueue_all}
+use Rattle.key_order.specs.Ascending.{IsAscending}
+use Rattle.key_order.specs.Pending.{enqueue_all}
 use Rattle.sim_spec.specs.Replay.{events_at}
 use Rattle.world_spec.specs.Share.{Share, IsHome, IsAtHome, NodeData, StandsFor}
 use Rattle.world_spec.specs.Moves.{Steps, IsAdvance, received, received_ahead, committed, committed_ahead, IsDueDone, IsCommit, IsReceipt, IsRollback}

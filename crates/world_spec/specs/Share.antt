@@ -6,10 +6,9 @@ use Rattle.model_core.specs.declared.event.Event.{Event}
 use Rattle.model_core.specs.Meaning.{Meaning}
 use Rattle.sim_spec.specs.declared.terms.Terms.{Terms}
 use Rattle.sim_spec.specs.Firing.{ObjectState}
-use Rattle.sim_spec.specs.Pending.{IsAscending}
+use Rattle.key_order.specs.Ascending.{IsAscending}
 use Rattle.sim_spec.specs.State.{State, object_at}
-use Rattle.sim_spec.specs.Replay.{Replay, replay, events_at}
-use Rattle.world_spec.specs.Early.{taken}
+use Rattle.sim_spec.specs.Replay.{Replay, replay, events_at, taken}
 
 -- the states of a node's objects, and their pending events in the order of their keys
 pub record Share : Type 0 where

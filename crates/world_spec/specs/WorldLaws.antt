@@ -12,7 +12,7 @@ use Rattle.sim_spec.specs.declared.terms.Terms.{Terms}
 use Rattle.sim_spec.specs.Firing.{Firing}
 use Rattle.sim_spec.specs.State.{State, Lawful}
 use Rattle.sim_spec.specs.Cut.{committed_events, cut, after, records_of}
-use Rattle.world_spec.specs.Answer.{Ascends}
+use Rattle.key_order.specs.Ascending.{Ascends}
 use Rattle.world_spec.specs.Early.{RunsAhead, kept}
 use Rattle.world_spec.specs.Closed.{cut_key, IsCycleOf}
 use Rattle.world_spec.specs.Share.{Share, NodeData}

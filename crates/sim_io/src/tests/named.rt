@@ -3,7 +3,7 @@ ghost use Rattle.std.specs.Prelude.{codes, decimal, [], ◌++◌, true};
 ghost use Rattle.model_core.specs.declared.effect.Outcome.TheVariants.{Fails};
 
 use model_core::model::Model as SimulationModel;
-use model_core::{Cells, Event, OutOfMemory, Outcome, Start};
+use model_core::{Cells, Effect, Ending, Event, OutOfMemory, Start, Stream};
 use std::alloc::Global;
 
 /// Nine objects, named by a `p` and their numbers.
@@ -52,14 +52,15 @@ impl SimulationModel for Named {
         true
     }
 
-    fn react(
+    fn respond(
         &self,
-        _alloc: Global,
+        _words: &mut Stream,
         _object: u32,
         _cells: &Cells,
         _event: &Event,
-    ) -> Result<Outcome, OutOfMemory> {
-        Ok(Outcome::Fails(2))
+        _sheet: &mut Effect,
+    ) -> Result<Ending, OutOfMemory> {
+        Ok(Ending::Fails(2))
     }
 
     fn put_name(&self, alloc: Global, object: u32, into: &mut Vec<u8>) -> Result<(), OutOfMemory> {

@@ -1,7 +1,7 @@
 -- Where none of all has faulted, none of those that are due has.
 use Rattle.std.proofs.Common.{◌≡◌, rules}
 use Rattle.std.specs.Prelude.{None}
-use Rattle.world_spec.specs.Early.{is_due}
+use Rattle.key_order.specs.Due.{is_due}
 use Rattle.object_log.specs.Logs.{fault_of}
 use Rattle.object_log.proofs.FaultLemmas.{fault-filter}
 use Rattle.log_runs.proofs.tests.assert_went.Goals as goal

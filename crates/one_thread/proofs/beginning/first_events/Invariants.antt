@@ -1,7 +1,7 @@
 use Rattle.std.proofs.Common.{◌≡◌, ◌+◌, ◌≤◌, [], map, length}
 use Rattle.std.specs.List.{range_with_len}
 use Rattle.sim_spec.specs.State.{start_event}
-use Rattle.sim_spec.proofs.SerialLemmas.{SerialsBelow}
+use Rattle.key_order.specs.Serials.{SerialsBelow}
 use Rattle.one_thread.proofs.beginning.first_events.Given as goal
 
 abbrev pub invariant-loop-i : goal.invariant-loop-i

@@ -1,7 +1,7 @@
 use Rattle.std.proofs.Common.{◌≡◌, ◌+◌, ◌≤◌, ◌++◌, false, drop, length}
 use Rattle.model_core.specs.Meaning.{SendsInRange}
 use Rattle.sim_spec.specs.Firing.{has_chain, emissions}
-use Rattle.sim_spec.proofs.SerialLemmas.{SerialsBelow}
+use Rattle.key_order.specs.Serials.{SerialsBelow}
 use Rattle.one_thread.proofs.sending.send_all.Given as goal
 
 abbrev pub invariant-loop-send : goal.invariant-loop-send

@@ -2,7 +2,7 @@ use Rattle.std.proofs.Common.{rules}
 use Rattle.std.proofs.lemmas.List.Sorted.{answers_always}
 use Rattle.event_key.specs.Keys.{key_lt, key_cmp}
 use Rattle.model_core.specs.declared.event.Event.{Event}
-use Rattle.speedes_queue.proofs.Sorting.{in_order_by_sort}
+use Rattle.key_order.proofs.InOrder.{in_order_by_sort}
 use Rattle.speedes_queue.proofs.fresh.sort_cells.Goals as goal
 
 pub returns-clause-items : goal.returns-clause-items

@@ -1,6 +1,6 @@
 -- The first pending event says what comes next.
 use Rattle.std.proofs.Common.{arith, sym, ap, ◌∙◌}
-use Rattle.speedes_queue.specs.Keys.{first_key}
+use Rattle.key_order.specs.Keys.{first_key}
 use Rattle.one_thread.specs.Engines.{Course, state_of}
 use Rattle.one_thread.proofs.CourseLemmas.{stops_none, stops_late, stops_full, goes_on}
 use Rattle.one_thread.proofs.course.Course.end_or_limit.Goals as goal

@@ -1,16 +1,15 @@
 -- The event that is due is fired as the definition fires it.
-use Rattle.std.proofs.Common.{◌+◌, ◌++◌, ◌∷◌, [], List, length, sym, ap, ◌∙◌, subst, arith}
+use Rattle.std.proofs.Common.{◌+◌, ◌++◌, ◌∷◌, [], List, length, ap, ◌∙◌, subst, arith}
 use Rattle.std.specs.Prelude.{slice_set}
 use Rattle.model_core.specs.declared.event.Event.{Event}
 use Rattle.sim_spec.specs.Firing.{ObjectState, has_chain}
-use Rattle.event_firing.specs.declared.reaction.Reaction.{Reaction}
-use Rattle.event_firing.specs.declared.reaction.Reaction.TheVariants.{Goes, Fails}
+use Rattle.model_core.specs.declared.effect.Ending.{Ending}
+use Rattle.model_core.specs.declared.effect.Ending.TheVariants.{Goes, Fails}
 use Rattle.event_firing.specs.Reactions.{IsReaction}
 use Rattle.one_thread.specs.Engines.{Course}
 use Rattle.one_thread.specs.Turns.{IsDone, IsFailed}
 use Rattle.one_thread.proofs.FireLemmas.{course_of, taken_in, object_read, lawful_read, serials_read, one_ascending, back_in_place, put_back, done, failed, ranged_as}
 use Rattle.one_thread.proofs.course.Course.fire.Goals as goal
-use Rattle.one_thread.proofs.course.Course.fire.Goals.{in-Many-2, in-Nothing-2}
 
 pub overflow_cast-key : goal.overflow_cast-key
 overflow_cast-key g c =
@@ -58,14 +57,14 @@ send_all-requires-clause-time g c =
 
 pub send_all-requires-clause-stepping : goal.send_all-requires-clause-stepping
 send_all-requires-clause-stepping g c =
-    let P : Reaction → Type 0 = λ r. IsReaction (g.M.Model.meaning c.args.model.now) c.index_mut-object.result.now c.get-event.result.now r c.fire.new.self in
-    let goes : P (Goes c.in-Goes.sending) = subst P c.in-Goes.is c.in_ok-sending.ensures.ok in
+    let P : Ending → Type 0 = λ ending. IsReaction (g.M.Model.meaning c.args.model.now) c.index_mut-object.result.now c.get-event.result.now c.fire.new.sheet ending c.fire.new.self in
+    let goes : P Goes = subst P c.in-Goes.is c.in_ok-fire.ensures.ok in
     ap (has_chain c.get-event.result.now.key.stamp) c.as_slice.ensures ∙ goes.stepping
 
 pub send_all-requires-clause-ranged : goal.send_all-requires-clause-ranged
 send_all-requires-clause-ranged g c =
-    let P : Reaction → Type 0 = λ r. IsReaction (g.M.Model.meaning c.args.model.now) c.index_mut-object.result.now c.get-event.result.now r c.fire.new.self in
-    let goes : P (Goes c.in-Goes.sending) = subst P c.in-Goes.is c.in_ok-sending.ensures.ok in
+    let P : Ending → Type 0 = λ ending. IsReaction (g.M.Model.meaning c.args.model.now) c.index_mut-object.result.now c.get-event.result.now c.fire.new.sheet ending c.fire.new.self in
+    let goes : P Goes = subst P c.in-Goes.is c.in_ok-fire.ensures.ok in
     ranged_as _ _ _ _ c.objects.ensures c.as_slice.ensures goes.ranged
 
 pub send_all-requires-clause-serials : goal.send_all-requires-clause-serials
@@ -73,34 +72,34 @@ send_all-requires-clause-serials g c =
     let k = taken_in (g.M.Model.meaning c.args.model.now) c.args.terms.now c.args.self.now c.self.inside.objects.items c.self.inside.queue c.pop.new.self c.self.inside.count c.in-Some.cell c.get-event.result.now
     c.self.view_is c.keeps_laws.ensures c.requires.lawful c.requires.due c.get-event.ensures c.in-Some.ensures.ahead in
     let o = object_read c.self.inside.objects.items c.get-event.result.now.key.dest c.index_mut-object.result.now k.within c.index_mut-object.ensures.value in
-    let P : Reaction → Type 0 = λ r. IsReaction (g.M.Model.meaning c.args.model.now) c.index_mut-object.result.now c.get-event.result.now r c.fire.new.self in
-    let goes : P (Goes c.in-Goes.sending) = subst P c.in-Goes.is c.in_ok-sending.ensures.ok in
-    let same = ap (λ (o : ObjectState). o.sent) o in let few = k.sent in let is = goes.serial in let short = goes.few in let long = ap length c.as_slice.ensures in omega arith
+    let P : Ending → Type 0 = λ ending. IsReaction (g.M.Model.meaning c.args.model.now) c.index_mut-object.result.now c.get-event.result.now c.fire.new.sheet ending c.fire.new.self in
+    let goes : P Goes = subst P c.in-Goes.is c.in_ok-fire.ensures.ok in
+    let same = ap (λ (o : ObjectState). o.sent) o in let few = k.sent in let is = c.sent-serial.ensures in let short = goes.few in let long = ap length c.as_slice.ensures in omega arith
 
 pub send_all-requires-clause-primary : goal.send_all-requires-clause-primary
 send_all-requires-clause-primary g c =
     let k = taken_in (g.M.Model.meaning c.args.model.now) c.args.terms.now c.args.self.now c.self.inside.objects.items c.self.inside.queue c.pop.new.self c.self.inside.count c.in-Some.cell c.get-event.result.now
     c.self.view_is c.keeps_laws.ensures c.requires.lawful c.requires.due c.get-event.ensures c.in-Some.ensures.ahead in
     let o = object_read c.self.inside.objects.items c.get-event.result.now.key.dest c.index_mut-object.result.now k.within c.index_mut-object.ensures.value in
-    let P : Reaction → Type 0 = λ r. IsReaction (g.M.Model.meaning c.args.model.now) c.index_mut-object.result.now c.get-event.result.now r c.fire.new.self in
-    let goes : P (Goes c.in-Goes.sending) = subst P c.in-Goes.is c.in_ok-sending.ensures.ok in
-    serials_read _ _ c.self.inside.objects.items _ _ o goes.serial k.serials
+    let P : Ending → Type 0 = λ ending. IsReaction (g.M.Model.meaning c.args.model.now) c.index_mut-object.result.now c.get-event.result.now c.fire.new.sheet ending c.fire.new.self in
+    let goes : P Goes = subst P c.in-Goes.is c.in_ok-fire.ensures.ok in
+    serials_read _ _ c.self.inside.objects.items _ _ o c.sent-serial.ensures k.serials
 
 pub send_all-requires-clause-fresh : goal.send_all-requires-clause-fresh
 send_all-requires-clause-fresh g c =
     let k = taken_in (g.M.Model.meaning c.args.model.now) c.args.terms.now c.args.self.now c.self.inside.objects.items c.self.inside.queue c.pop.new.self c.self.inside.count c.in-Some.cell c.get-event.result.now
     c.self.view_is c.keeps_laws.ensures c.requires.lawful c.requires.due c.get-event.ensures c.in-Some.ensures.ahead in
     let o = object_read c.self.inside.objects.items c.get-event.result.now.key.dest c.index_mut-object.result.now k.within c.index_mut-object.ensures.value in
-    let P : Reaction → Type 0 = λ r. IsReaction (g.M.Model.meaning c.args.model.now) c.index_mut-object.result.now c.get-event.result.now r c.fire.new.self in
-    let goes : P (Goes c.in-Goes.sending) = subst P c.in-Goes.is c.in_ok-sending.ensures.ok in
-    serials_read _ _ c.self.inside.objects.items _ _ o goes.serial k.serials_fresh
+    let P : Ending → Type 0 = λ ending. IsReaction (g.M.Model.meaning c.args.model.now) c.index_mut-object.result.now c.get-event.result.now c.fire.new.sheet ending c.fire.new.self in
+    let goes : P Goes = subst P c.in-Goes.is c.in_ok-fire.ensures.ok in
+    serials_read _ _ c.self.inside.objects.items _ _ o c.sent-serial.ensures k.serials_fresh
 
 pub send_all-requires-clause-room : goal.send_all-requires-clause-room
 send_all-requires-clause-room g c =
     let k = taken_in (g.M.Model.meaning c.args.model.now) c.args.terms.now c.args.self.now c.self.inside.objects.items c.self.inside.queue c.pop.new.self c.self.inside.count c.in-Some.cell c.get-event.result.now
     c.self.view_is c.keeps_laws.ensures c.requires.lawful c.requires.due c.get-event.ensures c.in-Some.ensures.ahead in
-    let P : Reaction → Type 0 = λ r. IsReaction (g.M.Model.meaning c.args.model.now) c.index_mut-object.result.now c.get-event.result.now r c.fire.new.self in
-    let goes : P (Goes c.in-Goes.sending) = subst P c.in-Goes.is c.in_ok-sending.ensures.ok in
+    let P : Ending → Type 0 = λ ending. IsReaction (g.M.Model.meaning c.args.model.now) c.index_mut-object.result.now c.get-event.result.now c.fire.new.sheet ending c.fire.new.self in
+    let goes : P Goes = subst P c.in-Goes.is c.in_ok-fire.ensures.ok in
     let room = k.room in let short = goes.few in let long = ap length c.as_slice.ensures in omega arith
 
 pub returns-in_ok-send_all-in-Goes : goal.returns-in_ok-send_all-in-Goes
@@ -108,24 +107,22 @@ returns-in_ok-send_all-in-Goes g c =
     let k = taken_in (g.M.Model.meaning c.args.model.now) c.args.terms.now c.args.self.now c.self.inside.objects.items c.self.inside.queue c.pop.new.self c.self.inside.count c.in-Some.cell c.get-event.result.now
     c.self.view_is c.keeps_laws.ensures c.requires.lawful c.requires.due c.get-event.ensures c.in-Some.ensures.ahead in
     let o = object_read c.self.inside.objects.items c.get-event.result.now.key.dest c.index_mut-object.result.now k.within c.index_mut-object.ensures.value in
-    let P : Reaction → Type 0 = λ r. IsReaction (g.M.Model.meaning c.args.model.now) c.index_mut-object.result.now c.get-event.result.now r c.fire.new.self in
-    let goes : P (Goes c.in-Goes.sending) = subst P c.in-Goes.is c.in_ok-sending.ensures.ok in
+    let P : Ending → Type 0 = λ ending. IsReaction (g.M.Model.meaning c.args.model.now) c.index_mut-object.result.now c.get-event.result.now c.fire.new.sheet ending c.fire.new.self in
+    let goes : P Goes = subst P c.in-Goes.is c.in_ok-fire.ensures.ok in
     let e = c.get-event.result.now in
     let m = g.M.Model.meaning c.args.model.now in
     let after = course_of (slice_set c.self.inside.objects.items e.key.dest c.fire.new.self) c.send_all.new.queue (c.self.inside.count + 1) in
-    let D : Course → Type 0 = λ old. IsDone m c.args.terms.now old e.key c.in-Goes.sending.note after in
-    let E : Course → Type 0 = IsDone m c.args.terms.now c.args.self.now e.key c.in-Goes.sending.note in
+    let D : Course → Type 0 = λ old. IsDone m c.args.terms.now old e.key c.fire.new.sheet.note after in
     let same = ap (λ (v : Course). v.count) c.self.view_is in
-    let is_done : E after = subst D c.self.view_is
-    (done m c.args.terms.now (course_of c.self.inside.objects.items c.self.inside.queue c.self.inside.count) _ e c.pop.new.self.primary c.pop.new.self.fresh c.index_mut-object.result.now c.fire.new.self c.in-Goes.sending c.as_slice.result.now
-    k (omega (arith, c.requires.free)) o goes c.as_slice.ensures
+    subst D c.self.view_is
+    (done m c.args.terms.now (course_of c.self.inside.objects.items c.self.inside.queue c.self.inside.count) _ e c.pop.new.self.primary c.pop.new.self.fresh c.index_mut-object.result.now c.fire.new.self c.fire.new.sheet c.sent-serial.result c.as_slice.result.now
+    k (omega (arith, c.requires.free)) o goes c.sent-serial.ensures c.as_slice.ensures
     (λ i. record {
       objects = slice_set c.self.inside.objects.items e.key.dest c.fire.new.self;
       primary = c.in_ok-send_all-in-Goes.ensures.primary i;
       fresh = c.in_ok-send_all-in-Goes.ensures.fresh i;
       count = c.self.inside.count + 1;
-    })) in
-    elim c.match-sending-2.branch [ in-Many-2 w ↦ subst E (sym w.self-is) is_done | in-Nothing-2 w ↦ subst E (sym w.self-is) is_done ]
+    }))
 
 pub give_back-requires-clause-ascending : goal.give_back-requires-clause-ascending
 give_back-requires-clause-ascending g c =
@@ -142,8 +139,8 @@ returns-in-Fails g c =
     let k = taken_in (g.M.Model.meaning c.args.model.now) c.args.terms.now c.args.self.now c.self.inside.objects.items c.self.inside.queue c.pop.new.self c.self.inside.count c.in-Some.cell c.get-event.result.now
     c.self.view_is c.keeps_laws.ensures c.requires.lawful c.requires.due c.get-event.ensures c.in-Some.ensures.ahead in
     let o = object_read c.self.inside.objects.items c.get-event.result.now.key.dest c.index_mut-object.result.now k.within c.index_mut-object.ensures.value in
-    let P : Reaction → Type 0 = λ r. IsReaction (g.M.Model.meaning c.args.model.now) c.index_mut-object.result.now c.get-event.result.now r c.fire.new.self in
-    let fails : P (Fails c.in-Fails.code) = subst P c.in-Fails.is c.in_ok-sending.ensures.ok in
+    let P : Ending → Type 0 = λ ending. IsReaction (g.M.Model.meaning c.args.model.now) c.index_mut-object.result.now c.get-event.result.now c.fire.new.sheet ending c.fire.new.self in
+    let fails : P (Fails c.in-Fails.code) = subst P c.in-Fails.is c.in_ok-fire.ensures.ok in
     let e = c.get-event.result.now in
     let m = g.M.Model.meaning c.args.model.now in
     let D : Course → Type 0 = λ old. IsFailed m c.args.terms.now old e.key c.in-Fails.code in

@@ -1,6 +1,6 @@
 -- The first event in order is below the horizon, or nothing is.
 use Rattle.std.proofs.Common.{refl, sym, ap, ◌∙◌, arith}
-use Rattle.speedes_queue.specs.Keys.{first_key}
+use Rattle.key_order.specs.Keys.{first_key}
 use Rattle.one_thread.specs.Engines.{Course}
 use Rattle.one_thread.specs.Turns.{horizon_of}
 use Rattle.one_thread.proofs.TurnLemmas.{horizon_is, nothing_due, late_due, is_due, is_full}

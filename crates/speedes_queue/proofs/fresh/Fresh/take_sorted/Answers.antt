@@ -2,8 +2,7 @@ use Rattle.std.proofs.Common.{sym, ◌∙◌, ap, arith, Some, subst}
 use Rattle.std.specs.Prelude.{Option, Vec}
 use Rattle.std.specs.declared.alloc.Global.{Global}
 use Rattle.model_core.specs.declared.event.Event.{Event}
-use Rattle.sim_spec.specs.Pending.{enqueue_all}
-use Rattle.speedes_queue.specs.Keys.{in_order}
+use Rattle.key_order.specs.Pending.{enqueue_all, in_order}
 use Rattle.speedes_queue.specs.Fresh.{FreshView, events_of, HaveRoom}
 use Rattle.speedes_queue.proofs.FreshLemmas.{fresh_none}
 use Rattle.speedes_queue.proofs.fresh.Fresh.take_sorted.Goals as goal

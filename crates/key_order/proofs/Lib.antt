@@ -1,0 +1,15 @@
+pub mod ArrivalLemmas
+pub mod AscendingLemmas
+pub mod DueLemmas
+pub mod EachLemmas
+pub mod EnqueueLemmas
+pub mod FilterLemmas
+pub mod InOrder
+pub mod KeyLemmas
+pub mod LeastLemmas
+pub mod MemberLemmas
+pub mod OrderLemmas
+pub mod SerialLemmas
+pub mod ShareLemmas
+pub mod SortLemmas
+pub mod StampLemmas

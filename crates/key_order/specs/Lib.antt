@@ -1,0 +1,6 @@
+pub mod Ascending
+pub mod Due
+pub mod Keys
+pub mod Pending
+pub mod Serials
+pub mod Stamps
