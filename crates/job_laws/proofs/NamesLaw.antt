@@ -23,7 +23,7 @@ use Rattle.queue_models.specs.Objects.{NetworkParts, object_at, source_numbers}
 use Rattle.queue_models.specs.Roles.{is_lawful, first_cells_of}
 use Rattle.queue_models.specs.Sources.{made_of, left_of, idle_effect, last_effect, make_effect}
 use Rattle.queue_models.specs.Sites.{place_of}
-use Rattle.run_laws.proofs.Steps.{firing_of}
+use Rattle.run_laws.proofs.Steps.{first_firing}
 use Rattle.queue_laws.specs.Stations.{cells_at}
 use Rattle.queue_laws.proofs.Cases.{EventDoes, idles, makes_last, makes}
 use Rattle.queue_laws.proofs.Leaves.{source_cells, source_shape, last_leaves, make_leaves}
@@ -80,7 +80,7 @@ none_of_other i word source number (e ∷ rest) apart = by (word == 2)
 pub listed_on : (p : NetworkParts) (t : Terms) (s : State) (told : Key × Note) (after : State) (jobs : List (Job × Place)) → IsNetworkStep p t s told after
     → numbers_from listed (places_after p s jobs (does told after)) ≡ numbers_from listed jobs
 listed_on p t s told after jobs n =
-    let sent : List Event = (firing_of s n.step.event n.step.effect).events in
+    let sent : List Event = (first_firing s n.step.event n.step.effect).events in
     let note : Note = n.step.effect.note in
     let key : Key = n.step.event.key in
     ap (numbers_from listed) (places_after-step p t s told after n jobs)
@@ -133,13 +133,13 @@ pub made_on : (p : NetworkParts) (t : Terms) (s : State) (told : Key × Note) (a
 unfolding Numbered
 made_on p t s told after jobs n i source is so_far =
     ap (numbers_from (made_by i)) (places_after-step p t s told after n jobs)
-    ∙ names_after (made_by i) n.step.event.key n.step.effect.note _ (firing_of s n.step.event n.step.effect).events jobs
+    ∙ names_after (made_by i) n.step.event.key n.step.effect.note _ (first_firing s n.step.event n.step.effect).events jobs
     ∙ by (eqb i n.step.event.key.dest) refl
   where
     at_source : (source : Source) → (object_at p.objects n.step.event.key.dest).role ≡ Makes source
         → numbers_from (made_by n.step.event.key.dest) jobs ≡ range_with_len 1 (made_of (cells_at s n.step.event.key.dest))
         → numbers_from (made_by n.step.event.key.dest) jobs
-        ++ numbers_from (made_by n.step.event.key.dest) (newly_made (word_told n.step.effect.note) n.step.event.key.dest (job_told n.step.effect.note) (firing_of s n.step.event n.step.effect).events)
+        ++ numbers_from (made_by n.step.event.key.dest) (newly_made (word_told n.step.effect.note) n.step.event.key.dest (job_told n.step.effect.note) (first_firing s n.step.event n.step.effect).events)
         ≡ range_with_len 1 (made_of (cells_at after n.step.event.key.dest))
     at_source source is so_far =
         let e : Event = n.step.event in
@@ -151,12 +151,12 @@ made_on p t s told after jobs n i source is so_far =
         ∙ ap (λ (c : CellData). range_with_len 1 (made_of c)) (sym (cells_here p t s told after n))
 
     by : (here : Bool) → eqb i n.step.event.key.dest ≡ here
-        → numbers_from (made_by i) jobs ++ numbers_from (made_by i) (newly_made (word_told n.step.effect.note) n.step.event.key.dest (job_told n.step.effect.note) (firing_of s n.step.event n.step.effect).events)
+        → numbers_from (made_by i) jobs ++ numbers_from (made_by i) (newly_made (word_told n.step.effect.note) n.step.event.key.dest (job_told n.step.effect.note) (first_firing s n.step.event n.step.effect).events)
         ≡ range_with_len 1 (made_of (cells_at after i))
     by true here_is =
         let same : i ≡ n.step.event.key.dest = eqb-true i n.step.event.key.dest here_is in
         let P : ℕ → Type 0 = λ j. (object_at p.objects j).role ≡ Makes source → numbers_from (made_by j) jobs ≡ range_with_len 1 (made_of (cells_at s j))
-        → numbers_from (made_by j) jobs ++ numbers_from (made_by j) (newly_made (word_told n.step.effect.note) n.step.event.key.dest (job_told n.step.effect.note) (firing_of s n.step.event n.step.effect).events)
+        → numbers_from (made_by j) jobs ++ numbers_from (made_by j) (newly_made (word_told n.step.effect.note) n.step.event.key.dest (job_told n.step.effect.note) (first_firing s n.step.event n.step.effect).events)
         ≡ range_with_len 1 (made_of (cells_at after j)) in
         subst P (sym same) (at_source source) is so_far
     by false apart_is =

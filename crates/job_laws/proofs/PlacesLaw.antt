@@ -24,7 +24,7 @@ use Rattle.queue_models.specs.Objects.{NetworkParts, object_at, is_source, sourc
 use Rattle.queue_models.specs.Parts.{IsNetwork}
 use Rattle.queue_models.specs.Roles.{first_cells_of}
 use Rattle.run_laws.specs.Sent.{sent_next}
-use Rattle.run_laws.proofs.Steps.{firing_of, sent_next-step}
+use Rattle.run_laws.proofs.Steps.{first_firing, sent_next-step}
 use Rattle.queue_laws.specs.Stations.{cells_at, waiting_at}
 use Rattle.queue_laws.proofs.NetworkStarts.{cells_at_start, start_cases, sum_at_start}
 use Rattle.queue_laws.proofs.NetworkSteps.{IsNetworkStep, cells_here, cells_elsewhere, sum_before, sum_after}
@@ -45,7 +45,7 @@ moved_jobs key note waiting sent jobs =
 
 pub places_after-step : (p : NetworkParts) (t : Terms) (s : State) (told : Key × Note) (after : State) (n : IsNetworkStep p t s told after) (jobs : List (Job × Place))
     → places_after p s jobs (does told after)
-    ≡ moved_jobs n.step.event.key n.step.effect.note (length (waiting_at s n.step.event.key.dest)) (firing_of s n.step.event n.step.effect).events jobs
+    ≡ moved_jobs n.step.event.key n.step.effect.note (length (waiting_at s n.step.event.key.dest)) (first_firing s n.step.event n.step.effect).events jobs
 places_after-step p t s told after n jobs =
     ap (λ (r : Key × Note). moved_jobs r.0 r.1 (length (waiting_at s r.0.dest)) (sent_next (network_meaning p) s) jobs) n.step.tells
     ∙ ap (λ (sent : List Event). moved_jobs n.step.event.key n.step.effect.note (length (waiting_at s n.step.event.key.dest)) sent jobs)
@@ -115,7 +115,7 @@ agree_on p t s told after jobs fine n agree w =
     let x : Effect = n.step.effect in
     let cells : CellData = cells_at s d in
     let serial : ℕ = (state_at s.objects d).sent in
-    let sent : List Event = (firing_of s e x).events in
+    let sent : List Event = (first_firing s e x).events in
     let word : ℕ = word_told x.note in
     let waiting : ℕ = length (waiting_at s d) in
     let v : ℕ × Place → ℕ = inside w in

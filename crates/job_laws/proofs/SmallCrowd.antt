@@ -12,7 +12,7 @@ use Rattle.key_order.specs.Pending.{enqueue, enqueue_all}
 use Rattle.sim_spec.specs.Firing.{has_chain, emissions, fired_by, fire}
 use Rattle.sim_spec.specs.State.{initial_state}
 use Rattle.sim_spec.specs.Run.{next, next_of, next_fired}
-use Rattle.sim_spec.proofs.CycleSummary.{key_at}
+use Rattle.queue_laws.proofs.SmallShop.{key_at}
 use Rattle.queue_models.specs.declared.object.Role.TheVariants.{Makes, Serves, Ends}
 use Rattle.queue_models.specs.Meaning.{network_meaning, start_of}
 use Rattle.queue_models.specs.Objects.{NetworkParts, sources_below}

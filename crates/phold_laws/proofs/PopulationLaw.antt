@@ -17,11 +17,8 @@ use Rattle.phold_model.specs.Meaning.{phold_meaning, hop_effect}
 use Rattle.phold_model.specs.Parts.{PholdParts}
 use Rattle.phold_model.specs.Starts.{length-starts_of}
 use Rattle.run_laws.proofs.Induction.{each_reached}
-use Rattle.run_laws.proofs.Steps.{IsStep, is_step, firing_of}
+use Rattle.run_laws.proofs.Steps.{goes_is, IsStep, is_step, first_firing}
 use Rattle.phold_laws.specs.PholdLaws.{population, PopulationStays}
-
-goes_is : (x y : Effect) → Goes x ≡ Goes y → x ≡ y
-goes_is x y h = cc
 
 -- an event sends one event
 one_send : (p : PholdParts) (e : Event) (s : State) (x : Effect) → (phold_meaning p).effect e.key.dest (object_at s.objects e.key.dest).cells e ≡ Goes x → length x.sends ≡ 1
@@ -34,7 +31,7 @@ population_kept p t s told after is_next before =
     let step : IsStep (phold_meaning p) t s told after = is_step (phold_meaning p) t s told after is_next in
     let e : Event = step.event in
     let sends : List Send = step.effect.sends in
-    let events : List Event = (firing_of s e step.effect).events in
+    let events : List Event = (first_firing s e step.effect).events in
     let same : length s.pending ≡ length (e ∷ step.rest) = ap length step.pending in
     let now : length after.pending ≡ length events + length step.rest =
     ap (λ (s : State). length s.pending) step.leaves ∙ length-enqueue_all events step.rest in

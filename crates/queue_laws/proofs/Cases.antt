@@ -22,6 +22,7 @@ use Rattle.queue_models.specs.Sinks.{is_late, sink_effect}
 use Rattle.queue_models.specs.Sites.{told, place_of, drawn_at, place_changes, job_to}
 use Rattle.queue_models.specs.Sources.{left_of, idle_effect, last_effect, make_effect, source_effect}
 use Rattle.queue_models.specs.Stations.{busy_servers, waiting_jobs, take_effect, wait_effect, lose_effect, arrival_outcome, serve_effect, free_effect, done_effect, station_effect}
+use Rattle.run_laws.proofs.Steps.{goes_is}
 
 -- a delay sends a job on
 abbrev pub hold_effect : Site → Delay → CellData → Event → Effect
@@ -53,9 +54,6 @@ pub data EventDoes (site : Site) (cells : CellData) (e : Event) : Role → Effec
   holds : (d : Delay) → EventDoes site cells e (Holds d) (hold_effect site d cells e)
   routes : (router : Router) → EventDoes site cells e (Routes router) (route_effect site router cells e)
   leaves : (sink : Sink) → EventDoes site cells e (Ends sink) (leave_effect e)
-
-goes_is : (x y : Effect) → Goes x ≡ Goes y → x ≡ y
-goes_is x y h = cc
 
 -- a fact on the effect that it is
 as_effect : (P : Effect → Type 0) (x y : Effect) → Goes x ≡ Goes y → P x → P y

@@ -18,7 +18,7 @@ use Rattle.queue_models.specs.Meaning.{network_meaning, source_start, job_start,
 use Rattle.queue_models.specs.Objects.{NetworkParts, object_at, no_object, source_numbers}
 use Rattle.queue_models.specs.Roles.{first_cells_of}
 use Rattle.queue_models.specs.Stations.{first_station_cells}
-use Rattle.run_laws.proofs.EnqueueKeeps.{sum_by-enqueue_all}
+use Rattle.run_laws.proofs.EnqueueSums.{sum_by-enqueue_all}
 use Rattle.queue_laws.specs.Stations.{IsStationAt, cells_at}
 
 -- a number without an object is a sink's

@@ -17,9 +17,9 @@ use Rattle.queue_models.specs.Objects.{NetworkParts, object_at}
 use Rattle.queue_models.specs.Parts.{IsNetwork}
 use Rattle.queue_models.specs.Roles.{is_lawful}
 use Rattle.run_laws.specs.Reached.{Reaches}
-use Rattle.run_laws.proofs.EnqueueKeeps.{sum_by-enqueue_all}
+use Rattle.run_laws.proofs.EnqueueSums.{sum_by-enqueue_all}
 use Rattle.run_laws.proofs.ReachedLemmas.{reached-lawful}
-use Rattle.run_laws.proofs.Steps.{IsStep, is_step, firing_of}
+use Rattle.run_laws.proofs.Steps.{IsStep, is_step, first_firing}
 use Rattle.queue_laws.specs.Stations.{cells_at}
 use Rattle.queue_laws.proofs.Cases.{EventDoes, event_does}
 
@@ -58,13 +58,13 @@ cells_here p t s told after n =
     let i : ℕ = n.step.event.key.dest in
     let inside : i < length s.objects = omega (arith, n.exists, n.long) in
     ap (λ s. cells_at s i) n.step.leaves
-    ∙ ap (λ (o : ObjectState). o.cells) (get_or-set_same s.objects i (firing_of s n.step.event n.step.effect).state no_object inside)
+    ∙ ap (λ (o : ObjectState). o.cells) (get_or-set_same s.objects i (first_firing s n.step.event n.step.effect).state no_object inside)
 
 pub cells_elsewhere : (p : NetworkParts) (t : Terms) (s : State) (told : Key × Note) (after : State) (n : IsNetworkStep p t s told after) (i : ℕ)
     → i ≢ n.step.event.key.dest → cells_at after i ≡ cells_at s i
 cells_elsewhere p t s told after n i apart =
     ap (λ s. cells_at s i) n.step.leaves
-    ∙ ap (λ (o : ObjectState). o.cells) (get_or-set_other s.objects n.step.event.key.dest i (firing_of s n.step.event n.step.effect).state no_object apart)
+    ∙ ap (λ (o : ObjectState). o.cells) (get_or-set_other s.objects n.step.event.key.dest i (first_firing s n.step.event n.step.effect).state no_object apart)
 
 -- a sum over what is pending: the event is taken off, and what it sends comes in
 pub sum_before : (p : NetworkParts) (t : Terms) (s : State) (told : Key × Note) (after : State) (n : IsNetworkStep p t s told after) (f : Event → ℕ)
@@ -72,6 +72,6 @@ pub sum_before : (p : NetworkParts) (t : Terms) (s : State) (told : Key × Note)
 sum_before p t s told after n f = ap (sum_by f) n.step.pending ∙ sum_by-cons f n.step.event n.step.rest
 
 pub sum_after : (p : NetworkParts) (t : Terms) (s : State) (told : Key × Note) (after : State) (n : IsNetworkStep p t s told after) (f : Event → ℕ)
-    → sum_by f after.pending ≡ sum_by f (firing_of s n.step.event n.step.effect).events + sum_by f n.step.rest
+    → sum_by f after.pending ≡ sum_by f (first_firing s n.step.event n.step.effect).events + sum_by f n.step.rest
 sum_after p t s told after n f =
-    ap (λ (s : State). sum_by f s.pending) n.step.leaves ∙ sum_by-enqueue_all f (firing_of s n.step.event n.step.effect).events n.step.rest
+    ap (λ (s : State). sum_by f s.pending) n.step.leaves ∙ sum_by-enqueue_all f (first_firing s n.step.event n.step.effect).events n.step.rest

@@ -29,7 +29,7 @@ use Rattle.queue_models.specs.Sites.{drawn_at}
 use Rattle.queue_models.specs.Stations.{busy_servers, waiting_jobs, is_station_cells, done_after, take_effect, wait_effect, lose_effect, serve_effect, free_effect}
 use Rattle.run_laws.specs.Reached.{after_events, Reaches, gathered}
 use Rattle.run_laws.proofs.Induction.{after_events-does, after_events-stops, gathered-more, each_number}
-use Rattle.run_laws.proofs.Steps.{firing_of, sent_next-step}
+use Rattle.run_laws.proofs.Steps.{first_firing, sent_next-step}
 use Rattle.queue_laws.specs.OrderLaws.{IsFirstComeFirstServed, FirstComeFirstServed}
 use Rattle.queue_laws.specs.Orders.{jobs_told, is_coming, is_done, arrived_at, done_at, numbers_of, begins_at, begun_at}
 use Rattle.queue_laws.specs.ServerLaws.{AreServing}
@@ -186,15 +186,15 @@ served_before : (p : NetworkParts) (t : Terms) (s : State) (told : Key × Note) 
 served_before p t s told after n i = ap (filter (ends_service_at i)) n.step.pending
 
 served_after : (p : NetworkParts) (t : Terms) (s : State) (told : Key × Note) (after : State) (n : IsNetworkStep p t s told after) (i : ℕ) → IsAscending after.pending
-    → in_service_at after i ≡ enqueue_all (filter (ends_service_at i) (firing_of s n.step.event n.step.effect).events) (filter (ends_service_at i) n.step.rest)
+    → in_service_at after i ≡ enqueue_all (filter (ends_service_at i) (first_firing s n.step.event n.step.effect).events) (filter (ends_service_at i) n.step.rest)
 served_after p t s told after n i up =
-    let events : List Event = (firing_of s n.step.event n.step.effect).events in
+    let events : List Event = (first_firing s n.step.event n.step.effect).events in
     let is : after.pending ≡ enqueue_all events n.step.rest = ap (λ (s : State). s.pending) n.step.leaves in
     let A : List Event → Type 0 = IsAscending in
     ap (filter (ends_service_at i)) is ∙ filter-enqueue_all (ends_service_at i) events n.step.rest (subst A is up)
 
 begins_are : (p : NetworkParts) (t : Terms) (s : State) (told : Key × Note) (after : State) (n : IsNetworkStep p t s told after) (i : ℕ)
-    → begins_at (network_meaning p) i s (does told after) ≡ numbers_of (filter (ends_service_at i) (firing_of s n.step.event n.step.effect).events)
+    → begins_at (network_meaning p) i s (does told after) ≡ numbers_of (filter (ends_service_at i) (first_firing s n.step.event n.step.effect).events)
 begins_are p t s told after n i =
     ap (λ (es : List Event). numbers_of (filter (ends_service_at i) es)) (sent_next-step (network_meaning p) t s told after n.step)
 
@@ -203,7 +203,7 @@ moved_elsewhere : (p : NetworkParts) (t : Terms) (s : State) (told : Key × Note
 unfolding ends
 moved_elsewhere p t s told after n i station up apart =
     let e : Event = n.step.event in
-    let events : List Event = (firing_of s e n.step.effect).events in
+    let events : List Event = (first_firing s e n.step.effect).events in
     let others : List Event = filter (ends_service_at i) n.step.rest in
     let away : (e.key.dest == i) ≡ false = ne_eqb e.key.dest i (λ same. apart (sym same)) in
     let none : filter (ends_service_at i) events ≡ [] =
@@ -234,7 +234,7 @@ moved_here p t s told after n station up is good =
     let d : ℕ = e.key.dest in
     let x : Effect = n.step.effect in
     let cells : CellData = cells_at s d in
-    let events : List Event = (firing_of s e x).events in
+    let events : List Event = (first_firing s e x).events in
     let others : List Event = filter (ends_service_at d) n.step.rest in
     let here : (e.key.dest == d) ≡ true = eq-eqb d d refl in
     let R : Role → Type 0 = λ role. EventDoes (site_of p d) cells e role x in

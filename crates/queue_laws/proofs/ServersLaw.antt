@@ -21,7 +21,7 @@ use Rattle.queue_models.specs.Roles.{is_lawful}
 use Rattle.queue_models.specs.Sources.{idle_effect, last_effect, make_effect}
 use Rattle.queue_models.specs.Stations.{busy_servers, waiting_jobs, is_station_cells, take_effect, wait_effect, lose_effect, serve_effect, free_effect}
 use Rattle.run_laws.proofs.Induction.{each_reached}
-use Rattle.run_laws.proofs.Steps.{firing_of}
+use Rattle.run_laws.proofs.Steps.{first_firing}
 use Rattle.queue_laws.specs.ServerLaws.{ServersLaw}
 use Rattle.queue_laws.specs.Stations.{IsStationAt, cells_at, ends_service_at}
 use Rattle.queue_laws.proofs.Cases.{EventDoes, idles, makes_last, makes, takes, waits, loses, serves, frees, holds, routes, leaves}
@@ -166,7 +166,7 @@ serving_here p t s told after n station is before =
     let D : Role → Type 0 = λ role. EventDoes (site_of p d) cells e role x in
     let C : ℕ → Type 0 = Serving station cells in
     let had : ends d s.pending ≡ weight d e + others = sum_before p t s told after n (weight d) in
-    let on : Serving station (cells_after_all x.changes cells) (ends d (firing_of s e x).events + others) =
+    let on : Serving station (cells_after_all x.changes cells) (ends d (first_firing s e x).events + others) =
     serving_on (site_of p d) cells e station x e.key.stamp d (state_at s.objects d).sent others (station_shape station cells lawful)
     (grind (arith, nat_tests))
     (λ other. subst C (omega (arith, weight_arrival d e other)) before)
@@ -185,7 +185,7 @@ serving_kept p t s told after n before i station is = by (eqb i n.step.event.key
         let e : Event = n.step.event in
         let apart : i ≢ e.key.dest = λ same. let yes = eq-eqb i e.key.dest same in cc in
         let same : cells_at after i ≡ cells_at s i = cells_elsewhere p t s told after n i apart in
-        let none_sent : ends i (firing_of s e n.step.effect).events ≡ 0 =
+        let none_sent : ends i (first_firing s e n.step.effect).events ≡ 0 =
         ends_elsewhere (site_of p e.key.dest) (cells_at s e.key.dest) e (object_at p.objects e.key.dest).role n.step.effect i e.key.stamp e.key.dest _ (λ eq. apart (sym eq)) n.does_so in
         let not_it : weight i e ≡ 0 = weight_elsewhere i e (λ eq. apart (sym eq)) in
         let now : ends i after.pending ≡ ends i s.pending = omega (arith, sum_before p t s told after n (weight i), sum_after p t s told after n (weight i)) in

@@ -14,10 +14,10 @@ use Rattle.key_order.proofs.EachLemmas.{Each-map, Each-both}
 use Rattle.sim_spec.proofs.StampLemmas.{fire-later}
 use Rattle.run_laws.specs.Reached.{after_events}
 use Rattle.run_laws.specs.RunLaws.{IsCause, EachHasACause}
-use Rattle.run_laws.proofs.EnqueueKeeps.{Each-enqueue_all}
+use Rattle.key_order.proofs.EnqueueLemmas.{Each-enqueue_all}
 use Rattle.run_laws.proofs.Induction.{after_events-does, after_events-stops, each_number}
 use Rattle.run_laws.proofs.OrderLaw.{step_keeps}
-use Rattle.run_laws.proofs.Steps.{IsStep, is_step, step_fires, sent_next-step, firing_of}
+use Rattle.run_laws.proofs.Steps.{IsStep, is_step, step_fires, sent_next-step, first_firing}
 
 -- an initial event, or one with a cause among the first n
 IsCaused : Meaning → Terms → ℕ → Event → Type 0
@@ -44,14 +44,14 @@ all_caused m t =
     (λ n told after is_next before.
     let s : State = after_events n m t in
     let step : IsStep m t s told after = is_step m t s told after is_next in
-    let sent : List Event = (firing_of s step.event step.effect).events in
+    let sent : List Event = (first_firing s step.event step.effect).events in
     let S : State → Type 0 = λ s. Each (IsCaused m t (suc n)) s.pending in
     let L : List Event → Type 0 = Each (IsCaused m t n) in
     let all : Each (IsCaused m t n) (step.event ∷ step.rest) = subst L step.pending before in
     let key : told.0 ≡ step.event.key = ap (λ (r : Key × Note). r.0) step.tells in
     let own : Each (λ (e : Event). Contains sent e) sent = recursion_from_All (λ (e : Event). Contains sent e) sent (All-contains_itself sent) in
     let later : Each (λ (e : Event). suc step.event.key.stamp ≤ e.key.stamp) sent =
-    fire-later m step.event.key.dest _ step.event (firing_of s step.event step.effect) (step_fires m t s told after step) in
+    fire-later m step.event.key.dest _ step.event (first_firing s step.event step.effect) (step_fires m t s told after step) in
     let C : List Event → Event → Type 0 = λ events e. Contains events e in
     let caused : (e : Event) → Contains sent e → suc step.event.key.stamp ≤ e.key.stamp → IsCaused m t (suc n) e =
     λ e is_in late. inr (

@@ -1,7 +1,6 @@
 pub mod CausalityLaw
-pub mod EnqueueKeeps
+pub mod EnqueueSums
 pub mod Induction
 pub mod OrderLaw
 pub mod ReachedLemmas
-pub mod SmallRun
 pub mod Steps

@@ -18,10 +18,10 @@ use Rattle.key_order.proofs.EachLemmas.{Each-map}
 use Rattle.sim_spec.proofs.StampLemmas.{fire-later}
 use Rattle.run_laws.specs.Reached.{after_events, gathered, record_of, first_records}
 use Rattle.run_laws.specs.RunLaws.{RecordsAscend}
-use Rattle.run_laws.proofs.EnqueueKeeps.{Each-enqueue_all}
+use Rattle.key_order.proofs.EnqueueLemmas.{Each-enqueue_all}
 use Rattle.run_laws.proofs.Induction.{after_events-does, after_events-stops, gathered-more, each_number}
 use Rattle.run_laws.proofs.ReachedLemmas.{reached-lawful}
-use Rattle.run_laws.proofs.Steps.{IsStep, is_step, step_fires, firing_of}
+use Rattle.run_laws.proofs.Steps.{IsStep, is_step, step_fires, first_firing}
 
 abbrev Before : Key × Note → Key × Note → Type 0
 Before earlier later = key_lt earlier.0 later.0 ≡ true
@@ -37,18 +37,18 @@ record Ordered (records : List (Key × Note)) (pending : List Event) : Type 0 wh
 
 -- what holds of what is pending before and of what is sent holds of what is pending after
 pub step_keeps : (m : Meaning) (t : Terms) (s : State) (told : Key × Note) (after : State) (P : Event → Type 0) (step : IsStep m t s told after)
-    → Each P (firing_of s step.event step.effect).events → Each P step.rest → Each P after.pending
+    → Each P (first_firing s step.event step.effect).events → Each P step.rest → Each P after.pending
 step_keeps m t s told after P step sent rest =
     let Q : State → Type 0 = λ s. Each P s.pending in
-    subst Q (sym step.leaves) (Each-enqueue_all P (firing_of s step.event step.effect).events step.rest sent rest)
+    subst Q (sym step.leaves) (Each-enqueue_all P (first_firing s step.event step.effect).events step.rest sent rest)
 
 -- what is sent is later than its cause
 sent_later : (m : Meaning) (t : Terms) (s : State) (told : Key × Note) (after : State) (k : Key) (step : IsStep m t s told after) → k.stamp ≤ step.event.key.stamp
-    → AllLater k (firing_of s step.event step.effect).events
+    → AllLater k (first_firing s step.event step.effect).events
 sent_later m t s told after k step upto =
-    Each-map (λ (e : Event). suc step.event.key.stamp ≤ e.key.stamp) (λ (e : Event). key_lt k e.key ≡ true) (firing_of s step.event step.effect).events
+    Each-map (λ (e : Event). suc step.event.key.stamp ≤ e.key.stamp) (λ (e : Event). key_lt k e.key ≡ true) (first_firing s step.event step.effect).events
     (λ e late. key_lt-stamp k e.key (omega arith))
-    (fire-later m step.event.key.dest _ step.event (firing_of s step.event step.effect) (step_fires m t s told after step))
+    (fire-later m step.event.key.dest _ step.event (first_firing s step.event step.effect) (step_fires m t s told after step))
 
 ordered_more : (m : Meaning) (t : Terms) (s : State) (told : Key × Note) (after : State) (records : List (Key × Note)) → Lawful m t s → next m t s ≡ does told after
     → Ordered records s.pending → Ordered (records ++ told ∷ []) after.pending

@@ -1,8 +1,7 @@
 -- What is known of an event that happens.
-use Rattle.std.proofs.Common.{◌≡◌, ◌+◌, ◌<◌, Bool, true, false, cond, List, [], ◌∷◌, length, refl, ap, ◌∙◌, eqb, ltb, ltb-true}
+use Rattle.std.proofs.Common.{◌≡◌, ◌<◌, Bool, true, false, cond, List, [], ◌∷◌, refl, ap, ◌∙◌, eqb, ltb, ltb-true}
 use Rattle.event_key.specs.declared.key.Key.{Key}
 use Rattle.event_key.specs.Stamps.{end_stamp}
-use Rattle.delta_exchange.specs.Changes.{cells_after_all, inverses_of}
 use Rattle.model_core.specs.declared.event.Event.{Event}
 use Rattle.model_core.specs.declared.effect.Effect.{Effect}
 use Rattle.model_core.specs.declared.effect.Outcome.{Outcome}
@@ -11,7 +10,7 @@ use Rattle.model_core.specs.declared.note.Note.{Note}
 use Rattle.model_core.specs.Meaning.{Meaning}
 use Rattle.sim_spec.specs.declared.terms.Terms.{Terms}
 use Rattle.sim_spec.specs.declared.stop.Stop.TheVariants.{End, Limit}
-use Rattle.sim_spec.specs.Firing.{Firing, goes, fails, fire, fired_by, has_chain, emissions}
+use Rattle.sim_spec.specs.Firing.{Firing, firing_of, goes, fails, fire, fired_by, has_chain}
 use Rattle.sim_spec.specs.State.{State, object_at}
 use Rattle.sim_spec.specs.Run.{stops, does, next, next_of, next_fired}
 use Rattle.sim_spec.proofs.RunLemmas.{state_after}
@@ -29,6 +28,14 @@ pub record IsStep (m : Meaning) (t : Terms) (s : State) (told : Key × Note) (af
   pub tells : told ≡ (event.key, effect.note)
   pub leaves : after ≡ state_after s event rest effect
 
+-- what the first pending event of a state leaves, sends and tells, by this effect
+abbrev pub first_firing : State → Event → Effect → Firing
+first_firing s e x = firing_of e.key.dest (object_at s.objects e.key.dest) e x
+
+-- effects that go are the same where their outcomes are
+pub goes_is : (x y : Effect) → Goes x ≡ Goes y → x ≡ y
+goes_is x y h = cc
+
 step_goes : (m : Meaning) (t : Terms) (s : State) (told : Key × Note) (after : State) (e : Event) (rest : List Event) → s.pending ≡ e ∷ rest → e.key.stamp < end_stamp t.end
     → (o : Outcome) → m.effect e.key.dest (object_at s.objects e.key.dest).cells e ≡ o
     → next_fired s e rest (fired_by e.key.dest (object_at s.objects e.key.dest) e o) ≡ does told after → IsStep m t s told after
@@ -36,21 +43,13 @@ unfolding fired_by next_fired
 step_goes m t s told after e rest is_pending due (Fails code) is_outcome is_next = absurd (cc)
 step_goes m t s told after e rest is_pending due (Goes x) is_outcome is_next = by_chain (has_chain e.key.stamp x.sends) refl is_next
   where
-    firing : Firing
-    firing = let o = object_at s.objects e.key.dest in record {
-      state = record { cells = cells_after_all x.changes o.cells; sent = o.sent + length x.sends };
-      events = emissions e.key.stamp e.key.dest o.sent x.sends;
-      undo = inverses_of x.changes o.cells;
-      note = x.note;
-    }
-
     does_told : (a b : Key × Note) (u v : State) → does a u ≡ does b v → b ≡ a
     does_told a b u v h = cc
 
     does_after : (a b : Key × Note) (u v : State) → does a u ≡ does b v → v ≡ u
     does_after a b u v h = cc
 
-    by_chain : (b : Bool) → has_chain e.key.stamp x.sends ≡ b → next_fired s e rest (cond b (fails 1) (goes firing)) ≡ does told after → IsStep m t s told after
+    by_chain : (b : Bool) → has_chain e.key.stamp x.sends ≡ b → next_fired s e rest (cond b (fails 1) (goes (first_firing s e x))) ≡ does told after → IsStep m t s told after
     by_chain true chain is_next = absurd (cc)
     by_chain false chain is_next = record {
       event = e;
@@ -83,26 +82,17 @@ pub is_step : (m : Meaning) (t : Terms) (s : State) (told : Key × Note) (after 
 unfolding next
 is_step m t s told after is_next = step_of m t s told after s.pending refl is_next
 
--- what the event of a step leaves, sends and tells
-abbrev pub firing_of : State → Event → Effect → Firing
-firing_of s e x = let o = object_at s.objects e.key.dest in record {
-  state = record { cells = cells_after_all x.changes o.cells; sent = o.sent + length x.sends };
-  events = emissions e.key.stamp e.key.dest o.sent x.sends;
-  undo = inverses_of x.changes o.cells;
-  note = x.note;
-}
-
 pub step_fires : (m : Meaning) (t : Terms) (s : State) (told : Key × Note) (after : State) (step : IsStep m t s told after)
-    → fire m step.event.key.dest (object_at s.objects step.event.key.dest) step.event ≡ goes (firing_of s step.event step.effect)
+    → fire m step.event.key.dest (object_at s.objects step.event.key.dest) step.event ≡ goes (first_firing s step.event step.effect)
 unfolding fire fired_by
 step_fires m t s told after step =
     let e : Event = step.event in
     ap (fired_by e.key.dest (object_at s.objects e.key.dest) e) step.outcome
-    ∙ ap (λ b. cond b (fails 1) (goes (firing_of s e step.effect))) step.no_chain
+    ∙ ap (λ b. cond b (fails 1) (goes (first_firing s e step.effect))) step.no_chain
 
 -- they are what the next event of the state sends
 pub sent_next-step : (m : Meaning) (t : Terms) (s : State) (told : Key × Note) (after : State) (step : IsStep m t s told after)
-    → sent_next m s ≡ (firing_of s step.event step.effect).events
+    → sent_next m s ≡ (first_firing s step.event step.effect).events
 unfolding sent_next
 sent_next-step m t s told after step =
     ap (sent_by_first m s) step.pending ∙ ap sent_by (step_fires m t s told after step)
