@@ -13,7 +13,7 @@ use Rattle.node_core.specs.Entries.{AreLeast, AreLeastBut, IsLeast, IsLeastBut, 
 use Rattle.node_core.specs.Marks.{MarkView, AreInOrder, is_first, least_sent, place_of, put_mark, same_key, set_mark, without}
 use Rattle.node_core.specs.Rows.{keys_of}
 use Rattle.node_core.proofs.MarkLemmas.{behind, same_key-itself, same_key-lt}
-use Rattle.node_core.proofs.MarkedLemmas.{same-after}
+use Rattle.node_core.proofs.MarkedLemmas.{behind-trans, same-after}
 
 abbrev Entries : Type 0
 Entries = List Entry
@@ -108,10 +108,6 @@ unfolding without
 behind_is_apart key [] all = refl
 behind_is_apart key (k ∷ ks) all = ap (λ b. cond b ks (k ∷ without key ks)) (same_key-lt key k.key all.0) ∙ ap (λ ms. k ∷ ms) (behind_is_apart key ks all.1)
 
-behind_too : (j k : Key) (ks : List MarkView) → key_lt j k ≡ true → After (λ (m : MarkView). m.key) k ks → After (λ (m : MarkView). m.key) j ks
-behind_too j k [] lt all = tt
-behind_too j k (m ∷ ks) lt all = (key_lt-trans j k m.key lt all.0, behind_too j k ks lt all.1)
-
 -- an entry leaves its place
 pub place-without : (key : Key) (es : Entries) → AreInOrder (marks_of es) → is_first key (marks_of (drop (place_of key (marks_of es)) es)) ≡ true
     → (place_of key (marks_of es) < length es) × (marks_of (take (place_of key (marks_of es)) es ++ drop (suc (place_of key (marks_of es))) es) ≡ without key (marks_of es))
@@ -143,7 +139,7 @@ place-absent key (f ∷ es) up away = by_test (key_lt f.key key) refl (same_key 
     by_test true lt false h is more = ap (λ ms. mark_in f ∷ ms) (more is)
     by_test false lt true h is more = absurd (cc)
     by_test false lt false h is more =
-        ap (λ ms. mark_in f ∷ ms) (sym (behind_is_apart key (marks_of es) (behind_too key f.key (marks_of es) (comes_before key f.key lt h) up.0)))
+        ap (λ ms. mark_in f ∷ ms) (sym (behind_is_apart key (marks_of es) (behind-trans key f.key (marks_of es) (comes_before key f.key lt h) up.0)))
 
 -- what entries hold
 held-most : (es : Entries) → AreLeast es → first_held es ≤ NO_STAMP
