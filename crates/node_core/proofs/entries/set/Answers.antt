@@ -32,7 +32,7 @@ mend-requires-clause-but c =
     let n = c.place-place.result in
     let next : n + 1 ≡ suc n = omega arith in
     but-set n e es (but-weaker (suc n) es c.requires.least) (omega (arith, placed.0, c.place-place.ensures))
-        (c.min.ensures ∙ ap (min c.args.mark.least) (c.held_from-behind.ensures ∙ ap (λ (m : ℕ). first_held (drop m es)) next))
+    (c.min.ensures ∙ ap (min c.args.mark.least) (c.held_from-behind.ensures ∙ ap (λ (m : ℕ). first_held (drop m es)) next))
 
 pub returns-clause-same : goal.returns-clause-same
 returns-clause-same c =
