@@ -118,7 +118,7 @@ place-without key (f ∷ es) up here = by_test (key_lt f.key key) refl (same_key
     by_test : (b : Bool) → key_lt f.key key ≡ b → (c : Bool) → same_key key f.key ≡ c
         → is_first key (marks_of (drop (cond b (suc (place_of key (marks_of es))) 0) (f ∷ es))) ≡ true
         → (is_first key (marks_of (drop (place_of key (marks_of es)) es)) ≡ true
-            → (place_of key (marks_of es) < length es) × (marks_of (take (place_of key (marks_of es)) es ++ drop (suc (place_of key (marks_of es))) es) ≡ without key (marks_of es)))
+        → (place_of key (marks_of es) < length es) × (marks_of (take (place_of key (marks_of es)) es ++ drop (suc (place_of key (marks_of es))) es) ≡ without key (marks_of es)))
         → (cond b (suc (place_of key (marks_of es))) 0 < length (f ∷ es))
         × (marks_of (take (cond b (suc (place_of key (marks_of es))) 0) (f ∷ es) ++ drop (suc (cond b (suc (place_of key (marks_of es))) 0)) (f ∷ es)) ≡ cond c (marks_of es) (mark_in f ∷ without key (marks_of es)))
     by_test true lt true h is more = let no = same-after f.key key lt in absurd (cc)

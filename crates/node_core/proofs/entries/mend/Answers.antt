@@ -6,7 +6,7 @@ use Rattle.node_core.proofs.entries.mend.Goals as goal
 pub returns-then-held-entry-clause-least : goal.returns-then-held-entry-clause-least
 returns-then-held-entry-clause-least c =
     mend-stays c.steps.place c.index-entry.result.now c.steps.entries.items (omega arith) c.steps.invariant.inside c.steps.invariant.but c.index-entry.ensures
-        (sym c.if-held-entry.true ∙ c.min-held.ensures ∙ ap (min c.index-entry.result.now.mark.least) c.held_from-held.ensures)
+    (sym c.if-held-entry.true ∙ c.min-held.ensures ∙ ap (min c.index-entry.result.now.mark.least) c.held_from-held.ensures)
 
 pub steps-preserved : goal.steps-preserved
 steps-preserved c =

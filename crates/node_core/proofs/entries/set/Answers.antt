@@ -1,8 +1,7 @@
 -- The entry says more, and those before it are mended.
-use Rattle.std.proofs.Common.{◌≡◌, ◌+◌, ◌<◌, ℕ, suc, min, List, set, drop, length, length-set, refl, sym, ap, ◌∙◌, subst, arith}
+use Rattle.std.proofs.Common.{◌≡◌, ◌+◌, ℕ, suc, min, set, drop, length-set, ap, ◌∙◌, arith}
 use Rattle.node_core.specs.declared.entries.Entry.{Entry}
-use Rattle.node_core.specs.Entries.{AreLeastBut, first_held, marks_of, mark_in}
-use Rattle.node_core.specs.Marks.{set_mark}
+use Rattle.node_core.specs.Entries.{first_held, marks_of}
 use Rattle.node_core.proofs.EntryLemmas.{but-set, but-weaker, place-set}
 use Rattle.node_core.proofs.entries.set.Goals as goal
 
@@ -32,7 +31,7 @@ mend-requires-clause-but c =
     let n = c.place-place.result in
     let next : n + 1 ≡ suc n = omega arith in
     but-set n e es (but-weaker (suc n) es c.requires.least) (omega (arith, placed.0, c.place-place.ensures))
-        (c.min.ensures ∙ ap (min c.args.mark.least) (c.held_from-behind.ensures ∙ ap (λ (m : ℕ). first_held (drop m es)) next))
+    (c.min.ensures ∙ ap (min c.args.mark.least) (c.held_from-behind.ensures ∙ ap (λ (m : ℕ). first_held (drop m es)) next))
 
 pub returns-clause-same : goal.returns-clause-same
 returns-clause-same c =
