@@ -1,5 +1,5 @@
 -- Messages go into the parcels of their homes.
-use Rattle.std.proofs.Common.{◌≡◌, ℕ, ◌+◌, ◌<◌, ◌≤◌, ◌^◌, Bool, true, false, cond, List, [], ◌∷◌, ◌++◌, length, slice_index_or, eq-eqb, ne_eqb, sym, ap, ◌∙◌, subst, arith, length-append, append_assoc}
+use Rattle.std.proofs.Common.{◌≡◌, ℕ, ◌+◌, ◌<◌, ◌^◌, cond, List, [], ◌∷◌, ◌++◌, length, slice_index_or, eq-eqb, ne_eqb, sym, ap, ◌∙◌, subst, arith, length-append, append_assoc}
 use Rattle.std.specs.Prelude.{filter, slice_set}
 use Rattle.std.specs.List.{AllByRecursion as Each}
 use Rattle.std.proofs.lemmas.List.{get_or_read, get_or-set_same, get_or-set_other, length-set}
@@ -60,8 +60,8 @@ left-step homes events out left now event rest node parcel next l is p is_next =
       long = length-set now node next ∙ l.long;
       parcels = λ to within. by_object P node to
           (ap (λ es. es ++ filter (at node) rest) (get_or-set_same now node next [] p.inside ∙ is_next ∙ ap (λ es. es ++ event ∷ []) (parcel-is homes now event node parcel p))
-           ∙ append_assoc (slice_index_or now node []) (event ∷ []) (filter (at node) rest)
-           ∙ ap (λ es. slice_index_or now node [] ++ es) (sym (first-home homes event rest node p.home)))
+          ∙ append_assoc (slice_index_or now node []) (event ∷ []) (filter (at node) rest)
+          ∙ ap (λ es. slice_index_or now node [] ++ es) (sym (first-home homes event rest node p.home)))
           (λ apart. (λ i. get_or-set_other now node to next [] apart i ++ sym (first-away homes event rest to (λ same. apart (sym same ∙ sym p.home))) i))
           ∙ ap (λ es. slice_index_or now to [] ++ filter (at to) es) (sym is) ∙ l.parcels to within;
       homed = all.1;

@@ -1,5 +1,5 @@
 -- How many events a log has sent, where no event of it sends more than eight.
-use Rattle.std.proofs.Common.{◌≡◌, ℕ, ◌+◌, ◌*◌, ◌≤◌, List, [], ◌∷◌, length, arith}
+use Rattle.std.proofs.Common.{◌+◌, ◌*◌, ◌≤◌, List, [], ◌∷◌, length, arith}
 use Rattle.std.specs.List.{AllByRecursion as Each}
 use Rattle.sim_spec.specs.Firing.{ObjectState}
 use Rattle.object_log.specs.declared.done.Done.{Done}
