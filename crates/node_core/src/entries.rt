@@ -55,11 +55,7 @@ pub fn due_in(entries: &Entries, horizon: u64, cut: &Option<Key>) -> usize
 }
 
 /// Appends the keys below the horizon, in time linear in how many they are.
-pub fn push_in(
-    entries: &Entries,
-    horizon: u64,
-    into: &mut Vec<Key>,
-) -> Result<(), OutOfMemory>
+pub fn push_in(entries: &Entries, horizon: u64, into: &mut Vec<Key>) -> Result<(), OutOfMemory>
     requires { AreInOrder (marks_of entries.now.items) }
     ensures ok { OnOk result (into.new.items ≡ into.old.items ++ filter (λ k. nat_lt k.stamp horizon) (keys_of (marks_of entries.now.items))) }
     ensures err { OnErr result (into.new.items ≡ into.old.items) }
