@@ -1,5 +1,5 @@
 -- The entry comes to its place.
-use Rattle.std.proofs.Common.{ℕ, List, refl, sym, ap, ◌∙◌, subst, arith}
+use Rattle.std.proofs.Common.{ℕ, refl, sym, ap, ◌∙◌, subst, arith}
 use Rattle.std.specs.List.{insert}
 use Rattle.event_key.specs.declared.stamp.TheConstants.{NO_STAMP}
 use Rattle.node_core.specs.declared.entries.Entry.{Entry}

@@ -1,5 +1,5 @@
 -- The entry leaves its place.
-use Rattle.std.proofs.Common.{◌≡◌, ◌<◌, ℕ, suc, List, Option, None, length, take, drop, length-append, length-take, length-drop, refl, sym, ap, ◌∙◌, subst, arith}
+use Rattle.std.proofs.Common.{◌≡◌, ℕ, suc, Option, None, length, take, drop, length-append, length-take, sym, ap, ◌∙◌, subst, arith}
 use Rattle.std.specs.List.{remove}
 use Rattle.std.specs.Prelude.{OnSome}
 use Rattle.node_core.specs.declared.entries.Entry.{Entry}

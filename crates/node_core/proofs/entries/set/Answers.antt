@@ -1,8 +1,7 @@
 -- The entry says more, and those before it are mended.
-use Rattle.std.proofs.Common.{◌≡◌, ◌+◌, ◌<◌, ℕ, suc, min, List, set, drop, length, length-set, refl, sym, ap, ◌∙◌, subst, arith}
+use Rattle.std.proofs.Common.{◌≡◌, ◌+◌, ℕ, suc, min, set, drop, length-set, ap, ◌∙◌, arith}
 use Rattle.node_core.specs.declared.entries.Entry.{Entry}
-use Rattle.node_core.specs.Entries.{AreLeastBut, first_held, marks_of, mark_in}
-use Rattle.node_core.specs.Marks.{set_mark}
+use Rattle.node_core.specs.Entries.{first_held, marks_of}
 use Rattle.node_core.proofs.EntryLemmas.{but-set, but-weaker, place-set}
 use Rattle.node_core.proofs.entries.set.Goals as goal
 
