@@ -1,8 +1,10 @@
 -- How a command ends, with which status and with which line among the notes.
-use Rattle.std.specs.Prelude.{◌≡◌, ◌≢◌, ◌⊎◌, ◌==◌, if◌then◌else◌, ℕ, List, [], codes}
+use Rattle.std.specs.Prelude.{◌≡◌, ◌≢◌, ◌⊎◌, ◌==◌, if◌then◌else◌, ℕ, List, [], Option, codes}
+use Rattle.std.specs.Io.KnownBytes.{Appends}
+use Rattle.sim_io.specs.Transfers.{AppendsFront}
 use Rattle.btb.specs.declared.ending.Ending.{Ending}
 use Rattle.btb.specs.declared.ending.Ending.TheVariants.{Stopped, Refused, ReadFault, WriteFault, OutOfMemory}
-use Rattle.btb.specs.Answer.{status_of_stop}
+use Rattle.btb.specs.Answer.{Answer, status_of_stop}
 
 abbrev pub status_of_ending : Ending → ℕ
 status_of_ending (Stopped stop) = status_of_stop stop
@@ -37,6 +39,13 @@ noted_line status notes =
     else if status == 5 then codes "write failed\n"
     else if status == 6 then codes "out of memory\n"
     else notes
+
+-- the line of a status was noted, or a prefix of it
+abbrev pub NotesLine : ℕ → Option (List ℕ) → Option (List ℕ) → Answer → Type 0
+NotesLine status old new a = Appends old new (noted_line status a.notes)
+
+abbrev pub NotesPrefix : ℕ → Option (List ℕ) → Option (List ℕ) → Answer → Type 0
+NotesPrefix status old new a = AppendsFront old new (noted_line status a.notes)
 
 -- the status is the answer's, or tells of a fault of reading, a fault of writing or want of memory
 abbrev pub IsComplete : ℕ → ℕ → Type 0 → Type 0 → Type 0

@@ -1,10 +1,7 @@
 //! The commands that run a model.
 ghost use Rattle.std.specs.Prelude.{◌≡◌, ◌≢◌, IfSome, Some, drop};
-ghost use Rattle.std.specs.Io.KnownBytes.{Appends};
 ghost use Rattle.sim_io.specs.Causes.{Rose};
-ghost use Rattle.sim_io.specs.Transfers.{AppendsFront};
-ghost use Rattle.model_text.specs.ModelTexts.{model_of};
-ghost use Rattle.btb.specs.Answer.{answer_to_model, refusal_line};
+ghost use Rattle.btb.specs.Answer.{refusal_line, OfModelAnswer, WritesOutput, WritesPrefix};
 ghost use Rattle.btb.specs.Endings.{status_of_ending, line_of_ending, IsAnswered};
 
 use crate::ending::Ending;
@@ -35,11 +32,11 @@ pub fn run_command<S: Source, K: Sink>(
     source: &mut S,
     out: &mut K,
 ) -> Ending
-    ensures output { IsAnswered result → IfSome (S.left source.old) (λ bytes. Appends (K.told out.old) (K.told out.new) (answer_to_model cycles (model_of bytes)).output) }
-    ensures status { IsAnswered result → IfSome (S.left source.old) (λ bytes. status_of_ending result ≡ (answer_to_model cycles (model_of bytes)).status) }
-    ensures line { IsAnswered result → IfSome (S.left source.old) (λ bytes. line_of_ending result ≡ (answer_to_model cycles (model_of bytes)).notes) }
+    ensures output { IsAnswered result → OfModelAnswer cycles (S.left source.old) (WritesOutput (K.told out.old) (K.told out.new)) }
+    ensures status { IsAnswered result → OfModelAnswer cycles (S.left source.old) (λ answer. status_of_ending result ≡ answer.status) }
+    ensures line { IsAnswered result → OfModelAnswer cycles (S.left source.old) (λ answer. line_of_ending result ≡ answer.notes) }
     ensures read { IsAnswered result → IfSome (S.left source.old) (λ bytes. S.left source.new ≡ Some (drop MOST_BYTES bytes)) }
-    ensures front { IfSome (S.left source.old) (λ bytes. AppendsFront (K.told out.old) (K.told out.new) (answer_to_model cycles (model_of bytes)).output) }
+    ensures front { OfModelAnswer cycles (S.left source.old) (WritesPrefix (K.told out.old) (K.told out.new)) }
     ensures read_fault { result ≡ Ending.ReadFault → Rose (S.faults source.old) (S.faults source.new) }
     ensures unwritten { result ≡ Ending.ReadFault → out.new ≡ out.old }
     ensures write_fault { result ≡ Ending.WriteFault → Rose (K.faults out.old) (K.faults out.new) }

@@ -1,12 +1,9 @@
 //! All that the program does, over any input and output.
-ghost use Rattle.std.specs.Prelude.{◌≡◌, ◌≢◌, ◌≤◌, ◌⊎◌, ◌↔◌, IfSome, IsErr, IsOk, Some, drop};
-ghost use Rattle.std.specs.Io.KnownBytes.{Appends};
+ghost use Rattle.std.specs.Prelude.{◌≡◌, ◌≢◌, ◌≤◌, ◌⊎◌, ◌↔◌, IfSome, IsErr, Some, drop};
 ghost use Rattle.sim_io.specs.Causes.{Rose};
-ghost use Rattle.sim_io.specs.Transfers.{AppendsFront};
 ghost use Rattle.sim_io.specs.Words.{settings, texts_of};
-ghost use Rattle.model_text.specs.ModelTexts.{model_of};
-ghost use Rattle.btb.specs.Answer.{answer};
-ghost use Rattle.btb.specs.Endings.{IsAnswering, noted_line, IsComplete};
+ghost use Rattle.btb.specs.Answer.{OfAnswer, OfAccepted, WritesOutput, WritesPrefix};
+ghost use Rattle.btb.specs.Endings.{IsAnswering, NotesLine, NotesPrefix, IsComplete};
 
 use crate::gate::Gate;
 use crate::notes::words_line;
@@ -40,9 +37,9 @@ pub fn btb<R: AllocGlobal + Threads + Sync, S: Source, K: Sink, N: Sink, G: Gate
     ensures known { result ≤ 7 }
 
     // What is written is the answer, or a front of it.
-    ensures output { IsAnswering result → IfSome (S.left source.old) (λ bytes. Appends (K.told out.old) (K.told out.new) (answer (texts_of words.now.items) bytes).output) }
-    ensures status { IsAnswering result → IfSome (S.left source.old) (λ bytes. result ≡ (answer (texts_of words.now.items) bytes).status) }
-    ensures front { IfSome (S.left source.old) (λ bytes. AppendsFront (K.told out.old) (K.told out.new) (answer (texts_of words.now.items) bytes).output) }
+    ensures output { IsAnswering result → OfAnswer words.now.items (S.left source.old) (WritesOutput (K.told out.old) (K.told out.new)) }
+    ensures status { IsAnswering result → OfAnswer words.now.items (S.left source.old) (λ answer. result ≡ answer.status) }
+    ensures front { OfAnswer words.now.items (S.left source.old) (WritesPrefix (K.told out.old) (K.told out.new)) }
 
     // Where the words are accepted the input is read to its end, or until it is too long.
     ensures refused_words { (result ≡ 2) ↔ IsErr (settings (texts_of words.now.items)) }
@@ -55,11 +52,13 @@ pub fn btb<R: AllocGlobal + Threads + Sync, S: Source, K: Sink, N: Sink, G: Gate
     ensures unwritten { (result ≡ 2) ⊎ (result ≡ 4) → out.new ≡ out.old }
 
     // One line is noted, or a front of it.
-    ensures notes_front { IfSome (S.left source.old) (λ bytes. AppendsFront (N.told notes.old) (N.told notes.new) (noted_line result (answer (texts_of words.now.items) bytes).notes)) }
-    ensures notes_whole { IfSome (S.left source.old) (λ bytes. Appends (N.told notes.old) (N.told notes.new) (noted_line result (answer (texts_of words.now.items) bytes).notes) ⊎ Rose (N.faults notes.old) (N.faults notes.new)) }
+    ensures notes_front { OfAnswer words.now.items (S.left source.old) (NotesPrefix result (N.told notes.old) (N.told notes.new)) }
+    ensures notes_whole { OfAnswer words.now.items (S.left source.old) (λ answer.
+        NotesLine result (N.told notes.old) (N.told notes.new) answer ⊎ Rose (N.faults notes.old) (N.faults notes.new)) }
 
     // Accepted words, an accepted model and no fault give the whole answer, or want of memory.
-    ensures complete { IsOk (settings (texts_of words.now.items)) → IfSome (S.left source.old) (λ bytes. IsOk (model_of bytes) → IsComplete result (answer (texts_of words.now.items) bytes).status (Rose (S.faults source.old) (S.faults source.new)) (Rose (K.faults out.old) (K.faults out.new))) }
+    ensures complete { OfAccepted words.now.items (S.left source.old) (λ answer.
+        IsComplete result answer.status (Rose (S.faults source.old) (S.faults source.new)) (Rose (K.faults out.old) (K.faults out.new))) }
 {
     match read_words(words) {
         Err(fault) => {

@@ -32,7 +32,7 @@ pub last_spare : (changes : List Change) (k at : ℕ) (d : Change) (spare : List
 unfolding spare_after_all
 last_spare changes k at d spare next within = rw (last_first changes k at d next within) refl
 
-inverse_last : (change : Change) (rest : List Change) (cells : CellData) → reverse (inverses_of (change ∷ rest) cells) ≡ reverse (inverses_of rest (cells_after change cells)) ++ inverse_of change cells ∷ []
+pub inverse_last : (change : Change) (rest : List Change) (cells : CellData) → reverse (inverses_of (change ∷ rest) cells) ≡ reverse (inverses_of rest (cells_after change cells)) ++ inverse_of change cells ∷ []
 unfolding inverses_of
 inverse_last change rest cells = reverse_onto (inverses_of rest (cells_after change cells)) (inverse_of change cells) []
 

@@ -1,7 +1,6 @@
 -- Undoing the inverses of a list of changes.
-use Rattle.std.proofs.Common.{◌≡◌, ℕ, zero, suc, List, [], ◌∷◌, ◌++◌, take, drop, reverse, refl, ap, sym, ◌∙◌}
+use Rattle.std.proofs.Common.{◌≡◌, ℕ, zero, suc, List, [], ◌∷◌, take, drop, reverse, refl, ap, sym, ◌∙◌}
 use Rattle.std.proofs.lemmas.List.{reverse-append, take-append-drop}
-use Rattle.std.proofs.lemmas.Grind.{reverse_onto}
 use Rattle.delta_exchange.specs.Changes.{CellData, cells_after, inverse_of, AllFit, cells_after_all, inverses_of}
 use Rattle.delta_exchange.specs.Spares.{spare_after, AllFindRoom, spare_after_all}
 use Rattle.delta_exchange.specs.Undoing.{UndoRestores, view_after_all, CanBeDone, UndoingRestores, UndoingTheLastRestores, UndoingTheFirstRestores}
@@ -9,6 +8,7 @@ use Rattle.delta_exchange.specs.Views.{CellsView}
 use Rattle.delta_exchange.specs.declared.change.Change.{Change}
 use Rattle.delta_exchange.proofs.Inverses.{cells_back, change_back, inverse_fits, inverse_finds_room, spare_back}
 use Rattle.delta_exchange.proofs.Lists.{cells_after_all_append, spare_after_all_append, inverses_of_append, all_fit_append, all_find_room_append, first_fit, last_fit, first_find_room, last_find_room, length_spare_after, length_lines_after, length_spare_after_all, length_lines_after_all}
+use Rattle.delta_exchange.proofs.Backwards.{inverse_last}
 
 view_after : Change → CellsView → CellsView
 view_after change cells = record { contents = cells_after change cells.contents; spare = spare_after change cells.spare }
@@ -16,10 +16,6 @@ view_after change cells = record { contents = cells_after change cells.contents;
 rest_can_be_done : (change : Change) (rest : List Change) (cells : CellsView) → CanBeDone (change ∷ rest) cells → CanBeDone rest (view_after change cells)
 unfolding AllFit AllFindRoom view_after
 rest_can_be_done change rest cells can = (length_spare_after change cells.spare ∙ can.0 ∙ sym (length_lines_after change cells.contents), can.1.1, can.2.1)
-
-inverses_last : (change : Change) (rest : List Change) (cells : CellData) → reverse (inverses_of (change ∷ rest) cells) ≡ reverse (inverses_of rest (cells_after change cells)) ++ inverse_of change cells ∷ []
-unfolding inverses_of
-inverses_last change rest cells = reverse_onto (inverses_of rest (cells_after change cells)) (inverse_of change cells) []
 
 -- a list undone, and then one change more
 one_more : (change : Change) (rest : List Change) (cells : CellsView) → CanBeDone (change ∷ rest) cells
@@ -29,7 +25,7 @@ unfolding AllFit AllFindRoom view_after cells_after_all spare_after_all inverses
 one_more change rest cells can undone =
     let before = reverse (inverses_of rest (cells_after change cells.contents)) in
     let inverse = inverse_of change cells.contents in
-    let last = inverses_last change rest cells.contents in
+    let last = inverse_last change rest cells.contents in
     record {
       fit = rw last (all_fit_append before (inverse ∷ []) _ undone.fit (rw undone.contents (inverse_fits change cells.contents can.1.0, tt)));
       room = rw last (all_find_room_append before (inverse ∷ []) _ undone.room (rw undone.spare (inverse_finds_room change cells.contents cells.spare can.0 can.1.0, tt)));

@@ -7,7 +7,7 @@ use Rattle.model_core.specs.declared.effect.Outcome.{Outcome}
 use Rattle.model_core.specs.declared.effect.Outcome.TheVariants.{Goes, Fails}
 use Rattle.model_core.specs.declared.event.Event.{Event}
 use Rattle.model_core.specs.Meaning.{Meaning, MeaningLaws, EffectLaws, OutcomeLaws}
-use Rattle.sim_spec.specs.Firing.{ObjectState, Firing, Fired, goes, fails, fired_by, fire, has_chain, emissions}
+use Rattle.sim_spec.specs.Firing.{ObjectState, Firing, Fired, goes, fails, fired_by, fire, firing_of, has_chain, emissions}
 use Rattle.event_firing.specs.Settling.{settled}
 
 outcome_inside : (x y : Effect) → Goes x ≡ Goes y → x ≡ y
@@ -44,15 +44,6 @@ fails_by object s e (Goes x) code is = by_test (has_chain e.key.stamp x.sends) _
 pub settled-fails : (m : Meaning) (object : ℕ) (s : ObjectState) (e : Event) (code : ℕ) → Fails code ≡ settled e.key.stamp (m.effect object s.cells e) → fire m object s e ≡ fails code
 unfolding fire
 settled-fails m object s e code is = fails_by object s e (m.effect object s.cells e) code is
-
--- the firing of an effect
-abbrev pub firing_of : ℕ → ObjectState → Event → Effect → Firing
-firing_of object s e x = record {
-  state = record { cells = cells_after_all x.changes s.cells; sent = s.sent + length x.sends };
-  events = emissions e.key.stamp object s.sent x.sends;
-  undo = inverses_of x.changes s.cells;
-  note = x.note;
-}
 
 pub fire-goes : (m : Meaning) (object : ℕ) (s : ObjectState) (e : Event) (x : Effect) → Goes x ≡ settled e.key.stamp (m.effect object s.cells e) → fire m object s e ≡ goes (firing_of object s e x)
 unfolding fire fired_by

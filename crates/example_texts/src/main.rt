@@ -2,8 +2,7 @@
 #![tactic(auto)]
 
 ghost use Rattle.std.specs.Prelude.{◌≡◌, IfOk, IfSome, false};
-ghost use Rattle.sim_io.specs.CycleTexts.{text};
-ghost use Rattle.sim_spec.specs.State.{initial_state};
+ghost use Rattle.sim_io.specs.CycleTexts.{text_from_start};
 ghost use Rattle.model_text.specs.Meanings.{meaning_of};
 ghost use Rattle.model_text.specs.ModelTexts.{model_of};
 
@@ -23,7 +22,7 @@ const ROOM: usize = 1_048_576;
 
 /// The text of a model's simulation.
 fn text_of(alloc: Global, model: AnyModel, terms: Terms) -> Result<MemSink, Unfinished>
-    ensures { IfOk result (λ sink. sink.taken ≡ text (meaning_of model) terms false (initial_state (meaning_of model))) }
+    ensures { IfOk result (λ sink. sink.taken ≡ text_from_start (meaning_of model) terms false) }
 {
     let mut sink = MemSink::new(alloc, ROOM, Vec::new(alloc), Vec::new(alloc), ROOM)?;
     run_model(alloc, model, terms, false, &mut sink)?;
@@ -32,7 +31,7 @@ fn text_of(alloc: Global, model: AnyModel, terms: Terms) -> Result<MemSink, Unfi
 
 /// The text of the simulation of the model that these bytes are, and nothing where there is none.
 fn told_of(alloc: Global, bytes: &[u8]) -> Option<MemSink>
-    ensures { IfSome result (λ sink. IfOk (model_of bytes.now) (λ read. sink.taken ≡ text read.meaning read.terms false (initial_state read.meaning))) }
+    ensures { IfSome result (λ sink. IfOk (model_of bytes.now) (λ read. sink.taken ≡ text_from_start read.meaning read.terms false)) }
 {
     let (model, terms) = read_model(alloc, bytes).ok()?;
     text_of(alloc, model, terms).ok()

@@ -8,19 +8,36 @@ ghost use Rattle.object_log.specs.Parts.{due_of};
 mod hops;
 mod station;
 
-use event_chain::{Cell, CellPool, Chain};
+use event_chain::{Cell, Chain};
 use event_key::{Key, stamp_of, time_of};
 use model_core::model::Model as SimulationModel;
-use model_core::{Event, OutOfMemory};
-use object_log::{Done, ObjectLog, Verdict};
+use model_core::{Effect, Event, OutOfMemory};
+use object_log::{Done, LogPool, ObjectLog, Released, Verdict};
 use std::alloc::Global;
 use std::process::Abort;
 use std::test::Fail;
+
+/// What logs share.
+#[derive(Drop)]
+struct Shared {
+    sheet: Effect,
+    pool: LogPool,
+}
+
+/// A blank sheet, and a pool of nothing.
+fn make_shared(alloc: Global) -> Result<Shared, Fail> {
+    let Ok(sheet) = Effect::new(alloc) else {
+        return Err(Fail::from("no memory"));
+    };
+    let pool = LogPool::new();
+    Ok(Shared { sheet, pool })
+}
 
 /// Ends the test where a key isn't above those of the processed events.
 fn assert_above<R: Abort>(rt: &R, log: &ObjectLog, key: &Key)
     ensures { AllByRecursion (λ earlier. key_lt earlier key.now ≡ true) (keys_of log.now.done) }
 {
+    log.tells();
     let len = log.len();
     if len == 0 {
         return;
@@ -42,7 +59,7 @@ fn process<R: Abort, M: SimulationModel>(
     alloc: Global,
     model: &M,
     log: &mut ObjectLog,
-    pool: &mut CellPool<Event>,
+    shared: &mut Shared,
     event: Event,
 ) -> Result<u64, Fail> {
     assert!(rt; log.len() < 100);
@@ -56,7 +73,7 @@ fn process<R: Abort, M: SimulationModel>(
     let Ok(cell) = Cell::new(alloc, event) else {
         return Err(Fail::from("no memory"));
     };
-    match log.process(alloc, model, pool, cell) {
+    match log.process(alloc, model, &mut shared.sheet, &mut shared.pool, cell) {
         Ok(least) => Ok(least),
         Err((OutOfMemory, _)) => Err(Fail::from("no memory")),
     }
@@ -77,9 +94,9 @@ fn commit<R: Abort>(
 }
 
 /// Goes back to a key, and answers what was undone.
-fn back_to(log: &mut ObjectLog, key: Key, pool: &mut CellPool<Event>) -> Chain<Event> {
+fn back_to(log: &mut ObjectLog, key: Key, shared: &mut Shared) -> Chain<Event> {
     let mut into = Chain::new();
-    log.back_to(key, pool, &mut into);
+    log.back_to(key, &mut shared.pool, &mut into);
     into
 }
 
@@ -89,7 +106,8 @@ fn at(time: u32) -> u64 {
 }
 
 /// Takes the first committed event out, with what is told of it.
-fn next_told(done: &mut Chain<Done>) -> Result<(Event, Verdict), Fail> {
-    let Done { event, verdict, .. } = done.pop_front().ok_or("empty")?.into_inner();
-    Ok((event.into_inner(), verdict))
+fn next_told(done: &mut Chain<Done>, shared: &mut Shared) -> Result<(Event, Verdict), Fail> {
+    let first = done.pop_front().ok_or("empty")?;
+    let Released { event, verdict, .. } = shared.pool.release(first);
+    Ok((event, verdict))
 }

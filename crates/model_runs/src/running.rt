@@ -6,7 +6,7 @@ ghost use Rattle.sim_spec.specs.Run.{run};
 ghost use Rattle.sim_spec.specs.Standing.{stands};
 ghost use Rattle.sim_spec.specs.State.{initial_state};
 ghost use Rattle.sim_io.specs.Causes.{Rose};
-ghost use Rattle.sim_io.specs.CycleTexts.{text};
+ghost use Rattle.sim_io.specs.CycleTexts.{text_from_start};
 ghost use Rattle.sim_io.specs.Transfers.{AppendsFront};
 ghost use Rattle.sim_text.specs.declared.unfinished.Unfinished.TheVariants.{WriteFault};
 ghost use Rattle.model_text.specs.Meanings.{meaning_of};
@@ -44,9 +44,9 @@ pub fn run_model<K: Sink>(
     cycles: bool,
     out: &mut K,
 ) -> Result<Stop, Unfinished>
-    ensures whole { OnOk result (Appends (K.told out.old) (K.told out.new) (text (meaning_of model) terms cycles (initial_state (meaning_of model)))) }
+    ensures whole { OnOk result (Appends (K.told out.old) (K.told out.new) (text_from_start (meaning_of model) terms cycles)) }
     ensures stop { IfOk result (λ stop. stop ≡ (run (meaning_of model) terms (initial_state (meaning_of model))).stop) }
-    ensures front { OnErr result (AppendsFront (K.told out.old) (K.told out.new) (text (meaning_of model) terms cycles (initial_state (meaning_of model)))) }
+    ensures front { OnErr result (AppendsFront (K.told out.old) (K.told out.new) (text_from_start (meaning_of model) terms cycles)) }
     ensures fault { IsErrOf result WriteFault → Rose (K.faults out.old) (K.faults out.new) }
     ensures later { K.faults out.old ≤ K.faults out.new }
 {

@@ -30,6 +30,10 @@ abbrev pub body_keys : ModelKind → List (List ℕ)
 body_keys Phold = codes "phold" ∷ []
 body_keys Network = codes "object" ∷ codes "job" ∷ []
 
+-- the keys of the top table
+abbrev pub top_keys : ModelKind → List (List ℕ)
+top_keys kind = codes "format" ∷ codes "model" ∷ codes "end" ∷ codes "seed" ∷ codes "limit" ∷ body_keys kind
+
 abbrev pub body : ModelKind → ℕ → Members → Checked Meaning
 body Phold seed ms = required 0 (phold seed) (codes "phold") ms
 body Network seed ms = network seed ms
@@ -43,7 +47,7 @@ top ms = do
   end ← required 0 (number 0 0 70368744177663) (codes "end") ms
   seed ← optional 0 (number 0 0 9223372036854775807) (codes "seed") ms
   limit ← optional 10000000 (number 0 1 1000000000) (codes "limit") ms
-  known ← only 0 (codes "format" ∷ codes "model" ∷ codes "end" ∷ codes "seed" ∷ codes "limit" ∷ body_keys kind) ms
+  known ← only 0 (top_keys kind) ms
   meaning ← body kind seed ms
   Ok (record { meaning = meaning; terms = terms_of end limit })
 

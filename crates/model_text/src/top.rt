@@ -1,10 +1,10 @@
 //! The top table, and the whole text.
-ghost use Rattle.std.specs.Prelude.{◌≡◌, ◌<◌, ◌≤◌, ◌^◌, ◌∷◌, IfOk, IfErr, codes};
+ghost use Rattle.std.specs.Prelude.{◌≡◌, ◌<◌, ◌≤◌, ◌^◌, IfOk, IfErr, codes};
 ghost use Rattle.toml.specs.View.{table_view};
 ghost use Rattle.model_text.specs.Checks.{Gives, Fails};
 ghost use Rattle.model_text.specs.Fields.{required, only_number, only};
 ghost use Rattle.model_text.specs.Meanings.{meaning_of};
-ghost use Rattle.model_text.specs.ModelTexts.{kind_of, body_keys, body, top, tree, model_of};
+ghost use Rattle.model_text.specs.ModelTexts.{kind_of, top_keys, body, top, tree, model_of};
 ghost use Rattle.model_text.specs.TermsOf.{terms_of};
 
 use crate::fields::{field, only, only_number, optional_number, required_number, required_text};
@@ -58,7 +58,7 @@ fn kind_of(name: &str) -> Result<ModelKind, Refusal>
 
 /// No key but the ones of the top table with a body of this kind.
 fn only_known(table: &Table, kind: ModelKind) -> Result<(), Refusal>
-    ensures { Gives (λ _. tt) result (only 0 (codes "format" ∷ codes "model" ∷ codes "end" ∷ codes "seed" ∷ codes "limit" ∷ body_keys kind) (table_view table.now)) }
+    ensures { Gives (λ _. tt) result (only 0 (top_keys kind) (table_view table.now)) }
 {
     match kind {
         ModelKind::Phold => only(
@@ -121,7 +121,7 @@ fn tree(alloc: Global, bytes: &[u8]) -> Result<Table, Refusal>
 /// The model and the terms of a text, or the first check that it fails.
 #[tactic(auto, unfolding(crate::specs::ModelTexts::model_of))]
 pub fn read_model(alloc: Global, bytes: &[u8]) -> Result<(AnyModel, Terms), Refusal>
-    ensures read { IfOk result (λ read. model_of bytes.now ≡ Ok (record { meaning = ⟦<AnyModel as SimulationModel>⟧.meaning read.0; terms = read.1 })) }
+    ensures read { IfOk result (λ read. model_of bytes.now ≡ Ok (record { meaning = meaning_of read.0; terms = read.1 })) }
     ensures refused { IfErr result (λ refusal. Fails refusal (model_of bytes.now)) }
 {
     if bytes.len() > MOST_BYTES {

@@ -1,5 +1,5 @@
 -- One event after another is committed: those so far are the first ones of their logs.
-use Rattle.std.proofs.Common.{◌≡◌, ℕ, ◌+◌, ◌<◌, ◌≤◌, ◌^◌, Bool, true, false, cond, List, [], ◌∷◌, ◌++◌, length, map, eq-eqb, ne_eqb, Option, Some, refl, sym, ap, ◌∙◌, subst, arith, append_assoc, length-append}
+use Rattle.std.proofs.Common.{◌≡◌, ℕ, ◌+◌, ◌<◌, ◌≤◌, ◌^◌, true, false, cond, List, [], ◌∷◌, ◌++◌, length, map, eq-eqb, ne_eqb, Option, Some, refl, sym, ap, ◌∙◌, subst, arith, append_assoc, length-append}
 use Rattle.std.specs.Prelude.{filter, slice_index_or}
 use Rattle.std.specs.List.{AllByRecursion as Each}
 use Rattle.std.proofs.lemmas.List.{append-nil, length-map, map-append}
@@ -19,6 +19,7 @@ use Rattle.object_log.specs.Logs.{LogView, undone}
 use Rattle.object_log.specs.Replays.{IsLogOf, firing_of, replay_of, told}
 use Rattle.key_order.specs.Due.{is_due}
 use Rattle.world_spec.specs.Share.{is_at}
+use Rattle.key_order.proofs.FilterLemmas.{length-filter_le}
 use Rattle.node_core.specs.Handed.{AddsOne, AreTaken, CanCommit, IsFaultLate, IsLogLess, IsNoted, IsTellingOf, told_of, with_front}
 use Rattle.node_core.specs.Homes.{HomesView, home_of}
 use Rattle.node_core.specs.Marks.{MarkView, code_of, fault_or, first_fault, first_mark}
@@ -62,7 +63,7 @@ went horizon cut now next d is = by_verdict d.verdict refl
     by_verdict (Failed code) same =
         let L : Option (Key × ℕ) → Type 0 = IsFaultLate horizon cut in
         let late : is_due horizon cut d.event.key ≡ false =
-            subst L (fault-now now next d is.one ∙ ap (λ v. fault_or d.event.key (code_of v) (first_fault next.marks)) same) is.late in
+        subst L (fault-now now next d is.one ∙ ap (λ v. fault_or d.event.key (code_of v) (first_fault next.marks)) same) is.late in
         let due = is.due in absurd (cc)
 
 pub went-noted : (v : Verdict) (note : Note) → v ≡ Noted note → IsNoted v
@@ -151,7 +152,7 @@ taken-step horizon cut old now next done d note so_far is same few =
     record {
       logs = λ o. by_object L dest o (less-here dest old.logs now.logs next.logs done d note refl same (so_far.logs dest) c)
           (λ apart. less-there o old.logs now.logs next.logs done x (λ to. apart (sym to)) (other_log dest o now.logs next.logs c.moved apart)
-              (still_here dest o now.logs next.logs c.moved) (was_here dest o now.logs next.logs c.moved at) (so_far.logs o));
+          (still_here dest o now.logs next.logs c.moved) (was_here dest o now.logs next.logs c.moved at) (so_far.logs o));
       due = each-push (λ (d : Event × Firing). is_due horizon cut d.0.key ≡ true) done x so_far.due is.due;
       here = each-push (λ (d : Event × Firing). IsHere old.logs d.0.key.dest) done x so_far.here ((so_far.logs dest).back at);
       keys = so_far.keys ∙ ap (λ ks. map (λ (d : Event × Firing). d.0.key) done ++ keys_of ks) is.one.marks
@@ -177,7 +178,7 @@ telling-step homes done next d note told told' out out' same t a =
       long = a.long ∙ t.long;
       parcels = λ to within.
           (let at = is_at (home_of homes) to in
-           a.parcels to within ∙ ap (λ es. es ++ filter at d.sends) (t.parcels to within) ∙ sym (filter-append at (emissions_of done) d.sends) ∙ ap (filter at) (sym (emissions-push done x)));
+          a.parcels to within ∙ ap (λ es. es ++ filter at d.sends) (t.parcels to within) ∙ sym (filter-append at (emissions_of done) d.sends) ∙ ap (filter at) (sym (emissions-push done x)));
     }
 
 -- what is handed out so far, with room for all that is still due
@@ -245,7 +246,7 @@ module _ (homes : HomesView) (horizon : ℕ) (cut : Option Key) (old now next : 
       let done = is.so_far.done in
       let at = is_at (home_of homes) to in
       let parcel = ap length (is.so_far.tells.parcels to within) in
-      let part = at_most at (emissions_of done) in
+      let part = length-filter_le at (emissions_of done) in
       let sent = t.few in
       let own = next-few in
       let total = ap length t.keys ∙ length-append (map (λ (d : Event × Firing). d.0.key) done) (keys_of now.marks) in
@@ -255,12 +256,6 @@ module _ (homes : HomesView) (horizon : ℕ) (cut : Option Key) (old now next : 
       let left = ap length is.is_due_now.one.marks in
       let small = is.can.few in
       omega arith
-    where
-      at_most : (p : Event → Bool) (xs : List Event) → length (filter p xs) ≤ length xs
-      at_most p [] = omega arith
-      at_most p (x ∷ xs) =
-          let le = at_most p xs in
-          elim (p x) as (λ b. length (cond b (x ∷ filter p xs) (filter p xs)) ≤ length (x ∷ xs)) [ true ↦ omega arith | false ↦ omega arith ]
 
   pub handing-step : (told' : List (Key × Note)) (out' : List (List Event)) (later : StoreView) → AddsOne homes d.event d.sends d.verdict told told' out out' → later ≡ next → (room' : ℕ) → room' ≡ room → IsHandingOut homes horizon cut old later told' out' room'
   handing-step told' out' later a is_next room' same =

@@ -118,7 +118,7 @@ module _ (m : Meaning) (t : Terms) (number : ℕ) (homes : HomesView) (s s' : St
       let C : ObjectState → Type 0 = λ x. IsTrue (m.lawful object (undone x kept).cells) in
       subst C (sym (less object).state)
       (base-lawful m object old.state (less object).gone kept is.laws (exists m t number homes s counts is object here)
-       (subst R (less object).front (replayed m t number homes s counts is object here)) (subst L (less object).front (is.node.lawful.lawful object here)))
+      (subst R (less object).front (replayed m t number homes s counts is object here)) (subst L (less object).front (is.node.lawful.lawful object here)))
 
   pub node-committed : (count : ℕ) → count ≡ length told → (after : Counts) → after ≡ record counts { committed = (counts.committed + count) % 2 ^ 64 } → IsNode m t number homes s'.logs s'.marks after
   node-committed count counted after is_after =
@@ -169,7 +169,7 @@ module _ (m : Meaning) (t : Terms) (number : ℕ) (homes : HomesView) (s s' : St
       commits = record {
         logs = λ o home. cut-replay horizon cut s.logs s'.logs h.done o (at o)
             ∙ ap (λ n. without_first n (replay_of (log_at s.logs o).state (log_at s.logs o).done))
-              (sym (ap length (due-events-are horizon cut s.logs s'.logs h.done o (at o) (events_at o s.waiting) (events_at o share.pending) (events o home) (later o))));
+            (sym (ap length (due-events-are horizon cut s.logs s'.logs h.done o (at o) (events_at o s.waiting) (events_at o share.pending) (events o home) (later o))));
         waits = h.taken.waiting;
       }
 

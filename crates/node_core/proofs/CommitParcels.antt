@@ -1,10 +1,11 @@
 -- Messages go into the parcels of their homes.
-use Rattle.std.proofs.Common.{◌≡◌, ℕ, ◌+◌, ◌<◌, ◌≤◌, ◌^◌, Bool, true, false, cond, List, [], ◌∷◌, ◌++◌, length, slice_index_or, eq-eqb, ne_eqb, sym, ap, ◌∙◌, subst, arith, length-append, append_assoc}
+use Rattle.std.proofs.Common.{◌≡◌, ℕ, ◌+◌, ◌<◌, ◌^◌, cond, List, [], ◌∷◌, ◌++◌, length, slice_index_or, eq-eqb, ne_eqb, sym, ap, ◌∙◌, subst, arith, length-append, append_assoc}
 use Rattle.std.specs.Prelude.{filter, slice_set}
 use Rattle.std.specs.List.{AllByRecursion as Each}
 use Rattle.std.proofs.lemmas.List.{get_or_read, get_or-set_same, get_or-set_other, length-set}
 use Rattle.model_core.specs.declared.event.Event.{Event}
 use Rattle.world_spec.specs.Share.{is_at}
+use Rattle.key_order.proofs.FilterLemmas.{length-filter_le}
 use Rattle.node_core.specs.Homes.{HomesView, home_of}
 use Rattle.node_core.proofs.StoreLemmas.{by_object}
 
@@ -33,13 +34,6 @@ first-away : (homes : HomesView) (event : Event) (rest : List Event) (to : ℕ) 
 first-away homes event rest to apart =
     ap (λ b. cond b (event ∷ filter (is_at (home_of homes) to) rest) (filter (is_at (home_of homes) to) rest)) (ne_eqb (home_of homes event.key.dest) to apart)
 
--- no more are at one home than there are
-fewer : {X : Type 0} (p : X → Bool) (xs : List X) → length (filter p xs) ≤ length xs
-fewer p [] = omega arith
-fewer p (x ∷ xs) =
-    let le = fewer p xs in
-    elim (p x) as (λ b. length (cond b (x ∷ filter p xs) (filter p xs)) ≤ length (x ∷ xs)) [ true ↦ omega arith | false ↦ omega arith ]
-
 pub parcel-room : (homes : HomesView) (events : List Event) (out : List (List Event)) (left : List Event) (now : List (List Event)) (event : Event) (rest : List Event) (node : ℕ) (parcel : List Event)
     → AreLeft homes events out left now → left ≡ event ∷ rest → IsParcel homes now event node parcel
     → ((to : ℕ) → to < homes.nodes → length (slice_index_or out to []) + length events < 2 ^ 60) → length parcel + 1 < 2 ^ 60
@@ -50,7 +44,7 @@ parcel-room homes events out left now event rest node parcel l is p few =
     let first = ap length (first-home homes event rest node p.home) in
     let one = length-append (slice_index_or now node []) (filter at (event ∷ rest)) in
     let two = length-append (slice_index_or out node []) (filter at events) in
-    let less = fewer at events in
+    let less = length-filter_le at events in
     let room = few node p.within in
     omega arith
 
@@ -66,8 +60,8 @@ left-step homes events out left now event rest node parcel next l is p is_next =
       long = length-set now node next ∙ l.long;
       parcels = λ to within. by_object P node to
           (ap (λ es. es ++ filter (at node) rest) (get_or-set_same now node next [] p.inside ∙ is_next ∙ ap (λ es. es ++ event ∷ []) (parcel-is homes now event node parcel p))
-           ∙ append_assoc (slice_index_or now node []) (event ∷ []) (filter (at node) rest)
-           ∙ ap (λ es. slice_index_or now node [] ++ es) (sym (first-home homes event rest node p.home)))
+          ∙ append_assoc (slice_index_or now node []) (event ∷ []) (filter (at node) rest)
+          ∙ ap (λ es. slice_index_or now node [] ++ es) (sym (first-home homes event rest node p.home)))
           (λ apart. (λ i. get_or-set_other now node to next [] apart i ++ sym (first-away homes event rest to (λ same. apart (sym same ∙ sym p.home))) i))
           ∙ ap (λ es. slice_index_or now to [] ++ filter (at to) es) (sym is) ∙ l.parcels to within;
       homed = all.1;

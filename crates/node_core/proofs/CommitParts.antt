@@ -1,5 +1,5 @@
 -- What is due was committed, object by object.
-use Rattle.std.proofs.Common.{◌≡◌, ℕ, Bool, true, false, not, List, [], ◌∷◌, ◌++◌, length, map, take, drop, Option, refl, sym, ap, ◌∙◌, subst, append_assoc}
+use Rattle.std.proofs.Common.{◌≡◌, ℕ, Bool, true, false, not, List, [], ◌∷◌, ◌++◌, length, map, take, drop, Option, sym, ap, ◌∙◌, subst, append_assoc}
 use Rattle.std.specs.Prelude.{filter, IfSome, ◌==◌}
 use Rattle.std.specs.List.{AllByRecursion as Each}
 use Rattle.std.proofs.Math.Seq.{drop-append_seam, take-append_seam}
@@ -24,6 +24,7 @@ use Rattle.world_spec.specs.Moves.{without_first}
 use Rattle.key_order.proofs.AscendingLemmas.{Ascends-map}
 use Rattle.key_order.proofs.DueLemmas.{due-down}
 use Rattle.key_order.proofs.FilterLemmas.{filter-all, filter-front, filter-none}
+use Rattle.node_core.proofs.StoreLemmas.{events_of-append}
 use Rattle.node_core.specs.Handed.{AreTaken, IsLogLess}
 use Rattle.node_core.specs.Marks.{MarkView, AreInOrder, first_mark, mark_of}
 use Rattle.node_core.specs.Nodes.{log_at}
@@ -99,7 +100,7 @@ cut-at horizon cut old new done taken rest marked object =
       less = s;
       due = log-each (λ (e : Event). is_due horizon cut e.key ≡ true) s.gone
           (subst E s.events (events-due (λ (e : Event). is_due horizon cut e.key ≡ true) (done_at object done)
-            (Each-filter (λ (d : Event × Firing). is_due horizon cut d.0.key ≡ true) (λ (d : Event × Firing). d.0.key.dest == object) done taken.due)));
+          (Each-filter (λ (d : Event × Firing). is_due horizon cut d.0.key ≡ true) (λ (d : Event × Firing). d.0.key.dest == object) done taken.due)));
       stays = marks-stay horizon cut (log_at new.logs object).done
           (subst K (marked.parts object) (Each-filter (λ (k : MarkView). is_due horizon cut k.key ≡ false) (λ (k : MarkView). k.key.dest == object) new.marks (none-due horizon cut new.marks marked.ordered rest)));
     }
@@ -119,8 +120,8 @@ module _ (horizon : ℕ) (cut : Option Key) (old now : List (Option LogView)) (d
   cut-left =
       let stays = λ (d : Done). not (is_due horizon cut d.event.key) in
       sym (ap (filter stays) at.less.front ∙ filter-append stays gone kept
-        ∙ ap (λ ds. ds ++ filter stays kept) (filter-none stays gone (Each-map (λ (d : Done). is_due horizon cut d.event.key ≡ true) (λ (d : Done). stays d ≡ false) gone (λ d is. ap not is) at.due))
-        ∙ filter-all stays kept (Each-map (λ (d : Done). is_due horizon cut d.event.key ≡ false) (λ (d : Done). stays d ≡ true) kept (λ d is. ap not is) at.stays))
+      ∙ ap (λ ds. ds ++ filter stays kept) (filter-none stays gone (Each-map (λ (d : Done). is_due horizon cut d.event.key ≡ true) (λ (d : Done). stays d ≡ false) gone (λ d is. ap not is) at.due))
+      ∙ filter-all stays kept (Each-map (λ (d : Done). is_due horizon cut d.event.key ≡ false) (λ (d : Done). stays d ≡ true) kept (λ d is. ap not is) at.stays))
 
   -- what is handed out of it is what was due
   pub cut-parts : done_at object done ≡ filter (λ (d : Event × Firing). is_due horizon cut d.0.key) (replay_of (log_at old object).state (log_at old object).done).done
@@ -129,9 +130,9 @@ module _ (horizon : ℕ) (cut : Option Key) (old now : List (Option LogView)) (d
       let left = replay_of (log_at now object).state kept in
       let E : List Event → Type 0 = Each (λ (e : Event). due e ≡ true) in
       let firsts : Each (λ (d : Event × Firing). P d ≡ true) (done_at object done) =
-          due-events (done_at object done) (subst E (sym at.less.events) (each-log (λ (e : Event). due e ≡ true) gone at.due)) in
+      due-events (done_at object done) (subst E (sym at.less.events) (each-log (λ (e : Event). due e ≡ true) gone at.due)) in
       sym (ap (λ (r : Replay). filter P r.done) at.less.told
-        ∙ filter-front P (done_at object done) left.done firsts (replay-each (λ (e : Event). due e ≡ false) (log_at now object).state kept at.stays))
+      ∙ filter-front P (done_at object done) left.done firsts (replay-each (λ (e : Event). due e ≡ false) (log_at now object).state kept at.stays))
     where
       due-events : (ds : List (Event × Firing)) → Each (λ (e : Event). due e ≡ true) (events_of ds) → Each (λ (d : Event × Firing). is_due horizon cut d.0.key ≡ true) ds
       due-events [] all = tt
@@ -143,16 +144,12 @@ module _ (horizon : ℕ) (cut : Option Key) (old now : List (Option LogView)) (d
       let left = replay_of (log_at now object).state kept in
       let long : length (log_events gone) ≡ length (done_at object done) = sym (ap length at.less.events) ∙ length-map (done_at object done) (λ (d : Event × Firing). d.0) in
       sym (ap (without_first (length (log_events gone))) at.less.told
-        ∙ ap (λ n. record left { done = drop n (done_at object done ++ left.done) }) long
-        ∙ ap (λ ds. record left { done = ds }) (drop-append_seam (done_at object done) left.done))
+      ∙ ap (λ n. record left { done = drop n (done_at object done ++ left.done) }) long
+      ∙ ap (λ ds. record left { done = ds }) (drop-append_seam (done_at object done) left.done))
 
   module _ (waits pending : List Event) (list : pending ≡ log_events (log_at old object).done ++ waits) (later : Each (λ (e : Event). due e ≡ false) waits) where
     events-parts : pending ≡ log_events gone ++ (log_events kept ++ waits)
-    events-parts = list ∙ ap (λ ds. log_events ds ++ waits) at.less.front ∙ ap (λ es. es ++ waits) (log-append gone kept) ∙ append_assoc (log_events gone) (log_events kept) waits
-      where
-        log-append : (xs ys : List Done) → log_events (xs ++ ys) ≡ log_events xs ++ log_events ys
-        log-append [] ys = refl
-        log-append (d ∷ xs) ys = ap (λ es. d.event ∷ es) (log-append xs ys)
+    events-parts = list ∙ ap (λ ds. log_events ds ++ waits) at.less.front ∙ ap (λ es. es ++ waits) (events_of-append gone kept) ∙ append_assoc (log_events gone) (log_events kept) waits
 
     behind : Each (λ (e : Event). due e ≡ false) (log_events kept ++ waits)
     behind = Each-append (λ (e : Event). due e ≡ false) (log_events kept) waits (each-log (λ (e : Event). due e ≡ false) kept at.stays) later

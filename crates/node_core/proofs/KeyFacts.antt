@@ -15,8 +15,9 @@ use Rattle.node_core.specs.Nodes.{IsHere, NodeView, ahead_of, base_at, home, log
 use Rattle.node_core.specs.Rows.{keys_of}
 use Rattle.node_core.specs.Shares.{AreProcessedKeys, total_upto}
 use Rattle.node_core.specs.Sound.{AreMarked, IsNode, IsStore}
+use Rattle.node_core.proofs.CommitReplay.{log-little}
 use Rattle.node_core.proofs.RollbackFacts.{home-here}
-use Rattle.node_core.proofs.SentFacts.{each-few, sent-bound}
+use Rattle.node_core.proofs.SentFacts.{sent-bound}
 use Rattle.node_core.proofs.ShareFacts.{marks-total}
 
 keys-after : (key : Key) (ks : List MarkView) → After (λ (k : MarkView). k.key) key ks → After (λ (k : Key). k) key (keys_of ks)
@@ -74,7 +75,7 @@ own-sent m n marks node store laws object = by_here (is_some (slot_at n.logs obj
         let home = home-here m n.terms n.number n.homes n.logs marks n.counts object node here in
         let R : ℕ → Type 0 = λ o. IsReplayed m o log.state log.done in
         sent-bound log.state log.done
-        (each-few m object log.state log.done laws home.0 (subst R (store.held.objects object here) (node.lawful.replayed object)) (node.lawful.lawful object here))
+        (log-little m object log.state log.done laws home.0 (subst R (store.held.objects object here) (node.lawful.replayed object)) (node.lawful.lawful object here)).0
     by_here false away =
         let none = none-sent n.logs object away in
         omega arith

@@ -17,6 +17,7 @@ use Rattle.key_order.specs.Keys.{KeysDiffer}
 use Rattle.key_order.proofs.KeyLemmas.{Ascends-differ}
 use Rattle.key_order.proofs.ArrivalLemmas.{enqueue_all-ascending}
 use Rattle.key_order.proofs.FilterLemmas.{filter-all, filter-none}
+use Rattle.world_spec.proofs.HomeLemmas.{homed-same}
 use Rattle.object_log.specs.declared.done.Done.{Done}
 use Rattle.object_log.specs.Logs.{LogView, events_of}
 use Rattle.object_log.proofs.ReplayLemmas.{taken_is}
@@ -31,7 +32,6 @@ use Rattle.node_core.proofs.QueueFacts.{parts-differ}
 use Rattle.node_core.proofs.RollbackFacts.{ahead-is, home-here, left-log, rest-waits, take-front}
 use Rattle.node_core.proofs.OldestFacts.{here-done}
 use Rattle.node_core.proofs.TotalLemmas.{eqb-apart, length-parts, total-same}
-use Rattle.node_core.proofs.WholeLemmas.{homed-same}
 
 -- each slot has the events of its own object, the first one of the object at the base
 AreOwnFrom : ℕ → List (Option LogView) → Type 0
@@ -105,9 +105,10 @@ marks-here : (logs : List (Option LogView)) (marks xs ys : List MarkView) → Ar
 marks-here logs marks xs [] marked is = tt
 marks-here logs marks xs (y ∷ ys) marked is =
     let here = λ (k : MarkView). k.key.dest == y.key.dest in
-    let found = mark-done y (filter here xs) (filter here ys) (log_at logs y.key.dest).done (sym (marked.parts y.key.dest) ∙ ap (filter here) is ∙ part-of here y xs ys (eq-eqb y.key.dest y.key.dest refl)) in
-    (here-done logs y.key.dest (first-of found.front found.done found.back).0 (first-of found.front found.done found.back).1 (found.place ∙ (first-of found.front found.done found.back).2),
-     marks-here logs marks (xs ++ y ∷ []) ys marked (is ∙ sym (append_assoc xs (y ∷ []) ys)))
+    let found = mark-done y (filter here xs) (filter here ys) (log_at logs y.key.dest).done (sym (marked.parts y.key.dest) ∙ ap (filter here) is ∙ part-of here y xs ys (eq-eqb y.key.dest y.key.dest refl)) in (
+      here-done logs y.key.dest (first-of found.front found.done found.back).0 (first-of found.front found.done found.back).1 (found.place ∙ (first-of found.front found.done found.back).2),
+      marks-here logs marks (xs ++ y ∷ []) ys marked (is ∙ sym (append_assoc xs (y ∷ []) ys)),
+    )
   where
     first-of : (front : List Done) (d : Done) (back : List Done) → (e : Done) × (rest : List Done) × (front ++ d ∷ back ≡ e ∷ rest)
     first-of [] d back = (d, back, refl)
@@ -119,7 +120,7 @@ marks-total logs marks marked =
     let H : MarkView → Type 0 = λ k. IsHere logs k.key.dest in
     length-parts (λ (k : MarkView). k.key.dest) (length logs) marks (Each-map H (λ (k : MarkView). k.key.dest < length logs) marks (λ k here. inside logs k.key.dest here) (marks-here logs marks [] marks marked refl))
     ∙ total-same (λ o. length (filter (λ (k : MarkView). k.key.dest == o) marks)) (λ o. length (log_at logs o).done) (length logs)
-      (λ o. ap length (marked.parts o) ∙ length-map (log_at logs o).done mark_of)
+    (λ o. ap length (marked.parts o) ∙ length-map (log_at logs o).done mark_of)
 
 pub events-total : (logs : List (Option LogView)) (waiting : List Event) → AreOrderly logs waiting → length (processed_events logs) ≡ total_upto (λ o. length (log_at logs o).done) (length logs)
 unfolding events_at
@@ -127,7 +128,7 @@ events-total logs waiting held =
     length-parts (λ (e : Event). e.key.dest) (length logs) (processed_events logs)
     (Each-map (λ (e : Event). IsHere logs e.key.dest) (λ (e : Event). e.key.dest < length logs) (processed_events logs) (λ e here. inside logs e.key.dest here) (processed-here logs waiting held))
     ∙ total-same (λ o. length (events_at o (processed_events logs))) (λ o. length (log_at logs o).done) (length logs)
-      (λ o. ap length (processed-parts logs waiting held o) ∙ length-map (log_at logs o).done (λ (d : Done). d.event))
+    (λ o. ap length (processed-parts logs waiting held o) ∙ length-map (log_at logs o).done (λ (d : Done). d.event))
 
 module _ {M : Type 0} (m : Meaning) (n : NodeView M) (marks : List MarkView) (node : IsNode m n.terms n.number n.homes n.logs marks n.counts) (store : IsStore n.logs marks n.waiting) where
   own-ascends : IsAscending (share_of n).pending
@@ -136,8 +137,8 @@ module _ {M : Type 0} (m : Meaning) (n : NodeView M) (marks : List MarkView) (no
       let K : List Event → Type 0 = KeysDiffer in
       enqueue_all-ascending es n.waiting
       (parts-differ (es ++ n.waiting)
-       (λ o. subst K (sym (events_at-append o es n.waiting ∙ ap (λ xs. xs ++ events_at o n.waiting) (processed-parts n.logs n.waiting store.held o)))
-           (Ascends-differ key_of (pending_at n.logs n.waiting o) (store.held.ordered o))))
+      (λ o. subst K (sym (events_at-append o es n.waiting ∙ ap (λ xs. xs ++ events_at o n.waiting) (processed-parts n.logs n.waiting store.held o)))
+      (Ascends-differ key_of (pending_at n.logs n.waiting o) (store.held.ordered o))))
       store.held.waiting_ordered
 
   own-pending : (object : ℕ) → events_at object (share_of n).pending ≡ pending_at n.logs n.waiting object

@@ -10,9 +10,9 @@ ghost use Rattle.node_core.specs.Nodes.{IsAsBefore, Stands, ahead_of, data_of, h
 ghost use Rattle.node_core.specs.Shares.{AreProcessedKeys, SendAtMostEight, StandsForItsOwn};
 ghost use Rattle.node_core.specs.Steps.{IsHeldLeast, HasStepped};
 
+use crate::beginning::first_logs;
 use crate::committed::Committed;
 use crate::homes::Homes;
-use crate::beginning::first_logs;
 use crate::keys::{is_before_fault, lesser};
 use crate::step::Step;
 use crate::store::Store;
@@ -50,17 +50,17 @@ impl<M: SimulationModel> Model for Node<M> {
     ghost Value = { NodeView M };
 
     ghost view = { λ n. record {
-        model = arc_value n.model;
-        terms = n.terms;
-        number = n.number;
-        homes = arc_value n.homes;
-        logs = n.store.logs;
-        processed = keys_of n.store.marks;
-        waiting = n.store.waiting;
-        spare = n.store.spare;
-        work = n.work;
-        met = n.met;
-        counts = record { processed = n.processed; undone = n.undone; committed = n.committed };
+      model = arc_value n.model;
+      terms = n.terms;
+      number = n.number;
+      homes = arc_value n.homes;
+      logs = n.store.logs;
+      processed = keys_of n.store.marks;
+      waiting = n.store.waiting;
+      spare = n.store.spare;
+      work = n.work;
+      met = n.met;
+      counts = record { processed = n.processed; undone = n.undone; committed = n.committed };
     } };
 
     ghost invariant = { λ n. IsNode (M.meaning (arc_value n.model)) n.terms n.number (arc_value n.homes) n.store.logs n.store.marks
@@ -86,12 +86,13 @@ impl<M: SimulationModel> Node<M> {
     {
         keeps_laws(&*model);
         let logs = first_logs(alloc, &*model, number, &homes)?;
+        let store = Store::new(alloc, logs)?;
         Ok(Node {
             model,
             terms,
             number,
             homes,
-            store: Store::new(alloc, logs),
+            store,
             work: 0,
             met: 0,
             processed: 0,

@@ -1,5 +1,5 @@
 -- What a pile tells of all that it holds.
-use Rattle.std.proofs.Common.{◌≡◌, ℕ, ◌+◌, ◌<◌, min, List, [], ◌∷◌, ◌++◌, length, map, take, sym, refl, ap, ◌∙◌, subst, arith}
+use Rattle.std.proofs.Common.{◌≡◌, ℕ, ◌+◌, ◌<◌, min, List, [], ◌∷◌, ◌++◌, length, map, take, sym, refl, ap, ◌∙◌, subst}
 use Rattle.std.specs.Prelude.{slice_set, reverse}
 use Rattle.std.proofs.lemmas.List.{append-nil, map-append, reverse-append, take_more_set}
 use Rattle.event_key.specs.declared.stamp.TheConstants.{NO_STAMP}

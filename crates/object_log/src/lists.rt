@@ -23,11 +23,7 @@ impl UndoLists {
     }
 
     /// A list of these changes. Memory is taken only where the lists that came back are too few or too short.
-    pub fn copy_of(
-        &mut self,
-        alloc: Global,
-        changes: &[Change],
-    ) -> Result<Vec<Change>, OutOfMemory>
+    pub fn copy_of(&mut self, alloc: Global, changes: &[Change]) -> Result<Vec<Change>, OutOfMemory>
         ensures { IfOk result (λ list. list.items ≡ changes.now) }
     {
         let mut list = self.lend(alloc)?;

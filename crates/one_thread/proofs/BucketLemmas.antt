@@ -17,7 +17,7 @@ use Rattle.key_order.specs.Stamps.{least_stamp}
 use Rattle.sim_spec.specs.Cut.{events_of, records_of, emissions_of, objects_after}
 use Rattle.sim_spec.proofs.BucketInduction.{bucket-goes}
 use Rattle.sim_spec.proofs.LawfulLemmas.{next-lawful}
-use Rattle.sim_spec.proofs.PartLemmas.{events_of-append}
+use Rattle.sim_spec.proofs.PartLemmas.{events_of-append, emissions_of-append, records_of-append}
 use Rattle.key_order.proofs.EnqueueLemmas.{enqueue_all-append, enqueue_all-behind}
 use Rattle.sim_spec.proofs.RunLemmas.{next-fires}
 use Rattle.key_order.proofs.StampLemmas.{after-below, NoneBelow-least_stamp, least_stamp-le, least_stamp-append}
@@ -68,14 +68,9 @@ unfolding objects_after
 objects_after-append objects [] d = refl
 objects_after-append objects (x ∷ ds) d = objects_after-append (slice_set objects x.0.key.dest x.1.state) ds d
 
-emissions_of-append : (ds : List (Event × Firing)) (d : Event × Firing) → emissions_of (ds ++ d ∷ []) ≡ emissions_of ds ++ d.1.events
+emissions_of-more : (ds : List (Event × Firing)) (d : Event × Firing) → emissions_of (ds ++ d ∷ []) ≡ emissions_of ds ++ d.1.events
 unfolding emissions_of
-emissions_of-append [] d = append-nil d.1.events
-emissions_of-append (x ∷ ds) d = ap (λ es. x.1.events ++ es) (emissions_of-append ds d) ∙ sym (append_assoc x.1.events (emissions_of ds) d.1.events)
-
-records_of-append : (xs ys : List (Event × Firing)) → records_of (xs ++ ys) ≡ records_of xs ++ records_of ys
-records_of-append [] ys = refl
-records_of-append (x ∷ xs) ys = ap (λ zs. (x.0.key, x.1.note) ∷ zs) (records_of-append xs ys)
+emissions_of-more ds d = emissions_of-append ds (d ∷ []) ∙ ap (λ es. emissions_of ds ++ es) (append-nil d.1.events)
 
 -- the event that is due comes next, and leaves a lawful state
 lawful_done : (m : Meaning) (t : Terms) (c : Course) (key : Key) (note : Note) (new : Course) → MeaningLaws m → Lawful m t (state_of c) → IsDone m t c key note new → Lawful m t (state_of new)
@@ -123,7 +118,7 @@ goes_on m t s told now c new key note laws so_far one is_now =
       objects = objects ∙ ap (λ os. slice_set os e.key.dest x.state) so_far.objects ∙ sym (objects_after-append s.objects ds d);
       pending = so_far.pending ∙ ap (λ es. events_of ds ++ es) (one.due.first ∙ ap (λ es. e ∷ es) (sym primary))
           ∙ sym (append_assoc (events_of ds) (e ∷ []) new.primary) ∙ ap (λ es. es ++ new.primary) (sym (events_of-append ds (d ∷ [])));
-      fresh = fresh ∙ ap (λ es. es ++ x.events) so_far.fresh ∙ sym (emissions_of-append ds d);
+      fresh = fresh ∙ ap (λ es. es ++ x.events) so_far.fresh ∙ sym (emissions_of-more ds d);
       count = omega arith;
       lawful = lawful_done m t c key note new laws so_far.lawful one;
     }

@@ -11,9 +11,9 @@ use Rattle.std.proofs.lemmas.List.Elements.{All-head, All-tail, All-map, All-wea
 use Rattle.rtrb.specs.Ring.{sent, known_free, received, known_items}
 use Rattle.release_lanes.specs.declared.parcel.Parcel.{Parcel}
 use Rattle.release_lanes.specs.declared.rings.RingEnd.{RingEnd}
-use Rattle.release_lanes.specs.Lanes.{AddsOne, AddsOneOn, list_at, lane_at}
+use Rattle.release_lanes.specs.Lanes.{TakesRest, Meets, list_at, lane_at}
 use Rattle.release_lanes.specs.Woven.{Outline, IsWoven}
-use Rattle.release_lanes.specs.Rings.{Ring, ring_out, ring_in, outline, sent_row, received_row, known_row, free_row, next_of, IsNewSender, IsNewReceiver, IsNew, sent_on, received_on, rest_on, AreBack}
+use Rattle.release_lanes.specs.Rings.{Ring, ring_out, ring_in, outline, sent_row, received_row, known_row, free_row, next_of, IsNewSender, IsNewReceiver, IsNew, sent_on, received_on, rest_on, TakesKnown, AreBack}
 use Rattle.release_lanes.proofs.Weaving.{bare}
 
 -- ends that are woven
@@ -104,7 +104,7 @@ back_new nodes ends woven new = record {
 }
 
 pub back_met : (nodes : ℕ) (ends : List RingEnd) → IsWoven nodes nodes (map outline ends)
-    → ((from to : ℕ) → from < length ends → to < length ends → received_on ends from to ++ rest_on ends from to ≡ sent_on ends from to)
+    → Meets (length ends) (received_on ends) (rest_on ends) (sent_on ends)
     → AreBack nodes ends
 back_met nodes ends woven met =
     let long = woven_length nodes nodes ends woven in record {
@@ -138,26 +138,19 @@ module _ {T : Type 0} (f : RingEnd → List (List T)) (ends : List RingEnd) (t :
       (λ (there : j ≡ t → ⊥). other_lane j i new there)
       (cases_eq j t)
 
--- what taking a parcel leaves of an end
-abbrev pub Takes : RingEnd → RingEnd → Parcel → Type 0
-Takes e new parcel =
-    (from : ℕ) × (from < length e.ins.items) × (list_at (known_row e) from ≡ parcel ∷ list_at (known_row new) from)
-    × AddsOne (λ k. list_at (received_row e) k) (λ k. list_at (received_row new) k) from parcel
-    × ((other : ℕ) → other ≢ from → list_at (known_row new) other ≡ list_at (known_row e) other)
-
-row_meets : (r : Option Parcel) (e new : RingEnd) → IfNone r ((received_row new ≡ received_row e) × (known_row new ≡ known_row e)) → IfSome r (λ parcel. Takes e new parcel)
+row_meets : (r : Option Parcel) (e new : RingEnd) → IfNone r ((received_row new ≡ received_row e) × (known_row new ≡ known_row e)) → IfSome r (TakesKnown e new)
     → (i : ℕ) → list_at (received_row new) i ++ list_at (known_row new) i ≡ list_at (received_row e) i ++ list_at (known_row e) i
 row_meets None e new same some i = ap (λ l. list_at l i ++ list_at (known_row new) i) same.0 ∙ ap (λ l. list_at (received_row e) i ++ list_at l i) same.1
 row_meets (Some p) e new none takes i =
-    let from = takes.0 in
+    let from = takes.from in
     ⊎_elim
     (λ (here : i ≡ from).
     let moved : list_at (received_row new) from ++ list_at (known_row new) from ≡ list_at (received_row e) from ++ list_at (known_row e) from =
-    ap (λ l. l ++ list_at (known_row new) from) takes.3.0 ∙ append_assoc (list_at (received_row e) from) (p ∷ []) (list_at (known_row new) from)
-    ∙ ap (λ l. list_at (received_row e) from ++ l) (sym takes.2) in
+    ap (λ l. l ++ list_at (known_row new) from) takes.last.0 ∙ append_assoc (list_at (received_row e) from) (p ∷ []) (list_at (known_row new) from)
+    ∙ ap (λ l. list_at (received_row e) from ++ l) (sym takes.first) in
     rw here moved)
     (λ (there : i ≡ from → ⊥).
-    ap (λ l. l ++ list_at (known_row new) i) (takes.3.1 i there) ∙ ap (λ l. list_at (received_row e) i ++ l) (takes.4 i there))
+    ap (λ l. l ++ list_at (known_row new) i) (takes.last.1 i there) ∙ ap (λ l. list_at (received_row e) i ++ l) (takes.others i there))
     (cases_eq i from)
 
 pub back_after : (nodes : ℕ) (ends : List RingEnd) (to : ℕ) (e new : RingEnd) (r : Option Parcel) → AreBack nodes ends → to < nodes → e ≡ get_or ends to e
@@ -165,7 +158,7 @@ pub back_after : (nodes : ℕ) (ends : List RingEnd) (to : ℕ) (e new : RingEnd
     → length new.ins.items ≡ length e.ins.items
     → ((from : ℕ) → from < new.next → list_at (known_row new) from ≡ [])
     → IfNone r ((received_row new ≡ received_row e) × (known_row new ≡ known_row e))
-    → IfSome r (λ parcel. Takes e new parcel)
+    → IfSome r (TakesKnown e new)
     → AreBack nodes (set ends to new)
 back_after nodes ends to e new r back less at sents wide next none some =
     let long = back.count in
@@ -207,23 +200,23 @@ if_none None P Q then h = then h
 if_none (Some x) P Q then h = tt
 
 -- what taking a parcel leaves of the lanes
-pub takes_one : (nodes : ℕ) (ends : List RingEnd) (to : ℕ) (e new : RingEnd) (parcel : Parcel) → AreBack nodes ends → to < nodes → e ≡ get_or ends to e → Takes e new parcel
-    → (from : ℕ) × (from < nodes) × (rest_on ends from to ≡ parcel ∷ rest_on (set ends to new) from to) × AddsOneOn (received_on ends) (received_on (set ends to new)) from to parcel
+pub takes_one : (nodes : ℕ) (ends : List RingEnd) (to : ℕ) (e new : RingEnd) (parcel : Parcel) → AreBack nodes ends → to < nodes → e ≡ get_or ends to e → TakesKnown e new parcel
+    → TakesRest nodes (rest_on ends) (rest_on (set ends to new)) (received_on ends) (received_on (set ends to new)) to parcel
 takes_one nodes ends to e new parcel back less at takes =
-    let from = takes.0 in
+    let from = takes.from in
     let long = back.count in
     let within : to < length ends = omega arith in
     let wide : length e.ins.items ≡ nodes = ap (λ (x : RingEnd). length x.ins.items) at ∙ back.widths to e within in
-    let inside = takes.1 in (
-      from,
-      omega arith,
-      this_lane known_row ends to from e within at ∙ takes.2 ∙ ap (λ l. parcel ∷ l) (sym (set_lane known_row ends to from new within)),
-      (
-        set_lane received_row ends to from new within ∙ takes.3.0 ∙ ap (λ l. l ++ parcel ∷ []) (sym (this_lane received_row ends to from e within at)),
-        (λ i j other. kept_lane received_row ends to j i e new within at (takes.3.1 i other)),
+    let inside = takes.within in record {
+      from = from;
+      within = omega arith;
+      first = this_lane known_row ends to from e within at ∙ takes.first ∙ ap (λ l. parcel ∷ l) (sym (set_lane known_row ends to from new within));
+      last = (
+        set_lane received_row ends to from new within ∙ takes.last.0 ∙ ap (λ l. l ++ parcel ∷ []) (sym (this_lane received_row ends to from e within at)),
+        (λ i j other. kept_lane received_row ends to j i e new within at (takes.last.1 i other)),
         (λ i j other. other_lane received_row ends to j i new other),
-      ),
-    )
+      );
+    }
 
 -- an element is taken out of a list, and put back after a change that a function doesn't see
 pub put_back : {A B : Type 0} (f : A → B) (xs mid : List A) (k : ℕ) (e out back : A) → k < length xs → e ≡ get_or xs k e → map f mid ≡ map f (set xs k out) → f back ≡ f e

@@ -28,12 +28,15 @@ pub mapped_more : {A B : Type 0} (f : A → B) (g : ℕ → B) (xs : List A) (x 
 mapped_more f g xs x k e at =
     map_push f xs x ∙ ap (λ l. l ++ f x ∷ []) e ∙ ap (λ b. map g (range_with_len 0 k) ++ b ∷ []) at ∙ sym (map-range_with_len_more g 0 k k (omega arith))
 
--- what `take` leaves of a slot
-pub slot_taken : {T : Type 0} (slots : List (Option T)) (to : ℕ) (r after y : Option T) → to < length slots → y ≡ get_or slots to y → r ≡ y → after ≡ None
-    → IfSome r (λ x. (list_at (map option_to_list slots) to ≡ x ∷ []) × (map option_to_list (set slots to after) ≡ set (map option_to_list slots) to []))
-slot_taken slots to None after y within at same none = tt
-slot_taken slots to (Some x) after y within at same none =
-    (get_or-map option_to_list slots to y [] within ∙ ap option_to_list (sym at ∙ sym same), map-set option_to_list slots to after ∙ ap (λ o. set (map option_to_list slots) to (option_to_list o)) none)
+-- what `take` finds in a slot, and what it leaves
+pub slot_held : {T : Type 0} (slots : List (Option T)) (to : ℕ) (r y : Option T) → to < length slots → y ≡ get_or slots to y → r ≡ y
+    → IfSome r (λ x. list_at (map option_to_list slots) to ≡ x ∷ [])
+slot_held slots to None y within at same = tt
+slot_held slots to (Some x) y within at same = get_or-map option_to_list slots to y [] within ∙ ap option_to_list (sym at ∙ sym same)
+
+pub slot_emptied : {T : Type 0} (slots : List (Option T)) (to : ℕ) (after : Option T) → after ≡ None
+    → map option_to_list (set slots to after) ≡ set (map option_to_list slots) to []
+slot_emptied slots to after none = map-set option_to_list slots to after ∙ ap (λ o. set (map option_to_list slots) to (option_to_list o)) none
 
 -- of rows, one place of one row becomes x
 pub lane_at_other_row : {T : Type 0} (rows : List (List (List T))) (row : List (List T)) (from i j : ℕ) → i ≢ from → lane_at (set rows from row) i j ≡ lane_at rows i j

@@ -20,9 +20,20 @@ module _ {T : Type 0} where
   abbrev pub SameLanes : (ℕ → ℕ → List T) → (ℕ → ℕ → List T) → Type 0
   SameLanes before after = (from to : ℕ) → after from to ≡ before from to
 
+  -- on each lane between so many nodes what was received, followed by what rests, is what was sent
+  abbrev pub Meets : ℕ → (ℕ → ℕ → List T) → (ℕ → ℕ → List T) → (ℕ → ℕ → List T) → Type 0
+  Meets nodes received rest sent = (from to : ℕ) → from < nodes → to < nodes → received from to ++ rest from to ≡ sent from to
+
   -- no lane between so many nodes has anything left
   abbrev pub NothingRests : ℕ → (ℕ → ℕ → List T) → Type 0
   NothingRests nodes rest = (from to : ℕ) → from < nodes → to < nodes → rest from to ≡ []
+
+-- the item was the first that rested on a lane to a node, and is now the last that was received on it
+pub record TakesRest {T : Type 0} (nodes : ℕ) (rested rest received_before received : ℕ → ℕ → List T) (to : ℕ) (item : T) : Type 0 where
+  pub from : ℕ
+  pub within : from < nodes
+  pub first : rested from to ≡ item ∷ rest from to
+  pub last : AddsOneOn received_before received from to item
 
 -- the list at a place, and the list at a place of a place, or none
 abbrev pub list_at : {T : Type 0} → List (List T) → ℕ → List T

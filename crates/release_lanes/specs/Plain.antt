@@ -1,5 +1,5 @@
 -- What plain slots hold.
-use Rattle.std.specs.Prelude.{◌≡◌, ◌⊎◌, ℕ, ◌-◌, ◌<◌, List, [], None, map, length, take, All, replicate, option_to_list, slice_index}
+use Rattle.std.specs.Prelude.{◌≡◌, ◌⊎◌, ℕ, ◌-◌, ◌<◌, ◌≤◌, List, [], ◌∷◌, None, map, length, take, All, replicate, option_to_list, slice_index, slice_index_or, slice_set}
 use Rattle.std.specs.List.{range_with_len}
 use Rattle.release_lanes.specs.declared.parcel.Parcel.{Parcel}
 use Rattle.release_lanes.specs.declared.plain.PlainEnd.{PlainEnd}
@@ -22,6 +22,13 @@ posted end = map option_to_list end.slots.items
 -- what is posted by one node to another
 abbrev pub standing : List PlainEnd → ℕ → ℕ → List Parcel
 standing ends from to = lane_at (map posted ends) from to
+
+-- a parcel was the first one posted to a node from an end at or after the first place, and its slot is empty now
+pub record TakesFirst (old new : List PlainEnd) (to first from : ℕ) (parcel : Parcel) : Type 0 where
+  pub within : from < length old
+  pub held : standing old from to ≡ parcel ∷ []
+  pub none_before : (other : ℕ) → first ≤ other → other < from → standing old other to ≡ []
+  pub emptied : map posted new ≡ slice_set (map posted old) from (slice_set (slice_index_or (map posted old) from []) to [])
 
 -- one end for each node, in the order of the nodes, which take from the first one on
 abbrev pub IsTeam : ℕ → List PlainEnd → Type 0

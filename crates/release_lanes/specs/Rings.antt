@@ -1,5 +1,5 @@
 -- What ends of rings have sent and received, and know.
-use Rattle.std.specs.Prelude.{◌≡◌, ℕ, ◌<◌, List, [], ◌++◌, map, length, All, slice_index}
+use Rattle.std.specs.Prelude.{◌≡◌, ◌≢◌, ℕ, ◌<◌, List, [], ◌∷◌, map, length, All, slice_index, slice_index_or}
 use Rattle.std.specs.declared.alloc.Global.{Global}
 use denote.RawPtr.{Ptr}
 use Rattle.rtrb.specs.Shared.{Names}
@@ -9,7 +9,7 @@ use Rattle.rtrb.specs.declared.consumer.Consumer.{Consumer}
 use Rattle.rtrb.specs.Ring.{sent, known_free, received, known_items}
 use Rattle.release_lanes.specs.declared.parcel.Parcel.{Parcel}
 use Rattle.release_lanes.specs.declared.rings.RingEnd.{RingEnd}
-use Rattle.release_lanes.specs.Lanes.{lane_at}
+use Rattle.release_lanes.specs.Lanes.{AddsOne, Meets, list_at, lane_at}
 use Rattle.release_lanes.specs.Woven.{Outline}
 
 abbrev pub Sender : Type 0
@@ -68,9 +68,23 @@ received_on ends from to = lane_at (map received_row ends) to from
 abbrev pub rest_on : List RingEnd → ℕ → ℕ → List Parcel
 rest_on ends from to = lane_at (map known_row ends) to from
 
+-- the parcel was the first that an end knew of on the ring from some node, and is now the last that it received from there
+pub record TakesKnown (old new : RingEnd) (parcel : Parcel) : Type 0 where
+  pub from : ℕ
+  pub within : from < length old.ins.items
+  pub first : list_at (known_row old) from ≡ parcel ∷ list_at (known_row new) from
+  pub last : AddsOne (list_at (received_row old)) (list_at (received_row new)) from parcel
+  pub others : (other : ℕ) → other ≢ from → list_at (known_row new) other ≡ list_at (known_row old) other
+
+-- each sender is that of the ring from a node to the end at the same place
+abbrev pub AreSendersOf : List Sender → ℕ → List RingEnd → Type 0
+AreSendersOf senders from ends =
+    (to : ℕ) (d : RingEnd) (r : Ring) → to < length ends
+    → slice_index_or (map ring_out senders) to r ≡ slice_index_or (map ring_in (slice_index_or ends to d).ins.items) from r
+
 -- the ends were given back, and know of all that rests
 pub record AreBack (nodes : ℕ) (ends : List RingEnd) : Type 0 where
   pub count : length ends ≡ nodes
   pub widths : All (λ end. length end.ins.items ≡ nodes) ends
-  pub meets : (from to : ℕ) → from < nodes → to < nodes → received_on ends from to ++ rest_on ends from to ≡ sent_on ends from to
+  pub meets : Meets nodes (received_on ends) (rest_on ends) (sent_on ends)
   pub taken : (from to : ℕ) → from < slice_index (map next_of ends) to → rest_on ends from to ≡ []

@@ -1,7 +1,7 @@
 //! What every kind of lanes keeps.
-ghost use Rattle.std.specs.Prelude.{◌≡◌, ℕ, ◌+◌, ◌<◌, ◌↔◌, ◌≢◌, [], ◌∷◌, ◌++◌, List, All, map, vec_len, IfOk, OnErr, IfSome, IfNone, OnSome};
+ghost use Rattle.std.specs.Prelude.{◌≡◌, ℕ, ◌+◌, ◌<◌, ◌↔◌, ◌≢◌, [], List, All, map, IfOk, OnErr, IfSome, IfNone};
 ghost use Rattle.std.specs.List.{AllZip, range_with_len};
-ghost use Rattle.release_lanes.specs.Lanes.{AddsOne, SameLists, AddsOneOn, SameLanes, NothingRests};
+ghost use Rattle.release_lanes.specs.Lanes.{AddsOne, SameLists, SameLanes, Meets, NothingRests, TakesRest};
 
 use crate::parcel::Parcel;
 use model_core::OutOfMemory;
@@ -116,11 +116,11 @@ pub trait Lanes {
         ensures sent { SameLanes (sent self.old) (sent self.new) }
         ensures none { IfNone result ((from : ℕ) → from < nodes self.old → rest self.old from to ≡ []) }
         ensures same { IfNone result (SameLanes (received self.old) (received self.new)) }
-        ensures some { IfSome result (λ parcel. (from : ℕ) × (from < nodes self.old) × (rest self.old from to ≡ parcel ∷ rest self.new from to) × AddsOneOn (received self.old) (received self.new) from to parcel) };
+        ensures some { IfSome result (TakesRest (nodes self.old) (rest self.old) (rest self.new) (received self.old) (received self.new) to) };
 
-    ghost lane: { (lanes : Self) (from to : ℕ) → are_back lanes → from < nodes lanes → to < nodes lanes → received lanes from to ++ rest lanes from to ≡ sent lanes from to };
+    ghost lane: { (lanes : Self) → are_back lanes → Meets (nodes lanes) (received lanes) (rest lanes) (sent lanes) };
 
     ghost at_rest: { (lanes : Self) → are_at_rest lanes ↔ (are_back lanes × NothingRests (nodes lanes) (rest lanes)) };
 
-    ghost stay_out: { (lanes : Self) (before after : List Self.End) → are_out lanes before → AllZip Self.End.is_same before after → are_out lanes after };
+    ghost stay_out: { (lanes : Self) (old new : List Self.End) → are_out lanes old → AllZip Self.End.is_same old new → are_out lanes new };
 }

@@ -1,7 +1,7 @@
 //! Lanes of plain slots, for a calling thread that serves the nodes one after another.
-ghost use Rattle.std.specs.Prelude.{◌≡◌, ◌≢◌, ℕ, ◌<◌, ◌≤◌, [], ◌∷◌, All, IfOk, IfSome, IfNone, map, length, slice_set, slice_index_or};
+ghost use Rattle.std.specs.Prelude.{◌≡◌, ℕ, ◌<◌, ◌≤◌, [], ◌∷◌, All, IfOk, IfSome, IfNone, map, length, slice_set};
 ghost use Rattle.release_lanes.specs.Lanes.{list_at};
-ghost use Rattle.release_lanes.specs.Plain.{outline, posted, standing, delivered, IsTeam, AreEmpty, AreBack};
+ghost use Rattle.release_lanes.specs.Plain.{outline, posted, standing, delivered, TakesFirst, IsTeam, AreEmpty, AreBack};
 
 use crate::lanes::{Lanes, NodeEnd};
 use crate::parcel::Parcel;
@@ -51,7 +51,8 @@ impl PlainEnd {
         requires { to < length self.old.slots.items }
         ensures outline { outline self.new ≡ outline self.old }
         ensures none { IfNone result ((list_at (posted self.old) to ≡ []) × (posted self.new ≡ posted self.old)) }
-        ensures some { IfSome result (λ parcel. (list_at (posted self.old) to ≡ parcel ∷ []) × (posted self.new ≡ slice_set (posted self.old) to [])) }
+        ensures some { IfSome result (λ parcel. list_at (posted self.old) to ≡ parcel ∷ []) }
+        ensures emptied { posted self.new ≡ slice_set (posted self.old) to [] }
     {
         self.slots[to].take()
     }
@@ -74,7 +75,7 @@ fn next_parcel(ends: &mut [PlainEnd], to: usize, first: usize) -> Option<(usize,
     requires { All (λ end. to < length end.slots.items) ends.old }
     ensures outlines { map outline ends.new ≡ map outline ends.old }
     ensures none { IfNone result ((map posted ends.new ≡ map posted ends.old) × ((from : ℕ) → first ≤ from → standing ends.old from to ≡ [])) }
-    ensures some { IfSome result (λ found. (found.0 < length ends.old) × (standing ends.old found.0 to ≡ found.1 ∷ []) × ((from : ℕ) → first ≤ from → from < found.0 → standing ends.old from to ≡ []) × (map posted ends.new ≡ slice_set (map posted ends.old) found.0 (slice_set (slice_index_or (map posted ends.old) found.0 []) to []))) }
+    ensures some { IfSome result (λ found. TakesFirst ends.old ends.new to first found.0 found.1) }
 {
     for from in first..ends.len() {
         if let Some(parcel) = ends[from].take(to) {
@@ -184,9 +185,9 @@ impl Lanes for PlainLanes {
 
     ghost use Rattle.release_lanes.specs.Laws.{plain_lane, plain_stay};
 
-    ghost lane = { λ lanes from to back _ _. plain_lane lanes.nodes lanes.sent.value.items lanes.ends.items from to back };
+    ghost lane = { λ lanes back from to _ _. plain_lane lanes.nodes lanes.sent.value.items lanes.ends.items from to back };
 
     ghost at_rest = { λ _. (λ now. now, λ now. now) };
 
-    ghost stay_out = { λ lanes before after out same. plain_stay lanes.nodes before after out same };
+    ghost stay_out = { λ lanes old new out same. plain_stay lanes.nodes old new out same };
 }

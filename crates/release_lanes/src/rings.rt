@@ -1,9 +1,10 @@
 //! Lanes of rings, for nodes that are served by several threads at a time.
-ghost use Rattle.std.specs.Prelude.{◌≡◌, ◌≢◌, ℕ, ◌<◌, ◌≤◌, [], ◌∷◌, ◌++◌, All, IfOk, OnOk, IfSome, IfNone, map, length, slice_index_or};
+ghost use Rattle.std.specs.Prelude.{◌≡◌, ◌≢◌, ℕ, ◌<◌, [], ◌++◌, All, IfOk, OnOk, IfSome, IfNone, map, length, slice_index_or};
 ghost use Rattle.rtrb.specs.Ring.{sent};
-ghost use Rattle.release_lanes.specs.Lanes.{AddsOne, list_at};
-ghost use Rattle.release_lanes.specs.Rings.{AreBack, Ring, ring_out, ring_in, outline, sent_row, received_row, known_row, IsNewSender, IsNew, received_on, rest_on, sent_on};
-ghost use Rattle.release_lanes.specs.Woven.{Outline, IsWoven, Grows};
+ghost use Rattle.release_lanes.specs.Lanes.{Meets, list_at};
+ghost use Rattle.release_lanes.specs.Rings.{AreBack, AreSendersOf, TakesKnown, Ring, ring_out, ring_in, outline, sent_row, received_row, known_row};
+ghost use Rattle.release_lanes.specs.Rings.{IsNewSender, IsNew, received_on, rest_on, sent_on};
+ghost use Rattle.release_lanes.specs.Woven.{IsWoven, Grows};
 
 use crate::lanes::{Lanes, NodeEnd};
 use crate::parcel::Parcel;
@@ -67,7 +68,7 @@ impl RingEnd {
         ensures next { (from : ℕ) → from < self.new.next → list_at (known_row self.new) from ≡ [] }
         ensures none { IfNone result ((from : ℕ) → list_at (known_row self.old) from ≡ []) }
         ensures same { IfNone result ((received_row self.new ≡ received_row self.old) × (known_row self.new ≡ known_row self.old)) }
-        ensures some { IfSome result (λ parcel. (from : ℕ) × (from < length self.old.ins.items) × (list_at (known_row self.old) from ≡ parcel ∷ list_at (known_row self.new) from) × AddsOne (λ k. list_at (received_row self.old) k) (λ k. list_at (received_row self.new) k) from parcel × ((other : ℕ) → other ≢ from → list_at (known_row self.new) other ≡ list_at (known_row self.old) other)) }
+        ensures some { IfSome result (TakesKnown self.old self.new) }
     {
         for from in self.next..self.ins.len() {
             if self.ins[from].cached_slots() > 0 {
@@ -126,7 +127,7 @@ fn new_ends(alloc: Global, nodes: u32) -> Result<Vec<RingEnd>, OutOfMemory>
 fn look_all(senders: &mut [Producer<Parcel>], from: usize, ends: &mut [RingEnd])
     requires count { length senders.old ≡ length ends.old }
     requires within { All (λ end. from < length end.ins.items) ends.old }
-    requires pairs { (to : ℕ) (d : _) (r : Ring) → to < length ends.old → slice_index_or (map ring_out senders.old) to r ≡ slice_index_or (map ring_in (slice_index_or ends.old to d).ins.items) from r }
+    requires pairs { AreSendersOf senders.old from ends.old }
     ensures outlines { map outline ends.new ≡ map outline ends.old }
     ensures sent { map sent_row ends.new ≡ map sent_row ends.old }
     ensures received { map received_row ends.new ≡ map received_row ends.old }
@@ -160,7 +161,7 @@ fn meet_all(alloc: Global, ends: &mut [RingEnd])
     ensures outlines { map outline ends.new ≡ map outline ends.old }
     ensures sent { map sent_row ends.new ≡ map sent_row ends.old }
     ensures received { map received_row ends.new ≡ map received_row ends.old }
-    ensures met { (from to : ℕ) → from < length ends.old → to < length ends.old → received_on ends.new from to ++ rest_on ends.new from to ≡ sent_on ends.new from to }
+    ensures met { Meets (length ends.old) (received_on ends.new) (rest_on ends.new) (sent_on ends.new) }
 {
     for from in 0..ends.len() {
         meet(alloc, ends, from);
@@ -269,9 +270,9 @@ impl Lanes for RingLanes {
 
     ghost use Rattle.release_lanes.specs.RingLaws.{ring_stay};
 
-    ghost lane = { λ lanes from to back from_within to_within. back.meets from to from_within to_within };
+    ghost lane = { λ _ back from to from_within to_within. back.meets from to from_within to_within };
 
     ghost at_rest = { λ _. (λ now. now, λ now. now) };
 
-    ghost stay_out = { λ lanes before after out same. ring_stay lanes.nodes before after out same };
+    ghost stay_out = { λ lanes old new out same. ring_stay lanes.nodes old new out same };
 }

@@ -1,5 +1,5 @@
 -- Counts of failures, and what a failure shows in them.
-use Rattle.std.specs.Prelude.{◌≡◌, ◌==◌, if◌then◌else◌, ℕ, ◌+◌, ◌-◌, ◌^◌, ◌≤◌, min, Result, OnErr, MatchResult}
+use Rattle.std.specs.Prelude.{◌≡◌, ◌==◌, if◌then◌else◌, ℕ, ◌+◌, ◌-◌, ◌^◌, ◌<◌, ◌≤◌, min, List, length, Result, IfOk, OnErr, MatchResult}
 
 -- one more, up to the last value that a count can have
 abbrev pub next_count : ℕ → ℕ
@@ -13,6 +13,10 @@ Rose before now = next_count before ≤ now
 pub record HasCause {T E : Type 0} (before now : ℕ) (result : Result T E) : Type 0 where
   pub later : before ≤ now
   pub failed : OnErr result (Rose before now)
+
+-- a write that takes nothing of some bytes counts as one that failed
+abbrev pub CountsIdle : {E : Type 0} → ℕ → ℕ → List ℕ → Result ℕ E → Type 0
+CountsIdle before now bytes result = IfOk result (λ n. n ≡ 0 → 0 < length bytes → Rose before now)
 
 -- the count rises at a read that fails, and at no other
 abbrev pub CountsReads : {E : Type 0} → ℕ → ℕ → Result ℕ E → Type 0

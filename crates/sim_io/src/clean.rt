@@ -1,8 +1,8 @@
 //! A source and a sink that never fail.
-ghost use Rattle.std.specs.Prelude.{◌≡◌, ◌<◌, Option, None, Some, List, ℕ, Ok, IfOk, length, min};
+ghost use Rattle.std.specs.Prelude.{◌≡◌, Option, None, Some, List, ℕ, Ok, length, min};
 ghost use Rattle.std.specs.Io.{ReadsAtMost, WritesAtMost};
 ghost use Rattle.std.specs.Io.KnownBytes.{ReadConsumes, WriteAppends};
-ghost use Rattle.sim_io.specs.Causes.{HasCause, Rose};
+ghost use Rattle.sim_io.specs.Causes.{CountsIdle, HasCause};
 
 use crate::failed::Failed;
 use crate::sink::Sink;
@@ -76,7 +76,7 @@ impl Sink for CleanSink {
         ensures bound { WritesAtMost result bytes.now }
         ensures taken { WriteAppends None None result bytes.now }
         ensures cause { HasCause 0 0 result }
-        ensures idle { IfOk result (λ n. n ≡ 0 → 0 < length bytes.now → Rose 0 0) }
+        ensures idle { CountsIdle 0 0 bytes.now result }
         ensures whole { result ≡ Ok (length bytes.now) }
     {
         Ok(bytes.len())

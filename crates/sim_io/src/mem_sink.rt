@@ -1,8 +1,8 @@
 //! A sink in memory whose faults are chosen by the numbers of its calls.
-ghost use Rattle.std.specs.Prelude.{◌≡◌, ◌≤◌, ◌<◌, ◌↔◌, Some, [], length, Contains, IsErr, IfOk};
+ghost use Rattle.std.specs.Prelude.{◌≡◌, ◌≤◌, ◌↔◌, Some, [], length, Contains, IsErr, IfOk};
 ghost use Rattle.std.specs.Io.{WritesAtMost};
 ghost use Rattle.std.specs.Io.KnownBytes.{WriteAppends};
-ghost use Rattle.sim_io.specs.Causes.{HasCause, Rose, next_count};
+ghost use Rattle.sim_io.specs.Causes.{CountsIdle, HasCause, next_count};
 ghost use Rattle.sim_io.specs.Memory.{taken_count, faults_after, KeepsSinkRules};
 
 use crate::failed::Failed;
@@ -92,7 +92,7 @@ impl Sink for MemSink {
         ensures bound { WritesAtMost result bytes.now }
         ensures taken { WriteAppends (Some self.old.taken) (Some self.new.taken) result bytes.now }
         ensures cause { HasCause self.old.faults self.new.faults result }
-        ensures idle { IfOk result (λ n. n ≡ 0 → 0 < length bytes.now → Rose self.old.faults self.new.faults) }
+        ensures idle { CountsIdle self.old.faults self.new.faults bytes.now result }
         ensures calls { self.new.calls ≡ next_count self.old.calls }
         ensures fails { IsErr result ↔ Contains self.old.fails self.new.calls }
         ensures none { Contains self.old.idle self.new.calls → IfOk result (λ n. n ≡ 0) }

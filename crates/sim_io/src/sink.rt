@@ -1,8 +1,8 @@
 //! Where bytes go.
-ghost use Rattle.std.specs.Prelude.{◌≡◌, ◌<◌, ℕ, List, Option, length, IfOk};
+ghost use Rattle.std.specs.Prelude.{ℕ, List, Option};
 ghost use Rattle.std.specs.Io.{WritesAtMost};
 ghost use Rattle.std.specs.Io.KnownBytes.{WriteAppends};
-ghost use Rattle.sim_io.specs.Causes.{HasCause, Rose};
+ghost use Rattle.sim_io.specs.Causes.{CountsIdle, HasCause};
 
 use crate::failed::Failed;
 
@@ -19,5 +19,5 @@ pub trait Sink {
         ensures bound { WritesAtMost result bytes.now }
         ensures taken { WriteAppends (told self.old) (told self.new) result bytes.now }
         ensures cause { HasCause (faults self.old) (faults self.new) result }
-        ensures idle { IfOk result (λ n. n ≡ 0 → 0 < length bytes.now → Rose (faults self.old) (faults self.new)) };
+        ensures idle { CountsIdle (faults self.old) (faults self.new) bytes.now result };
 }

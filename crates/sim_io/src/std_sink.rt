@@ -1,8 +1,8 @@
 //! A writer of std as a sink.
-ghost use Rattle.std.specs.Prelude.{◌≡◌, ◌<◌, length, IfOk};
+ghost use Rattle.std.specs.Prelude.{◌≡◌};
 ghost use Rattle.std.specs.Io.{WritesAtMost};
 ghost use Rattle.std.specs.Io.KnownBytes.{WriteAppends};
-ghost use Rattle.sim_io.specs.Causes.{HasCause, Rose, CountsWrites};
+ghost use Rattle.sim_io.specs.Causes.{CountsIdle, HasCause, CountsWrites};
 
 use crate::failed::Failed;
 use crate::sink::Sink;
@@ -34,7 +34,7 @@ impl<W: Write> Sink for StdSink<W> {
         ensures bound { WritesAtMost result bytes.now }
         ensures taken { WriteAppends (⟦<StdSink<W> as Sink>⟧.told self.old) (⟦<StdSink<W> as Sink>⟧.told self.new) result bytes.now }
         ensures cause { HasCause (⟦<StdSink<W> as Sink>⟧.faults self.old) (⟦<StdSink<W> as Sink>⟧.faults self.new) result }
-        ensures idle { IfOk result (λ n. n ≡ 0 → 0 < length bytes.now → Rose (⟦<StdSink<W> as Sink>⟧.faults self.old) (⟦<StdSink<W> as Sink>⟧.faults self.new)) }
+        ensures idle { CountsIdle (⟦<StdSink<W> as Sink>⟧.faults self.old) (⟦<StdSink<W> as Sink>⟧.faults self.new) bytes.now result }
         ensures faults { CountsWrites (⟦<StdSink<W> as Sink>⟧.faults self.old) (⟦<StdSink<W> as Sink>⟧.faults self.new) result }
     {
         match self.writer.write(bytes) {

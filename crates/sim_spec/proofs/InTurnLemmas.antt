@@ -19,7 +19,6 @@ use Rattle.sim_spec.proofs.PartLemmas.{length-events_of}
 use Rattle.sim_spec.proofs.RunLemmas.{next-fires}
 use Rattle.key_order.proofs.EachLemmas.{Each-append}
 use Rattle.key_order.proofs.StampLemmas.{after-below}
-use Rattle.key_order.specs.Ascending.{key_of}
 use Rattle.sim_spec.proofs.BucketInduction.{fire_at, objects_with}
 use Rattle.sim_spec.proofs.BucketFacts.{GoInTurn}
 

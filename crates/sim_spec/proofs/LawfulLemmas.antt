@@ -7,11 +7,10 @@ use Rattle.model_core.specs.declared.event.Event.{Event}
 use Rattle.model_core.specs.declared.note.Note.{Note}
 use Rattle.model_core.specs.declared.effect.Outcome.{Outcome}
 use Rattle.model_core.specs.declared.effect.Outcome.TheVariants.{Goes, Fails}
-use Rattle.delta_exchange.specs.Changes.{cells_after_all, inverses_of}
 use Rattle.model_core.specs.Meaning.{Meaning, MeaningLaws, OutcomeLaws}
 use Rattle.sim_spec.specs.declared.terms.Terms.{Terms}
 use Rattle.sim_spec.specs.declared.stop.Stop.TheVariants.{End, Limit, Fault}
-use Rattle.sim_spec.specs.Firing.{ObjectState, Firing, Fired, goes, fails, fire, fired_by, emissions, has_chain}
+use Rattle.sim_spec.specs.Firing.{ObjectState, Firing, Fired, goes, fails, fire, fired_by, firing_of}
 use Rattle.key_order.specs.Pending.{enqueue_all}
 use Rattle.key_order.specs.Ascending.{IsAscending, Ascends}
 use Rattle.sim_spec.specs.State.{State, Lawful, AllSound, object_at, no_object}
@@ -20,6 +19,7 @@ use Rattle.key_order.proofs.EnqueueLemmas.{length-enqueue_all}
 use Rattle.key_order.specs.Serials.{SerialsBelow}
 use Rattle.sim_spec.proofs.SerialLemmas.{serials_sound, emissions_ascending, length-emissions}
 use Rattle.sim_spec.proofs.SoundLemmas.{AllSound-enqueue_all, emissions_sound, AllSound-more, at_object}
+use Rattle.sim_spec.proofs.FiringLemmas.{goes-firing}
 
 -- what comes of a lawful object's event
 pub record IsLawfulFiring (m : Meaning) (s : State) (e : Event) (x : Firing) : Type 0 where
@@ -38,13 +38,8 @@ unfolding fired_by
 lawful_goes m s e x (Fails code) long below early laws is_x = absurd (cc)
 lawful_goes m s e x (Goes y) long below early laws is_x =
     let state = object_at s.objects e.key.dest in
-    let new : Firing = record {
-      state = record { cells = cells_after_all y.changes state.cells; sent = state.sent + length y.sends };
-      events = emissions e.key.stamp e.key.dest state.sent y.sends;
-      undo = inverses_of y.changes state.cells;
-      note = y.note;
-    } in
-    let same : new ≡ x = chosen (has_chain e.key.stamp y.sends) new x is_x in
+    let new : Firing = firing_of e.key.dest state e y in
+    let same : new ≡ x = goes-firing e.key.dest state e y x is_x in
     let P : Firing → Type 0 = λ x. IsLawfulFiring m s e x in
     let count = length-emissions e.key.stamp e.key.dest state.sent y.sends in
     let kept : (object_at (slice_set s.objects e.key.dest new.state) e.key.dest) ≡ new.state = get_or-set_same s.objects e.key.dest new.state no_object (omega arith) in
@@ -56,13 +51,6 @@ lawful_goes m s e x (Goes y) long below early laws is_x =
       ordered = λ xs serials up. emissions_ascending e.key.stamp e.key.dest state.sent y.sends xs serials up;
       sound = emissions_sound m (slice_set s.objects e.key.dest new.state) e.key.stamp e.key.dest state.sent y.sends below early laws.sends (omega arith);
     })
-  where
-    goes_is : (x y : Firing) → goes x ≡ goes y → x ≡ y
-    goes_is x y h = cc
-
-    chosen : (b : Bool) (x y : Firing) → cond b (fails 1) (goes x) ≡ goes y → x ≡ y
-    chosen true x y h = absurd (cc)
-    chosen false x y h = goes_is x y h
 
 lawful_done : (m : Meaning) (t : Terms) (s : State) (e : Event) (rest : List Event) (x : Firing)
     → MeaningLaws m → Lawful m t s → s.pending ≡ e ∷ rest → s.count ≢ t.limit → IsLawfulFiring m s e x

@@ -2,6 +2,7 @@ pub mod BucketFacts
 pub mod BucketInduction
 pub mod BucketLaw
 pub mod CyclesLaw
+pub mod FiringLemmas
 pub mod HorizonLaw
 pub mod InTurnLemmas
 pub mod InitialLemmas

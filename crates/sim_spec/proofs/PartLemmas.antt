@@ -1,7 +1,7 @@
 -- One object's part of a list of events, or of what was done.
-use Rattle.std.proofs.Common.{◌≡◌, ℕ, ◌<◌, Bool, true, false, cond, List, [], ◌∷◌, ◌++◌, length, refl, ap, subst, eqb, eqb-true, eq-eqb}
+use Rattle.std.proofs.Common.{◌≡◌, ℕ, ◌<◌, Bool, true, false, cond, List, [], ◌∷◌, ◌++◌, length, append_assoc, refl, sym, ap, ◌∙◌, subst, eqb, eqb-true, eq-eqb}
 use Rattle.std.proofs.lemmas.List.Elements.{filter-append}
-use Rattle.std.proofs.lemmas.List.{length-map}
+use Rattle.std.proofs.lemmas.List.{length-map, map-append}
 use Rattle.std.specs.List.{AllByRecursion as Each}
 use Rattle.model_core.specs.declared.event.Event.{Event}
 use Rattle.model_core.specs.Meaning.{Meaning}
@@ -9,7 +9,7 @@ use Rattle.sim_spec.specs.Firing.{ObjectState, Firing}
 use Rattle.key_order.specs.Pending.{enqueue_all}
 use Rattle.key_order.specs.Ascending.{IsAscending, Ascends, key_of}
 use Rattle.sim_spec.specs.State.{AllSound}
-use Rattle.sim_spec.specs.Cut.{events_of}
+use Rattle.sim_spec.specs.Cut.{emissions_of, events_of, records_of}
 use Rattle.sim_spec.specs.Replay.{events_at, done_at}
 use Rattle.key_order.proofs.AscendingLemmas.{Ascends-filter, Ascends-mapped}
 use Rattle.key_order.proofs.EachLemmas.{Each-filter}
@@ -58,9 +58,17 @@ events_at-events_of object (d ∷ ds) =
     elim (eqb d.0.key.dest object) as (λ b. cond b (d.0 ∷ events_at object (events_of ds)) (events_at object (events_of ds)) ≡ events_of (cond b (d ∷ done_at object ds) (done_at object ds)))
     [ true ↦ ap (λ zs. d.0 ∷ zs) (events_at-events_of object ds) | false ↦ events_at-events_of object ds ]
 
+-- one list after another
 pub events_of-append : (xs ys : List (Event × Firing)) → events_of (xs ++ ys) ≡ events_of xs ++ events_of ys
-events_of-append [] ys = refl
-events_of-append (x ∷ xs) ys = ap (λ zs. x.0 ∷ zs) (events_of-append xs ys)
+events_of-append xs ys = map-append (λ (d : Event × Firing). d.0) xs ys
+
+pub records_of-append : (xs ys : List (Event × Firing)) → records_of (xs ++ ys) ≡ records_of xs ++ records_of ys
+records_of-append xs ys = map-append (λ (d : Event × Firing). (d.0.key, d.1.note)) xs ys
+
+pub emissions_of-append : (xs ys : List (Event × Firing)) → emissions_of (xs ++ ys) ≡ emissions_of xs ++ emissions_of ys
+unfolding emissions_of
+emissions_of-append [] ys = refl
+emissions_of-append (d ∷ ds) ys = ap (λ es. d.1.events ++ es) (emissions_of-append ds ys) ∙ sym (append_assoc d.1.events (emissions_of ds) (emissions_of ys))
 
 pub length-events_of : (ds : List (Event × Firing)) → length (events_of ds) ≡ length ds
 length-events_of ds = length-map ds (λ (d : Event × Firing). d.0)

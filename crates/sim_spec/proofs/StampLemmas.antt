@@ -1,19 +1,19 @@
 -- Bounds on the stamps of events, and of what they send.
-use Rattle.std.proofs.Common.{◌≡◌, ℕ, suc, ◌+◌, ◌*◌, ◌<◌, ◌≤◌, Bool, true, false, cond, List, [], ◌∷◌, length, refl, subst, arith, eqb}
+use Rattle.std.proofs.Common.{◌≡◌, ℕ, suc, ◌+◌, ◌*◌, ◌<◌, ◌≤◌, Bool, true, false, cond, List, [], ◌∷◌, refl, subst, arith, eqb}
 use Rattle.std.proofs.lemmas.Bool.{eqb-false}
 use Rattle.event_key.specs.Stamps.{next_stamp, time_part}
-use Rattle.delta_exchange.specs.Changes.{cells_after_all, inverses_of}
 use Rattle.model_core.specs.declared.event.Event.{Event}
 use Rattle.model_core.specs.declared.event.Send.{Send}
 use Rattle.model_core.specs.declared.effect.Outcome.{Outcome}
 use Rattle.model_core.specs.declared.effect.Outcome.TheVariants.{Goes, Fails}
 use Rattle.model_core.specs.Meaning.{Meaning}
-use Rattle.sim_spec.specs.Firing.{ObjectState, Firing, goes, fails, fire, fired_by, emissions, has_chain}
+use Rattle.sim_spec.specs.Firing.{ObjectState, Firing, goes, fire, fired_by, emissions}
 use Rattle.key_order.specs.Stamps.{NoneBelow}
 use Rattle.sim_spec.specs.Cut.{emissions_of}
 use Rattle.sim_spec.specs.Replay.{EmitsFrom}
 use Rattle.key_order.proofs.EachLemmas.{Each-map, Each-append}
 use Rattle.key_order.proofs.StampLemmas.{NoneBelow-le}
+use Rattle.sim_spec.proofs.FiringLemmas.{goes-firing}
 
 -- what events send, bounded one by one or all together
 pub EmitsFrom-le : (g h : ℕ) (ds : List (Event × Firing)) → g ≤ h → EmitsFrom h ds → EmitsFrom g ds
@@ -41,22 +41,8 @@ emissions_later stamp object serial (s ∷ ss) = (next_stamp-later stamp s.delay
 outcome_later : (object : ℕ) (state : ObjectState) (e : Event) (o : Outcome) (x : Firing) → fired_by object state e o ≡ goes x → NoneBelow (suc e.key.stamp) x.events
 unfolding fired_by
 outcome_later object state e (Fails code) x is_x = absurd (cc)
-outcome_later object state e (Goes y) x is_x = by_chain (has_chain e.key.stamp y.sends) is_x
-  where
-    new : Firing
-    new = record {
-      state = record { cells = cells_after_all y.changes state.cells; sent = state.sent + length y.sends };
-      events = emissions e.key.stamp object state.sent y.sends;
-      undo = inverses_of y.changes state.cells;
-      note = y.note;
-    }
-
-    goes_is : (x y : Firing) → goes x ≡ goes y → x ≡ y
-    goes_is x y h = cc
-
-    by_chain : (b : Bool) → cond b (fails 1) (goes new) ≡ goes x → NoneBelow (suc e.key.stamp) x.events
-    by_chain true is_x = absurd (cc)
-    by_chain false is_x = let P : Firing → Type 0 = λ x. NoneBelow (suc e.key.stamp) x.events in subst P (goes_is new x is_x) (emissions_later e.key.stamp object state.sent y.sends)
+outcome_later object state e (Goes y) x is_x =
+    let P : Firing → Type 0 = λ x. NoneBelow (suc e.key.stamp) x.events in subst P (goes-firing object state e y x is_x) (emissions_later e.key.stamp object state.sent y.sends)
 
 pub fire-later : (m : Meaning) (object : ℕ) (state : ObjectState) (e : Event) (x : Firing) → fire m object state e ≡ goes x → NoneBelow (suc e.key.stamp) x.events
 unfolding fire

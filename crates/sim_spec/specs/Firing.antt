@@ -7,6 +7,7 @@ use Rattle.delta_exchange.specs.Changes.{CellData, cells_after_all, inverses_of}
 use Rattle.model_core.specs.declared.event.Event.{Event}
 use Rattle.model_core.specs.declared.event.Send.{Send}
 use Rattle.model_core.specs.declared.note.Note.{Note}
+use Rattle.model_core.specs.declared.effect.Effect.{Effect}
 use Rattle.model_core.specs.declared.effect.Outcome.{Outcome}
 use Rattle.model_core.specs.declared.effect.Outcome.TheVariants.{Goes, Fails}
 use Rattle.model_core.specs.Meaning.{Meaning}
@@ -46,17 +47,19 @@ unfoldable pub emissions : ℕ → ℕ → ℕ → List Send → List Event
 emissions stamp object serial [] = []
 emissions stamp object serial (s ∷ rest) = emission stamp object serial s ∷ emissions stamp object (serial + 1) rest
 
+-- what an event with this effect leaves
+abbrev pub firing_of : ℕ → ObjectState → Event → Effect → Firing
+firing_of object state event x = record {
+  state = record { cells = cells_after_all x.changes state.cells; sent = state.sent + length x.sends };
+  events = emissions event.key.stamp object state.sent x.sends;
+  undo = inverses_of x.changes state.cells;
+  note = x.note;
+}
+
 -- what comes of an outcome: the model's fault first, then the fault of a chain without end in one tick
 unfoldable pub fired_by : ℕ → ObjectState → Event → Outcome → Fired
 fired_by object state event (Fails code) = fails code
-fired_by object state event (Goes x) =
-    if has_chain event.key.stamp x.sends then fails 1
-    else goes (record {
-      state = record { cells = cells_after_all x.changes state.cells; sent = state.sent + length x.sends };
-      events = emissions event.key.stamp object state.sent x.sends;
-      undo = inverses_of x.changes state.cells;
-      note = x.note;
-    })
+fired_by object state event (Goes x) = if has_chain event.key.stamp x.sends then fails 1 else goes (firing_of object state event x)
 
 -- an event at an object
 unfoldable pub fire : Meaning → ℕ → ObjectState → Event → Fired

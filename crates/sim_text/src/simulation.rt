@@ -6,7 +6,7 @@ ghost use Rattle.sim_spec.specs.Standing.{Standing, stands, ended, DoesCycles};
 ghost use Rattle.sim_spec.specs.Run.{run};
 ghost use Rattle.sim_io.specs.Causes.{Rose};
 ghost use Rattle.sim_io.specs.Transfers.{AppendsFront};
-ghost use Rattle.sim_io.specs.CycleTexts.{text};
+ghost use Rattle.sim_io.specs.CycleTexts.{text_from_start};
 ghost use Rattle.sim_text.specs.declared.unfinished.Unfinished.TheVariants.{WriteFault};
 
 use crate::bucket_text::put_bucket;
@@ -35,9 +35,9 @@ pub fn simulate<M: Model, E: Engine, F: Fn(&mut E, Global) -> Result<Bucket, Out
     requires begins { E.stands_at engine.old (stands (initial_state (M.meaning model.now)) None) }
     requires may { (e : _) (at : Standing) → E.stands_at e.now at → ended (E.meaning e.now) (E.terms e.now) at ≡ None → F.pre cycle.now e alloc }
     requires does { (e : _) (r : _) (f : _) → F.post cycle.now e alloc r f → DoesCycles E.meaning E.terms E.stands_at e.now r f.now }
-    ensures whole { OnOk result (Appends (K.told sink.old) (K.told sink.new) (text (M.meaning model.now) terms.now cycles (initial_state (M.meaning model.now)))) }
+    ensures whole { OnOk result (Appends (K.told sink.old) (K.told sink.new) (text_from_start (M.meaning model.now) terms.now cycles)) }
     ensures stop { IfOk result (λ stop. stop ≡ (run (M.meaning model.now) terms.now (initial_state (M.meaning model.now))).stop) }
-    ensures front { OnErr result (AppendsFront (K.told sink.old) (K.told sink.new) (text (M.meaning model.now) terms.now cycles (initial_state (M.meaning model.now)))) }
+    ensures front { OnErr result (AppendsFront (K.told sink.old) (K.told sink.new) (text_from_start (M.meaning model.now) terms.now cycles)) }
     ensures fault { IsErrOf result WriteFault → Rose (K.faults sink.old) (K.faults sink.new) }
     ensures later { K.faults sink.old ≤ K.faults sink.new }
 {

@@ -11,6 +11,7 @@ pub mod FrontLemmas
 pub mod HandedLemmas
 pub mod HeldLemmas
 pub mod HomeLemmas
+pub mod IdleLemmas
 pub mod NextWorld
 pub mod NodeFacts
 pub mod ParcelLemmas

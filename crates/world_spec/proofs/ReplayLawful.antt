@@ -1,34 +1,20 @@
 -- A replay leaves lawful cells.
-use Rattle.std.proofs.Common.{Bool, List, [], cond, false, length, refl, subst, true, ℕ, ◌+◌, ◌<◌, ◌∷◌, ◌≡◌}
+use Rattle.std.proofs.Common.{List, [], refl, subst, ℕ, ◌<◌, ◌∷◌, ◌≡◌}
 use Rattle.std.specs.Prelude.{IsTrue}
-use Rattle.delta_exchange.specs.Changes.{cells_after_all, inverses_of}
 use Rattle.model_core.specs.Meaning.{Meaning, MeaningLaws, OutcomeLaws}
 use Rattle.model_core.specs.declared.effect.Outcome.{Outcome}
 use Rattle.model_core.specs.declared.effect.Outcome.TheVariants.{Fails, Goes}
 use Rattle.model_core.specs.declared.event.Event.{Event}
-use Rattle.sim_spec.specs.Firing.{Fired, Firing, ObjectState, emissions, fails, fire, fired_by, goes, has_chain}
+use Rattle.sim_spec.specs.Firing.{Fired, Firing, ObjectState, fails, fire, fired_by, goes}
 use Rattle.sim_spec.specs.Replay.{replay, replay_fired}
+use Rattle.sim_spec.proofs.FiringLemmas.{goes-firing}
 
 -- what fires leaves lawful cells
 fired_lawful : (m : Meaning) (object : ℕ) (state : ObjectState) (e : Event) (o : Outcome) (x : Firing) → OutcomeLaws m object state.cells o → fired_by object state e o ≡ goes x → IsTrue (m.lawful object x.state.cells)
 unfolding fired_by
 fired_lawful m object state e (Fails code) x laws is_x = absurd (cc)
 fired_lawful m object state e (Goes y) x laws is_x =
-    let new : Firing = record {
-      state = record { cells = cells_after_all y.changes state.cells; sent = state.sent + length y.sends };
-      events = emissions e.key.stamp object state.sent y.sends;
-      undo = inverses_of y.changes state.cells;
-      note = y.note;
-    } in
-    let P : Firing → Type 0 = λ x. IsTrue (m.lawful object x.state.cells) in
-    subst P (chosen (has_chain e.key.stamp y.sends) new x is_x) laws.lawful
-  where
-    goes_is : (x y : Firing) → goes x ≡ goes y → x ≡ y
-    goes_is x y h = cc
-
-    chosen : (b : Bool) (x y : Firing) → cond b (fails 1) (goes x) ≡ goes y → x ≡ y
-    chosen true x y h = absurd (cc)
-    chosen false x y h = goes_is x y h
+    let P : Firing → Type 0 = λ x. IsTrue (m.lawful object x.state.cells) in subst P (goes-firing object state e y x is_x) laws.lawful
 
 lawful_on : (m : Meaning) (object : ℕ) (state : ObjectState) (e : Event) (es : List Event) (f : Fired) → IsTrue (m.lawful object state.cells) → ((x : Firing) → f ≡ goes x → IsTrue (m.lawful object x.state.cells))
     → ((s : ObjectState) → IsTrue (m.lawful object s.cells) → IsTrue (m.lawful object (replay m object s es).state.cells))

@@ -91,7 +91,7 @@ module _ (m : Meaning) (t : Terms) (laws : MeaningLaws m) (home : ℕ → ℕ) (
   events_parts : (object : ℕ) → IsHome m home node object → events_at object share.pending ≡ events_at object (events_of happened) ++ events_at object rest
   events_parts object at = events_is object at ∙ ap (events_at object) (processed object at.0).goes_first.pending ∙ events_at-append object (events_of happened) rest
 
-  due_is : (object : ℕ) → IsHome m home node object → due_count bound (cut_key m t s) share object ≡ length (done_at object happened)
+  pub due_is : (object : ℕ) → IsHome m home node object → due_count bound (cut_key m t s) share object ≡ length (done_at object happened)
   unfolding due_count
   due_is object at =
       ap (λ xs. length (filter due xs)) (events_parts object at)

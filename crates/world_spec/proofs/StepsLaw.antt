@@ -67,17 +67,17 @@ module _ (m : Meaning) (t : Terms) (home : ℕ → ℕ) (node bound : ℕ) (shar
   abbrev same_share : Type 0
   same_share = StandsFor m t home node share ahead old
 
-  waits_here : same_share → (step : IsStep m home node bound old new) → Each (IsAtHome m home node) (step.event ∷ new.unprocessed)
+  pub waits_here : same_share → (step : IsStep m home node bound old new) → Each (IsAtHome m home node) (step.event ∷ new.unprocessed)
   waits_here stands step = let P : List Event → Type 0 = Each (IsAtHome m home node) in subst P step.waits stands.waiting_homed
 
-  dest_home : same_share → (step : IsStep m home node bound old new) → IsHome m home node step.event.key.dest
+  pub dest_home : same_share → (step : IsStep m home node bound old new) → IsHome m home node step.event.key.dest
   dest_home stands step = (waits_here stands step).0
 
   next_here : same_share → (step : IsStep m home node bound old new) → drop (ahead step.event.key.dest) (events_at step.event.key.dest share.pending) ≡ step.event ∷ events_at step.event.key.dest new.unprocessed
   next_here stands step =
       sym (stands.waiting step.event.key.dest (dest_home stands step)) ∙ ap (events_at step.event.key.dest) step.waits ∙ events_at-first step.event new.unprocessed
 
-  no_fault_here : same_share → (step : IsStep m home node bound old new) → (log_of m share step.event.key.dest (ahead step.event.key.dest)).fault ≡ None
+  pub no_fault_here : same_share → (step : IsStep m home node bound old new) → (log_of m share step.event.key.dest (ahead step.event.key.dest)).fault ≡ None
   unfolding log_of
   no_fault_here stands step = by_fault (log_of m share object (ahead object)).fault refl
     where

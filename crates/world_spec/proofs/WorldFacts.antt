@@ -43,7 +43,7 @@ module _ (m : Meaning) (t : Terms) (home : ℕ → ℕ) (nodes : ℕ) (s : State
         below = subst P (share-events m home s node (shares node) own object at) early_here.below;
       }
 
-  log_is : (node object : ℕ) → node < nodes → IsHome m home node object → (world.node node).log object ≡ early_replay m s object (ahead object)
+  pub log_is : (node object : ℕ) → node < nodes → IsHome m home node object → (world.node node).log object ≡ early_replay m s object (ahead object)
   log_is node object inside at =
       (stands.stands node inside).logs object at ∙ share-log m home s node (shares node) (stands.shares_of node inside) object (ahead object) at
 

@@ -1,6 +1,6 @@
 //! A log of PHOLD.
-use super::{at, back_to, commit, next_told, process};
-use event_chain::{CellPool, Chain};
+use super::{at, back_to, commit, make_shared, next_told, process};
+use event_chain::Chain;
 use event_key::{INITIAL, Key, NO_STAMP, stamp_of};
 use model_core::{Cells, Event, Note, OutOfMemory, Part};
 use object_log::{ObjectLog, Verdict};
@@ -70,16 +70,16 @@ fn hops<R: Abort>(rt: &R, alloc: Global) -> Result<Phold, Fail> {
 fn a_straggler_takes_the_draw_of_what_it_undoes(rt: HostRuntime) -> Result<(), Fail> {
     let alloc = rt.alloc();
     let model = hops(&rt, alloc)?;
-    let mut pool = CellPool::new();
+    let mut shared = make_shared(alloc)?;
     let mut log = ObjectLog::new(0, cells(alloc)?);
-    process(&rt, alloc, &model, &mut log, &mut pool, event(0, 0))?;
-    let late = process(&rt, alloc, &model, &mut log, &mut pool, event(2, 2))?;
+    process(&rt, alloc, &model, &mut log, &mut shared, event(0, 0))?;
+    let late = process(&rt, alloc, &model, &mut log, &mut shared, event(2, 2))?;
     assert_eq!(rt; late, at(5));
-    let back = back_to(&mut log, event(1, 1).key, &mut pool);
+    let back = back_to(&mut log, event(1, 1).key, &mut shared);
     assert_eq!(rt; back.front(), Some(&event(2, 2)));
-    let straggler = process(&rt, alloc, &model, &mut log, &mut pool, event(1, 1))?;
+    let straggler = process(&rt, alloc, &model, &mut log, &mut shared, event(1, 1))?;
     assert_eq!(rt; straggler, at(4));
-    let again = process(&rt, alloc, &model, &mut log, &mut pool, event(2, 2))?;
+    let again = process(&rt, alloc, &model, &mut log, &mut shared, event(2, 2))?;
     assert_eq!(rt; again, at(6));
     assert_eq!(rt; counts(&log), (3, 3));
     assert_eq!(rt; log.held_least(), at(4));
@@ -90,18 +90,66 @@ fn a_straggler_takes_the_draw_of_what_it_undoes(rt: HostRuntime) -> Result<(), F
 fn a_commit_takes_what_is_below_the_horizon_and_the_cut(rt: HostRuntime) -> Result<(), Fail> {
     let alloc = rt.alloc();
     let model = hops(&rt, alloc)?;
-    let mut pool = CellPool::new();
+    let mut shared = make_shared(alloc)?;
     let mut log = ObjectLog::new(0, cells(alloc)?);
     for time in 0..3 {
-        process(&rt, alloc, &model, &mut log, &mut pool, event(time, 0))?;
+        process(&rt, alloc, &model, &mut log, &mut shared, event(time, 0))?;
     }
     let mut done = Chain::new();
     commit(&rt, &mut log, at(2), None, &mut done);
     assert_eq!(rt; counts(&log), (1, 3));
     commit(&rt, &mut log, at(4), Some(event(2, 0).key), &mut done);
     assert_eq!(rt; counts(&log), (1, 3));
-    assert_eq!(rt; next_told(&mut done)?, (event(0, 0), hop(5)));
-    assert_eq!(rt; next_told(&mut done)?, (event(1, 0), hop(3)));
+    assert_eq!(rt; next_told(&mut done, &mut shared)?, (event(0, 0), hop(5)));
+    assert_eq!(rt; next_told(&mut done, &mut shared)?, (event(1, 0), hop(3)));
+    Ok(())
+}
+
+// The same draws: events 0, 1 and 2 at the times 0, 1 and 2 send to 5, 4 and 6.
+#[test]
+fn the_least_that_is_held_follows_each_commit_and_each_undoing(
+    rt: HostRuntime,
+) -> Result<(), Fail> {
+    let alloc = rt.alloc();
+    let model = hops(&rt, alloc)?;
+    let mut shared = make_shared(alloc)?;
+    let mut log = ObjectLog::new(0, cells(alloc)?);
+    let mut least = [0; 3];
+    for time in 0..3 {
+        process(&rt, alloc, &model, &mut log, &mut shared, event(time, 0))?;
+        least[time as usize] = log.held_least();
+    }
+    assert_eq!(rt; least, [at(5), at(4), at(4)]);
+    let mut done = Chain::new();
+    commit(&rt, &mut log, at(1), None, &mut done);
+    assert_eq!(rt; log.held_least(), at(4));
+    let _newest = back_to(&mut log, event(2, 0).key, &mut shared);
+    assert_eq!(rt; log.held_least(), at(4));
+    process(&rt, alloc, &model, &mut log, &mut shared, event(2, 0))?;
+    commit(&rt, &mut log, at(2), None, &mut done);
+    assert_eq!(rt; log.held_least(), at(6));
+    commit(&rt, &mut log, at(3), None, &mut done);
+    assert_eq!(rt; log.held_least(), NO_STAMP);
+    Ok(())
+}
+
+#[test]
+fn what_one_log_leaves_another_takes(rt: HostRuntime) -> Result<(), Fail> {
+    let alloc = rt.alloc();
+    let model = hops(&rt, alloc)?;
+    let mut shared = make_shared(alloc)?;
+    let mut first = ObjectLog::new(0, cells(alloc)?);
+    let mut second = ObjectLog::new(0, cells(alloc)?);
+    process(&rt, alloc, &model, &mut first, &mut shared, event(0, 0))?;
+    process(&rt, alloc, &model, &mut first, &mut shared, event(1, 0))?;
+    let _newest = back_to(&mut first, event(1, 0).key, &mut shared);
+    assert_eq!(rt; shared.pool.entries(), 1);
+    let mut done = Chain::new();
+    commit(&rt, &mut first, at(1), None, &mut done);
+    next_told(&mut done, &mut shared)?;
+    assert_eq!(rt; shared.pool.entries(), 2);
+    process(&rt, alloc, &model, &mut second, &mut shared, event(0, 0))?;
+    assert_eq!(rt; shared.pool.entries(), 1);
     Ok(())
 }
 
@@ -110,14 +158,14 @@ fn a_commit_takes_what_is_below_the_horizon_and_the_cut(rt: HostRuntime) -> Resu
 fn a_chain_without_end_in_a_tick_is_undone_as_any_event(rt: HostRuntime) -> Result<(), Fail> {
     let alloc = rt.alloc();
     let model = chains(&rt, alloc)?;
-    let mut pool = CellPool::new();
+    let mut shared = make_shared(alloc)?;
     let mut log = ObjectLog::with(0, cells(alloc)?, 7);
     let mut last = event(3, 0);
     last.key.stamp = stamp_of(3, 65535);
-    let least = process(&rt, alloc, &model, &mut log, &mut pool, last)?;
+    let least = process(&rt, alloc, &model, &mut log, &mut shared, last)?;
     assert_eq!(rt; least, NO_STAMP);
     assert!(rt; log.faulted() == Some((last.key, 1)));
-    let back = back_to(&mut log, last.key, &mut pool);
+    let back = back_to(&mut log, last.key, &mut shared);
     assert_eq!(rt; back.front(), Some(&last));
     assert_eq!(rt; counts(&log), (0, 7));
     Ok(())

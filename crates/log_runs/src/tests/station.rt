@@ -1,6 +1,6 @@
 //! A log of a station whose line is strict.
-use super::{at, back_to, commit, next_told, process};
-use event_chain::{CellPool, Chain};
+use super::{Shared, at, back_to, commit, make_shared, next_told, process};
+use event_chain::Chain;
 use event_key::{INITIAL, Key, NO_STAMP, stamp_of};
 use model_core::{Cells, Event, Note, OutOfMemory, Part};
 use model_text::{AnyModel, read_model};
@@ -90,11 +90,11 @@ fn run_ahead<R: Abort>(
     alloc: Global,
     model: &AnyModel,
     log: &mut ObjectLog,
-    pool: &mut CellPool<Event>,
+    shared: &mut Shared,
 ) -> Result<[u64; 3], Fail> {
-    let first = process(rt, alloc, model, log, pool, arrival(5, 0))?;
-    let second = process(rt, alloc, model, log, pool, arrival(10, 1))?;
-    let third = process(rt, alloc, model, log, pool, arrival(11, 2))?;
+    let first = process(rt, alloc, model, log, shared, arrival(5, 0))?;
+    let second = process(rt, alloc, model, log, shared, arrival(10, 1))?;
+    let third = process(rt, alloc, model, log, shared, arrival(11, 2))?;
     Ok([first, second, third])
 }
 
@@ -104,16 +104,16 @@ fn straggle<R: Abort>(
     alloc: Global,
     model: &AnyModel,
     log: &mut ObjectLog,
-    pool: &mut CellPool<Event>,
+    shared: &mut Shared,
 ) -> Result<[u64; 3], Fail> {
-    let first = process(rt, alloc, model, log, pool, first_done())?;
-    let second = process(rt, alloc, model, log, pool, arrival(10, 1))?;
-    let third = process(rt, alloc, model, log, pool, arrival(11, 2))?;
+    let first = process(rt, alloc, model, log, shared, first_done())?;
+    let second = process(rt, alloc, model, log, shared, arrival(10, 1))?;
+    let third = process(rt, alloc, model, log, shared, arrival(11, 2))?;
     Ok([first, second, third])
 }
 
 /// Ends the test where the log has told anything but the plain replay.
-fn assert_told<R: Abort>(rt: &R, log: &mut ObjectLog) -> Result<(), Fail> {
+fn assert_told<R: Abort>(rt: &R, log: &mut ObjectLog, shared: &mut Shared) -> Result<(), Fail> {
     let mut done = Chain::new();
     commit(rt, log, at(10), None, &mut done);
     assert!(rt; done.len() == 2);
@@ -124,7 +124,7 @@ fn assert_told<R: Abort>(rt: &R, log: &mut ObjectLog) -> Result<(), Fail> {
         (arrival(10, 1), told(3, 2, 0)),
         (arrival(11, 2), told(4, 3, 1)),
     ] {
-        let (event, verdict) = next_told(&mut done)?;
+        let (event, verdict) = next_told(&mut done, shared)?;
         assert!(rt; event == wanted.0 && verdict == wanted.1);
     }
     assert!(rt; done.len() == 0);
@@ -137,15 +137,15 @@ fn assert_told<R: Abort>(rt: &R, log: &mut ObjectLog) -> Result<(), Fail> {
 fn a_straggler_takes_back_a_fault_that_never_happens(rt: HostRuntime) -> Result<(), Fail> {
     let alloc = rt.alloc();
     let model = station(alloc)?;
-    let mut pool = CellPool::new();
+    let mut shared = make_shared(alloc)?;
     let mut log = ObjectLog::new(0, cells(alloc)?);
-    let early = run_ahead(&rt, alloc, &model, &mut log, &mut pool)?;
+    let early = run_ahead(&rt, alloc, &model, &mut log, &mut shared)?;
     assert!(rt; early == [at(9), NO_STAMP, NO_STAMP]);
     assert!(rt; log.faulted() == Some((arrival(11, 2).key, 2)));
-    let undone = back_to(&mut log, first_done().key, &mut pool);
+    let undone = back_to(&mut log, first_done().key, &mut shared);
     assert!(rt; undone.front() == Some(&arrival(10, 1)));
     assert!(rt; log.faulted().is_none());
-    let late = straggle(&rt, alloc, &model, &mut log, &mut pool)?;
+    let late = straggle(&rt, alloc, &model, &mut log, &mut shared)?;
     assert!(rt; late == [stamp_of(9, 1), at(14), NO_STAMP]);
-    assert_told(&rt, &mut log)
+    assert_told(&rt, &mut log, &mut shared)
 }

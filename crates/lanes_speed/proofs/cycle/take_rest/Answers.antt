@@ -11,7 +11,7 @@ returns-in_default-clause-others g c = λ i j first second ne.
     let new = c.rest.new.self in
     rest_kept (g.L.Lanes.received old i j) (g.L.Lanes.sent old i j) (g.L.Lanes.rest old i j) (g.L.Lanes.received new i j) (g.L.Lanes.sent new i j) (g.L.Lanes.rest new i j)
     (c.in_default.ensures.same i j) (c.rest.ensures.sent i j)
-    (g.met.L.Lanes.lane old i j inv.back (omega arith) (omega arith)) (g.met.L.Lanes.lane new i j c.rest.ensures.back (omega arith) (omega arith))
+    (g.met.L.Lanes.lane old inv.back i j (omega arith) (omega arith)) (g.met.L.Lanes.lane new c.rest.ensures.back i j (omega arith) (omega arith))
     ∙ inv.others i j first second ne
 
 pub returns-in_default-clause-rest : goal.returns-in_default-clause-rest
@@ -25,7 +25,7 @@ returns-in_default-clause-rest g c = λ i first.
     let new = c.rest.new.self in
     rest_kept (g.L.Lanes.received old i j) (g.L.Lanes.sent old i j) (g.L.Lanes.rest old i j) (g.L.Lanes.received new i j) (g.L.Lanes.sent new i j) (g.L.Lanes.rest new i j)
     (c.in_default.ensures.same i j) (c.rest.ensures.sent i j)
-    (g.met.L.Lanes.lane old i j inv.back (omega arith) (omega arith)) (g.met.L.Lanes.lane new i j c.rest.ensures.back (omega arith) (omega arith))
+    (g.met.L.Lanes.lane old inv.back i j (omega arith) (omega arith)) (g.met.L.Lanes.lane new c.rest.ensures.back i j (omega arith) (omega arith))
     ∙ c.in_default.ensures.none i (omega arith)
 
 pub loop-count-preserved : goal.loop-count-preserved
@@ -39,7 +39,7 @@ loop-count-preserved g c =
       nodes = c.rest.ensures.nodes ∙ inv.nodes;
       others = λ i j first second ne.
           rest_kept (g.L.Lanes.received old i j) (g.L.Lanes.sent old i j) (g.L.Lanes.rest old i j) (g.L.Lanes.received new i j) (g.L.Lanes.sent new i j) (g.L.Lanes.rest new i j)
-          (c.in-Some.ensures.some.3.2 i j ne) (c.rest.ensures.sent i j)
-          (g.met.L.Lanes.lane old i j inv.back (omega arith) (omega arith)) (g.met.L.Lanes.lane new i j c.rest.ensures.back (omega arith) (omega arith))
+          (c.in-Some.ensures.some.last.2 i j ne) (c.rest.ensures.sent i j)
+          (g.met.L.Lanes.lane old inv.back i j (omega arith) (omega arith)) (g.met.L.Lanes.lane new c.rest.ensures.back i j (omega arith) (omega arith))
           ∙ inv.others i j first second ne;
     }

@@ -5,9 +5,9 @@ use Rattle.object_log.proofs.PartLemmas.{keys_below, no_keys}
 use Rattle.log_runs.proofs.tests.assert_above.Goals as goal
 
 pub returns-then-len-eq0 : goal.returns-then-len-eq0
-returns-then-len-eq0 g c = no_keys _ c.args.log.now.done (omega (arith, c.len-len.ensures.value))
+returns-then-len-eq0 g c = no_keys _ c.args.log.now.done (omega (arith, c.len-len.ensures))
 
 pub returns : goal.returns
 returns g c =
     let before : key_lt c.key_at-newest.result c.args.key.now ≡ true = cc (c.is_before.ensures) in
-    keys_below c.args.key.now c.key_at-newest.result c.args.log.now.done (c.len-len.result - 1) c.len-len.ensures.ordered (omega (arith, c.len-len.ensures.value)) c.key_at-newest.ensures before
+    keys_below c.args.key.now c.key_at-newest.result c.args.log.now.done (c.len-len.result - 1) c.tells.ensures.ordered (omega (arith, c.len-len.ensures)) c.key_at-newest.ensures before

@@ -1,5 +1,5 @@
 -- The top one knows the least of all.
-use Rattle.std.proofs.Common.{◌≡◌, ◌+◌, ◌-◌, ◌<◌, List, length, sym, ap, ◌∙◌, subst, arith}
+use Rattle.std.proofs.Common.{◌-◌, List, length, sym, ap, ◌∙◌, subst, arith}
 use Rattle.std.proofs.lemmas.List.{nil_from_length}
 use Rattle.std.proofs.lemmas.Option.{slice_get_within}
 use Rattle.event_key.specs.declared.stamp.TheConstants.{NO_STAMP}

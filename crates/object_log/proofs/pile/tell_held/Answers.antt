@@ -1,5 +1,5 @@
 -- Each knows the least of those below it.
-use Rattle.std.proofs.Common.{◌≡◌, ◌+◌, [], refl, arith, take, ◌<◌, length, sym, ap, ◌∙◌, subst}
+use Rattle.std.proofs.Common.{◌≡◌, [], refl, arith, take, ◌<◌, length, ap, ◌∙◌, subst}
 use Rattle.std.proofs.Math.Seq.{map-set_same, take-length}
 use Rattle.std.proofs.lemmas.List.{length-set}
 use Rattle.event_key.specs.declared.stamp.TheConstants.{NO_STAMP}

@@ -21,14 +21,15 @@ returns-in-Some-clause-outlines c =
 pub returns-in-Some-clause-some : goal.returns-in-Some-clause-some
 returns-in-Some-clause-some c =
     let long = same_length outline c.loop-from.ends c.args.ends.now c.loop-from.invariant.outlines in
-    let row = row_at posted c.loop-from.ends (map posted c.args.ends.now) c.loop-from.from c.index-ends-from.result (omega arith) c.loop-from.invariant.posted_same in (
-      omega arith,
-      ap (λ r. list_at r c.args.to) row ∙ c.in-Some.ensures.some.0,
-      c.loop-from.invariant.none_before,
-      map-set posted c.loop-from.ends c.loop-from.from c.take.new.self
+    let row = row_at posted c.loop-from.ends (map posted c.args.ends.now) c.loop-from.from c.index-ends-from.result (omega arith) c.loop-from.invariant.posted_same in record {
+      within = omega arith;
+      held = ap (λ r. list_at r c.args.to) row ∙ c.in-Some.ensures.some;
+      none_before = c.loop-from.invariant.none_before;
+      emptied =
+          map-set posted c.loop-from.ends c.loop-from.from c.take.new.self
           ∙ ap (λ m. set m c.loop-from.from (posted c.take.new.self)) c.loop-from.invariant.posted_same
-          ∙ ap (λ r. set (map posted c.args.ends.now) c.loop-from.from r) (c.in-Some.ensures.some.1 ∙ ap (λ r. set r c.args.to []) (sym row)),
-    )
+          ∙ ap (λ r. set (map posted c.args.ends.now) c.loop-from.from r) (c.in-Some.ensures.emptied ∙ ap (λ r. set r c.args.to []) (sym row));
+    }
 
 pub loop-from-preserved : goal.loop-from-preserved
 loop-from-preserved c =

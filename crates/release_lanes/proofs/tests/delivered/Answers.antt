@@ -58,7 +58,7 @@ unreachable-requires g c =
     let back = c.give_back.ensures.back in
     let rests = arrival number sent_by g.L.End.NodeEnd.received (g.L.Lanes.sent lanes) (g.L.Lanes.received lanes) (g.L.Lanes.rest lanes) ends e0 e1 e2 p
     (had.numbers ∙ ap (λ n. range_with_len 0 n) c.requires.nodes) at alike had.sent had.received one c.give_back.ensures.sent c.give_back.ensures.received
-    (g.met.L.Lanes.lane lanes 0 1 back (omega arith) (omega arith)) (g.met.L.Lanes.lane lanes 1 1 back (omega arith) (omega arith)) in
+    (g.met.L.Lanes.lane lanes back 0 1 (omega arith) (omega arith)) (g.met.L.Lanes.lane lanes back 1 1 (omega arith) (omega arith)) in
     let none_left = c.in_default.ensures.none 0 (omega arith) in
     let both = sym rests.0 ∙ none_left in
     cc
@@ -88,17 +88,17 @@ returns g c =
     let back = c.give_back.ensures.back in
     let rests = arrival number sent_by g.L.End.NodeEnd.received (g.L.Lanes.sent lanes) (g.L.Lanes.received lanes) (g.L.Lanes.rest lanes) ends e0 e1 e2 p
     (had.numbers ∙ ap (λ n. range_with_len 0 n) c.requires.nodes) at alike had.sent had.received one c.give_back.ensures.sent c.give_back.ensures.received
-    (g.met.L.Lanes.lane lanes 0 1 back (omega arith) (omega arith)) (g.met.L.Lanes.lane lanes 1 1 back (omega arith) (omega arith)) in
+    (g.met.L.Lanes.lane lanes back 0 1 (omega arith) (omega arith)) (g.met.L.Lanes.lane lanes back 1 1 (omega arith) (omega arith)) in
     let some = c.in-Some.ensures.some in
-    let from = some.0 in
-    let less = some.1 in
+    let from = some.from in
+    let less = some.within in
     ⊎_elim
     (λ (here : from ≡ 0).
-    let first = sym rests.0 ∙ ap (λ n. g.L.Lanes.rest lanes n 1) (sym here) ∙ some.2 in
+    let first = sym rests.0 ∙ ap (λ n. g.L.Lanes.rest lanes n 1) (sym here) ∙ some.first in
     let is : p ≡ c.in-Some.parcel = cc in
     (sym (ap (λ (x : Parcel). x.from) is), sym (ap (λ (x : Parcel). x.events) is)))
     (λ (there : from ≡ 0 → ⊥).
     let at_one : from ≡ 1 = omega arith in
-    let first = sym rests.1 ∙ ap (λ n. g.L.Lanes.rest lanes n 1) (sym at_one) ∙ some.2 in
+    let first = sym rests.1 ∙ ap (λ n. g.L.Lanes.rest lanes n 1) (sym at_one) ∙ some.first in
     absurd cc)
     (cases_eq from 0)

@@ -3,10 +3,10 @@ use Rattle.std.proofs.Common.{◌≡◌, ◌+◌, length, sym, ap, ◌∙◌, su
 use Rattle.delta_exchange.specs.Changes.{cells_after_all}
 use Rattle.model_core.specs.declared.effect.Ending.{Ending}
 use Rattle.model_core.specs.Effects.{outcome_by}
-use Rattle.sim_spec.specs.Firing.{ObjectState}
+use Rattle.sim_spec.specs.Firing.{ObjectState, firing_of}
 use Rattle.event_firing.specs.Reactions.{IsReaction}
 use Rattle.event_firing.specs.Settling.{settled}
-use Rattle.event_firing.proofs.ReactionLemmas.{settled-fails, settled-goes, settled-laws, fire-goes, firing_of}
+use Rattle.event_firing.proofs.ReactionLemmas.{settled-fails, settled-goes, settled-laws, fire-goes}
 use Rattle.event_firing.proofs.object.Object.fire.Goals as goal
 
 pub returns-in_default-clause-ok : goal.returns-in_default-clause-ok

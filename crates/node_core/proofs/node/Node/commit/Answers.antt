@@ -22,7 +22,7 @@ commit-requires g c =
     let H : HomesView → Type 0 = λ h. CanCommit h c.args.horizon c.args.cut i.store in
     subst H (sym c.deref-2.ensures)
     (can-commit m i.terms i.number (arc_value i.homes) i.store counts (record { laws = subst L c.deref.ensures c.keeps_laws.ensures; node = c.self.invariant; store = c.tells.ensures })
-     c.args.horizon c.args.cut (subst P (sym c.self.view_is) c.requires.done) (subst F (sym c.self.view_is) c.requires.few))
+    c.args.horizon c.args.cut (subst P (sym c.self.view_is) c.requires.done) (subst F (sym c.self.view_is) c.requires.few))
 
 pub invariant_of-self-2 : goal.invariant_of-self-2
 invariant_of-self-2 g c =
@@ -52,7 +52,7 @@ returns g c =
     record {
       ok = subst P c.self.view_is
           (committed-whole m i.terms i.number (arc_value i.homes) i.store c.commit.new.self counts (record { laws = subst L c.deref.ensures c.keeps_laws.ensures; node = c.self.invariant; store = c.tells.ensures })
-           c.args.horizon c.args.cut told out (subst H c.deref-2.ensures c.in_ok-committed.ensures.ok) c.tells-2.ensures (subst D (sym c.self.view_is) c.requires.done)
-           (arc_value i.model) i.work i.met c.len.result (c.len.ensures ∙ c.in_ok-committed.committed.done.ok.0));
+          c.args.horizon c.args.cut told out (subst H c.deref-2.ensures c.in_ok-committed.ensures.ok) c.tells-2.ensures (subst D (sym c.self.view_is) c.requires.done)
+          (arc_value i.model) i.work i.met c.len.result (c.len.ensures ∙ c.in_ok-committed.committed.done.ok.0));
       err = tt;
     }

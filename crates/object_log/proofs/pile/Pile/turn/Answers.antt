@@ -1,5 +1,5 @@
 -- A pile upside down.
-use Rattle.std.proofs.Common.{◌≡◌, List, map, sym, ap, ◌∙◌}
+use Rattle.std.proofs.Common.{List, sym, ap, ◌∙◌}
 use Rattle.std.specs.Prelude.{reverse}
 use Rattle.object_log.specs.declared.entry.Entry.{Entry}
 use Rattle.object_log.specs.Rows.{PileView, dones_of}

@@ -79,7 +79,7 @@ returns-clause-back c =
     let some = c.in-Some.ensures.some in
     let outlines = c.in-Some.ensures.outlines ∙ ap (map outline) same in
     let whole = lent_whole outline ends mid c.args.self.now.ends.len c.args.self.now.ends.ok.0 outlines in
-    let taken = some.3 ∙ ap (λ (l : List PlainEnd). set (map posted l) from (set (get_or (map posted l) from []) c.args.to [])) same in
+    let taken = some.emptied ∙ ap (λ (l : List PlainEnd). set (map posted l) from (set (get_or (map posted l) from []) c.args.to [])) same in
     let P : List PlainEnd → Type 0 = λ m. AreBack nodes sent (set m c.args.to (at_next e from)) in
     subst P (sym whole)
     (back_after nodes sent ends mid c.args.to c.index.result.now.next from e c.index.result.now c.requires.back c.requires.node outlines
@@ -88,7 +88,7 @@ returns-clause-back c =
     (λ i j.
     let lane = ap (λ r. lane_at r i j) taken in
     ⊎_elim (λ gone. inl (lane ∙ gone)) (λ stays. inr (lane ∙ stays)) (emptied_falls (map posted ends) from c.args.to i j))
-    (λ i above below. ap (λ l. standing l i c.args.to) (sym same) ∙ some.2 i above below))
+    (λ i above below. ap (λ l. standing l i c.args.to) (sym same) ∙ some.none_before i above below))
 
 pub returns-clause-some : goal.returns-clause-some
 returns-clause-some c =
@@ -98,7 +98,7 @@ returns-clause-some c =
     let e = c.index_mut-2.result.now in
     let same = c.as_mut_slice.ensures.value in
     let some = c.in-Some.ensures.some in
-    let within = some.0 in
+    let within = some.within in
     let same_count = ap length same in
     let count = back_length c.args.self.now.nodes c.args.self.now.sent.value.items ends c.requires.back in
     let outlines = c.in-Some.ensures.outlines ∙ ap (map outline) same in
@@ -109,6 +109,6 @@ returns-clause-some c =
     (set (take c.args.self.now.ends.len (mid ++ drop (length mid) ends)) c.args.to (at_next e from))
     from c.args.to c.in-Some.parcel
     (c.requires.back.left from c.args.to)
-    (ap (λ l. standing l from c.args.to) (sym same) ∙ some.1)
-    (now ∙ some.3 ∙ ap (λ (l : List PlainEnd). set (map posted l) from (set (get_or (map posted l) from []) c.args.to [])) same) in
-    (from, omega arith, one.0, one.1)
+    (ap (λ l. standing l from c.args.to) (sym same) ∙ some.held)
+    (now ∙ some.emptied ∙ ap (λ (l : List PlainEnd). set (map posted l) from (set (get_or (map posted l) from []) c.args.to [])) same) in
+    record { from = from; within = omega arith; first = one.0; last = one.1 }

@@ -22,14 +22,14 @@ returns-then-cached_slots-gt0-clause-some c =
     let long = ap (λ e. length e.ins.items) same in
     let count = c.len-from-end.ensures in
     let ok = c.args.self.now.ins.ok.0 in
-    let within : from < length end.ins.items = omega arith in (
-      from,
-      omega arith,
-      ap (λ e. list_at (known_row e) from) (sym same) ∙ this_row known_items end.ins.items from old within at ∙ c.pop_known.ensures.received.1
-          ∙ ap (λ l. c.pop_known.result ∷ l) (sym (set_row known_items end.ins.items from new within)),
-      one_pushed received end.ins.items (received_row c.args.self.now) from new old c.pop_known.result (ap received_row same) within at c.pop_known.ensures.received.0,
-      λ other ne. other_row known_items end.ins.items from other new ne ∙ ap (λ e. list_at (known_row e) other) same,
-    )
+    let within : from < length end.ins.items = omega arith in record {
+      from = from;
+      within = omega arith;
+      first = ap (λ e. list_at (known_row e) from) (sym same) ∙ this_row known_items end.ins.items from old within at ∙ c.pop_known.ensures.received.1
+          ∙ ap (λ l. c.pop_known.result ∷ l) (sym (set_row known_items end.ins.items from new within));
+      last = one_pushed received end.ins.items (received_row c.args.self.now) from new old c.pop_known.result (ap received_row same) within at c.pop_known.ensures.received.0;
+      others = λ other ne. other_row known_items end.ins.items from other new ne ∙ ap (λ e. list_at (known_row e) other) same;
+    }
 
 pub loop-from-preserved : goal.loop-from-preserved
 loop-from-preserved c =

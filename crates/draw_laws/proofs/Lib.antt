@@ -1,0 +1,2 @@
+pub mod DrawsLaw
+pub mod SmallDraws

@@ -1,0 +1,3 @@
+pub mod JobLaws
+pub mod Jobs
+pub mod Places

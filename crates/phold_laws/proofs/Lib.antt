@@ -1,0 +1,2 @@
+pub mod PopulationLaw
+pub mod SmallRing

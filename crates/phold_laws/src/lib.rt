@@ -1,0 +1,4 @@
+//! What holds of every run of PHOLD.
+#![tactic(auto)]
+
+pub mod laws;

@@ -1,0 +1,7 @@
+pub mod Cases
+pub mod Leaves
+pub mod NetworkStarts
+pub mod NetworkSteps
+pub mod OrderLaw
+pub mod ServersLaw
+pub mod SmallShop

@@ -1,0 +1,4 @@
+pub mod Orders
+pub mod OrderLaws
+pub mod ServerLaws
+pub mod Stations

@@ -1,0 +1,4 @@
+//! What holds of every run of a network of queues.
+#![tactic(auto)]
+
+pub mod laws;

@@ -1,0 +1,6 @@
+pub mod CausalityLaw
+pub mod EnqueueSums
+pub mod Induction
+pub mod OrderLaw
+pub mod ReachedLemmas
+pub mod Steps
