@@ -1,7 +1,7 @@
 -- A world at its start.
-use Rattle.std.proofs.Common.{◌≡◌, ◌≢◌, ℕ, zero, suc, ◌+◌, ◌<◌, ◌≤◌, ◌^◌, Bool, true, false, cond, List, [], ◌∷◌, ◌++◌, length, get_or, map, append-nil, refl, sym, ap, ◌∙◌, subst, arith, eqb, eqb-true, eq-eqb, ne_eqb, slice_set}
+use Rattle.std.proofs.Common.{◌≡◌, ◌≢◌, ◌⊎◌, inl, inr, ℕ, zero, suc, ◌+◌, ◌<◌, ◌≤◌, ◌^◌, Bool, true, false, cond, List, [], ◌∷◌, ◌++◌, length, get_or, map, append-nil, refl, sym, ap, ◌∙◌, subst, arith, eqb, eqb-true, eq-eqb, ne_eqb, slice_set}
 use Rattle.std.proofs.lemmas.Bool.{eqb-false}
-use Rattle.std.proofs.lemmas.List.{length-set}
+use Rattle.std.proofs.lemmas.List.{length-append, length-set}
 use Rattle.std.proofs.lemmas.List.Elements.{filter-append}
 use Rattle.std.proofs.lemmas.List.FromFn.{get_or-map-range_with_len, length-map-range_with_len, map-range_with_len_more}
 use Rattle.std.proofs.lemmas.Option.{slice_get-get_or, slice_get_within}
@@ -60,6 +60,28 @@ module _ {A : Type 0} where
   each-two : (P Q R : A → Type 0) (xs : List A) → ((x : A) → P x → Q x → R x) → Each P xs → Each Q xs → Each R xs
   each-two P Q R [] turn p q = tt
   each-two P Q R (x ∷ xs) turn p q = (turn x p.0 q.0, each-two P Q R xs turn p.1 q.1)
+
+-- what stands at a place of a list with one element more
+append-at : {A : Type 0} (xs : List A) (x : A) (k : ℕ) (y : A) → slice_get (xs ++ x ∷ []) k ≡ Some y → (slice_get xs k ≡ Some y) ⊎ ((k ≡ length xs) × (x ≡ y))
+append-at [] x zero y at = inr (refl, same-some x y at)
+append-at [] x (suc k) y at = absurd (cc)
+append-at (z ∷ zs) x zero y at = inl at
+append-at (z ∷ zs) x (suc k) y at = elim (append-at zs x k y at) [ inl here ↦ inl here | inr last ↦ inr (ap suc last.0, last.1) ]
+
+-- one new node more
+pub nodes-more : {M : Type 0} (m : Meaning) (model : M) (terms : Terms) (homes : HomesView) (n : ℕ) (nodes new : List (NodeView M)) (x : NodeView M)
+    → AreNewNodes m model terms homes n nodes → IsNodeOf model terms homes n x → IsNewNode m x → new ≡ nodes ++ x ∷ [] → AreNewNodes m model terms homes (n + 1) new
+nodes-more m model terms homes n nodes new x are is fresh new_is = record {
+  many = ap length new_is ∙ length-append nodes (x ∷ []) ∙ ap (λ k. k + 1) are.many;
+  each = λ number y at.
+      elim (append-at nodes x number y (ap (λ ns. slice_get ns number) (sym new_is) ∙ at)) [
+        | inl here ↦ are.each number y here
+        | inr last ↦ (
+            let N : ℕ → NodeView _ → Type 0 = λ k v. IsNodeOf model terms homes k v × IsNewNode m v in
+            let place : n ≡ number = sym are.many ∙ sym last.0 in
+            subst (N number) last.1 (subst (λ k. N k x) place (is, fresh)))
+      ];
+}
 
 module _ (m : Meaning) (home_at : ℕ → ℕ) (nodes n place : ℕ) (parcels new : List (List Event)) (e : Event) (so_far : AreFirstParcels m home_at nodes n parcels) (inside : place < nodes) where
   pub parcel-few : length (get_or parcels place []) ≤ n
