@@ -30,7 +30,7 @@ use Rattle.key_order.proofs.FilterLemmas.{length-filter_le}
 use Rattle.object_log.specs.declared.done.Done.{Done}
 use Rattle.object_log.specs.Logs.{LogView, events_of, keys_of, undone}
 use Rattle.object_log.specs.Parts.{left_of}
-use Rattle.node_core.specs.Calls.{HasCommitted, HasReceived, HaveOwnKeys, HaveSentFew, IsLeastFaultOf, IsNewNode}
+use Rattle.node_core.specs.Calls.{HasCommitted, HasReceived, HasUndoneFrom, HaveOwnKeys, HaveSentFew, IsLeastFaultOf, IsNewNode}
 use Rattle.node_core.specs.Homes.{HomesView, home_of}
 use Rattle.node_core.specs.Marks.{same_key}
 use Rattle.node_core.specs.Nodes.{IsAsBefore, IsSameNode, NodeView, Stands, ahead_of, base_at, data_of, home, log_at, log_or, pending_at, share_of, slot_at}
@@ -169,6 +169,19 @@ module _ {M : Type 0} (m : Meaning) where
             (Each-append (Known more) (drop k (events_of ds)) (events_at object old.waiting) (Each-drop (Known more) k (events_of ds) done) rest))));
         few = omega arith;
         sent_few = λ object at. (let was = d.sent_few object (was-home old new object r.same at) in let base = ap (λ (s : ObjectState). s.sent) (r.base object) in omega arith);
+      }
+
+  -- events were undone
+  pub driven-undone : (horizon : ℕ) (old new : NodeView M) (keys : List Key) (sent : ℕ) (count : ℕ) → IsDriven m old keys sent → HasUndoneFrom m horizon old new count → Stands m old (share_of old) (ahead_of old)
+      → length old.processed + length old.waiting ≡ length (share_of old).pending → StandsForItsOwn m new → length new.processed + length new.waiting ≡ length (share_of new).pending → IsDriven m new keys sent
+  driven-undone horizon old new keys sent count d u st size only size' =
+      let E : List Event → Type 0 = Each (Known keys) in
+      let whole = ap length (only (share_of old) (ahead_of new) (u.rolls (share_of old) (ahead_of old) st).stands).whole in
+      let few = d.few in
+      record {
+        known = λ object. subst E (sym (u.pending object)) (d.known object);
+        few = omega arith;
+        sent_few = λ object at. (let was = d.sent_few object (was-home old new object u.same at) in let base = ap (λ (s : ObjectState). s.sent) (u.base object) in omega arith);
       }
 
   -- its objects have sent few events, where few are processed
@@ -319,6 +332,16 @@ module _ {M : Type 0} (meaning : M → Meaning) (old new : NodeView M) (homes : 
 
   pub keeps-same : IsAsBefore old new → (new.homes ≡ homes) × IsDriven (meaning new.model) new keys sent
   keeps-same same = moved keys sent same.same (driven-same (meaning old.model) old new keys sent d.1 same)
+
+  pub keeps-equal : new ≡ old → (new.homes ≡ homes) × IsDriven (meaning new.model) new keys sent
+  keeps-equal same = let P : NodeView M → Type 0 = λ n. (n.homes ≡ homes) × IsDriven (meaning n.model) n keys sent in subst P (sym same) d
+
+  pub keeps-undone : (horizon count : ℕ) → HasUndoneFrom (meaning old.model) horizon old new count → Stands (meaning old.model) old (share_of old) (ahead_of old)
+      → length old.processed + length old.waiting ≡ length (share_of old).pending → StandsForItsOwn (meaning new.model) new → length new.processed + length new.waiting ≡ length (share_of new).pending
+      → (new.homes ≡ homes) × IsDriven (meaning new.model) new keys sent
+  keeps-undone horizon count u st size only size' =
+      let S : M → Type 0 = λ x. StandsForItsOwn (meaning x) new in
+      moved keys sent u.same (driven-undone (meaning old.model) horizon old new keys sent count d.1 u st size (subst S u.same.model only) size')
 
   pub keeps-step : (bound : ℕ) (step : Step) → HasStepped (meaning old.model) bound old new step → (new.homes ≡ homes) × IsDriven (meaning new.model) new keys sent
   keeps-step bound step s = moved keys sent (stepped-same (meaning old.model) bound old new step s) (driven-step (meaning old.model) bound old new step keys sent d.1 s)

@@ -125,6 +125,19 @@ impl<M: SimulationModel> Driven<M> {
         Ok(undone)
     }
 
+    /// The least stamp of the messages that the node holds, or `NO_STAMP`.
+    pub fn held(&mut self) -> u64 {
+        self.node.open_cycle()
+    }
+
+    /// Undoes what isn't below the horizon. Answers how many events it undid.
+    pub fn undo_from(&mut self, horizon: u64) -> u64 {
+        self.node.tells_share();
+        let undone = self.node.undo_from(horizon);
+        self.node.tells_share();
+        undone
+    }
+
     /// Processes the least event that waits below the end.
     pub fn step<R: Abort>(&mut self, rt: &R, alloc: Global) -> Result<Step, OutOfMemory>
         ensures { IfOk result (λ step. HasStepped (M.meaning self.old.model) (end_stamp self.old.terms.end) self.old self.new step) }

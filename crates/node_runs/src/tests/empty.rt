@@ -17,12 +17,12 @@ fn a_node_without_objects_is_idle(rt: HostRuntime) -> Result<(), Fail> {
     let terms = Terms { end: 9, limit: 100 };
     let mut driven = Driven::new(&rt, alloc, model, terms, 1, 2)?;
     assert!(rt; driven.step(&rt, alloc)? == Step::Idle);
-    assert_eq!(rt; driven.node.open_cycle(), NO_STAMP);
+    assert!(rt; driven.held() == NO_STAMP);
     assert!(rt; driven.node.least().is_none());
     assert!(rt; driven.node.faulted().is_none());
     let committed = driven.commit(&rt, alloc, at(9), None)?;
-    assert_eq!(rt; committed.done.len(), 0);
-    assert_eq!(rt; committed.out.len(), 2);
+    assert!(rt; committed.done.is_empty());
+    assert!(rt; committed.out.len() == 2);
     let none = Tallies {
         processed: 0,
         undone: 0,

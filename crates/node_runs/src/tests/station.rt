@@ -1,10 +1,9 @@
 //! A node with a station whose line is strict.
 use super::driven::Driven;
-use super::{at, initial};
+use super::{assert_counts, assert_step, at, commit_one, initial};
 use event_key::{Key, NO_STAMP, stamp_of};
 use model_core::{Event, Note, Part};
 use model_text::{AnyModel, read_model};
-use node_core::{Step, Tallies};
 use std::alloc::Global;
 use std::process::Abort;
 use std::test::Fail;
@@ -64,39 +63,32 @@ fn told(word: u32, job: u64, waiting: u64) -> Note {
     })
 }
 
-// Job 1 is taken at 5 and is done at 9. Without its end job 2 would wait and job 3 would find the line full.
+/// The node with a job at 5, 10 and 11, all of which it has processed. Without the end of job 1 at 9 job 2 waits, and
+/// job 3 finds the line full.
+fn ahead<R: Abort>(rt: &R, alloc: Global) -> Result<Driven<AnyModel>, Fail> {
+    let mut driven = station(rt, alloc)?;
+    driven.receive(rt, alloc, arrival(5, 0))?;
+    driven.receive(rt, alloc, arrival(10, 1))?;
+    driven.receive(rt, alloc, arrival(11, 2))?;
+    assert_step(rt, alloc, &mut driven, &arrival(5, 0), at(9))?;
+    assert_step(rt, alloc, &mut driven, &arrival(10, 1), NO_STAMP)?;
+    assert_step(rt, alloc, &mut driven, &arrival(11, 2), NO_STAMP)?;
+    Ok(driven)
+}
+
+// The end of job 1 undoes both jobs that came after it, and the fault with them.
 #[test]
 fn a_straggler_takes_back_a_fault(rt: HostRuntime) -> Result<(), Fail> {
     let alloc = rt.alloc();
-    let mut driven = station(&rt, alloc)?;
-    for (time, place) in [(5, 0), (10, 1), (11, 2)] {
-        assert_eq!(rt; driven.receive(&rt, alloc, arrival(time, place))?, 0);
-    }
-    for (time, place, least) in [(5, 0, at(9)), (10, 1, NO_STAMP), (11, 2, NO_STAMP)] {
-        let key = arrival(time, place).key;
-        assert!(rt; driven.step(&rt, alloc)? == Step::Did { key, least });
-    }
+    let mut driven = ahead(&rt, alloc)?;
     assert!(rt; driven.node.faulted() == Some((arrival(11, 2).key, 2)));
-    assert_eq!(rt; driven.node.open_cycle(), at(9));
-
-    let mut committed = driven.commit(&rt, alloc, at(9), None)?;
-    assert_eq!(rt;
-        committed.done.as_slice(),
-        [(arrival(5, 0).key, told(3, 1, 0))].as_slice()
-    );
-    let sent = committed.out[0]
-        .pop_front()
-        .ok_or("nothing was sent")?
-        .into_inner();
+    assert!(rt; driven.held() == at(9));
+    let (note, sent) = commit_one(&rt, alloc, &mut driven, at(9), &arrival(5, 0))?;
+    assert!(rt; note == told(3, 1, 0));
     assert!(rt; sent == first_done());
-    assert_eq!(rt; driven.receive(&rt, alloc, sent)?, 2);
+    let undone = driven.receive(&rt, alloc, sent)?;
+    assert!(rt; undone == 2);
     assert!(rt; driven.node.faulted().is_none());
-    let counted = Tallies {
-        processed: 3,
-        undone: 2,
-        committed: 1,
-        left: 0,
-    };
-    assert!(rt; driven.node.tallies() == counted);
+    assert_counts(&rt, &driven, 3, 2, 1, 0);
     Ok(())
 }
