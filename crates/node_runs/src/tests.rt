@@ -1,0 +1,89 @@
+//! What the runs share.
+mod driven;
+mod empty;
+mod hops;
+mod station;
+
+use driven::Driven;
+use event_key::{INITIAL, Key, stamp_of};
+use model_core::{Event, Note};
+use model_text::AnyModel;
+use node_core::{Step, Tallies};
+use std::alloc::Global;
+use std::process::Abort;
+use std::test::Fail;
+
+/// Step 0 of a time.
+fn at(time: u32) -> u64 {
+    stamp_of(u64::from(time), 0)
+}
+
+/// The initial event at this place, of a kind and with its two words.
+fn initial(time: u32, dest: u32, place: u32, kind: u32, a: u64, b: u64) -> Event {
+    Event {
+        key: Key {
+            stamp: at(time),
+            rank: 0,
+            dest,
+            src: INITIAL,
+            serial: u64::from(place),
+        },
+        kind,
+        a,
+        b,
+    }
+}
+
+/// The next step processes this event, and this is the least stamp of what it sends.
+fn assert_step<R: Abort>(
+    rt: &R,
+    alloc: Global,
+    driven: &mut Driven<AnyModel>,
+    event: &Event,
+    least: u64,
+) -> Result<(), Fail> {
+    let key = event.key;
+    let step = driven.step(rt, alloc)?;
+    assert!(rt; step == Step::Did { key, least });
+    Ok(())
+}
+
+/// Commits what is below the horizon: this event alone, which sent one event, to this node. Answers what is told of
+/// it, and what it sent.
+fn commit_one<R: Abort>(
+    rt: &R,
+    alloc: Global,
+    driven: &mut Driven<AnyModel>,
+    horizon: u64,
+    event: &Event,
+) -> Result<(Note, Event), Fail> {
+    let mut committed = driven.commit(rt, alloc, horizon, None)?;
+    assert!(rt; committed.done.len() == 1);
+    let (key, note) = committed.done[0];
+    assert!(rt; key == event.key);
+    assert!(rt; committed.out.len() == 1);
+    let parcel = &mut committed.out[0];
+    assert!(rt; parcel.len() == 1);
+    let Some(sent) = parcel.pop_front() else {
+        return Err(Fail::from("nothing was sent"));
+    };
+    Ok((note, sent.into_inner()))
+}
+
+/// What the node counted: how many events it processed, undid and committed, and how many are processed now.
+fn assert_counts<R: Abort>(
+    rt: &R,
+    driven: &Driven<AnyModel>,
+    processed: u64,
+    undone: u64,
+    committed: u64,
+    left: u64,
+) {
+    let counted = Tallies {
+        processed,
+        undone,
+        committed,
+        left,
+    };
+    assert!(rt; driven.node.tallies() == counted);
+}

@@ -1,0 +1,94 @@
+//! A node with a station whose line is strict.
+use super::driven::Driven;
+use super::{assert_counts, assert_step, at, commit_one, initial};
+use event_key::{Key, NO_STAMP, stamp_of};
+use model_core::{Event, Note, Part};
+use model_text::{AnyModel, read_model};
+use std::alloc::Global;
+use std::process::Abort;
+use std::test::Fail;
+
+/// A station that serves a job for 4 ticks, has room for one more, and fails where a third one comes.
+const STATION: &str = "format = 1
+model = \"network\"
+end = 30
+
+[[object]]
+name = \"s\"
+kind = \"station\"
+service = { law = \"fixed\", value = 4 }
+line = 1
+strict = true
+next = \"out\"
+
+[[object]]
+name = \"out\"
+kind = \"sink\"
+";
+
+/// One node that has the whole model.
+fn station<R: Abort>(rt: &R, alloc: Global) -> Result<Driven<AnyModel>, Fail> {
+    let Ok((model, terms)) = read_model(alloc, STATION.as_bytes()) else {
+        return Err(Fail::from("the model is refused"));
+    };
+    Driven::new(rt, alloc, model, terms, 0, 1)
+}
+
+/// The initial event at this place, at which a job arrives. Jobs are numbered from 1.
+fn arrival(time: u32, place: u32) -> Event {
+    initial(time, 0, place, 3, u64::from(place) + 1, u64::from(time))
+}
+
+/// The service of the first job, taken at time 5, is over: the first event that the station sends.
+fn first_done() -> Event {
+    Event {
+        key: Key {
+            stamp: at(9),
+            rank: 0,
+            dest: 0,
+            src: 0,
+            serial: 0,
+        },
+        kind: 2,
+        a: 1,
+        b: 5,
+    }
+}
+
+fn told(word: u32, job: u64, waiting: u64) -> Note {
+    Note::of(Part {
+        word,
+        a: job,
+        b: waiting,
+    })
+}
+
+/// The node with a job at 5, 10 and 11, all of which it has processed. Without the end of job 1 at 9 job 2 waits, and
+/// job 3 finds the line full.
+fn ahead<R: Abort>(rt: &R, alloc: Global) -> Result<Driven<AnyModel>, Fail> {
+    let mut driven = station(rt, alloc)?;
+    driven.receive(rt, alloc, arrival(5, 0))?;
+    driven.receive(rt, alloc, arrival(10, 1))?;
+    driven.receive(rt, alloc, arrival(11, 2))?;
+    assert_step(rt, alloc, &mut driven, &arrival(5, 0), at(9))?;
+    assert_step(rt, alloc, &mut driven, &arrival(10, 1), NO_STAMP)?;
+    assert_step(rt, alloc, &mut driven, &arrival(11, 2), NO_STAMP)?;
+    Ok(driven)
+}
+
+// The end of job 1 undoes both jobs that came after it, and the fault with them.
+#[test]
+fn a_straggler_takes_back_a_fault(rt: HostRuntime) -> Result<(), Fail> {
+    let alloc = rt.alloc();
+    let mut driven = ahead(&rt, alloc)?;
+    assert!(rt; driven.node.faulted() == Some((arrival(11, 2).key, 2)));
+    assert!(rt; driven.held() == at(9));
+    let (note, sent) = commit_one(&rt, alloc, &mut driven, at(9), &arrival(5, 0))?;
+    assert!(rt; note == told(3, 1, 0));
+    assert!(rt; sent == first_done());
+    let undone = driven.receive(&rt, alloc, sent)?;
+    assert!(rt; undone == 2);
+    assert!(rt; driven.node.faulted().is_none());
+    assert_counts(&rt, &driven, 3, 2, 1, 0);
+    Ok(())
+}
