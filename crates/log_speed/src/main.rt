@@ -21,7 +21,10 @@ fn main(rt: HostRuntime) -> io::Result<()> {
         return println!(rt; "not three numbers: {objects} {rounds} {batch}");
     };
     match run(rt.alloc(), objects, rounds, batch) {
-        Ok(count) => println!(rt; "{} events committed, {} messages", count.events, count.messages),
+        Ok(count) => println!(rt;
+            "{} events committed, {} messages",
+            count.events, count.messages
+        ),
         Err(Stopped::OutOfMemory) => println!(rt; "out of memory"),
         Err(Stopped::Refused) => println!(rt; "there are from 1 to 65536 objects"),
     }

@@ -185,12 +185,11 @@ pub fn run(alloc: Global, objects: u32, rounds: u32, batch: u32) -> Result<Count
         events: 0,
         messages: 0,
     };
-    let mut ahead = 0;
+    let batch = batch.max(1);
     for time in 0..rounds {
         fire_all(alloc, &model, &mut logs, &mut shared, time)?;
-        ahead += 1;
-        if ahead >= batch || time + 1 == rounds {
-            ahead = 0;
+        let fired = time + 1;
+        if fired % batch == 0 || fired == rounds {
             commit_all(&mut logs, &mut shared, &mut count);
         }
     }

@@ -107,7 +107,9 @@ fn a_commit_takes_what_is_below_the_horizon_and_the_cut(rt: HostRuntime) -> Resu
 
 // The same draws: events 0, 1 and 2 at the times 0, 1 and 2 send to 5, 4 and 6.
 #[test]
-fn the_least_that_is_held_follows_each_commit_and_each_undoing(rt: HostRuntime) -> Result<(), Fail> {
+fn the_least_that_is_held_follows_each_commit_and_each_undoing(
+    rt: HostRuntime,
+) -> Result<(), Fail> {
     let alloc = rt.alloc();
     let model = hops(&rt, alloc)?;
     let mut shared = make_shared(alloc)?;

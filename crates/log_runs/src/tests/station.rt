@@ -113,11 +113,7 @@ fn straggle<R: Abort>(
 }
 
 /// Ends the test where the log has told anything but the plain replay.
-fn assert_told<R: Abort>(
-    rt: &R,
-    log: &mut ObjectLog,
-    shared: &mut Shared,
-) -> Result<(), Fail> {
+fn assert_told<R: Abort>(rt: &R, log: &mut ObjectLog, shared: &mut Shared) -> Result<(), Fail> {
     let mut done = Chain::new();
     commit(rt, log, at(10), None, &mut done);
     assert!(rt; done.len() == 2);

@@ -1,5 +1,5 @@
 -- No more are due than there are.
-use Rattle.std.proofs.Common.{◌+◌, ◌<◌, ◌^◌, not, length, refl, arith}
+use Rattle.std.proofs.Common.{not, refl, arith}
 use Rattle.std.proofs.lemmas.List.Filters.{length-filter_both}
 use Rattle.key_order.specs.Due.{is_due}
 use Rattle.log_runs.proofs.tests.commit.Goals as goal

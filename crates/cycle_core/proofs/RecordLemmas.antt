@@ -1,0 +1,64 @@
+-- The records of a cycle: those of each node are in order, and the keys of all differ.
+use Rattle.std.proofs.Common.{◌≡◌, ℕ, zero, suc, ◌<◌, ◌≤◌, List, [], ◌∷◌, map, length, refl, sym, subst, arith}
+use Rattle.std.proofs.lemmas.Option.{slice_get_within}
+use Rattle.std.specs.Prelude.{slice_get, Option, Some}
+use Rattle.std.specs.List.{AllByRecursion as Each}
+use Rattle.event_key.specs.declared.key.Key.{Key}
+use Rattle.model_core.specs.Meaning.{Meaning}
+use Rattle.model_core.specs.declared.event.Event.{Event}
+use Rattle.model_core.specs.declared.note.Note.{Note}
+use Rattle.sim_spec.specs.Cut.{committed_events, events_of, records_of}
+use Rattle.sim_spec.specs.Firing.{Firing}
+use Rattle.sim_spec.specs.State.{State, Lawful}
+use Rattle.sim_spec.specs.declared.terms.Terms.{Terms}
+use Rattle.sim_spec.proofs.PartLemmas.{AllSound-dest, Ascends-done}
+use Rattle.key_order.specs.Ascending.{IsAscending, key_of}
+use Rattle.key_order.proofs.AscendingLemmas.{Ascends-map, Ascends-prefix}
+use Rattle.key_order.proofs.EachLemmas.{Each-front}
+use Rattle.key_order.proofs.KeyLemmas.{Ascends-differ, Differ-permutation}
+use Rattle.world_spec.proofs.ClosedLaw.{pending_is}
+use Rattle.world_spec.proofs.ParcelLemmas.{records-permutation}
+use Rattle.world_spec.specs.Parcels.{records_by_node}
+use Rattle.node_core.specs.declared.committed.Committed.{Committed}
+use Rattle.node_core.specs.Nodes.{NodeView}
+use Rattle.cycle_core.specs.Ends.{CommitUpto, records_in}
+use Rattle.cycle_core.specs.Records.{AreInOrder, RecordsDiffer, record_key}
+use Rattle.cycle_core.proofs.PlaceLemmas.{at-some}
+
+in-order : (ds : List (Event × Firing)) → IsAscending (events_of ds) → AreInOrder (records_of ds)
+in-order ds up = Ascends-map record_key (λ (d : Event × Firing). (d.0.key, d.1.note)) ds (Ascends-done ds up)
+
+each-at : {A B : Type 0} (P : B → Type 0) (f : A → B) (xs : List A) → ((k : ℕ) (x : A) → slice_get xs k ≡ Some x → P (f x)) → Each P (map f xs)
+each-at P f [] all = tt
+each-at P f (x ∷ xs) all = (all 0 x refl, each-at P f xs (λ k y at. all (suc k) y at))
+
+-- what each node tells is in order
+pub parts-ordered : {M : Type 0} (meaning_of : M → Meaning) (bound : ℕ) (cut : Option Key) (old new : List (NodeView M)) (all : List Committed) → CommitUpto meaning_of bound cut (length old) old new all
+    → Each (λ part. AreInOrder part.items) (map records_in all)
+parts-ordered meaning_of bound cut old new all upto =
+    each-at (λ part. AreInOrder part.items) records_in all
+    (λ k c at.
+    let below = slice_get_within all k c at in
+    let count = upto.count in
+    let many = upto.many in
+    let x = at-some old k (omega arith) in
+    let y = at-some new k (omega arith) in
+    let commits = upto.each k x.0 y.0 c x.1 y.1 at in
+    subst AreInOrder (sym commits.records_are) (in-order commits.done commits.handed.ordered))
+
+module _ (m : Meaning) (t : Terms) (home : ℕ → ℕ) (nodes : ℕ) (s : State) (lawful : Lawful m t s) (homes : (object : ℕ) → object < m.objects → home object < nodes) where
+  abbrev happened : List (Event × Firing)
+  happened = committed_events m t s
+
+  placed : Each (λ (x : Event × Firing). home x.0.key.dest < nodes) happened
+  placed = each_placed happened (Each-front (λ (e : Event). e.key.dest < m.objects) (events_of happened) _ (subst (Each (λ (e : Event). e.key.dest < m.objects)) (pending_is m t s lawful) (AllSound-dest m s.objects s.pending lawful.sound)))
+    where
+      each_placed : (ds : List (Event × Firing)) → Each (λ (e : Event). e.key.dest < m.objects) (events_of ds) → Each (λ (x : Event × Firing). home x.0.key.dest < nodes) ds
+      each_placed [] all = tt
+      each_placed (x ∷ xs) all = (homes x.0.key.dest all.0, each_placed xs all.1)
+
+  -- no two records of a bucket have one key
+  pub records-differ : RecordsDiffer (records_by_node home happened nodes)
+  records-differ =
+      let up = Ascends-prefix key_of (events_of happened) _ (subst IsAscending (pending_is m t s lawful) lawful.ordered) in
+      Differ-permutation record_key (records_of happened) (records_by_node home happened nodes) (records-permutation home nodes happened placed) (Ascends-differ record_key (records_of happened) (in-order happened up))

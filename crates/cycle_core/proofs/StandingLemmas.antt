@@ -1,0 +1,233 @@
+-- Where a world stands in a simulation, by the least key of its nodes.
+use Rattle.std.proofs.Common.{◌≡◌, ◌≢◌, ℕ, ◌<◌, ◌≤◌, true, false, List, [], ◌∷◌, ◌++◌, length, refl, sym, ap, ◌∙◌, subst, inl, inr, arith, eqb, eq-eqb}
+use Rattle.std.specs.Prelude.{slice_get, Option, Some, None, Contains, filter, ◌==◌, Ok, Err}
+use Rattle.std.proofs.lemmas.Option.{slice_get_within}
+use Rattle.event_key.specs.declared.key.Key.{Key}
+use Rattle.event_key.specs.Keys.{key_lt}
+use Rattle.event_key.specs.Stamps.{end_stamp}
+use Rattle.model_core.specs.Meaning.{Meaning}
+use Rattle.model_core.specs.declared.event.Event.{Event}
+use Rattle.delta_exchange.specs.declared.memory.OutOfMemory.{OutOfMemory}
+use Rattle.sim_spec.specs.declared.bucket.Bucket.{Bucket}
+use Rattle.sim_spec.specs.Cut.{after, cut}
+use Rattle.sim_spec.specs.declared.stop.Stop.{Stop}
+use Rattle.sim_spec.specs.declared.stop.Stop.TheVariants.{End, Limit, Fault}
+use Rattle.sim_spec.specs.declared.terms.Terms.{Terms}
+use Rattle.sim_spec.specs.Firing.{Fired, ObjectState, goes, fails, fire}
+use Rattle.sim_spec.specs.Replay.{events_at}
+use Rattle.sim_spec.specs.Run.{next, next_fired}
+use Rattle.sim_spec.specs.Standing.{Standing, stands, spent, ended, end_or_limit, CycleGives, IsCountAt}
+use Rattle.sim_spec.specs.State.{State, AllSound, object_at}
+use Rattle.sim_spec.proofs.RunLemmas.{next-none, next-late, next-full, next-fires}
+use Rattle.key_order.specs.Ascending.{Ascends, key_of}
+use Rattle.key_order.specs.Keys.{first_key}
+use Rattle.key_order.proofs.MemberLemmas.{each-contains, filter-contains, first-or-later, is-first, none-in}
+use Rattle.object_log.specs.declared.done.Done.{Done}
+use Rattle.object_log.specs.Logs.{events_of, keys_of}
+use Rattle.world_spec.specs.Share.{IsHome, Share, is_at}
+use Rattle.node_core.specs.Calls.{IsLeastKeyOf}
+use Rattle.node_core.specs.Homes.{home_of}
+use Rattle.node_core.specs.Nodes.{NodeView, home, log_at, pending_at}
+use Rattle.node_core.specs.Shares.{AreProcessedKeys}
+use Rattle.cycle_core.specs.Gathered.{HasKeyOf, MayKeyOf, itself}
+use Rattle.cycle_core.specs.Leasts.{IsLeastAt, IsLeastUpto}
+use Rattle.cycle_core.specs.Standings.{HasCycled, WorldStandsAt}
+use Rattle.cycle_core.specs.Worlds.{IsSameWorld, WorldView, StandsAt}
+use Rattle.cycle_core.proofs.CutLemmas.{contains-filter}
+use Rattle.cycle_core.proofs.PlaceLemmas.{at-some}
+use Rattle.cycle_core.proofs.WorldLemmas.{home-here, home-there}
+
+no_done : (ds : List Done) → keys_of ds ≡ [] → ds ≡ []
+no_done [] none = refl
+no_done (d ∷ ds) none = absurd (cc)
+
+module _ {M : Type 0} (meaning_of : M → Meaning) (n : NodeView M) where
+  pub key-here : (key : Key) → IsLeastKeyOf (meaning_of n.model) n (Some key) → IsLeastAt itself (HasKeyOf meaning_of) (MayKeyOf meaning_of) n (Some key)
+  key-here key is = (is.0, λ k may. let P : Key → Type 0 = λ j. key_lt j key ≡ false in subst P may.4 (is.1 may.0 may.1 may.2 may.3))
+
+  pub key-none : AreProcessedKeys (meaning_of n.model) n → IsLeastKeyOf (meaning_of n.model) n None → IsLeastAt itself (HasKeyOf meaning_of) (MayKeyOf meaning_of) n None
+  unfolding events_at
+  key-none keys is k may =
+      let object = may.0 in
+      let p = λ (k : Key). k.dest == object in
+      let done : (log_at n.logs object).done ≡ [] = no_done (log_at n.logs object).done (sym (keys.parts object) ∙ ap (filter p) is.0) in
+      let none : pending_at n.logs n.waiting object ≡ [] = ap (λ ds. events_of ds ++ events_at object n.waiting) done ∙ ap (events_at object) is.1 in
+      none-in may.2 (subst (λ es. Contains es may.2) none may.3)
+
+  pub key-at : AreProcessedKeys (meaning_of n.model) n → (key : Option Key) → IsLeastKeyOf (meaning_of n.model) n key → IsLeastAt itself (HasKeyOf meaning_of) (MayKeyOf meaning_of) n key
+  key-at keys None is = key-none keys is
+  key-at keys (Some key) is = key-here key is
+
+sound-dest : (m : Meaning) (objects : List ObjectState) (es : List Event) (e : Event) → AllSound m objects es → Contains es e → e.key.dest < m.objects
+unfolding AllSound
+sound-dest m objects [] e sound is_in = none-in e is_in
+sound-dest m objects (x ∷ xs) e sound is_in =
+    elim (first-or-later e x xs is_in) [ inl same ↦ subst (λ (v : Event). v.key.dest < m.objects) same sound.0.dest | inr later ↦ sound-dest m objects xs e sound.1 later ]
+
+module _ {M : Type 0} (meaning_of : M → Meaning) (w : WorldView M) (s : State) (stands_so : StandsAt (meaning_of w.model) w s) where
+  abbrev m : Meaning
+  m = meaning_of w.model
+
+  -- a node has each event that is pending
+  some_node : (e : Event) → Contains s.pending e → (number : ℕ) × (n : NodeView M) × (number < length w.nodes) × (slice_get w.nodes number ≡ Some n) × MayKeyOf meaning_of n e.key
+  unfolding events_at
+  some_node e is_in =
+      let object = e.key.dest in
+      let low = sound-dest m s.objects s.pending e stands_so.stands.lawful.sound is_in in
+      let number = home_of w.homes object in
+      let below = stands_so.stands.homes object low in
+      let many = stands_so.has.nodes.many in
+      let inside : number < length w.nodes = omega arith in
+      let n = at-some w.nodes number inside in
+      let is = stands_so.has.nodes.each number n.0 n.1 in
+      let here = home-there m n.0 w.model w.terms w.homes number is object (low, refl) in
+      let H : M → Type 0 = λ v. IsHome (meaning_of v) (home n.0) n.0.number object in
+      let own = stands_so.stands.shares_of number below in
+      let in_share : Contains (stands_so.shares number).pending e = subst (λ es. Contains es e) (sym own.pending) (contains-filter (is_at (home_of w.homes) number) e s.pending (eq-eqb (home_of w.homes object) number refl) is_in) in
+      let at_object : Contains (events_at object (stands_so.shares number).pending) e = contains-filter (λ (x : Event). x.key.dest == object) e (stands_so.shares number).pending (eq-eqb object object refl) in_share in
+      (number, n.0, inside, n.1, (object, subst H (sym is.model_is) here, e, subst (λ es. Contains es e) ((stands_so.own number n.0 n.1).events object here) at_object, refl))
+
+  -- each event that a node has is pending
+  is_pending : (number : ℕ) (n : NodeView M) → slice_get w.nodes number ≡ Some n → (key : Key) → HasKeyOf meaning_of n key → (e : Event) × Contains s.pending e × (e.key ≡ key)
+  unfolding events_at
+  is_pending number n at key has =
+      let is = stands_so.has.nodes.each number n at in
+      let inside = slice_get_within w.nodes number n at in
+      let many = stands_so.has.nodes.many in
+      let e = has.1 in
+      let H : M → Type 0 = λ v. IsHome (meaning_of v) (home n) n.number key.dest in
+      let own = stands_so.stands.shares_of number (omega arith) in
+      let at_object : Contains (events_at key.dest (stands_so.shares number).pending) e = subst (λ es. Contains es e) (sym ((stands_so.own number n at).events key.dest (subst H is.model_is has.0))) has.2 in
+      let in_share = filter-contains (λ (x : Event). x.key.dest == key.dest) e (stands_so.shares number).pending at_object in
+      (e, filter-contains (is_at (home_of w.homes) number) e s.pending (subst (λ es. Contains es e) own.pending in_share), has.3)
+
+  pub least-first : (least : Option Key) → IsLeastUpto itself (HasKeyOf meaning_of) (MayKeyOf meaning_of) (length w.nodes) w.nodes least → least ≡ first_key s.pending
+  unfolding Ascends
+  least-first None none = by_list s.pending refl
+    where
+      by_list : (es : List Event) → s.pending ≡ es → None ≡ first_key es
+      by_list [] is = refl
+      by_list (x ∷ rest) is =
+          let there = some_node x (subst (λ es. Contains es x) (sym is) (is-first x x rest refl)) in
+          absurd (none there.0 there.1 there.2 there.3 x.key there.4)
+  least-first (Some key) least = by_list s.pending refl (is_pending least.0.0 least.0.1 least.0.3 key least.0.4)
+    where
+      by_list : (es : List Event) → s.pending ≡ es → (e : Event) × Contains s.pending e × (e.key ≡ key) → Some key ≡ first_key es
+      by_list [] is found = none-in found.0 (subst (λ es. Contains es found.0) is found.1)
+      by_list (x ∷ rest) is found =
+          let there = some_node x (subst (λ es. Contains es x) (sym is) (is-first x x rest refl)) in
+          let no : key_lt x.key key ≡ false = least.1 there.0 there.1 there.2 there.3 x.key there.4 in
+          let up : Ascends key_of (x ∷ rest) = subst (Ascends key_of) is stands_so.stands.lawful.ordered in
+          elim (first-or-later found.0 x rest (subst (λ es. Contains es found.0) is found.1)) [
+            | inl same ↦ ap Some (sym found.2) ∙ ap (λ (v : Event). Some v.key) (sym same)
+            | inr later ↦ (
+                let before : key_lt x.key found.0.key ≡ true = each-contains (λ (v : Event). key_lt x.key v.key ≡ true) found.0 rest up.0 later in
+                let yes : key_lt x.key key ≡ true = ap (key_lt x.key) (sym found.2) ∙ before in
+                absurd (cc))
+          ]
+
+-- what comes next, by the first key
+record HasFirst (es : List Event) (k : Key) : Type 0 where
+  event : Event
+  rest : List Event
+  first : es ≡ event ∷ rest
+  key : k ≡ event.key
+
+same_some : (j k : Key) → Some j ≡ Some k → j ≡ k
+same_some j k is = cc
+
+has_first : (es : List Event) (k : Key) → Some k ≡ first_key es → HasFirst es k
+has_first [] k is = absurd (cc)
+has_first (e ∷ rest) k is = record { event = e; rest = rest; first = refl; key = same_some k e.key is }
+
+has_none : (es : List Event) → None ≡ first_key es → es ≡ []
+has_none [] is = refl
+has_none (e ∷ rest) is = absurd (cc)
+
+fires_on : (s : State) (e : Event) (rest : List Event) (f : Fired) → None ≡ end_or_limit (next_fired s e rest f)
+unfolding end_or_limit next_fired
+fires_on s e rest (goes x) = refl
+fires_on s e rest (fails code) = refl
+
+module _ (m : Meaning) (t : Terms) (s : State) where
+  pub stops-none : None ≡ first_key s.pending → Some End ≡ end_or_limit (next m t s)
+  unfolding end_or_limit
+  stops-none is = ap end_or_limit (sym (next-none m t s (has_none s.pending is)))
+
+  pub stops-late : (k : Key) → Some k ≡ first_key s.pending → end_stamp t.end ≤ k.stamp → Some End ≡ end_or_limit (next m t s)
+  unfolding end_or_limit
+  stops-late k is late =
+      let f = has_first s.pending k is in
+      let same = ap (λ (k : Key). k.stamp) f.key in
+      ap end_or_limit (sym (next-late m t s f.event f.rest f.first (omega arith)))
+
+  pub stops-full : (k : Key) → Some k ≡ first_key s.pending → k.stamp < end_stamp t.end → s.count ≡ t.limit → Some Limit ≡ end_or_limit (next m t s)
+  unfolding end_or_limit
+  stops-full k is due full =
+      let f = has_first s.pending k is in
+      let same = ap (λ (k : Key). k.stamp) f.key in
+      ap end_or_limit (sym (next-full m t s f.event f.rest f.first (omega arith) full))
+
+  pub goes-on : (k : Key) → Some k ≡ first_key s.pending → k.stamp < end_stamp t.end → s.count ≢ t.limit → None ≡ end_or_limit (next m t s)
+  goes-on k is due free =
+      let f = has_first s.pending k is in
+      let same = ap (λ (k : Key). k.stamp) f.key in
+      fires_on s f.event f.rest (fire m f.event.key.dest (object_at s.objects f.event.key.dest) f.event)
+      ∙ ap end_or_limit (sym (next-fires m t s f.event f.rest f.first (omega arith) free))
+
+module _ {M : Type 0} (meaning_of : M → Meaning) (w : WorldView M) where
+  pub spent-ended : w.is_spent ≡ true → (at : Standing) → WorldStandsAt meaning_of w at → None ≡ ended (meaning_of w.model) w.terms at
+  unfolding ended WorldStandsAt
+  spent-ended is (stands s fault) there = absurd (let no = there.0.has.awake in cc)
+  spent-ended is spent there = refl
+
+  pub fault-ended : (fault : Key × ℕ) → w.is_spent ≡ false → w.fault ≡ Some fault → (at : Standing) → WorldStandsAt meaning_of w at → Some (Fault fault.0 fault.1) ≡ ended (meaning_of w.model) w.terms at
+  unfolding ended WorldStandsAt
+  fault-ended fault awake is (stands s kept) there = ap (λ f. ended (meaning_of w.model) w.terms (stands s f)) (sym is ∙ there.1)
+  fault-ended fault awake is spent there = absurd (cc)
+
+  pub rest-ended : (stop : Option Stop) → w.is_spent ≡ false → w.fault ≡ None → ((s : State) → StandsAt (meaning_of w.model) w s → stop ≡ end_or_limit (next (meaning_of w.model) w.terms s))
+      → (at : Standing) → WorldStandsAt meaning_of w at → stop ≡ ended (meaning_of w.model) w.terms at
+  unfolding ended WorldStandsAt
+  rest-ended stop awake none next_is (stands s kept) there = next_is s there.0 ∙ ap (λ f. ended (meaning_of w.model) w.terms (stands s f)) (sym none ∙ there.1)
+  rest-ended stop awake none next_is spent there = absurd (cc)
+
+  pub count-at : (at : Standing) → WorldStandsAt meaning_of w at → IsCountAt at w.count
+  unfolding IsCountAt WorldStandsAt
+  count-at (stands s fault) there = there.0.stands.count
+  count-at spent there = tt
+
+  -- a world without its nodes stands nowhere
+  pub taken-ended : (stop : Option Stop) → w.is_spent ≡ false → w.nodes ≡ [] → (at : Standing) → WorldStandsAt meaning_of w at → stop ≡ ended (meaning_of w.model) w.terms at
+  unfolding WorldStandsAt
+  taken-ended stop awake none (stands s fault) there = absurd (let some = there.0.has.nodes.some in let long = ap length none in omega arith)
+  taken-ended stop awake none spent there = absurd (cc)
+
+  -- the least key of the nodes tells what comes next
+  pub next-told : (least : Option Key) (stop : Option Stop) → w.is_spent ≡ false → w.fault ≡ None → IsLeastUpto itself (HasKeyOf meaning_of) (MayKeyOf meaning_of) (length w.nodes) w.nodes least
+      → ((s : State) → least ≡ first_key s.pending → w.count ≡ s.count → stop ≡ end_or_limit (next (meaning_of w.model) w.terms s))
+      → (at : Standing) → WorldStandsAt meaning_of w at → stop ≡ ended (meaning_of w.model) w.terms at
+  next-told least stop awake none is tells = rest-ended stop awake none (λ s there. tells s (least-first meaning_of w s there least is) there.stands.count)
+
+module _ {M : Type 0} (meaning_of : M → Meaning) (old new : WorldView M) (same : IsSameWorld old new) where
+  -- a refusal leaves a world that is spent
+  pub cycled-refused : (refused : OutOfMemory) → new.is_spent ≡ true → HasCycled meaning_of old (Err refused) new
+  unfolding WorldStandsAt CycleGives
+  cycled-refused refused is at there more = record { left = spent; stands = is; gives = refl; same_meaning = ap meaning_of same.model; same_terms = same.terms }
+
+  pub cycled-done : (bucket : Bucket) → old.is_spent ≡ false → new.fault ≡ bucket.fault
+      → ((s : State) → StandsAt (meaning_of old.model) old s → bucket ≡ cut (meaning_of old.model) old.terms s)
+      → ((s : State) → StandsAt (meaning_of old.model) old s → StandsAt (meaning_of old.model) new (after (meaning_of old.model) old.terms s))
+      → HasCycled meaning_of old (Ok bucket) new
+  unfolding WorldStandsAt CycleGives ended
+  cycled-done bucket awake fault bucket_is stands_after (stands s (Some met)) there more = absurd (cc)
+  cycled-done bucket awake fault bucket_is stands_after (stands s None) there more =
+      let P : M → Type 0 = λ v. StandsAt (meaning_of v) new (after (meaning_of old.model) old.terms s) in
+      record {
+        left = stands (after (meaning_of old.model) old.terms s) bucket.fault;
+        stands = (subst P (sym same.model) (stands_after s there.0), fault);
+        gives = record { state = s; begins = refl; bucket_is = bucket_is s there.0; ends = refl };
+        same_meaning = ap meaning_of same.model;
+        same_terms = same.terms;
+      }
+  cycled-done bucket awake fault bucket_is stands_after spent there more = absurd (cc)

@@ -1,0 +1,205 @@
+//! Processed events in the order of their keys. Each entry has the least stamp that its event and those behind it send, so
+//! that the least of all is known at the first.
+ghost use Rattle.std.specs.Prelude.{◌≡◌, ◌≤◌, ◌++◌, length, filter, drop, nat_lt, false, true, OnOk, OnErr};
+ghost use Rattle.std.specs.List.{list_any};
+ghost use Rattle.event_key.specs.declared.stamp.TheConstants.{NO_STAMP};
+ghost use Rattle.key_order.specs.Due.{is_due};
+ghost use Rattle.node_core.specs.Entries.{marks_of, AreLeast, AreLeastBut, first_held};
+ghost use Rattle.node_core.specs.Marks.{blank_at, set_mark, put_mark, without, first_fault, is_first, place_of, same_key, AreInOrder};
+ghost use Rattle.node_core.specs.Rows.{keys_of};
+
+use crate::marks::{Mark, is_due_at, is_same};
+use event_key::{Key, NO_STAMP};
+use model_core::OutOfMemory;
+use std::alloc::Global;
+use std::collections::VecDeque;
+
+/// A processed event.
+#[derive(Clone, Copy, Debug, PartialEq, Eq)]
+pub struct Entry {
+    pub key: Key,
+    pub mark: Mark,
+    /// The least stamp that it and the events behind it send, or `NO_STAMP`.
+    pub held: u64,
+}
+
+/// Entries in the order of their keys.
+pub type Entries = VecDeque<Entry, Global>;
+
+/// The first fault, in time linear in how many entries come before it.
+pub fn fault_in(entries: &Entries) -> Option<(Key, u32)>
+    ensures { result ≡ first_fault (marks_of entries.now.items) }
+{
+    for entry in entries.iter() {
+        if let Some(code) = entry.mark.fault {
+            return Some((entry.key, code));
+        }
+    }
+    None
+}
+
+/// How many events are due, in time linear in that number.
+pub fn due_in(entries: &Entries, horizon: u64, cut: &Option<Key>) -> usize
+    requires { AreInOrder (marks_of entries.now.items) }
+    ensures { result ≡ length (filter (is_due horizon cut.now) (keys_of (marks_of entries.now.items))) }
+{
+    let _small = entries.len();
+    let mut count = 0;
+    for entry in entries.iter() {
+        if !is_due_at(horizon, cut, &entry.key) {
+            return count;
+        }
+        count += 1;
+    }
+    count
+}
+
+/// Appends the keys below the horizon, in time linear in how many they are.
+pub fn push_in(entries: &Entries, horizon: u64, into: &mut Vec<Key>) -> Result<(), OutOfMemory>
+    requires { AreInOrder (marks_of entries.now.items) }
+    ensures ok { OnOk result (into.new.items ≡ into.old.items ++ filter (λ k. nat_lt k.stamp horizon) (keys_of (marks_of entries.now.items))) }
+    ensures err { OnErr result (into.new.items ≡ into.old.items) }
+{
+    let len = into.len();
+    for entry in entries.iter() {
+        if entry.key.stamp >= horizon {
+            return Ok(());
+        }
+        if into.push(entry.key).is_err() {
+            into.truncate(len);
+            return Err(OutOfMemory);
+        }
+    }
+    Ok(())
+}
+
+/// How many keys come before this one. The search widens from the back, in time logarithmic in how many don't.
+fn search(entries: &Entries, key: &Key) -> usize
+    requires { AreInOrder (marks_of entries.now.items) }
+    ensures { result ≡ place_of key.now (marks_of entries.now.items) }
+{
+    let len = entries.len();
+    let mut low = 0;
+    let mut high = len;
+    'steps: while low < high {
+        let past = len - high;
+        let half = (high - low - 1) / 2;
+        let middle = high - 1 - past.min(half);
+        if entries[middle].key.is_before(key) {
+            low = middle + 1;
+        } else {
+            high = middle;
+        }
+    }
+    low
+}
+
+/// How many keys come before this one: constant at the first and the last place, else logarithmic in how many don't.
+fn place(entries: &Entries, key: &Key) -> usize
+    requires { AreInOrder (marks_of entries.now.items) }
+    ensures { result ≡ place_of key.now (marks_of entries.now.items) }
+{
+    let Some(first) = entries.front() else {
+        return 0;
+    };
+    if first.key.is_before(key) {
+        search(entries, key)
+    } else {
+        0
+    }
+}
+
+/// The least stamp that the events from this place on send, or `NO_STAMP`.
+pub fn held_from(entries: &Entries, place: usize) -> u64
+    ensures { result ≡ first_held (drop place entries.now.items) }
+{
+    match entries.get(place) {
+        Some(entry) => entry.held,
+        None => NO_STAMP,
+    }
+}
+
+/// Mends the least stamps before a place, from there towards the front until one stays.
+fn mend(entries: &mut Entries, place: usize)
+    requires inside { place ≤ length entries.old.items }
+    requires but { AreLeastBut place entries.old.items }
+    ensures least { AreLeast entries.new.items }
+    ensures same { marks_of entries.new.items ≡ marks_of entries.old.items }
+{
+    let mut place = place;
+    'steps: while place > 0 {
+        let held = held_from(entries, place);
+        place -= 1;
+        let entry = entries[place];
+        let held = entry.mark.least.min(held);
+        if held == entry.held {
+            return;
+        }
+        entries[place] = Entry { held, ..entry };
+    }
+}
+
+/// Puts an event in, of which nothing more is known yet. Moves the shorter side.
+pub fn put(entries: &mut Entries, key: Key) -> Result<(), OutOfMemory>
+    requires order { AreInOrder (marks_of entries.old.items) }
+    requires least { AreLeast entries.old.items }
+    requires new { list_any (same_key key) (keys_of (marks_of entries.old.items)) ≡ false }
+    ensures ok { OnOk result (marks_of entries.new.items ≡ put_mark (blank_at key) (marks_of entries.old.items)) }
+    ensures err { OnErr result (marks_of entries.new.items ≡ marks_of entries.old.items) }
+    ensures least { AreLeast entries.new.items }
+{
+    let place = place(entries, &key);
+    let entry = Entry {
+        key,
+        mark: Mark {
+            least: NO_STAMP,
+            fault: None,
+        },
+        held: held_from(entries, place),
+    };
+    entries.insert(place, entry)?;
+    Ok(())
+}
+
+/// Says more of an event, and mends the least stamps before it.
+pub fn set(entries: &mut Entries, key: Key, mark: Mark)
+    requires order { AreInOrder (marks_of entries.old.items) }
+    requires least { AreLeast entries.old.items }
+    requires here { list_any (same_key key) (keys_of (marks_of entries.old.items)) ≡ true }
+    ensures same { marks_of entries.new.items ≡ set_mark (record { key = key; least = mark.least; fault = mark.fault }) (marks_of entries.old.items) }
+    ensures least { AreLeast entries.new.items }
+{
+    let place = place(entries, &key);
+    let behind = held_from(entries, place + 1);
+    entries[place] = Entry {
+        key,
+        mark,
+        held: mark.least.min(behind),
+    };
+    mend(entries, place);
+}
+
+/// Takes an event out, and mends the least stamps before it. Moves the shorter side.
+pub fn remove(entries: &mut Entries, key: &Key)
+    requires order { AreInOrder (marks_of entries.old.items) }
+    requires least { AreLeast entries.old.items }
+    ensures same { marks_of entries.new.items ≡ without key.now (marks_of entries.old.items) }
+    ensures least { AreLeast entries.new.items }
+{
+    let place = place(entries, key);
+    if !is_at_place(entries, place, key) {
+        return;
+    }
+    entries.remove(place);
+    mend(entries, place);
+}
+
+/// Whether an event is at a place.
+fn is_at_place(entries: &Entries, place: usize, key: &Key) -> bool
+    ensures { result ≡ is_first key.now (marks_of (drop place entries.now.items)) }
+{
+    match entries.get(place) {
+        Some(entry) => is_same(key, &entry.key),
+        None => false,
+    }
+}
