@@ -1,5 +1,5 @@
 -- A node that is driven by hand keeps what its driver knows of it.
-use Rattle.std.proofs.Common.{◌≡◌, ◌⊎◌, inl, inr, zero, suc, ℕ, ◌+◌, ◌*◌, ◌<◌, ◌≤◌, ◌^◌, Bool, true, false, cond, ◌||◌, List, [], ◌∷◌, ◌++◌, length, take, drop, map, Option, Some, None, refl, sym, ap, ◌∙◌, subst, arith, length-append}
+use Rattle.std.proofs.Common.{◌≡◌, ◌⊎◌, inl, inr, zero, suc, ℕ, ◌+◌, ◌<◌, ◌≤◌, Bool, true, false, cond, ◌||◌, List, [], ◌∷◌, ◌++◌, length, take, drop, Option, Some, None, refl, sym, ap, ◌∙◌, subst, arith, length-append}
 use Rattle.std.specs.Prelude.{filter, not, slice_index_or, ◌==◌}
 use Rattle.std.proofs.lemmas.Bool.Decides.{nat_tests}
 use Rattle.event_key.proofs.Order.{key_lt-apart}
@@ -18,24 +18,24 @@ use Rattle.model_core.specs.declared.note.Note.{Note}
 use Rattle.sim_spec.specs.Firing.{ObjectState}
 use Rattle.key_order.specs.Ascending.{IsAscending, key_of}
 use Rattle.key_order.specs.Keys.{IsNewKey}
-use Rattle.key_order.specs.Pending.{enqueue, enqueue_all}
+use Rattle.key_order.specs.Pending.{enqueue_all}
 use Rattle.sim_spec.specs.Replay.{events_at}
-use Rattle.key_order.proofs.EachLemmas.{Each-append, Each-back, Each-drop, Each-filter, Each-front, Each-map, Each-take}
+use Rattle.key_order.proofs.EachLemmas.{Each-append, Each-back, Each-drop, Each-front, Each-map, Each-take}
 use Rattle.key_order.proofs.EnqueueLemmas.{IsAscending-enqueue, length-enqueue_all}
 use Rattle.sim_spec.proofs.PartLemmas.{Each-events_at, IsAscending-events_at}
 use Rattle.key_order.specs.Due.{is_due}
 use Rattle.world_spec.specs.Moves.{IsDueDone, IsIdle, IsPastFaultOf, received, received_ahead}
-use Rattle.world_spec.specs.Share.{IsHome, Share}
+use Rattle.world_spec.specs.Share.{IsHome}
 use Rattle.key_order.proofs.FilterLemmas.{length-filter_le}
 use Rattle.object_log.specs.declared.done.Done.{Done}
-use Rattle.object_log.specs.Logs.{LogView, events_of, keys_of, undone}
+use Rattle.object_log.specs.Logs.{events_of, keys_of, undone}
 use Rattle.object_log.specs.Parts.{left_of}
 use Rattle.node_core.specs.Calls.{HasCommitted, HasReceived, HasUndoneFrom, HaveOwnKeys, HaveSentFew, IsLeastFaultOf, IsNewNode}
 use Rattle.node_core.specs.Homes.{HomesView, home_of}
 use Rattle.node_core.specs.Marks.{same_key}
-use Rattle.node_core.specs.Nodes.{IsAsBefore, IsSameNode, NodeView, Stands, ahead_of, base_at, data_of, home, log_at, log_or, pending_at, share_of, slot_at}
-use Rattle.node_core.specs.Shares.{AreProcessedKeys, IsOwnShare, SendAtMostEight, StandsForItsOwn}
-use Rattle.node_core.specs.Steps.{HasProcessed, HasStepped, IsLeftIdle}
+use Rattle.node_core.specs.Nodes.{IsAsBefore, IsSameNode, NodeView, Stands, ahead_of, base_at, data_of, home, log_at, log_or, pending_at, share_of}
+use Rattle.node_core.specs.Shares.{AreProcessedKeys, SendAtMostEight, StandsForItsOwn}
+use Rattle.node_core.specs.Steps.{HasStepped, IsLeftIdle}
 use Rattle.node_core.specs.Stores.{kept_count}
 use Rattle.node_core.specs.declared.step.Step.{Step}
 use Rattle.node_core.specs.declared.step.Step.TheVariants.{Did, Idle}

@@ -1,5 +1,5 @@
 -- One of the keys is the one, or none is.
-use Rattle.std.proofs.Common.{◌≤◌, ◌<◌, ◌+◌, ℕ, length, sym, ◌∙◌, arith}
+use Rattle.std.proofs.Common.{sym, ◌∙◌, arith}
 use Rattle.node_runs.proofs.DriveFacts.{known-all, known-found, known-next}
 use Rattle.node_runs.proofs.tests.driven.is_known.Goals as goal
 

@@ -1,5 +1,5 @@
 -- What is due is committed.
-use Rattle.std.proofs.Common.{ap, sym, ◌∙◌, arith, ◌≤◌, ℕ, length}
+use Rattle.std.proofs.Common.{ap, sym, ◌∙◌, arith}
 use Rattle.std.specs.Arc.{arc_value}
 use Rattle.event_key.specs.Stamps.{end_stamp}
 use Rattle.sim_spec.specs.declared.terms.Terms.{Terms}

@@ -1,5 +1,5 @@
 -- A new node.
-use Rattle.std.proofs.Common.{List, [], ap, sym, ◌∙◌, subst}
+use Rattle.std.proofs.Common.{List, sym, ◌∙◌, subst}
 use Rattle.event_key.specs.declared.key.Key.{Key}
 use Rattle.node_core.specs.Calls.{IsNewNode}
 use Rattle.node_runs.specs.Drives.{IsDriven}

@@ -1,7 +1,6 @@
 -- A step is made, or the node is idle.
-use Rattle.std.proofs.Common.{ap, sym, ◌∙◌, subst, arith, ◌≤◌, ◌<◌, ℕ, length}
+use Rattle.std.proofs.Common.{arith}
 use Rattle.std.specs.Arc.{arc_value}
-use Rattle.event_key.specs.Stamps.{end_stamp}
 use Rattle.node_runs.proofs.DriveFacts.{driven-few, keeps-same, keeps-step}
 use Rattle.node_runs.proofs.tests.driven.Driven.step.Goals as goal
 
