@@ -1,16 +1,13 @@
 -- What a cycle carries, node by node.
-use Rattle.std.proofs.Common.{◌≡◌, ℕ, zero, suc, ◌+◌, ◌-◌, ◌%◌, ◌^◌, ◌<◌, ◌≤◌, ◌&&◌, Bool, true, false, cond, List, [], ◌∷◌, ◌++◌, length, take, drop, map, not, refl, sym, ap, ◌∙◌, subst, arith, eqb, eqb-true, ltb}
+use Rattle.std.proofs.Common.{◌≡◌, ℕ, zero, suc, ◌+◌, ◌-◌, ◌<◌, ◌≤◌, ◌&&◌, Bool, true, false, cond, List, ◌++◌, length, take, drop, refl, sym, ap, ◌∙◌, arith, eqb, eqb-true}
 use Rattle.std.proofs.Math.Seq.{take-append_seam}
 use Rattle.std.proofs.lemmas.Bool.{eqb-false}
-use Rattle.std.proofs.lemmas.List.{append-nil, length-map, map-append}
-use Rattle.std.proofs.lemmas.List.Elements.{filter-append, Contains-append_left}
-use Rattle.std.proofs.lemmas.Option.{slice_get_within}
-use Rattle.std.specs.Prelude.{slice_get, Option, Some, Contains, filter}
-use Rattle.std.specs.List.{AllByRecursion as Each}
-use Rattle.event_key.specs.declared.key.Key.{Key}
+use Rattle.std.proofs.lemmas.List.{append-nil, length-map}
+use Rattle.std.proofs.lemmas.List.Elements.{filter-append}
+use Rattle.std.specs.Prelude.{slice_get, Some, filter}
 use Rattle.model_core.specs.Meaning.{Meaning, MeaningLaws}
 use Rattle.model_core.specs.declared.event.Event.{Event}
-use Rattle.sim_spec.specs.Cut.{after, committed_events, events_of}
+use Rattle.sim_spec.specs.Cut.{committed_events, events_of}
 use Rattle.sim_spec.specs.Firing.{Firing}
 use Rattle.sim_spec.specs.Replay.{done_at, events_at}
 use Rattle.sim_spec.specs.State.{State}
@@ -20,20 +17,19 @@ use Rattle.object_log.specs.Logs.{events_of as log_events}
 use Rattle.world_spec.specs.Closed.{IsCarried, cut_key, is_late, undone_at, undone_upto}
 use Rattle.world_spec.specs.Early.{early_events, kept}
 use Rattle.key_order.specs.Due.{is_due}
-use Rattle.world_spec.specs.Moves.{committed, committed_ahead, due_count}
-use Rattle.world_spec.specs.Share.{IsHome, Share}
+use Rattle.world_spec.specs.Moves.{due_count}
+use Rattle.world_spec.specs.Share.{IsHome}
 use Rattle.world_spec.specs.World.{WorldIsClosed}
 use Rattle.world_spec.proofs.CarriedLaw.{carried_law}
 use Rattle.world_spec.proofs.ClosedFacts.{left_of}
 use Rattle.world_spec.proofs.ClosedLaw.{committed_processed, due_parts}
 use Rattle.key_order.proofs.FilterLemmas.{filter-all, filter-none}
 use Rattle.world_spec.proofs.WorldFacts.{share-events, world-runs, world-closed}
-use Rattle.node_core.specs.Homes.{HomesView, home_of}
-use Rattle.node_core.specs.Nodes.{NodeView, log_at, home, ahead_of, Stands}
+use Rattle.node_core.specs.Homes.{home_of}
+use Rattle.node_core.specs.Nodes.{NodeView, log_at, home, ahead_of}
 use Rattle.node_core.specs.Shares.{AreProcessedKeys, total_upto}
 use Rattle.cycle_core.specs.Known.{IsKnown}
-use Rattle.cycle_core.specs.Worlds.{WorldView, data_at, IsNodeOf, data_of_world, StandsAt}
-use Rattle.cycle_core.proofs.EndLemmas.{node-same}
+use Rattle.cycle_core.specs.Worlds.{WorldView, data_at, data_of_world, StandsAt}
 use Rattle.cycle_core.proofs.WorldLemmas.{inside, node-stands, home-here}
 
 module _ {M : Type 0} (m : Meaning) (w : WorldView M) (s : State) (stands : StandsAt m w s) where

@@ -9,10 +9,9 @@ use Rattle.sim_spec.specs.declared.terms.Terms.{Terms}
 use Rattle.world_spec.specs.Moves.{IsIdle}
 use Rattle.node_core.specs.Nodes.{NodeView, home, data_of}
 use Rattle.node_core.specs.Steps.{HoldsMessageAt, IsHeldLeast}
-use Rattle.cycle_core.specs.Places.{EachPair, AtEach}
-use Rattle.cycle_core.specs.Works.{WorksOn, IsHeldFrom, IsSettled, IsOpened, AreIdle, AllWorkOn, AreSmall, HaveTerms}
-use Rattle.cycle_core.proofs.PlaceLemmas.{IsUpto, at-set, at-other, same-some, upto-none, upto-more, upto-all, upto-rest}
-use Rattle.cycle_core.proofs.WorkLemmas.{as_before, works-none, idle-lower}
+use Rattle.cycle_core.specs.Works.{WorksOn, IsHeldFrom, IsSettled, IsOpened}
+use Rattle.cycle_core.proofs.PlaceLemmas.{IsUpto, at-set, at-other, same-some, upto-none, upto-more}
+use Rattle.cycle_core.proofs.WorkLemmas.{idle-lower}
 
 module _ {M : Type 0} (meaning_of : M → Meaning) where
   -- some node holds a message with this stamp

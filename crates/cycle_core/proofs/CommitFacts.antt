@@ -1,15 +1,14 @@
 -- What the commits of a closed cycle hand out, and that each node can receive what is sent to it.
 use Rattle.std.proofs.Common.{◌≡◌, ℕ, zero, suc, ◌+◌, ◌*◌, ◌<◌, ◌≤◌, ◌^◌, Bool, true, false, cond, List, [], ◌∷◌, ◌++◌, length, take, drop, not, get_or, map, append_assoc, Vec, refl, sym, ap, ◌∙◌, subst, arith}
-use Rattle.std.proofs.lemmas.List.{length-append, append-nil, map-append}
+use Rattle.std.proofs.lemmas.List.{append-nil, map-append}
 use Rattle.std.proofs.lemmas.List.Sorted.{IsPermutation-refl, length_permutation}
 use Rattle.std.proofs.lemmas.Option.{slice_get_within, get_or_from_slice_get}
-use Rattle.std.specs.Prelude.{slice_get, Option, Some, None, IsPermutation, filter}
+use Rattle.std.specs.Prelude.{slice_get, Option, Some, IsPermutation, filter}
 use Rattle.std.specs.List.{AllByRecursion as Each}
 use Rattle.event_key.specs.declared.key.Key.{Key}
 use Rattle.event_key.specs.Keys.{key_lt}
 use Rattle.model_core.specs.Meaning.{Meaning, MeaningLaws}
 use Rattle.model_core.specs.declared.event.Event.{Event}
-use Rattle.model_core.specs.declared.note.Note.{Note}
 use Rattle.sim_spec.specs.declared.terms.Terms.{Terms}
 use Rattle.sim_spec.specs.Cut.{after, committed_events, emissions_of, records_of, state_with_done}
 use Rattle.sim_spec.specs.Firing.{Firing}
@@ -39,7 +38,7 @@ use Rattle.cycle_core.specs.Known.{IsKnown, AreKnown}
 use Rattle.cycle_core.specs.Worlds.{WorldView, data_at, IsNodeOf, data_of_world, StandsAt}
 use Rattle.cycle_core.proofs.EndLemmas.{to-world, to-node, node-same}
 use Rattle.cycle_core.proofs.PlaceLemmas.{at-some, same-some}
-use Rattle.cycle_core.proofs.SentLemmas.{sent_to-none, sent_to-more}
+use Rattle.cycle_core.proofs.SentLemmas.{sent_to-more}
 use Rattle.cycle_core.proofs.WorldLemmas.{data-is, node-stands}
 
 -- what holds of all events that are put in holds of those that were there, and of those that came

@@ -1,17 +1,16 @@
 -- Where processed events are cut, from the keys and the faults of the nodes.
-use Rattle.std.proofs.Common.{◌≡◌, ◌≢◌, ◌⊎◌, ℕ, zero, suc, ◌+◌, ◌-◌, ◌<◌, ◌≤◌, Bool, true, false, cond, List, [], ◌∷◌, ◌++◌, length, drop, refl, sym, ap, ◌∙◌, subst, inl, inr, arith, eqb, eqb-true, ltb, ltb-true, ltb-false, lt-ltb, nat_lt, ◌==◌, ◌&&◌, ◌||◌, append-nil, map}
+use Rattle.std.proofs.Common.{◌≡◌, ◌≢◌, ℕ, zero, suc, ◌+◌, ◌<◌, ◌≤◌, Bool, true, false, cond, List, [], ◌∷◌, ◌++◌, length, drop, refl, sym, ap, ◌∙◌, subst, inl, inr, arith, eqb, ltb, ltb-true, ltb-false, lt-ltb, nat_lt, ◌==◌, ◌&&◌, ◌||◌, append-nil, map}
 use Rattle.std.proofs.lemmas.Bool.{eqb-false}
 use Rattle.std.proofs.lemmas.List.{length-append, drop_all, append_assoc}
 use Rattle.std.proofs.lemmas.List.Elements.{filter-append}
-use Rattle.std.proofs.Math.Seq.{drop-cons}
-use Rattle.std.proofs.lemmas.List.Sums.{sum_by-append, sum_by-cons}
-use Rattle.std.proofs.lemmas.List.Sorted.{Contains-permutation, IsPermutation-sym, IsPermutation-trans, IsPermutation-map, length_permutation}
+use Rattle.std.proofs.lemmas.List.Sums.{sum_by-cons}
+use Rattle.std.proofs.lemmas.List.Sorted.{Contains-permutation, IsPermutation-sym, IsPermutation-map}
 use Rattle.std.proofs.lemmas.Option.{slice_get_within}
 use Rattle.std.specs.Prelude.{slice_get, Option, Some, None, Contains, IsPermutation, filter, is_some, if◌then◌else◌}
 use Rattle.std.specs.List.{AllByRecursion as Each}
 use Rattle.event_key.specs.declared.key.Key.{Key}
 use Rattle.event_key.specs.Keys.{key_lt}
-use Rattle.event_key.proofs.Order.{key_lt-irrefl, key_lt-stamp, key_lt-trans}
+use Rattle.event_key.proofs.Order.{key_lt-stamp, key_lt-trans}
 use Rattle.model_core.specs.Meaning.{Meaning}
 use Rattle.model_core.specs.declared.event.Event.{Event}
 use Rattle.sim_spec.specs.declared.terms.Terms.{Terms}
@@ -22,8 +21,8 @@ use Rattle.key_order.specs.Pending.{in_order}
 use Rattle.key_order.proofs.AscendingLemmas.{Ascends-filter, Ascends-map, key_lt-turned}
 use Rattle.key_order.proofs.FilterLemmas.{filter-all, filter-passes, filter-swap, length-filter_le}
 use Rattle.key_order.proofs.InOrder.{in_order-permutation, in_order-ascending}
-use Rattle.key_order.proofs.KeyLemmas.{Ascends-differ, at_key-other, at_key-same, key_lt-other, same_or_other}
-use Rattle.key_order.proofs.MemberLemmas.{each-contains, filter-contains, first-or-later, is-first, is-later, none-in}
+use Rattle.key_order.proofs.KeyLemmas.{Ascends-differ, at_key-other, key_lt-other, same_or_other}
+use Rattle.key_order.proofs.MemberLemmas.{each-contains, filter-contains, first-or-later, is-first, is-later}
 use Rattle.key_order.proofs.OrderLemmas.{by-members}
 use Rattle.object_log.specs.declared.done.Done.{Done}
 use Rattle.object_log.specs.Logs.{keys_of}
@@ -32,12 +31,12 @@ use Rattle.world_spec.specs.Closed.{fault_key as key_of_fault}
 use Rattle.world_spec.specs.Share.{IsHome}
 use Rattle.node_core.specs.Calls.{IsLeastFaultOf}
 use Rattle.node_core.specs.Homes.{HomesView, home_of}
-use Rattle.node_core.specs.Nodes.{NodeView, ahead_of, data_of, home, log_at}
+use Rattle.node_core.specs.Nodes.{NodeView, data_of, home, log_at}
 use Rattle.cycle_core.specs.Cuts.{AreKeysIn, HomeOf, IsLeastFaultIn}
 use Rattle.cycle_core.specs.Gathered.{IsFaultBelow, MayFaultBelow, fault_key, itself, keys_in, processed_in}
 use Rattle.cycle_core.specs.Known.{AreKnown, IsKnown}
 use Rattle.cycle_core.specs.Leasts.{IsLeastAt, IsLeastUpto, lesser_by}
-use Rattle.cycle_core.specs.Worlds.{AreNodesOf, IsNodeOf}
+use Rattle.cycle_core.specs.Worlds.{AreNodesOf}
 use Rattle.cycle_core.proofs.PlaceLemmas.{at-some, drop-at, each-more, same-some}
 use Rattle.cycle_core.proofs.WorldLemmas.{home-here, home-there}
 

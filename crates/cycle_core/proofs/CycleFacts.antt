@@ -1,44 +1,38 @@
 -- A cycle over the nodes of a world, from its cut to the state after it.
-use Rattle.std.proofs.Common.{◌≡◌, ◌⊎◌, ℕ, suc, zero, ◌+◌, ◌-◌, ◌*◌, ◌<◌, ◌≤◌, ◌^◌, Bool, true, false, cond, List, [], ◌∷◌, ◌++◌, length, take, drop, map, ◌%◌, ◌&&◌, get_or, refl, sym, ap, ◌∙◌, subst, arith, nat_lt, ◌==◌}
+use Rattle.std.proofs.Common.{◌≡◌, ℕ, ◌+◌, ◌-◌, ◌<◌, ◌≤◌, ◌^◌, Bool, true, false, cond, List, [], ◌∷◌, ◌++◌, length, take, drop, map, ◌%◌, ◌&&◌, refl, sym, ap, ◌∙◌, subst, arith, nat_lt, ◌==◌}
 use Rattle.std.proofs.Math.Seq.{take-append_seam}
 use Rattle.std.proofs.lemmas.List.{length-map, map-append}
 use Rattle.std.proofs.lemmas.List.Elements.{Contains-append_left}
 use Rattle.std.proofs.lemmas.Option.{slice_get_within}
 use Rattle.std.specs.Prelude.{slice_get, Option, Some, None, IsPermutation, filter, Contains}
 use Rattle.event_key.specs.declared.key.Key.{Key}
-use Rattle.event_key.specs.Keys.{key_lt}
 use Rattle.model_core.specs.Meaning.{Meaning, MeaningLaws}
 use Rattle.model_core.specs.declared.event.Event.{Event}
 use Rattle.model_core.specs.declared.note.Note.{Note}
 use Rattle.sim_spec.specs.declared.bucket.Bucket.{Bucket}
-use Rattle.sim_spec.specs.declared.terms.Terms.{Terms}
 use Rattle.sim_spec.specs.Cut.{after, committed_events, cut, records_of}
 use Rattle.sim_spec.specs.Replay.{Replay, early_replay, events_at}
 use Rattle.sim_spec.specs.State.{State}
 use Rattle.object_log.specs.declared.done.Done.{Done}
 use Rattle.object_log.specs.Logs.{events_of, keys_of}
 use Rattle.world_spec.specs.Answer.{AreKeysBelow, CutData, IsAnswer, answer_of, cut_below}
-use Rattle.key_order.specs.Ascending.{Ascends}
 use Rattle.world_spec.specs.Closed.{IsLeastFault, cut_key, is_late}
 use Rattle.world_spec.specs.Early.{IsClosed, RunsAhead, early_events}
-use Rattle.world_spec.specs.Moves.{IsDueDone}
-use Rattle.world_spec.specs.Parcels.{parcels}
-use Rattle.world_spec.specs.Share.{IsHome, NodeData, StandsFor}
+use Rattle.world_spec.specs.Share.{IsHome}
 use Rattle.world_spec.specs.World.{WorldIsClosed}
 use Rattle.world_spec.proofs.AnswerLaw.{answer_law}
 use Rattle.world_spec.proofs.WorldFacts.{share-events, share-log, world-runs, world-closed}
-use Rattle.node_core.specs.declared.committed.Committed.{Committed}
 use Rattle.node_core.specs.Homes.{HomesView, home_of}
-use Rattle.node_core.specs.Nodes.{NodeView, log_at, home, data_of, Stands}
+use Rattle.node_core.specs.Nodes.{NodeView, log_at, home, data_of}
 use Rattle.cycle_core.specs.declared.cut.Cut.{Cut}
 use Rattle.cycle_core.specs.Cuts.{AreKeysIn, IsLeastFaultIn, IsCutOf, CanEnd, HaveEnded, cut_data}
 use Rattle.cycle_core.specs.Carries.{Carries, AllCarry}
-use Rattle.cycle_core.specs.Ends.{CommitUpto, AllEnd}
+use Rattle.cycle_core.specs.Ends.{AllEnd}
 use Rattle.cycle_core.specs.Known.{IsKnown, AreKnown}
 use Rattle.cycle_core.specs.Works.{AllWorkOn}
 use Rattle.cycle_core.specs.Worlds.{WorldView, data_at, IsNodeOf, data_of_world, StandsAt}
-use Rattle.cycle_core.proofs.CommitFacts.{middle, mid_is, mid_record, left_share, left_ahead, the-cycle, node-due, sent-few, all-can-receive, all-end, told-is, arrivals_of, arrive}
-use Rattle.cycle_core.proofs.EndLemmas.{next-ahead, next-stands, to-node}
+use Rattle.cycle_core.proofs.CommitFacts.{middle, mid_is, mid_record, the-cycle, node-due, sent-few, all-can-receive, all-end, told-is, arrivals_of, arrive}
+use Rattle.cycle_core.proofs.EndLemmas.{next-ahead, next-stands}
 use Rattle.cycle_core.proofs.CarriedFacts.{ahead-is, carried, log-early, undone-few}
 use Rattle.cycle_core.proofs.PlaceLemmas.{at-some}
 use Rattle.cycle_core.proofs.RecordLemmas.{records-differ}

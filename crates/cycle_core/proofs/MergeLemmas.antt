@@ -1,19 +1,18 @@
 -- Two lists in the order of their keys, merged.
-use Rattle.std.proofs.Common.{◌≡◌, ◌≢◌, ℕ, zero, suc, ◌+◌, ◌<◌, ◌≤◌, true, false, List, [], ◌∷◌, ◌++◌, length, drop, get_or, append_assoc, append-nil, refl, sym, ap, ◌∙◌, subst, arith, Vec}
+use Rattle.std.proofs.Common.{◌≡◌, ◌≢◌, ℕ, suc, ◌<◌, ◌≤◌, true, false, List, [], ◌∷◌, ◌++◌, length, drop, get_or, append_assoc, append-nil, refl, sym, ap, ◌∙◌, subst, arith, Vec}
 use Rattle.std.proofs.Math.Seq.{drop-cons}
 use Rattle.std.proofs.lemmas.List.{drop_all}
 use Rattle.std.proofs.lemmas.Option.{slice_get-get_or}
-use Rattle.std.proofs.lemmas.List.Sorted.{IsPermutation-refl, IsPermutation-trans, IsPermutation-middle, IsPermutation-append, IsPermutation-append_right}
+use Rattle.std.proofs.lemmas.List.Sorted.{IsPermutation-refl, IsPermutation-trans, IsPermutation-middle, IsPermutation-append_right}
 use Rattle.std.proofs.lemmas.List.Sums.{sum_by-append}
 use Rattle.std.specs.Prelude.{IsPermutation, slice_get, Some}
 use Rattle.cycle_core.proofs.PlaceLemmas.{same-some}
-use Rattle.std.specs.List.{AllByRecursion as Each}
 use Rattle.event_key.specs.declared.key.Key.{Key}
 use Rattle.event_key.specs.Keys.{key_lt}
 use Rattle.model_core.specs.declared.note.Note.{Note}
-use Rattle.key_order.specs.Ascending.{After, Ascends}
-use Rattle.key_order.specs.Keys.{Differ, at_key, times}
-use Rattle.key_order.proofs.AscendingLemmas.{After-head, After-trans, Ascends-back}
+use Rattle.key_order.specs.Ascending.{Ascends}
+use Rattle.key_order.specs.Keys.{at_key}
+use Rattle.key_order.proofs.AscendingLemmas.{After-head}
 use Rattle.key_order.proofs.EachLemmas.{Each-front, Each-back, Each-append}
 use Rattle.key_order.proofs.KeyLemmas.{Differ-back, Differ-first, Differ-permutation, key_lt-other, new-head}
 use Rattle.cycle_core.specs.Ends.{joined}

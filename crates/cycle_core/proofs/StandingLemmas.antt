@@ -1,5 +1,5 @@
 -- Where a world stands in a simulation, by the least key of its nodes.
-use Rattle.std.proofs.Common.{◌≡◌, ◌≢◌, ℕ, ◌<◌, ◌≤◌, true, false, List, [], ◌∷◌, ◌++◌, length, refl, sym, ap, ◌∙◌, subst, inl, inr, arith, eqb, eq-eqb}
+use Rattle.std.proofs.Common.{◌≡◌, ◌≢◌, ℕ, ◌<◌, ◌≤◌, true, false, List, [], ◌∷◌, ◌++◌, length, refl, sym, ap, ◌∙◌, subst, inl, inr, arith, eq-eqb}
 use Rattle.std.specs.Prelude.{slice_get, Option, Some, None, Contains, filter, ◌==◌, Ok, Err}
 use Rattle.std.proofs.lemmas.Option.{slice_get_within}
 use Rattle.event_key.specs.declared.key.Key.{Key}
@@ -24,7 +24,7 @@ use Rattle.key_order.specs.Keys.{first_key}
 use Rattle.key_order.proofs.MemberLemmas.{each-contains, filter-contains, first-or-later, is-first, none-in}
 use Rattle.object_log.specs.declared.done.Done.{Done}
 use Rattle.object_log.specs.Logs.{events_of, keys_of}
-use Rattle.world_spec.specs.Share.{IsHome, Share, is_at}
+use Rattle.world_spec.specs.Share.{IsHome, is_at}
 use Rattle.node_core.specs.Calls.{IsLeastKeyOf}
 use Rattle.node_core.specs.Homes.{home_of}
 use Rattle.node_core.specs.Nodes.{NodeView, home, log_at, pending_at}
@@ -35,7 +35,7 @@ use Rattle.cycle_core.specs.Standings.{HasCycled, WorldStandsAt}
 use Rattle.cycle_core.specs.Worlds.{IsSameWorld, WorldView, StandsAt}
 use Rattle.cycle_core.proofs.CutLemmas.{contains-filter}
 use Rattle.cycle_core.proofs.PlaceLemmas.{at-some}
-use Rattle.cycle_core.proofs.WorldLemmas.{home-here, home-there}
+use Rattle.cycle_core.proofs.WorldLemmas.{home-there}
 
 no_done : (ds : List Done) → keys_of ds ≡ [] → ds ≡ []
 no_done [] none = refl

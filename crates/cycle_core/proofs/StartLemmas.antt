@@ -1,5 +1,5 @@
 -- A world at its start.
-use Rattle.std.proofs.Common.{◌≡◌, ◌≢◌, ◌⊎◌, inl, inr, ℕ, zero, suc, ◌+◌, ◌<◌, ◌≤◌, ◌^◌, Bool, true, false, cond, List, [], ◌∷◌, ◌++◌, length, get_or, map, append-nil, refl, sym, ap, ◌∙◌, subst, arith, eqb, eqb-true, eq-eqb, ne_eqb, slice_set}
+use Rattle.std.proofs.Common.{◌≡◌, ◌≢◌, ◌⊎◌, inl, inr, ℕ, zero, suc, ◌+◌, ◌<◌, ◌≤◌, Bool, true, false, cond, List, [], ◌∷◌, ◌++◌, length, get_or, append-nil, refl, sym, ap, ◌∙◌, subst, arith, eqb, eqb-true, eq-eqb, ne_eqb, slice_set}
 use Rattle.std.proofs.lemmas.Bool.{eqb-false}
 use Rattle.std.proofs.lemmas.List.{length-append, length-set}
 use Rattle.std.proofs.lemmas.List.Elements.{filter-append}
@@ -11,7 +11,7 @@ use Rattle.model_core.specs.declared.event.Event.{Event}
 use Rattle.model_core.specs.Meaning.{Meaning, MeaningLaws}
 use Rattle.sim_spec.specs.declared.terms.Terms.{Terms}
 use Rattle.sim_spec.specs.Replay.{events_at}
-use Rattle.sim_spec.specs.State.{State, Lawful, first_object, initial_state, no_object, start_event}
+use Rattle.sim_spec.specs.State.{Lawful, first_object, initial_state, no_object, start_event}
 use Rattle.sim_spec.proofs.InitialLemmas.{initial_state-lawful}
 use Rattle.sim_spec.proofs.PartLemmas.{AllSound-dest, IsAscending-events_at, events_at-enqueue_all}
 use Rattle.key_order.specs.Ascending.{IsAscending, key_of}
@@ -22,23 +22,23 @@ use Rattle.key_order.proofs.FilterLemmas.{filter-passes, length-filter_le}
 use Rattle.key_order.proofs.ShareLemmas.{filter-enqueue_all}
 use Rattle.object_log.specs.Logs.{LogView, events_of}
 use Rattle.world_spec.specs.Early.{leading}
-use Rattle.world_spec.specs.Moves.{received, received_ahead}
-use Rattle.world_spec.specs.Share.{IsAtHome, IsHome, IsShareOf, NodeData, Share, StandsFor, is_at}
+use Rattle.world_spec.specs.Moves.{received_ahead}
+use Rattle.world_spec.specs.Share.{IsAtHome, IsHome, NodeData, Share, StandsFor, is_at}
 use Rattle.node_core.specs.Calls.{HasReceived, IsNewNode}
 use Rattle.node_core.specs.Homes.{HomesView, home_of}
 use Rattle.node_core.specs.Nodes.{NodeView, Stands, data_of, home, log_at, log_or, pending_at}
-use Rattle.cycle_core.specs.Ends.{AllCanReceive, CanReceive, ReceiveUpto, Receives}
+use Rattle.cycle_core.specs.Ends.{AllCanReceive, ReceiveUpto}
 use Rattle.cycle_core.specs.Places.{AtEach}
 use Rattle.cycle_core.specs.Starts.{AreFirstParcels, AreNewNodes, first_events}
 use Rattle.sim_spec.specs.Standing.{stands}
 use Rattle.sim_spec.specs.declared.placement.Placement.{Placement}
 use Rattle.world_spec.specs.World.{PlacementLaw, home_by}
 use Rattle.cycle_core.specs.Standings.{WorldStandsAt}
-use Rattle.cycle_core.specs.Worlds.{IsNodeOf, StandsAt, WorldView, data_at}
+use Rattle.cycle_core.specs.Worlds.{IsNodeOf, StandsAt, WorldView}
 use Rattle.cycle_core.proofs.CommitFacts.{enqueue_all-parts}
 use Rattle.cycle_core.proofs.EndLemmas.{node-same, stands-as, to-world}
 use Rattle.cycle_core.proofs.PlaceLemmas.{at-some, same-some}
-use Rattle.cycle_core.proofs.WorldLemmas.{data-is, home-here}
+use Rattle.cycle_core.proofs.WorldLemmas.{data-is}
 
 module _ {A : Type 0} where
   set-there : (xs : List A) (i : ℕ) (v d : A) → i < length xs → get_or (slice_set xs i v) i d ≡ v

@@ -1,5 +1,5 @@
 -- Work of a node, step by step.
-use Rattle.std.proofs.Common.{◌≡◌, ◌≢◌, ◌⊎◌, ℕ, suc, ◌+◌, ◌*◌, ◌^◌, ◌<◌, ◌≤◌, min, Bool, true, false, cond, List, [], ◌∷◌, ◌++◌, length, refl, sym, ap, ◌∙◌, subst, inl, inr, arith, eqb, eqb-true, ltb, ltb-true, ltb-false, append_assoc}
+use Rattle.std.proofs.Common.{◌≡◌, ◌≢◌, ◌⊎◌, ℕ, suc, ◌+◌, ◌<◌, ◌≤◌, min, Bool, true, false, cond, List, [], ◌∷◌, ◌++◌, length, refl, sym, ap, ◌∙◌, subst, inl, inr, arith, eqb, eqb-true, ltb, ltb-true, ltb-false, append_assoc}
 use Rattle.std.proofs.lemmas.Bool.{eqb-false}
 use Rattle.std.proofs.lemmas.List.{length-append, length-map, append-nil}
 use Rattle.std.proofs.lemmas.List.Elements.{Contains-append_left}
@@ -15,7 +15,7 @@ use Rattle.sim_spec.specs.Firing.{ObjectState, Firing}
 use Rattle.sim_spec.specs.Replay.{Replay, replay}
 use Rattle.key_order.proofs.EachLemmas.{Each-append, Each-map}
 use Rattle.object_log.specs.declared.done.Done.{Done}
-use Rattle.object_log.specs.Logs.{LogView, undone, keys_of}
+use Rattle.object_log.specs.Logs.{LogView, undone}
 use Rattle.object_log.specs.Replays.{replay_of}
 use Rattle.world_spec.specs.Share.{IsHome, NodeData}
 use Rattle.world_spec.specs.Moves.{IsStep, Steps, IsIdle, IsPastFaultOf}
@@ -23,7 +23,7 @@ use Rattle.key_order.proofs.FilterLemmas.{length-filter_le}
 use Rattle.node_core.specs.Homes.{home_of}
 use Rattle.node_core.specs.Nodes.{NodeView, log_at, log_or, slot_at, base_at, pending_at, home, ahead_of, data_of, IsSameNode, IsAsBefore}
 use Rattle.node_core.specs.Shares.{AreProcessedKeys}
-use Rattle.node_core.specs.Steps.{HoldsMessageAt, HasProcessed, IsLeftIdle, IsHeldLeast, raised}
+use Rattle.node_core.specs.Steps.{HoldsMessageAt, HasProcessed, IsLeftIdle, raised}
 use Rattle.cycle_core.specs.Works.{IsSmall, HasFault, IsFull, WorksOn, IsHeldFrom, IsSettled}
 
 pub emissions_of-append : (xs ys : List (Event × Firing)) → emissions_of (xs ++ ys) ≡ emissions_of xs ++ emissions_of ys

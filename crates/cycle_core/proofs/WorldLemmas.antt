@@ -1,10 +1,10 @@
 -- What a world stands for, node by node.
-use Rattle.std.proofs.Common.{◌≡◌, ◌⊎◌, ℕ, ◌+◌, ◌*◌, ◌^◌, ◌<◌, ◌≤◌, Bool, true, false, List, [], length, refl, sym, ap, ◌∙◌, subst, inl, inr, arith, ltb, ltb-true, ltb-false, lt-ltb}
+use Rattle.std.proofs.Common.{◌≡◌, ℕ, ◌<◌, ◌≤◌, Bool, true, false, List, [], length, refl, sym, ap, ◌∙◌, subst, inl, inr, arith, ltb, ltb-true, lt-ltb}
 use Rattle.std.proofs.lemmas.Option.{slice_get_within}
 use Rattle.std.specs.Prelude.{slice_get, Some, Contains, filter}
 use Rattle.std.specs.List.{AllByRecursion as Each}
 use Rattle.event_key.specs.Stamps.{end_stamp}
-use Rattle.model_core.specs.Meaning.{Meaning, MeaningLaws}
+use Rattle.model_core.specs.Meaning.{Meaning}
 use Rattle.sim_spec.specs.declared.terms.Terms.{Terms}
 use Rattle.sim_spec.specs.Firing.{ObjectState}
 use Rattle.sim_spec.specs.Replay.{EmitsFrom}
@@ -12,16 +12,15 @@ use Rattle.sim_spec.specs.Cut.{emissions_of}
 use Rattle.sim_spec.specs.State.{State, object_at}
 use Rattle.sim_spec.proofs.StampLemmas.{EmitsFrom-le}
 use Rattle.key_order.proofs.FilterLemmas.{length-filter_le}
-use Rattle.world_spec.specs.Share.{Share, IsHome, is_at, NodeData, StandsFor}
+use Rattle.world_spec.specs.Share.{IsHome, is_at, NodeData, StandsFor}
 use Rattle.world_spec.specs.Moves.{Steps, IsIdle}
-use Rattle.world_spec.specs.World.{WorldData, WorldStands, WorldIsClosed, IsHeldIn}
+use Rattle.world_spec.specs.World.{WorldIsClosed}
 use Rattle.world_spec.specs.WorldLaws.{WorldSteps, WorldStepsLaw}
 use Rattle.node_core.specs.Homes.{HomesView, home_of}
-use Rattle.node_core.specs.Nodes.{NodeView, base_at, home, data_of, share_of, Stands, IsSameNode}
+use Rattle.node_core.specs.Nodes.{NodeView, base_at, home, data_of, share_of, Stands}
 use Rattle.node_core.specs.Steps.{HoldsMessageAt}
 use Rattle.cycle_core.specs.Known.{IsKnown, AreKnown}
-use Rattle.cycle_core.specs.Places.{EachPair, AtEach}
-use Rattle.cycle_core.specs.Works.{IsSmall, AreSmall, HaveTerms, WorksOn, AllWorkOn, IsOpened, AreIdle, IsHeldFrom}
+use Rattle.cycle_core.specs.Works.{IsSmall, AreSmall, AllWorkOn, IsOpened, AreIdle, IsHeldFrom}
 use Rattle.cycle_core.specs.Worlds.{WorldView, no_data, data_at, IsNodeOf, AreNodesOf, HasNodes, data_of_world, HasShare, StandsAt}
 use Rattle.cycle_core.proofs.PlaceLemmas.{at-some, picked}
 use Rattle.cycle_core.proofs.WorkLemmas.{home-before}

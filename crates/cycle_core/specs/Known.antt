@@ -1,8 +1,8 @@
 -- What a node says of itself.
-use Rattle.std.specs.Prelude.{◌≡◌, ℕ, ◌+◌, ◌*◌, ◌<◌, ◌≤◌, ◌^◌, List, length}
+use Rattle.std.specs.Prelude.{◌≡◌, ℕ, ◌+◌, List, length}
 use Rattle.model_core.specs.Meaning.{Meaning}
 use Rattle.world_spec.specs.Share.{Share}
-use Rattle.node_core.specs.Nodes.{NodeView, log_at, base_at, ahead_of, share_of, Stands}
+use Rattle.node_core.specs.Nodes.{NodeView, ahead_of, share_of, Stands}
 use Rattle.node_core.specs.Shares.{IsOwnShare, AreProcessedKeys}
 use Rattle.cycle_core.specs.Places.{AtEach}
 

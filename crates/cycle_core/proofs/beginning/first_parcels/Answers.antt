@@ -1,4 +1,4 @@
-use Rattle.std.proofs.Common.{◌≡◌, ◌∙◌, ap, sym, arith}
+use Rattle.std.proofs.Common.{◌∙◌, ap, sym, arith}
 use Rattle.model_core.specs.declared.event.Event.{Event}
 use Rattle.node_core.specs.Homes.{home_of}
 use Rattle.cycle_core.proofs.StartLemmas.{parcel-few, parcels-more}

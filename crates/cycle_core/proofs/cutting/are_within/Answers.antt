@@ -1,6 +1,5 @@
-use Rattle.std.proofs.Common.{◌≡◌, ◌+◌, ◌≤◌, ◌∙◌, ℕ, suc, add-one, length, drop, ap, sym, refl, arith, subst}
+use Rattle.std.proofs.Common.{◌≡◌, add-one, length, ap, refl, arith}
 use Rattle.std.proofs.lemmas.Option.{slice_get_read}
-use Rattle.cycle_core.specs.Gathered.{processed_in}
 use Rattle.cycle_core.proofs.CutLemmas.{processed-more, processed-all}
 use Rattle.cycle_core.proofs.cutting.are_within.Goals as goal
 

@@ -1,13 +1,11 @@
-use Rattle.std.proofs.Common.{◌≡◌, ◌+◌, ◌≤◌, ◌∙◌, length, ap, sym, refl, arith, subst, not, rules}
-use Rattle.std.specs.Prelude.{IsPermutation, IsTrue, Some, None, filter}
+use Rattle.std.proofs.Common.{◌≡◌, ◌∙◌, length, ap, sym, refl, arith, subst, not, rules}
+use Rattle.std.specs.Prelude.{IsTrue, Some, None, filter}
 use Rattle.std.proofs.lemmas.Fn.{filter_same}
 use Rattle.std.proofs.lemmas.List.Sorted.{length_permutation}
-use Rattle.event_key.specs.declared.key.Key.{Key}
-use Rattle.event_key.specs.Keys.{key_lt}
 use Rattle.key_order.specs.Due.{is_uncut}
 use Rattle.world_spec.specs.Answer.{cut_of}
 use Rattle.world_spec.specs.Closed.{fault_key as key_of_fault}
-use Rattle.cycle_core.specs.Gathered.{IsFaultBelow, MayFaultBelow, fault_key, itself, keys_in}
+use Rattle.cycle_core.specs.Gathered.{IsFaultBelow, MayFaultBelow, fault_key, keys_in}
 use Rattle.cycle_core.specs.Leasts.{IsLeastUpto}
 use Rattle.cycle_core.proofs.CutLemmas.{all-uncut, are-keys, cut-whole, keys-differ, keys_in-few, least-faults, none-is, sorted, sorted-moves, sorted-up}
 use Rattle.cycle_core.proofs.cutting.cut_nodes.Goals as goal

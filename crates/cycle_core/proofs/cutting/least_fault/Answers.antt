@@ -1,5 +1,4 @@
-use Rattle.std.proofs.Common.{◌≡◌, ◌≤◌, ◌∙◌, length, ap, sym, refl, arith, subst}
-use Rattle.std.specs.Prelude.{Some, None}
+use Rattle.std.proofs.Common.{◌≡◌, length, refl, arith, subst}
 use Rattle.std.proofs.lemmas.Option.{slice_get_read}
 use Rattle.cycle_core.specs.Gathered.{IsFaultBelow, MayFaultBelow, fault_key}
 use Rattle.cycle_core.specs.Leasts.{IsLeastUpto}

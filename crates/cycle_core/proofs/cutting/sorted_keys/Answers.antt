@@ -1,4 +1,4 @@
-use Rattle.std.proofs.Common.{◌≡◌, ◌+◌, ◌≤◌, ◌∙◌, ◌++◌, [], ℕ, suc, add-one, length, drop, ap, sym, refl, arith, subst}
+use Rattle.std.proofs.Common.{add-one, length, refl, arith, subst}
 use Rattle.std.specs.Prelude.{IsPermutation}
 use Rattle.std.proofs.lemmas.Option.{slice_get_read}
 use Rattle.event_key.specs.Keys.{key_lt, key_cmp}

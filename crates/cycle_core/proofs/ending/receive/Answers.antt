@@ -1,4 +1,4 @@
-use Rattle.std.proofs.Common.{◌≡◌, sym, subst}
+use Rattle.std.proofs.Common.{subst}
 use Rattle.node_core.specs.Calls.{HasReceived}
 use Rattle.cycle_core.proofs.ending.receive.Goals as goal
 

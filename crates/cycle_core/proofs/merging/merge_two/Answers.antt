@@ -1,4 +1,4 @@
-use Rattle.std.proofs.Common.{◌≡◌, ◌∙◌, ◌++◌, ◌∷◌, [], suc, add-one, ap, sym, subst, arith}
+use Rattle.std.proofs.Common.{◌∙◌, ◌++◌, ◌∷◌, [], suc, add-one, ap, sym, subst, arith}
 use Rattle.cycle_core.proofs.MergeLemmas.{IsMerging, merging-left, merging-right, same-read}
 use Rattle.cycle_core.proofs.merging.merge_two.Goals as goal
 

@@ -1,4 +1,4 @@
-use Rattle.std.proofs.Common.{◌≡◌, ◌∙◌, sym}
+use Rattle.std.proofs.Common.{◌∙◌, sym}
 use Rattle.cycle_core.specs.Gathered.{itself}
 use Rattle.cycle_core.proofs.CutLemmas.{lesser-first, lesser-second}
 use Rattle.cycle_core.proofs.standing.lesser.Goals as goal

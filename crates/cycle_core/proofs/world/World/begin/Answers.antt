@@ -4,13 +4,12 @@ use Rattle.model_core.specs.Meaning.{MeaningLaws}
 use Rattle.sim_spec.specs.Standing.{stands}
 use Rattle.sim_spec.specs.State.{initial_state}
 use Rattle.node_core.specs.Homes.{home_of}
-use Rattle.node_core.specs.Nodes.{NodeView}
 use Rattle.cycle_core.specs.Ends.{AllCanReceive, ReceiveUpto}
 use Rattle.cycle_core.specs.Places.{AtEach}
 use Rattle.cycle_core.specs.Standings.{WorldStandsAt}
 use Rattle.cycle_core.specs.Starts.{AreFirstParcels}
 use Rattle.cycle_core.specs.Worlds.{WorldView}
-use Rattle.cycle_core.proofs.StartLemmas.{can-start, first_world, placed-within, start-processed, start-standing}
+use Rattle.cycle_core.proofs.StartLemmas.{can-start, placed-within, start-processed, start-standing}
 use Rattle.cycle_core.proofs.ValueLemmas.{items-over}
 use Rattle.cycle_core.proofs.world.World.begin.Goals as goal
 

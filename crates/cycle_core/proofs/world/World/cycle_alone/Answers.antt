@@ -1,4 +1,4 @@
-use Rattle.std.proofs.Common.{◌≡◌, ◌∙◌, ap, sym, refl, true, false}
+use Rattle.std.proofs.Common.{◌∙◌, ap, sym, refl}
 use Rattle.cycle_core.proofs.StandingLemmas.{cycled-done, cycled-refused}
 use Rattle.cycle_core.proofs.world.World.cycle_alone.Goals as goal
 
