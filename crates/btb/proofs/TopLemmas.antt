@@ -1,24 +1,30 @@
--- From how a command ends to what the program answers.
-use Rattle.std.proofs.Common.{◌≡◌, ◌≢◌, ◌⊎◌, ℕ, Bool, List, [], Option, Some, None, Result, Ok, Err, sym, refl, ap, ◌∙◌, subst, inl, inr, arith}
-use Rattle.std.specs.Prelude.{IfSome, IsOk, OnOk, OnErr}
-use Rattle.std.specs.Io.KnownBytes.{Appends}
+-- From how the program ends to what it answers.
+use Rattle.std.proofs.Common.{◌≡◌, ◌⊎◌, ℕ, Bool, true, false, List, [], ◌++◌, append_assoc, Option, Some, None, Result, Ok, Err, sym, refl, ap, ◌∙◌, subst, inl, inr}
+use Rattle.std.specs.Prelude.{IfSome, IsErr, OnOk, OnErr}
+use Rattle.std.specs.Io.KnownBytes.{Appends, Keeps}
+use Rattle.std.proofs.KnownBytes.{Appends-kept, Appends-trans}
 use Rattle.sim_io.specs.declared.words.WordFault.{WordFault}
 use Rattle.sim_io.specs.declared.words.Settings.{Settings}
 use Rattle.sim_io.specs.Causes.{Rose, HasCause}
-use Rattle.sim_io.specs.Transfers.{AppendsFront}
-use Rattle.sim_io.specs.Words.{settings, are_cycles_told}
+use Rattle.sim_io.specs.Transfers.{AppendsPrefix, KeepsBackSome}
+use Rattle.sim_io.specs.Words.{settings}
 use Rattle.model_text.specs.ModelTexts.{model_of}
 use Rattle.sim_spec.specs.declared.stop.Stop.TheVariants.{End, Limit, Fault}
 use Rattle.btb.specs.declared.ending.Ending.{Ending}
-use Rattle.btb.specs.declared.ending.Ending.TheVariants.{Stopped, Refused, ReadFault, WriteFault, OutOfMemory}
-use Rattle.btb.specs.Answer.{Answer, answer, answer_to_settings, answer_to_model, words_line}
-use Rattle.btb.specs.Endings.{status_of_ending, line_of_ending, IsAnswered, IsAnswering, noted_line, IsComplete}
-use Rattle.btb.proofs.ReadingLemmas.{whole_front}
+use Rattle.btb.specs.declared.ending.Ending.TheVariants.{Stopped, RefusedWords, RefusedModel, ReadFault, WriteFault, OutOfMemory}
+use Rattle.btb.specs.declared.status.TheConstants.{WORDS, READ_FAULT, WRITE_FAULT}
+use Rattle.btb.specs.Answer.{Answer, answer, answer_to_settings, answer_to_model, demo_answer, model_asked, reads_model, takes_input, words_line, HandsOnPrefix, WritesOutput, WritesPrefix}
+use Rattle.btb.specs.Endings.{status_of_ending, line_of_ending, IsAnswered, IsAnswering, RefusesWords, noted_line, IsComplete}
+use Rattle.btb.proofs.ReadingLemmas.{whole_prefix}
+
+pub on_err_map : {T E P Q : Type 0} (r : Result T E) → (P → Q) → OnErr r P → OnErr r Q
+on_err_map (Ok x) f p = tt
+on_err_map (Err e) f p = f p
 
 -- what was written of a line, however the write went
-pub front_of_write : {E : Type 0} (a b : Option (List ℕ)) (line : List ℕ) (r : Result (Unit {0}) E) → OnOk r (Appends a b line) → OnErr r (AppendsFront a b line) → AppendsFront a b line
-front_of_write a b line (Ok done) whole front = whole_front a b line whole
-front_of_write a b line (Err e) whole front = front
+pub prefix_of_write : {E : Type 0} (a b : Option (List ℕ)) (line : List ℕ) (r : Result (Unit {0}) E) → OnOk r (Appends a b line) → OnErr r (AppendsPrefix a b line) → AppendsPrefix a b line
+prefix_of_write a b line (Ok done) whole prefix = whole_prefix a b line whole
+prefix_of_write a b line (Err e) whole prefix = prefix
 
 pub whole_or_rose : {E : Type 0} (a b : Option (List ℕ)) (line : List ℕ) (before now : ℕ) (r : Result (Unit {0}) E) → OnOk r (Appends a b line) → HasCause before now r → Appends a b line ⊎ Rose before now
 whole_or_rose a b line before now (Ok done) whole cause = inl whole
@@ -27,17 +33,58 @@ whole_or_rose a b line before now (Err e) whole cause = inr cause.failed
 -- a status with which the answer is whole comes of an ending that answers
 pub answered : (e : Ending) (status : ℕ) → status ≡ status_of_ending e → IsAnswering status → IsAnswered e
 answered (Stopped stop) status is answering = tt
-answered (Refused line) status is answering = tt
+answered (RefusedWords fault) status is answering = tt
+answered (RefusedModel line) status is answering = tt
 answered ReadFault status is answering = answering.0 is
 answered WriteFault status is answering = answering.1 is
 answered OutOfMemory status is answering = answering.2 is
+
+-- each of these statuses comes of one ending alone
+pub words_refused : (e : Ending) → status_of_ending e ≡ WORDS → RefusesWords e
+words_refused (Stopped End) is = cc
+words_refused (Stopped (Fault key code)) is = cc
+words_refused (Stopped Limit) is = cc
+words_refused (RefusedWords fault) is = tt
+words_refused (RefusedModel line) is = cc
+words_refused ReadFault is = cc
+words_refused WriteFault is = cc
+words_refused OutOfMemory is = cc
+
+pub words_status : (e : Ending) → RefusesWords e → status_of_ending e ≡ WORDS
+words_status (Stopped stop) refuses = absurd refuses
+words_status (RefusedWords fault) refuses = refl
+words_status (RefusedModel line) refuses = absurd refuses
+words_status ReadFault refuses = absurd refuses
+words_status WriteFault refuses = absurd refuses
+words_status OutOfMemory refuses = absurd refuses
+
+pub unread : (e : Ending) → status_of_ending e ≡ READ_FAULT → e ≡ ReadFault
+unread (Stopped End) is = cc
+unread (Stopped (Fault key code)) is = cc
+unread (Stopped Limit) is = cc
+unread (RefusedWords fault) is = cc
+unread (RefusedModel line) is = cc
+unread ReadFault is = refl
+unread WriteFault is = cc
+unread OutOfMemory is = cc
+
+pub unwritten : (e : Ending) → status_of_ending e ≡ WRITE_FAULT → e ≡ WriteFault
+unwritten (Stopped End) is = cc
+unwritten (Stopped (Fault key code)) is = cc
+unwritten (Stopped Limit) is = cc
+unwritten (RefusedWords fault) is = cc
+unwritten (RefusedModel line) is = cc
+unwritten ReadFault is = cc
+unwritten WriteFault is = refl
+unwritten OutOfMemory is = cc
 
 -- the line of an ending is what is noted with its status
 noted : (e : Ending) (notes : List ℕ) → (IsAnswered e → line_of_ending e ≡ notes) → line_of_ending e ≡ noted_line (status_of_ending e) notes
 noted (Stopped End) notes h = h tt
 noted (Stopped (Fault key code)) notes h = h tt
 noted (Stopped Limit) notes h = h tt
-noted (Refused line) notes h = h tt
+noted (RefusedWords fault) notes h = h tt
+noted (RefusedModel line) notes h = h tt
 noted ReadFault notes h = refl
 noted WriteFault notes h = refl
 noted OutOfMemory notes h = refl
@@ -45,48 +92,97 @@ noted OutOfMemory notes h = refl
 completes : (e : Ending) (status target : ℕ) (read_fault write_fault : Type 0) → status ≡ status_of_ending e → (IsAnswered e → status_of_ending e ≡ target)
     → (e ≡ ReadFault → read_fault) → (e ≡ WriteFault → write_fault) → IsComplete status target read_fault write_fault
 completes (Stopped stop) status target rf wf is h r w = inl (is ∙ h tt)
-completes (Refused line) status target rf wf is h r w = inl (is ∙ h tt)
+completes (RefusedWords fault) status target rf wf is h r w = inl (is ∙ h tt)
+completes (RefusedModel line) status target rf wf is h r w = inl (is ∙ h tt)
 completes ReadFault status target rf wf is h r w = inr (inl (r refl))
 completes WriteFault status target rf wf is h r w = inr (inr (inl (w refl)))
 completes OutOfMemory status target rf wf is h r w = inr (inr (inr is))
 
+-- what is no demo reads a model
+pub not_demo : (s : Settings) → ((n : ℕ) → s ≡ Settings.Demo n → ⊥) → reads_model s ≡ true
+not_demo (Settings.Run nodes ahead placement cycles) other = refl
+not_demo (Settings.One cycles) other = refl
+not_demo Settings.Totals other = refl
+not_demo (Settings.Demo n) other = absurd (other n refl)
+
 module _ (ws : List (List ℕ)) where
-  refused : (fault : WordFault) → settings ws ≡ Err fault → (bytes : List ℕ) → answer ws bytes ≡ record { output = []; notes = words_line fault; status = 2 }
+  refused : (fault : WordFault) → settings ws ≡ Err fault → (bytes : List ℕ) → answer ws bytes ≡ record { output = []; notes = words_line fault; status = WORDS }
   unfolding answer answer_to_settings
   refused fault h bytes = ap (λ r. answer_to_settings r bytes) h
 
-  runs : (s : Settings) (cycles : Bool) → settings ws ≡ Ok s → cycles ≡ are_cycles_told s → (bytes : List ℕ) → answer ws bytes ≡ answer_to_model cycles (model_of bytes)
+  runs : (s : Settings) → settings ws ≡ Ok s → (bytes : List ℕ) → answer ws bytes ≡ answer_to_model s (model_asked s bytes)
   unfolding answer answer_to_settings
-  runs s cycles h told bytes = ap (λ r. answer_to_settings r bytes) h ∙ ap (λ b. answer_to_model b (model_of bytes)) (sym told)
+  runs s h bytes = ap (λ r. answer_to_settings r bytes) h
+
+  asks_for_input : (s : Settings) → reads_model s ≡ true → (bytes : List ℕ) → model_asked s bytes ≡ model_of bytes
+  asks_for_input (Settings.Run nodes ahead placement cycles) reads bytes = refl
+  asks_for_input (Settings.One cycles) reads bytes = refl
+  asks_for_input Settings.Totals reads bytes = refl
+  asks_for_input (Settings.Demo n) reads bytes = cc
 
   -- a fact about the answer to refused words
-  pub refused_fact : (left : Option (List ℕ)) (fault : WordFault) → settings ws ≡ Err fault → (Q : Answer → Type 0) → Q (record { output = []; notes = words_line fault; status = 2 })
+  pub refused_fact : (left : Option (List ℕ)) (fault : WordFault) → settings ws ≡ Err fault → (Q : Answer → Type 0) → Q (record { output = []; notes = words_line fault; status = WORDS })
       → IfSome left (λ bytes. Q (answer ws bytes))
   refused_fact None fault h Q fact = tt
   refused_fact (Some bytes) fault h Q fact = subst Q (sym (refused fault h bytes)) fact
 
-  -- a fact about the answer to a model that is run
-  pub runs_fact : (left : Option (List ℕ)) (s : Settings) (cycles : Bool) → settings ws ≡ Ok s → cycles ≡ are_cycles_told s → (Q : Answer → Type 0) → IfSome left (λ bytes. Q (answer_to_model cycles (model_of bytes))) → IfSome left (λ bytes. Q (answer ws bytes))
-  runs_fact None s cycles h told Q fact = tt
-  runs_fact (Some bytes) s cycles h told Q fact = subst Q (sym (runs s cycles h told bytes)) fact
+  -- a fact about the answer to a model that is read and run
+  pub runs_fact : (left : Option (List ℕ)) (s : Settings) → settings ws ≡ Ok s → reads_model s ≡ true → (Q : Answer → Type 0)
+      → IfSome left (λ bytes. Q (answer_to_model s (model_of bytes))) → IfSome left (λ bytes. Q (answer ws bytes))
+  runs_fact None s h reads Q fact = tt
+  runs_fact (Some bytes) s h reads Q fact = subst Q (sym (runs s h bytes ∙ ap (answer_to_model s) (asks_for_input s reads bytes))) fact
 
-  pub status_fact : (left : Option (List ℕ)) (s : Settings) (cycles : Bool) → settings ws ≡ Ok s → cycles ≡ are_cycles_told s → (e : Ending) (status : ℕ) → status ≡ status_of_ending e
-      → IfSome left (λ bytes. status_of_ending e ≡ (answer_to_model cycles (model_of bytes)).status) → IfSome left (λ bytes. status ≡ (answer ws bytes).status)
-  status_fact None s cycles h told e status is fact = tt
-  status_fact (Some bytes) s cycles h told e status is fact = is ∙ fact ∙ ap (λ (a : Answer). a.status) (sym (runs s cycles h told bytes))
+  -- a fact about the answer to a demo
+  pub demo_fact : (left : Option (List ℕ)) (n : ℕ) → settings ws ≡ Ok (Settings.Demo n) → (Q : Answer → Type 0) → Q (demo_answer n) → IfSome left (λ bytes. Q (answer ws bytes))
+  unfolding answer_to_model
+  demo_fact None n h Q fact = tt
+  demo_fact (Some bytes) n h Q fact = subst Q (sym (runs (Settings.Demo n) h bytes)) fact
+
+  -- words that are accepted are not refused
+  pub not_refused : (s : Settings) → settings ws ≡ Ok s → IsErr (settings ws) → ⊥
+  not_refused s h refused = let P : Result Settings WordFault → Type 0 = IsErr in let none : IsErr {T = Settings} {E = WordFault} (Ok s) = subst P h refused in cc
+
+  -- refused words and a demo take no input, and other words do
+  pub refused_input : (fault : WordFault) → settings ws ≡ Err fault → takes_input (settings ws) ≡ false
+  refused_input fault h = ap takes_input h
+
+  pub asked_input : (s : Settings) (b : Bool) → settings ws ≡ Ok s → reads_model s ≡ b → takes_input (settings ws) ≡ b
+  asked_input s b h reads = ap takes_input h ∙ reads
+
+module _ (of : List ℕ → Answer) (taken told handed : Option (List ℕ)) where
+  -- where all that was taken is handed on, the output is
+  pub handed_fact : (left : Option (List ℕ)) → IfSome left (λ bytes. WritesOutput taken told (of bytes)) → Keeps told handed → IfSome left (λ bytes. WritesOutput taken handed (of bytes))
+  handed_fact None fact all = tt
+  handed_fact (Some bytes) fact all = Appends-kept taken told handed _ fact all
+
+  -- what was handed on of a prefix of the output is a prefix of it
+  pub handed_prefix_fact : (left : Option (List ℕ)) → IfSome left (λ bytes. WritesPrefix taken told (of bytes)) → KeepsBackSome told handed → IfSome left (λ bytes. HandsOnPrefix taken handed (of bytes))
+  handed_prefix_fact None fact back = tt
+  handed_prefix_fact (Some bytes) fact back = by_taken taken told fact back
+    where
+      by_taken : (taken told : Option (List ℕ)) → WritesPrefix taken told (of bytes) → KeepsBackSome told handed → HandsOnPrefix taken handed (of bytes)
+      by_taken None told part back = tt
+      by_taken (Some before) None part back = absurd part.3
+      by_taken (Some before) (Some now) part back = (
+        back.0 ++ part.1,
+        Appends-trans handed (Some now) (Some (before ++ (of bytes).output)) back.0 part.1 back.1
+            (ap (λ xs. before ++ xs) part.2 ∙ sym (append_assoc before part.0 part.1) ∙ ap (λ xs. xs ++ part.1) (sym part.3)),
+      )
+
+module _ (e : Ending) (status : ℕ) (is : status ≡ status_of_ending e) (of : List ℕ → Answer) where
+  -- the status of an ending that answers
+  pub status_fact : (left : Option (List ℕ)) → IfSome left (λ bytes. status_of_ending e ≡ (of bytes).status) → IfSome left (λ bytes. status ≡ (of bytes).status)
+  status_fact None fact = tt
+  status_fact (Some bytes) fact = is ∙ fact
 
   -- a fact about the line of an ending is one about what is noted
-  pub notes_fact : (left : Option (List ℕ)) (s : Settings) (cycles : Bool) → settings ws ≡ Ok s → cycles ≡ are_cycles_told s → (e : Ending) (status : ℕ) → status ≡ status_of_ending e
-      → (IsAnswered e → IfSome left (λ bytes. line_of_ending e ≡ (answer_to_model cycles (model_of bytes)).notes))
-      → (Q : List ℕ → Type 0) (line : List ℕ) → line ≡ line_of_ending e → Q line → IfSome left (λ bytes. Q (noted_line status (answer ws bytes).notes))
-  notes_fact None s cycles h told e status is fact Q line is_line q = tt
-  notes_fact (Some bytes) s cycles h told e status is fact Q line is_line q =
-      let same = noted e (answer_to_model cycles (model_of bytes)).notes fact in
-      subst Q (is_line ∙ same ∙ ap (λ (a : Answer). noted_line (status_of_ending e) a.notes) (sym (runs s cycles h told bytes)) ∙ ap (λ n. noted_line n (answer ws bytes).notes) (sym is)) q
+  pub notes_fact : (left : Option (List ℕ)) → (IsAnswered e → IfSome left (λ bytes. line_of_ending e ≡ (of bytes).notes)) → (Q : List ℕ → Type 0) → Q (line_of_ending e)
+      → IfSome left (λ bytes. Q (noted_line status (of bytes).notes))
+  notes_fact None fact Q q = tt
+  notes_fact (Some bytes) fact Q q = subst Q (noted e (of bytes).notes fact ∙ ap (λ n. noted_line n (of bytes).notes) (sym is)) q
 
-  pub complete_fact : (left : Option (List ℕ)) (s : Settings) (cycles : Bool) → settings ws ≡ Ok s → cycles ≡ are_cycles_told s → (e : Ending) (status : ℕ) (read_fault write_fault : Type 0) → status ≡ status_of_ending e
-      → (IsAnswered e → IfSome left (λ bytes. status_of_ending e ≡ (answer_to_model cycles (model_of bytes)).status)) → (e ≡ ReadFault → read_fault) → (e ≡ WriteFault → write_fault)
-      → IfSome left (λ bytes. IsOk (model_of bytes) → IsComplete status (answer ws bytes).status read_fault write_fault)
-  complete_fact None s cycles h told e status rf wf is fact r w = tt
-  complete_fact (Some bytes) s cycles h told e status rf wf is fact r w = λ accepted.
-      completes e status (answer ws bytes).status rf wf is (λ done. fact done ∙ ap (λ (a : Answer). a.status) (sym (runs s cycles h told bytes))) r w
+  pub complete_fact : (left : Option (List ℕ)) (read_fault write_fault : Type 0) → (IsAnswered e → IfSome left (λ bytes. status_of_ending e ≡ (of bytes).status))
+      → (e ≡ ReadFault → read_fault) → (e ≡ WriteFault → write_fault) → (Accepted : List ℕ → Type 0)
+      → IfSome left (λ bytes. Accepted bytes → IsComplete status (of bytes).status read_fault write_fault)
+  complete_fact None rf wf fact r w Accepted = tt
+  complete_fact (Some bytes) rf wf fact r w Accepted = λ accepted. completes e status (of bytes).status rf wf is fact r w

@@ -1,15 +1,21 @@
 //! How the program ends.
 ghost use Rattle.std.specs.Prelude.{◌≡◌};
 
+use crate::status::{
+    END, EVENT_FAULT, EVENT_LIMIT, MODEL, OUT_OF_MEMORY, READ_FAULT, WORDS, WRITE_FAULT,
+};
+use sim_io::WordFault;
 use sim_spec::Stop;
 
-/// How a command ends that is known.
+/// How the program ends.
 #[derive(Debug, Drop)]
 pub enum Ending {
     /// The simulation ran until it stopped.
     Stopped(Stop),
+    /// The words were refused.
+    RefusedWords(WordFault),
     /// The model was refused, which this line tells.
-    Refused { line: Vec<u8> },
+    RefusedModel { line: Vec<u8> },
     /// The input could not be read.
     ReadFault,
     /// The text could not be written to its end.
@@ -19,33 +25,21 @@ pub enum Ending {
 }
 
 impl Ending {
-    ghost use Rattle.btb.specs.Endings.{status_of_ending, line_of_ending};
+    ghost use Rattle.btb.specs.Endings.{status_of_ending};
 
     /// The exit status.
     pub fn status(&self) -> u8
         ensures { result ≡ status_of_ending self.now }
     {
         match self {
-            Ending::Stopped(Stop::End) => 0,
-            Ending::Stopped(Stop::Fault { .. }) => 1,
-            Ending::Refused { .. } => 3,
-            Ending::ReadFault => 4,
-            Ending::WriteFault => 5,
-            Ending::OutOfMemory => 6,
-            Ending::Stopped(Stop::Limit) => 7,
-        }
-    }
-
-    /// The line that is noted, or nothing.
-    pub fn line(&self) -> &[u8]
-        ensures { result.now ≡ line_of_ending self.now }
-    {
-        match self {
-            Ending::Stopped(_) => b"",
-            Ending::Refused { line } => line.as_slice(),
-            Ending::ReadFault => b"read failed\n",
-            Ending::WriteFault => b"write failed\n",
-            Ending::OutOfMemory => b"out of memory\n",
+            Ending::Stopped(Stop::End) => END,
+            Ending::Stopped(Stop::Fault { .. }) => EVENT_FAULT,
+            Ending::Stopped(Stop::Limit) => EVENT_LIMIT,
+            Ending::RefusedWords(_) => WORDS,
+            Ending::RefusedModel { .. } => MODEL,
+            Ending::ReadFault => READ_FAULT,
+            Ending::WriteFault => WRITE_FAULT,
+            Ending::OutOfMemory => OUT_OF_MEMORY,
         }
     }
 }

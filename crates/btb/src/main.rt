@@ -2,16 +2,18 @@
 #![tactic(auto)]
 
 mod ending;
-mod gate;
 mod notes;
 mod running;
+mod status;
 #[cfg(test)]
 mod tests;
 mod top;
 
-use crate::gate::Open;
+use crate::ending::Ending;
+use crate::notes::conclude;
 use crate::top::btb;
-use sim_io::{StdSink, StdSource, write_all};
+use node_team::Open;
+use sim_io::{GatheringSink, StdSink, StdSource, WordFault};
 use std::io::ErrorKind;
 use std::process::ExitCode;
 use std::{env, io};
@@ -22,12 +24,11 @@ fn program_words(rt: &HostRuntime) -> io::Result<Vec<String>> {
     Ok(words)
 }
 
-/// The status and the line for words that can't be read: one that is no text is refused like any faulty word, before
-/// all else.
-fn unread_words(kind: ErrorKind) -> (u8, &'static [u8]) {
+/// The ending where the words can't be read: one that is no text is refused like any faulty word, before all else.
+fn unread_words(kind: ErrorKind) -> Ending {
     match kind {
-        ErrorKind::OutOfMemory => (6, b"out of memory\n"),
-        _ => (2, b"words: bad value\n"),
+        ErrorKind::OutOfMemory => Ending::OutOfMemory,
+        _ => Ending::RefusedWords(WordFault::BadValue),
     }
 }
 
@@ -35,13 +36,9 @@ fn main(rt: HostRuntime) -> ExitCode {
     let mut notes = StdSink::new(rt.stderr());
     let words = match program_words(&rt) {
         Ok(words) => words,
-        Err(error) => {
-            let (status, line) = unread_words(error.kind());
-            let _told = write_all(&mut notes, line);
-            return ExitCode::from(status);
-        }
+        Err(error) => return ExitCode::from(conclude(&unread_words(error.kind()), &mut notes)),
     };
     let mut source = StdSource::new(rt.stdin());
-    let mut out = StdSink::new(rt.stdout());
+    let mut out = GatheringSink::new(rt.alloc(), StdSink::new(rt.stdout()));
     ExitCode::from(btb(&rt, &words, &mut source, &mut out, &mut notes, &Open))
 }

@@ -1,10 +1,14 @@
 //! Whole runs of the program over sources and sinks in memory.
+mod circuits;
 mod cycles;
+mod gates;
 mod networks;
+mod nodes;
 mod refusals;
+mod writes;
 
-use crate::gate::Open;
 use crate::top::btb;
+use node_team::{Gate, Open};
 use sim_io::{CleanSink, CleanSource, MemSink, MemSource};
 use std::alloc::{AllocGlobal, Global};
 use std::test::Fail;
@@ -67,21 +71,31 @@ fn text_of(alloc: Global, sink: &MemSink) -> Result<String, Fail> {
     Ok(String::from_str(alloc, text)?)
 }
 
-fn answer_of<R: AllocGlobal + Threads + Sync>(
+fn answer_at<R: AllocGlobal + Threads + Sync, G: Gate>(
     rt: &R,
     words: &[&str],
     mut source: MemSource,
     mut out: MemSink,
+    gate: &G,
 ) -> Result<Ended, Fail> {
     let alloc = rt.alloc();
     let words = words_of(alloc, words)?;
     let mut notes = sink_of(alloc, &[], &[])?;
-    let status = btb(rt, &words, &mut source, &mut out, &mut notes, &Open);
+    let status = btb(rt, &words, &mut source, &mut out, &mut notes, gate);
     Ok(Ended {
         status,
         text: text_of(alloc, &out)?,
         notes: text_of(alloc, &notes)?,
     })
+}
+
+fn answer_of<R: AllocGlobal + Threads + Sync>(
+    rt: &R,
+    words: &[&str],
+    source: MemSource,
+    out: MemSink,
+) -> Result<Ended, Fail> {
+    answer_at(rt, words, source, out, &Open)
 }
 
 /// What these words answer to a model.
@@ -234,20 +248,19 @@ fn a_read_that_fails_at_any_call(rt: HostRuntime) -> Result<(), Fail> {
 #[test]
 fn a_write_that_fails_at_any_call(rt: HostRuntime) -> Result<(), Fail> {
     let alloc = rt.alloc();
-    // The text has 60 bytes: six writes.
-    let front = TIE_TEXT.as_bytes();
-    for call in 1..=6 {
+    // The buckets have 15 and 30 bytes and the stop line 15: two, three and two writes.
+    let prefix = TIE_TEXT.as_bytes();
+    for (call, length) in (1..).zip([0, 10, 15, 25, 35, 45, 55]) {
         let failing = sink_of(alloc, &[call], &[])?;
         let idle = sink_of(alloc, &[], &[call])?;
         for out in [failing, idle] {
             let run = answer_of(&rt, &["run"], source_of(alloc, TIE, &[])?, out)?;
             assert_eq!(rt; run.status, 5, "{call}");
-            let length = (call as usize - 1) * 10;
-            assert_eq!(rt; run.text.as_bytes(), front.get(..length).ok_or("length")?);
+            assert_eq!(rt; run.text.as_bytes(), prefix.get(..length).ok_or("length")?);
             assert_eq!(rt; run.notes.as_str(), "write failed\n");
         }
     }
-    let out = sink_of(alloc, &[7], &[7])?;
+    let out = sink_of(alloc, &[8], &[8])?;
     let run = answer_of(&rt, &["run"], source_of(alloc, TIE, &[])?, out)?;
     assert_eq!(rt; run.status, 0);
     assert_eq!(rt; run.text.as_str(), TIE_TEXT);

@@ -1,14 +1,16 @@
 //! All that the program does, over any input and output.
-ghost use Rattle.std.specs.Prelude.{◌≡◌, ◌≢◌, ◌≤◌, ◌⊎◌, ◌↔◌, IfSome, IsErr, Some, drop};
+ghost use Rattle.std.specs.Prelude.{◌≡◌, ◌≢◌, ◌≤◌, ◌⊎◌, ◌↔◌, true, false, IfSome, IsErr, Some, drop};
+ghost use Rattle.std.specs.Io.KnownBytes.{Keeps};
 ghost use Rattle.sim_io.specs.Causes.{Rose};
 ghost use Rattle.sim_io.specs.Words.{settings, texts_of};
-ghost use Rattle.btb.specs.Answer.{OfAnswer, OfAccepted, WritesOutput, WritesPrefix};
+ghost use Rattle.btb.specs.Answer.{takes_input, OfAnswer, OfAccepted, HandsOnPrefix, WritesOutput, WritesPrefix};
+ghost use Rattle.btb.specs.declared.status.TheConstants.{WORDS, READ_FAULT, WRITE_FAULT, EVENT_LIMIT};
 ghost use Rattle.btb.specs.Endings.{IsAnswering, NotesLine, NotesPrefix, IsComplete};
 
-use crate::gate::Gate;
-use crate::notes::words_line;
-use crate::running::run_command;
-use sim_io::{MOST_BYTES, Sink, Source, read_words, write_all};
+use crate::notes::conclude;
+use crate::running::run_words;
+use node_team::Gate;
+use sim_io::{ENOUGH_BYTES, Sink, Source};
 use std::alloc::AllocGlobal;
 use std::thread::Threads;
 
@@ -20,9 +22,9 @@ use std::thread::Threads;
 /// | 1 | exactly where an event failed |
 /// | 2 | exactly where the words are refused: nothing is read, and no memory is taken |
 /// | 3 | exactly where the model is refused |
-/// | 4 | only where reading failed |
-/// | 5 | only where writing to `out` failed, after a front of the text |
-/// | 6 | where there was no memory left, after a front of the text |
+/// | 4 | only where reading failed, and never for a demo |
+/// | 5 | only where writing to `out` failed, after a prefix of the text |
+/// | 6 | where there was no memory left, after a prefix of the text |
 /// | 7 | exactly where the limit of events was met |
 ///
 /// 'Exactly' yields to 4, 5 and 6 alone, and for status 2 to none.
@@ -34,25 +36,32 @@ pub fn btb<R: AllocGlobal + Threads + Sync, S: Source, K: Sink, N: Sink, G: Gate
     notes: &mut N,
     gate: &G,
 ) -> u8
-    ensures known { result ≤ 7 }
+    ensures known { result ≤ EVENT_LIMIT }
 
-    // What is written is the answer, or a front of it.
+    // What is written is the answer, or a prefix of it.
     ensures output { IsAnswering result → OfAnswer words.now.items (S.left source.old) (WritesOutput (K.told out.old) (K.told out.new)) }
     ensures status { IsAnswering result → OfAnswer words.now.items (S.left source.old) (λ answer. result ≡ answer.status) }
-    ensures front { OfAnswer words.now.items (S.left source.old) (WritesPrefix (K.told out.old) (K.told out.new)) }
+    ensures prefix { OfAnswer words.now.items (S.left source.old) (WritesPrefix (K.told out.old) (K.told out.new)) }
 
-    // Where the words are accepted the input is read to its end, or until it is too long.
-    ensures refused_words { (result ≡ 2) ↔ IsErr (settings (texts_of words.now.items)) }
-    ensures unread { result ≡ 2 → source.new ≡ source.old }
-    ensures read { IsAnswering result → result ≢ 2 → IfSome (S.left source.old) (λ bytes. S.left source.new ≡ Some (drop MOST_BYTES bytes)) }
+    // It is handed on: all of it with the answer, where nothing was kept back before, and else a prefix of it.
+    ensures handed { IsAnswering result → Keeps (K.told out.old) (K.handed out.old)
+        → OfAnswer words.now.items (S.left source.old) (WritesOutput (K.told out.old) (K.handed out.new)) }
+    ensures handed_prefix { OfAnswer words.now.items (S.left source.old) (HandsOnPrefix (K.told out.old) (K.handed out.new)) }
+
+    // The input is read to its end, or until it is too long, but where the words are refused, and for a demo.
+    ensures refused_words { (result ≡ WORDS) ↔ IsErr (settings (texts_of words.now.items)) }
+    ensures unread { takes_input (settings (texts_of words.now.items)) ≡ false → source.new ≡ source.old }
+    ensures read { IsAnswering result → takes_input (settings (texts_of words.now.items)) ≡ true
+        → IfSome (S.left source.old) (λ bytes. S.left source.new ≡ Some (drop ENOUGH_BYTES bytes)) }
+    ensures reads { result ≡ READ_FAULT → takes_input (settings (texts_of words.now.items)) ≡ true }
 
     // Faults have causes.
-    ensures read_fault { result ≡ 4 → Rose (S.faults source.old) (S.faults source.new) }
-    ensures write_fault { result ≡ 5 → Rose (K.faults out.old) (K.faults out.new) }
-    ensures unwritten { (result ≡ 2) ⊎ (result ≡ 4) → out.new ≡ out.old }
+    ensures read_fault { result ≡ READ_FAULT → Rose (S.faults source.old) (S.faults source.new) }
+    ensures write_fault { result ≡ WRITE_FAULT → Rose (K.faults out.old) (K.faults out.new) }
+    ensures unwritten { (result ≡ WORDS) ⊎ (result ≡ READ_FAULT) → out.new ≡ out.old }
 
-    // One line is noted, or a front of it.
-    ensures notes_front { OfAnswer words.now.items (S.left source.old) (NotesPrefix result (N.told notes.old) (N.told notes.new)) }
+    // One line is noted, or a prefix of it.
+    ensures notes_prefix { OfAnswer words.now.items (S.left source.old) (NotesPrefix result (N.told notes.old) (N.told notes.new)) }
     ensures notes_whole { OfAnswer words.now.items (S.left source.old) (λ answer.
         NotesLine result (N.told notes.old) (N.told notes.new) answer ⊎ Rose (N.faults notes.old) (N.faults notes.new)) }
 
@@ -60,15 +69,6 @@ pub fn btb<R: AllocGlobal + Threads + Sync, S: Source, K: Sink, N: Sink, G: Gate
     ensures complete { OfAccepted words.now.items (S.left source.old) (λ answer.
         IsComplete result answer.status (Rose (S.faults source.old) (S.faults source.new)) (Rose (K.faults out.old) (K.faults out.new))) }
 {
-    match read_words(words) {
-        Err(fault) => {
-            let _told = write_all(notes, words_line(fault));
-            2
-        }
-        Ok(settings) => {
-            let ending = run_command(rt.alloc(), settings.cycles(), source, out);
-            let _told = write_all(notes, ending.line());
-            ending.status()
-        }
-    }
+    let ending = run_words(rt, gate, words, source, out);
+    conclude(&ending, notes)
 }

@@ -24,9 +24,6 @@ module _ {M : Type 0} (meaning_of : M → Meaning) where
     pub from : (number : ℕ) (n : NodeView M) → number < place → slice_get nodes number ≡ Some n → IsHeldFrom (meaning_of n.model) bound n
     pub reached : (bound ≡ end) ⊎ HoldsSome nodes bound
 
-  pub opened-none : (end : ℕ) (nodes : List (NodeView M)) → IsOpenedUpto end 0 nodes end
-  opened-none end nodes = record { within = omega arith; from = λ number n below at. absurd (omega arith); reached = inl refl }
-
   pub opened-more : (end place : ℕ) (nodes : List (NodeView M)) (bound least : ℕ) (n : NodeView M) → end < 18446744073709551615 → IsOpenedUpto end place nodes bound → slice_get nodes place ≡ Some n
       → IsHeldLeast (meaning_of n.model) n least → IsOpenedUpto end (suc place) nodes (min bound least)
   opened-more end place nodes bound least n far opened here held = record {
@@ -76,9 +73,6 @@ module _ {M : Type 0} (meaning_of : M → Meaning) where
     pub upto : IsUpto WorkOn place first now
     pub opened : IsOpened meaning_of (end_stamp terms.end) now bound
     pub idle : (number : ℕ) (n : NodeView M) → number < place → slice_get now number ≡ Some n → IsIdle (meaning_of n.model) (home n) n.number bound (data_of n)
-
-  pub settling-none : (terms : Terms) (nodes : List (NodeView M)) (bound : ℕ) → IsOpened meaning_of (end_stamp terms.end) nodes bound → AreSettling terms 0 nodes nodes bound
-  settling-none terms nodes bound opened = record { upto = upto-none WorkOn nodes; opened = opened; idle = λ number n below at. absurd (omega arith) }
 
   module _ (terms : Terms) (place : ℕ) (first now : List (NodeView M)) (bound least : ℕ) (old new : NodeView M)
       (settling : AreSettling terms place first now bound) (here : slice_get now place ≡ Some old)

@@ -1,6 +1,6 @@
 -- What the commits of a closed cycle hand out, and that each node can receive what is sent to it.
-use Rattle.std.proofs.Common.{◌≡◌, ℕ, zero, suc, ◌+◌, ◌*◌, ◌<◌, ◌≤◌, ◌^◌, Bool, true, false, cond, List, [], ◌∷◌, ◌++◌, length, take, drop, not, get_or, map, append_assoc, Vec, refl, sym, ap, ◌∙◌, subst, arith}
-use Rattle.std.proofs.lemmas.List.{append-nil, map-append}
+use Rattle.std.proofs.Common.{◌≡◌, ℕ, zero, suc, ◌+◌, ◌*◌, ◌<◌, ◌≤◌, ◌^◌, Bool, true, false, cond, List, [], ◌∷◌, ◌++◌, length, take, drop, not, get_or, refl, sym, ap, ◌∙◌, subst, arith}
+use Rattle.std.proofs.lemmas.List.{take_all}
 use Rattle.std.proofs.lemmas.List.Sorted.{IsPermutation-refl, length_permutation}
 use Rattle.std.proofs.lemmas.Option.{slice_get_within, get_or_from_slice_get}
 use Rattle.std.specs.Prelude.{slice_get, Option, Some, IsPermutation, filter}
@@ -17,7 +17,7 @@ use Rattle.key_order.specs.Pending.{enqueue, enqueue_all}
 use Rattle.sim_spec.specs.Replay.{events_at}
 use Rattle.sim_spec.specs.State.{State, Lawful}
 use Rattle.sim_spec.proofs.BucketLaw.{bucket_law}
-use Rattle.key_order.proofs.EnqueueLemmas.{length-enqueue_all}
+use Rattle.key_order.proofs.EnqueueLemmas.{length-enqueue_all, Each-enqueued_all}
 use Rattle.sim_spec.proofs.PartLemmas.{IsAscending-events_at, events_at-enqueue_all}
 use Rattle.world_spec.proofs.CommitLaw.{commit_law}
 use Rattle.key_order.proofs.FilterLemmas.{length-filter_le}
@@ -33,48 +33,19 @@ use Rattle.node_core.specs.declared.committed.Committed.{Committed}
 use Rattle.node_core.specs.Calls.{HasCommitted, HasReceived}
 use Rattle.node_core.specs.Homes.{HomesView, home_of}
 use Rattle.node_core.specs.Nodes.{NodeView, home, data_of, pending_at, share_of, Stands}
-use Rattle.cycle_core.specs.Ends.{CommitUpto, CanReceive, AllCanReceive, ReceiveUpto, NodeEnds, AllEnd, sent_to, joined, records_in}
+use Rattle.cycle_core.specs.Ends.{CommitUpto, CanReceive, AllCanReceive, ReceiveUpto, NodeEnds, AllEnd, sent_to, told_by}
 use Rattle.cycle_core.specs.Known.{IsKnown, AreKnown}
 use Rattle.cycle_core.specs.Worlds.{WorldView, data_at, IsNodeOf, data_of_world, StandsAt}
 use Rattle.cycle_core.proofs.EndLemmas.{to-world, to-node, node-same}
 use Rattle.cycle_core.proofs.PlaceLemmas.{at-some, same-some}
-use Rattle.cycle_core.proofs.SentLemmas.{sent_to-more}
+use Rattle.cycle_core.proofs.SentLemmas.{sent_to-more, told_by-more}
 use Rattle.cycle_core.proofs.WorldLemmas.{data-is, node-stands}
-
--- what holds of all events that are put in holds of those that were there, and of those that came
-enqueue-parts : (P : Event → Type 0) (e : Event) (xs : List Event) → Each P (enqueue e xs) → P e × Each P xs
-unfolding enqueue
-enqueue-parts P e [] all = (all.0, tt)
-enqueue-parts P e (x ∷ xs) all = by_test (enqueue-parts P e xs) (key_lt e.key x.key) all
-  where
-    by_test : (Each P (enqueue e xs) → P e × Each P xs) → (b : Bool) → Each P (cond b (e ∷ x ∷ xs) (x ∷ enqueue e xs)) → P e × Each P (x ∷ xs)
-    by_test more true h = (h.0, h.1)
-    by_test more false h = let parts = more h.1 in (parts.0, (h.0, parts.1))
-
-pub enqueue_all-parts : (P : Event → Type 0) (es xs : List Event) → Each P (enqueue_all es xs) → Each P es × Each P xs
-unfolding enqueue_all
-enqueue_all-parts P [] xs all = (tt, all)
-enqueue_all-parts P (e ∷ es) xs all =
-    let more = enqueue_all-parts P es (enqueue e xs) all in
-    let first = enqueue-parts P e xs more.1 in
-    ((first.0, more.0), first.1)
 
 module _ {A : Type 0} where
   pub take-at : (xs : List A) (k : ℕ) (x : A) → slice_get xs k ≡ Some x → take (suc k) xs ≡ take k xs ++ x ∷ []
   take-at [] k x at = absurd (cc)
   take-at (y ∷ ys) zero x at = let same : (a b : A) → Some a ≡ Some b → a ≡ b = λ a b e. cc in ap (λ v. v ∷ []) (same y x at)
   take-at (y ∷ ys) (suc k) x at = ap (λ vs. y ∷ vs) (take-at ys k x at)
-
-  pub take-all : (xs : List A) (k : ℕ) → length xs ≡ k → take k xs ≡ xs
-  take-all [] zero same = refl
-  take-all [] (suc k) same = absurd (omega arith)
-  take-all (x ∷ xs) zero same = absurd (omega arith)
-  take-all (x ∷ xs) (suc k) same = ap (λ vs. x ∷ vs) (take-all xs k (let s : suc (length xs) ≡ suc k = same in omega arith))
-
-joined-more : {X Z : Type 0} (vs : List (Vec X Z)) (v : Vec X Z) → joined (vs ++ v ∷ []) ≡ joined vs ++ v.items
-unfolding joined
-joined-more [] v = append-nil v.items
-joined-more (u ∷ us) v = ap (λ xs. u.items ++ xs) (joined-more us v) ∙ sym (append_assoc u.items (joined us) v.items)
 
 module _ {M : Type 0} (meaning_of : M → Meaning) (w : WorldView M) (laws : MeaningLaws (meaning_of w.model)) (s : State) (stands : StandsAt (meaning_of w.model) w s) (bound : ℕ)
     (closed : WorldIsClosed (meaning_of w.model) w.terms (home_of w.homes) w.homes.nodes (data_at w.nodes) bound) where
@@ -141,7 +112,7 @@ module _ {M : Type 0} (meaning_of : M → Meaning) (w : WorldView M) (laws : Mea
         let c = at-some all number (omega arith) in
         let is = stands.has.nodes.each number x.0 x.1 in
         let E : M → Type 0 = λ v. HasCommitted (meaning_of v) bound cut_at x.0 y.0 c.0.done.items c.0.out.items in
-        record { x = x.0; mid = y.0; c = c.0; at_old = x.1; at_mid = y.1; at_all = c.1; is = is; commits = subst E is.model_is (upto.each number x.0 y.0 c.0 x.1 y.1 c.1) }
+        record { x = x.0; mid = y.0; c = c.0; at_old = x.1; at_mid = y.1; at_all = c.1; is = is; commits = subst E is.model_is (upto.each number x.0 y.0 c.0 (omega arith) x.1 y.1 c.1) }
 
     -- what a node hands out is its part of the bucket
     done_is : (number : ℕ) (below : number < w.homes.nodes) → (middle number below).commits.done ≡ done_of home_in number happened
@@ -170,23 +141,22 @@ module _ {M : Type 0} (meaning_of : M → Meaning) (w : WorldView M) (laws : Mea
         ∙ ap (λ es. parcels home_in happened to k ++ es) (out_is k to (omega arith) to_below)
 
     all_is : take w.homes.nodes all ≡ all
-    all_is = take-all all w.homes.nodes (upto.count ∙ stands.has.nodes.many)
+    all_is = take_all w.homes.nodes all (let count = upto.count in let many = stands.has.nodes.many in omega arith)
 
     pub sent-is : (to : ℕ) → to < w.homes.nodes → sent_to to all ≡ parcels home_in happened to w.homes.nodes
     sent-is to to_below = ap (sent_to to) (sym all_is) ∙ sent_upto to w.homes.nodes to_below (omega arith)
 
-    told_upto : (k : ℕ) → k ≤ w.homes.nodes → joined (map records_in (take k all)) ≡ records_by_node home_in happened k
-    unfolding records_by_node joined
+    told_upto : (k : ℕ) → k ≤ w.homes.nodes → told_by (take k all) ≡ records_by_node home_in happened k
+    unfolding records_by_node told_by
     told_upto zero le = refl
     told_upto (suc k) le =
         let p = middle k (omega arith) in
-        ap (λ cs. joined (map records_in cs)) (take-at all k p.c p.at_all) ∙ ap joined (map-append records_in (take k all) (p.c ∷ []))
-        ∙ joined-more (map records_in (take k all)) p.c.done
+        ap told_by (take-at all k p.c p.at_all) ∙ told_by-more (take k all) p.c
         ∙ ap (λ xs. xs ++ p.c.done.items) (told_upto k (omega arith))
         ∙ ap (λ xs. records_by_node home_in happened k ++ xs) (p.commits.records_are ∙ ap records_of (done_is k (omega arith)))
 
-    pub told-is : joined (map records_in all) ≡ records_by_node home_in happened w.homes.nodes
-    told-is = ap (λ cs. joined (map records_in cs)) (sym all_is) ∙ told_upto w.homes.nodes (omega arith)
+    pub told-is : told_by all ≡ records_by_node home_in happened w.homes.nodes
+    told-is = ap told_by (sym all_is) ∙ told_upto w.homes.nodes (omega arith)
 
     abbrev pub left_share : ℕ → Share
     left_share number = committed m bound cut_at (stands.shares number)
@@ -247,7 +217,7 @@ module _ {M : Type 0} (meaning_of : M → Meaning) (w : WorldView M) (laws : Mea
           let its = known.only (left_share number) (left_ahead number) there in
           let up = next_ordered m w.terms laws home_in w.homes.nodes s stands.shares stands.ahead (data_of_world m w) stands.stands bound closed arrivals_of arrive number below in
           let homed = next_homed m w.terms laws home_in w.homes.nodes s stands.shares stands.ahead (data_of_world m w) stands.stands bound closed arrivals_of arrive number below in
-          let here = (enqueue_all-parts (IsAtHome m home_in number) (arrivals_of number) (left_share number).pending homed).0 in
+          let here = (Each-enqueued_all (IsAtHome m home_in number) (arrivals_of number) (left_share number).pending homed).0 in
           let A : M → Terms → HomesView → ℕ → Type 0 = λ v t h k. Each (IsAtHome (meaning_of v) (home_of h) k) (arrivals_of number) in
           let V : M → Type 0 = λ v. (object : ℕ) → IsHome (meaning_of v) (home p.mid) p.mid.number object → IsAscending (enqueue_all (events_at object (arrivals_of number)) (pending_at p.mid.logs p.mid.waiting object)) in
           let keys : V w.model = λ object at.

@@ -1,6 +1,6 @@
 -- Where processed events are cut, from the keys and the faults of the nodes.
-use Rattle.std.proofs.Common.{◌≡◌, ◌≢◌, ℕ, zero, suc, ◌+◌, ◌<◌, ◌≤◌, Bool, true, false, cond, List, [], ◌∷◌, ◌++◌, length, drop, refl, sym, ap, ◌∙◌, subst, inl, inr, arith, eqb, ltb, ltb-true, ltb-false, lt-ltb, nat_lt, ◌==◌, ◌&&◌, ◌||◌, append-nil, map}
-use Rattle.std.proofs.lemmas.Bool.{eqb-false}
+use Rattle.std.proofs.Common.{◌≡◌, ◌≢◌, ℕ, zero, suc, ◌+◌, ◌<◌, ◌≤◌, Bool, true, false, cond, List, [], ◌∷◌, ◌++◌, length, drop, refl, sym, ap, ◌∙◌, subst, inl, inr, arith, eqb, ltb, ltb-true, ltb-false, lt-ltb, nat_lt, ◌==◌, ◌&&◌, ◌||◌, append-nil, map, le-ltb}
+use Rattle.std.proofs.lemmas.Bool.{eqb-false, and_right}
 use Rattle.std.proofs.lemmas.List.{length-append, drop_all, append_assoc}
 use Rattle.std.proofs.lemmas.List.Elements.{filter-append}
 use Rattle.std.proofs.lemmas.List.Sums.{sum_by-cons}
@@ -21,9 +21,9 @@ use Rattle.key_order.specs.Pending.{in_order}
 use Rattle.key_order.proofs.AscendingLemmas.{Ascends-filter, Ascends-map, key_lt-turned}
 use Rattle.key_order.proofs.FilterLemmas.{filter-all, filter-passes, filter-swap, length-filter_le}
 use Rattle.key_order.proofs.InOrder.{in_order-permutation, in_order-ascending}
-use Rattle.key_order.proofs.KeyLemmas.{Ascends-differ, at_key-other, key_lt-other, same_or_other}
-use Rattle.key_order.proofs.MemberLemmas.{each-contains, filter-contains, first-or-later, is-first, is-later}
-use Rattle.key_order.proofs.OrderLemmas.{by-members}
+use Rattle.key_order.proofs.KeyLemmas.{Ascends-differ, at_key-other, key_lt-other, same_or_other, key_lt-none-trans}
+use Rattle.key_order.proofs.MemberLemmas.{each-contains, filter-contains, first-or-later, is-first, is-later, contains-filter}
+use Rattle.key_order.proofs.OrderLemmas.{by-members, differ-by-parts}
 use Rattle.object_log.specs.declared.done.Done.{Done}
 use Rattle.object_log.specs.Logs.{keys_of}
 use Rattle.world_spec.specs.Answer.{CutData, cut_of, first_of}
@@ -40,15 +40,6 @@ use Rattle.cycle_core.specs.Worlds.{AreNodesOf}
 use Rattle.cycle_core.proofs.PlaceLemmas.{at-some, drop-at, each-more, same-some}
 use Rattle.cycle_core.proofs.WorldLemmas.{home-here, home-there}
 
--- what passes a test and is in a list is in its part
-pub contains-filter : {X : Type 0} (p : X → Bool) (x : X) (xs : List X) → p x ≡ true → Contains xs x → Contains (filter p xs) x
-contains-filter p x [] passes is_in = is_in
-contains-filter p x (y ∷ ys) passes is_in = by_test (p y) refl (contains-filter p x ys passes)
-  where
-    by_test : (b : Bool) → p y ≡ b → (Contains ys x → Contains (filter p ys) x) → Contains (cond b (y ∷ filter p ys) (filter p ys)) x
-    by_test true here more = elim (first-or-later x y ys is_in) [ inl same ↦ is-first x y (filter p ys) same | inr later ↦ is-later x y (filter p ys) (more later) ]
-    by_test false here more = elim (first-or-later x y ys is_in) [ inl same ↦ (let good : p y ≡ true = ap p same ∙ passes in absurd (cc)) | inr later ↦ more later ]
-
 abbrev part : ℕ → List Key → List Key
 part object keys = filter (λ (k : Key). k.dest == object) keys
 
@@ -59,23 +50,6 @@ part-same object xs ys moves up down =
     by-members itself (part object ys) (part object xs) (Ascends-filter itself p ys up) down
     (λ k is_in. contains-filter p k xs (each-contains (λ (k : Key). p k ≡ true) k (part object ys) (filter-passes p ys) is_in) (Contains-permutation ys xs k (IsPermutation-sym xs ys moves) (filter-contains p k ys is_in)))
     (λ k is_in. contains-filter p k ys (each-contains (λ (k : Key). p k ≡ true) k (part object xs) (filter-passes p xs) is_in) (Contains-permutation xs ys k moves (filter-contains p k xs is_in)))
-
--- a key is as often in a list as in the part at its object
-times-part : (k : Key) (xs : List Key) → times itself k xs ≡ times itself k (part k.dest xs)
-times-part k [] = refl
-times-part k (x ∷ xs) = by_test (times-part k xs) (eqb x.dest k.dest) refl
-  where
-    by_test : times itself k xs ≡ times itself k (part k.dest xs) → (b : Bool) → eqb x.dest k.dest ≡ b → times itself k (x ∷ xs) ≡ times itself k (cond b (x ∷ part k.dest xs) (part k.dest xs))
-    by_test more true here = sum_by-cons (at_key itself k) x xs ∙ ap (λ n. at_key itself k x + n) more ∙ sym (sum_by-cons (at_key itself k) x (part k.dest xs))
-    by_test more false here =
-        let apart = eqb-false x.dest k.dest here in
-        let none : at_key itself k x ≡ 0 = at_key-other itself k x (λ same. apart (sym (ap (λ (j : Key). j.dest) same))) in
-        let sum : times itself k (x ∷ xs) ≡ at_key itself k x + times itself k xs = sum_by-cons (at_key itself k) x xs in
-        omega arith
-
--- keys differ where they are in order at each object
-differ-by-parts : (xs : List Key) → ((object : ℕ) → Ascends itself (part object xs)) → Differ itself xs
-differ-by-parts xs parts k = let one = Ascends-differ itself (part k.dest xs) (parts k.dest) k in let same = times-part k xs in omega arith
 
 -- all keys in order
 abbrev pub event_at : Key → Event
@@ -200,7 +174,7 @@ module _ {M : Type 0} (meaning_of : M → Meaning) (bound : ℕ) (nodes : List (
           subst (Ascends itself) (sym (part-none bound object nodes (λ j x at. away j x at object (λ there. let past = ltb-false object m.objects k in let lt = there.0 in omega arith)))) tt
 
   pub keys-differ : Differ itself (keys_in bound nodes)
-  keys-differ = differ-by-parts (keys_in bound nodes) part-up
+  keys-differ = differ-by-parts itself (keys_in bound nodes) (λ object. Ascends-differ itself (part object (keys_in bound nodes)) (part-up object))
 
   -- what they processed, in order
   pub are-keys : (keys : List Key) → IsPermutation (keys_in bound nodes) keys → Ascends itself keys → AreKeysIn meaning_of bound nodes keys
@@ -219,18 +193,6 @@ module _ {M : Type 0} (meaning_of : M → Meaning) (bound : ℕ) (nodes : List (
         let H : M → Type 0 = λ v. IsHome (meaning_of v) (home x) x.number object in
         none j x at (subst H (sym is.model_is) (home-there m x model terms homes j is object there))));
   }
-
--- of two that aren't before each other, one after another
-not_before : (a b c : Key) → key_lt a b ≡ false → key_lt b c ≡ false → key_lt a c ≡ false
-not_before a b c h k = by_test (key_lt a c) refl
-  where
-    by_test : (t : Bool) → key_lt a c ≡ t → t ≡ false
-    by_test false is = refl
-    by_test true is =
-        elim (same_or_other a b) [
-          | inl same ↦ (let yes : key_lt b c ≡ true = ap (λ v. key_lt v c) (sym same) ∙ is in absurd (cc))
-          | inr apart ↦ (let yes : key_lt b c ≡ true = key_lt-trans b a c (key_lt-other a b apart h) is in absurd (cc))
-        ]
 
 module _ {X : Type 0} (key : X → Key) (found next : Option X) (x y : X) (found_is : found ≡ Some x) (next_is : next ≡ Some y) where
   pub lesser-second : key_lt (key y) (key x) ≡ true → Some y ≡ lesser_by key found next
@@ -258,12 +220,12 @@ module _ {N X : Type 0} (key : X → Key) (Has May : N → X → Type 0) where
       by_test true is = (
         (place, n, (omega arith), at, here.0),
         λ number x below at_x v may. each-more (λ number x. (v : X) → May x v → key_lt (key v) (key y) ≡ false) nodes place n at
-            (λ number x below at_x v may. not_before (key v) (key f) (key y) (before.1 number x below at_x v may) (key_lt-turned (key y) (key f) is)) here.1 number x below at_x v may,
+            (λ number x below at_x v may. key_lt-none-trans (key v) (key f) (key y) (before.1 number x below at_x v may) (key_lt-turned (key y) (key f) is)) here.1 number x below at_x v may,
       )
       by_test false is = (
         (let b = before.0 in (b.0, b.1, (let lt = b.2 in omega arith), b.3, b.4)),
         λ number x below at_x v may. each-more (λ number x. (v : X) → May x v → key_lt (key v) (key f) ≡ false) nodes place n at before.1
-            (λ v may. not_before (key v) (key y) (key f) (here.1 v may) is) number x below at_x v may,
+            (λ v may. key_lt-none-trans (key v) (key y) (key f) (here.1 v may) is) number x below at_x v may,
       )
 
 module _ {M : Type 0} (meaning_of : M → Meaning) (bound : ℕ) where
@@ -303,17 +265,6 @@ module _ {M : Type 0} (meaning_of : M → Meaning) (bound : ℕ) where
           key_lt-turned fault.0 met.0 (key_lt-stamp fault.0 met.0 (omega arith))
 
 -- cuts
-not_lt : (a b : ℕ) → b ≤ a → ltb a b ≡ false
-not_lt a b le = by_test (ltb a b) refl
-  where
-    by_test : (t : Bool) → ltb a b ≡ t → t ≡ false
-    by_test false is = refl
-    by_test true is = absurd (let lt = ltb-true a b is in omega arith)
-
-unlimited : (t : Bool) → (t && false) ≡ false
-unlimited true = refl
-unlimited false = refl
-
 same-test : (t : Bool) → (t && true) ≡ t
 same-test true = refl
 same-test false = refl
@@ -330,7 +281,7 @@ pub cut-whole : (left : ℕ) (keys : List Key) → length keys ≤ left → reco
 unfolding cut_of
 cut-whole left keys fits =
     let F : List Key → Bool → Bool → CutData = λ rest lt full. record { below = first_of rest None; fault = if lt || full then None else None; limited = lt || full } in
-    ap (λ rest. F rest false false) (sym (drop_all left keys fits)) ∙ ap (λ b. F (drop left keys) b false) (sym (not_lt left (length keys) fits)) ∙ ap (F (drop left keys) (ltb left (length keys))) (sym (unlimited (left == length keys)))
+    ap (λ rest. F rest false false) (sym (drop_all left keys fits)) ∙ ap (λ b. F (drop left keys) b false) (sym (le-ltb left (length keys) fits)) ∙ ap (F (drop left keys) (ltb left (length keys))) (sym (and_right (left == length keys) false refl))
 
 -- a fault, and all keys before it fit
 pub cut-fault : (left : ℕ) (keys : List Key) (fault : Key × ℕ) (full : Bool) → length keys ≤ left → (left == length keys) ≡ full
@@ -338,7 +289,7 @@ pub cut-fault : (left : ℕ) (keys : List Key) (fault : Key × ℕ) (full : Bool
 unfolding cut_of
 cut-fault left keys fault full fits is =
     let F : List Key → Bool → Bool → CutData = λ rest lt b. record { below = first_of rest (Some fault.0); fault = if lt || b then None else Some fault; limited = lt || b } in
-    ap (λ rest. F rest false full) (sym (drop_all left keys fits)) ∙ ap (λ b. F (drop left keys) b full) (sym (not_lt left (length keys) fits)) ∙ ap (F (drop left keys) (ltb left (length keys))) (sym (same-test (left == length keys) ∙ is))
+    ap (λ rest. F rest false full) (sym (drop_all left keys fits)) ∙ ap (λ b. F (drop left keys) b full) (sym (le-ltb left (length keys) fits)) ∙ ap (F (drop left keys) (ltb left (length keys))) (sym (same-test (left == length keys) ∙ is))
 
 each-true : (keys : List Key) → Each (λ (k : Key). is_uncut None k ≡ true) keys
 each-true [] = tt

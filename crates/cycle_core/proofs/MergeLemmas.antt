@@ -1,11 +1,11 @@
 -- Two lists in the order of their keys, merged.
-use Rattle.std.proofs.Common.{◌≡◌, ◌≢◌, ℕ, suc, ◌<◌, ◌≤◌, true, false, List, [], ◌∷◌, ◌++◌, length, drop, get_or, append_assoc, append-nil, refl, sym, ap, ◌∙◌, subst, arith, Vec}
+use Rattle.std.proofs.Common.{◌≡◌, ◌≢◌, ℕ, suc, ◌<◌, ◌≤◌, true, false, List, [], ◌∷◌, ◌++◌, length, drop, get_or, append_assoc, append-nil, sym, ap, ◌∙◌, subst, arith}
 use Rattle.std.proofs.Math.Seq.{drop-cons}
 use Rattle.std.proofs.lemmas.List.{drop_all}
 use Rattle.std.proofs.lemmas.Option.{slice_get-get_or}
 use Rattle.std.proofs.lemmas.List.Sorted.{IsPermutation-refl, IsPermutation-trans, IsPermutation-middle, IsPermutation-append_right}
 use Rattle.std.proofs.lemmas.List.Sums.{sum_by-append}
-use Rattle.std.specs.Prelude.{IsPermutation, slice_get, Some}
+use Rattle.std.specs.Prelude.{IsPermutation}
 use Rattle.cycle_core.proofs.PlaceLemmas.{same-some}
 use Rattle.event_key.specs.declared.key.Key.{Key}
 use Rattle.event_key.specs.Keys.{key_lt}
@@ -15,7 +15,6 @@ use Rattle.key_order.specs.Keys.{at_key}
 use Rattle.key_order.proofs.AscendingLemmas.{After-head}
 use Rattle.key_order.proofs.EachLemmas.{Each-front, Each-back, Each-append}
 use Rattle.key_order.proofs.KeyLemmas.{Differ-back, Differ-first, Differ-permutation, key_lt-other, new-head}
-use Rattle.cycle_core.specs.Ends.{joined}
 use Rattle.cycle_core.specs.Records.{record_key, AreInOrder, RecordsDiffer}
 
 -- one element more between a list and another one that it comes before
@@ -36,11 +35,6 @@ pub record IsMerging (left right : List (Key × Note)) (i j : ℕ) (merged : Lis
   pub left_later : AreInOrder (merged ++ drop i left)
   pub right_later : AreInOrder (merged ++ drop j right)
   pub moves : IsPermutation (left ++ right) (merged ++ (drop i left ++ drop j right))
-
-pub merging-first : (left right merged : List (Key × Note)) → merged ≡ [] → AreInOrder left → AreInOrder right → IsMerging left right 0 0 merged
-merging-first left right merged none up down =
-    let P : List (Key × Note) → Type 0 = λ ms. IsMerging left right 0 0 ms in
-    subst P (sym none) (record { left_in = omega arith; right_in = omega arith; left_later = up; right_later = down; moves = IsPermutation-refl (left ++ right) })
 
 module _ (left right : List (Key × Note)) (i j : ℕ) (merged : List (Key × Note)) (so_far : IsMerging left right i j merged) where
   -- the first ones that are left, and those behind them
@@ -106,38 +100,6 @@ module _ (left right : List (Key × Note)) (i j : ℕ) (merged : List (Key × No
 
   pub merging-right : (x y d e : Key × Note) → i < length left → j < length right → x ≡ get_or left i d → y ≡ get_or right j e → key_lt x.0 y.0 ≡ false → RecordsDiffer (left ++ right) → IsMerging left right i (suc j) (merged ++ y ∷ [])
   merging-right x y d e i_in j_in x_is y_is not_lt differ = with_right x y (heads x y d e i_in j_in x_is y_is) not_lt differ (omega arith)
-
-  -- at the end what is left is put behind
-  pub merging-all : IsPermutation (left ++ right) ((merged ++ drop i left) ++ drop j right)
-  merging-all = subst (IsPermutation (left ++ right)) (sym (append_assoc merged (drop i left) (drop j right))) so_far.moves
-
-  pub merging-no_left : length left ≤ i → AreInOrder ((merged ++ drop i left) ++ drop j right)
-  merging-no_left past =
-      let none : drop i left ≡ [] = drop_all i left past in
-      let P : List (Key × Note) → Type 0 = λ ms. AreInOrder (ms ++ drop j right) in
-      subst P (sym (ap (λ vs. merged ++ vs) none ∙ append-nil merged)) so_far.right_later
-
-  pub merging-no_right : length right ≤ j → AreInOrder ((merged ++ drop i left) ++ drop j right)
-  merging-no_right past =
-      let none : drop j right ≡ [] = drop_all j right past in
-      subst AreInOrder (sym (ap (λ vs. (merged ++ drop i left) ++ vs) none ∙ append-nil (merged ++ drop i left))) so_far.left_later
-
--- lists that are joined
-pub joined-append : {X Z : Type 0} (us vs : List (Vec X Z)) → joined (us ++ vs) ≡ joined us ++ joined vs
-unfolding joined
-joined-append [] vs = refl
-joined-append (u ∷ us) vs = ap (λ xs. u.items ++ xs) (joined-append us vs) ∙ sym (append_assoc u.items (joined us) (joined vs))
-
-pub joined-none : {X Z : Type 0} (vs : List (Vec X Z)) → length vs ≡ 0 → joined vs ≡ []
-unfolding joined
-joined-none [] none = refl
-joined-none (v ∷ vs) none = absurd (omega arith)
-
-pub joined-one : {X Z : Type 0} (vs : List (Vec X Z)) (v : Vec X Z) → length vs ≡ 1 → slice_get vs 0 ≡ Some v → joined vs ≡ v.items
-unfolding joined
-joined-one [] v one at = absurd (omega arith)
-joined-one (u ∷ []) v one at = append-nil u.items ∙ ap (λ w. w.items) (same-some u v at)
-joined-one (u ∷ w ∷ vs) v one at = absurd (omega arith)
 
 pub in-order-none : (records : List (Key × Note)) → records ≡ [] → AreInOrder records
 unfolding Ascends

@@ -1,5 +1,6 @@
 -- The records of a cycle: those of each node are in order, and the keys of all differ.
-use Rattle.std.proofs.Common.{◌≡◌, ℕ, suc, ◌<◌, List, [], ◌∷◌, map, length, refl, sym, subst, arith}
+use Rattle.world_spec.proofs.NextWorld.{bucket-ordered, bucket-placed}
+use Rattle.std.proofs.Common.{◌≡◌, ℕ, suc, ◌<◌, List, [], ◌∷◌, length, refl, sym, subst, arith}
 use Rattle.std.proofs.lemmas.Option.{slice_get_within}
 use Rattle.std.specs.Prelude.{slice_get, Option, Some}
 use Rattle.std.specs.List.{AllByRecursion as Each}
@@ -20,44 +21,37 @@ use Rattle.world_spec.proofs.ParcelLemmas.{records-permutation}
 use Rattle.world_spec.specs.Parcels.{records_by_node}
 use Rattle.node_core.specs.declared.committed.Committed.{Committed}
 use Rattle.node_core.specs.Nodes.{NodeView}
-use Rattle.cycle_core.specs.Ends.{CommitUpto, records_in}
+use Rattle.cycle_core.specs.Ends.{CommitUpto}
 use Rattle.cycle_core.specs.Records.{AreInOrder, RecordsDiffer, record_key}
 use Rattle.cycle_core.proofs.PlaceLemmas.{at-some}
 
 in-order : (ds : List (Event × Firing)) → IsAscending (events_of ds) → AreInOrder (records_of ds)
 in-order ds up = Ascends-map record_key (λ (d : Event × Firing). (d.0.key, d.1.note)) ds (Ascends-done ds up)
 
-each-at : {A B : Type 0} (P : B → Type 0) (f : A → B) (xs : List A) → ((k : ℕ) (x : A) → slice_get xs k ≡ Some x → P (f x)) → Each P (map f xs)
-each-at P f [] all = tt
-each-at P f (x ∷ xs) all = (all 0 x refl, each-at P f xs (λ k y at. all (suc k) y at))
+each-at : {A : Type 0} (P : A → Type 0) (xs : List A) → ((k : ℕ) (x : A) → slice_get xs k ≡ Some x → P x) → Each P xs
+each-at P [] all = tt
+each-at P (x ∷ xs) all = (all 0 x refl, each-at P xs (λ k y at. all (suc k) y at))
 
 -- what each node tells is in order
 pub parts-ordered : {M : Type 0} (meaning_of : M → Meaning) (bound : ℕ) (cut : Option Key) (old new : List (NodeView M)) (all : List Committed) → CommitUpto meaning_of bound cut (length old) old new all
-    → Each (λ part. AreInOrder part.items) (map records_in all)
+    → Each (λ (c : Committed). AreInOrder c.done.items) all
 parts-ordered meaning_of bound cut old new all upto =
-    each-at (λ part. AreInOrder part.items) records_in all
+    each-at (λ (c : Committed). AreInOrder c.done.items) all
     (λ k c at.
     let below = slice_get_within all k c at in
     let count = upto.count in
     let many = upto.many in
     let x = at-some old k (omega arith) in
     let y = at-some new k (omega arith) in
-    let commits = upto.each k x.0 y.0 c x.1 y.1 at in
+    let commits = upto.each k x.0 y.0 c (omega arith) x.1 y.1 at in
     subst AreInOrder (sym commits.records_are) (in-order commits.done commits.handed.ordered))
 
 module _ (m : Meaning) (t : Terms) (home : ℕ → ℕ) (nodes : ℕ) (s : State) (lawful : Lawful m t s) (homes : (object : ℕ) → object < m.objects → home object < nodes) where
   abbrev happened : List (Event × Firing)
   happened = committed_events m t s
 
-  placed : Each (λ (x : Event × Firing). home x.0.key.dest < nodes) happened
-  placed = each_placed happened (Each-front (λ (e : Event). e.key.dest < m.objects) (events_of happened) _ (subst (Each (λ (e : Event). e.key.dest < m.objects)) (pending_is m t s lawful) (AllSound-dest m s.objects s.pending lawful.sound)))
-    where
-      each_placed : (ds : List (Event × Firing)) → Each (λ (e : Event). e.key.dest < m.objects) (events_of ds) → Each (λ (x : Event × Firing). home x.0.key.dest < nodes) ds
-      each_placed [] all = tt
-      each_placed (x ∷ xs) all = (homes x.0.key.dest all.0, each_placed xs all.1)
-
   -- no two records of a bucket have one key
   pub records-differ : RecordsDiffer (records_by_node home happened nodes)
   records-differ =
-      let up = Ascends-prefix key_of (events_of happened) _ (subst IsAscending (pending_is m t s lawful) lawful.ordered) in
-      Differ-permutation record_key (records_of happened) (records_by_node home happened nodes) (records-permutation home nodes happened placed) (Ascends-differ record_key (records_of happened) (in-order happened up))
+      let placed = bucket-placed m t s lawful home nodes homes in
+      Differ-permutation record_key (records_of happened) (records_by_node home happened nodes) (records-permutation home nodes happened placed) (Ascends-differ record_key (records_of happened) (in-order happened (bucket-ordered m t s lawful)))

@@ -21,7 +21,7 @@ use Rattle.sim_spec.specs.State.{State, AllSound, object_at}
 use Rattle.sim_spec.proofs.RunLemmas.{next-none, next-late, next-full, next-fires}
 use Rattle.key_order.specs.Ascending.{Ascends, key_of}
 use Rattle.key_order.specs.Keys.{first_key}
-use Rattle.key_order.proofs.MemberLemmas.{each-contains, filter-contains, first-or-later, is-first, none-in}
+use Rattle.key_order.proofs.MemberLemmas.{each-contains, filter-contains, first-or-later, is-first, none-in, contains-filter}
 use Rattle.object_log.specs.declared.done.Done.{Done}
 use Rattle.object_log.specs.Logs.{events_of, keys_of}
 use Rattle.world_spec.specs.Share.{IsHome, is_at}
@@ -33,7 +33,6 @@ use Rattle.cycle_core.specs.Gathered.{HasKeyOf, MayKeyOf, itself}
 use Rattle.cycle_core.specs.Leasts.{IsLeastAt, IsLeastUpto}
 use Rattle.cycle_core.specs.Standings.{HasCycled, WorldStandsAt}
 use Rattle.cycle_core.specs.Worlds.{IsSameWorld, WorldView, StandsAt}
-use Rattle.cycle_core.proofs.CutLemmas.{contains-filter}
 use Rattle.cycle_core.proofs.PlaceLemmas.{at-some}
 use Rattle.cycle_core.proofs.WorldLemmas.{home-there}
 
@@ -125,55 +124,6 @@ module _ {M : Type 0} (meaning_of : M → Meaning) (w : WorldView M) (s : State)
                 let yes : key_lt x.key key ≡ true = ap (key_lt x.key) (sym found.2) ∙ before in
                 absurd (cc))
           ]
-
--- what comes next, by the first key
-record HasFirst (es : List Event) (k : Key) : Type 0 where
-  event : Event
-  rest : List Event
-  first : es ≡ event ∷ rest
-  key : k ≡ event.key
-
-same_some : (j k : Key) → Some j ≡ Some k → j ≡ k
-same_some j k is = cc
-
-has_first : (es : List Event) (k : Key) → Some k ≡ first_key es → HasFirst es k
-has_first [] k is = absurd (cc)
-has_first (e ∷ rest) k is = record { event = e; rest = rest; first = refl; key = same_some k e.key is }
-
-has_none : (es : List Event) → None ≡ first_key es → es ≡ []
-has_none [] is = refl
-has_none (e ∷ rest) is = absurd (cc)
-
-fires_on : (s : State) (e : Event) (rest : List Event) (f : Fired) → None ≡ end_or_limit (next_fired s e rest f)
-unfolding end_or_limit next_fired
-fires_on s e rest (goes x) = refl
-fires_on s e rest (fails code) = refl
-
-module _ (m : Meaning) (t : Terms) (s : State) where
-  pub stops-none : None ≡ first_key s.pending → Some End ≡ end_or_limit (next m t s)
-  unfolding end_or_limit
-  stops-none is = ap end_or_limit (sym (next-none m t s (has_none s.pending is)))
-
-  pub stops-late : (k : Key) → Some k ≡ first_key s.pending → end_stamp t.end ≤ k.stamp → Some End ≡ end_or_limit (next m t s)
-  unfolding end_or_limit
-  stops-late k is late =
-      let f = has_first s.pending k is in
-      let same = ap (λ (k : Key). k.stamp) f.key in
-      ap end_or_limit (sym (next-late m t s f.event f.rest f.first (omega arith)))
-
-  pub stops-full : (k : Key) → Some k ≡ first_key s.pending → k.stamp < end_stamp t.end → s.count ≡ t.limit → Some Limit ≡ end_or_limit (next m t s)
-  unfolding end_or_limit
-  stops-full k is due full =
-      let f = has_first s.pending k is in
-      let same = ap (λ (k : Key). k.stamp) f.key in
-      ap end_or_limit (sym (next-full m t s f.event f.rest f.first (omega arith) full))
-
-  pub goes-on : (k : Key) → Some k ≡ first_key s.pending → k.stamp < end_stamp t.end → s.count ≢ t.limit → None ≡ end_or_limit (next m t s)
-  goes-on k is due free =
-      let f = has_first s.pending k is in
-      let same = ap (λ (k : Key). k.stamp) f.key in
-      fires_on s f.event f.rest (fire m f.event.key.dest (object_at s.objects f.event.key.dest) f.event)
-      ∙ ap end_or_limit (sym (next-fires m t s f.event f.rest f.first (omega arith) free))
 
 module _ {M : Type 0} (meaning_of : M → Meaning) (w : WorldView M) where
   pub spent-ended : w.is_spent ≡ true → (at : Standing) → WorldStandsAt meaning_of w at → None ≡ ended (meaning_of w.model) w.terms at

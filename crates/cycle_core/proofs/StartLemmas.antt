@@ -1,4 +1,5 @@
 -- A world at its start.
+use Rattle.key_order.proofs.EnqueueLemmas.{Each-enqueued_all}
 use Rattle.std.proofs.Common.{◌≡◌, ◌≢◌, ◌⊎◌, inl, inr, ℕ, zero, suc, ◌+◌, ◌<◌, ◌≤◌, Bool, true, false, cond, List, [], ◌∷◌, ◌++◌, length, get_or, append-nil, refl, sym, ap, ◌∙◌, subst, arith, eqb, eqb-true, eq-eqb, ne_eqb, slice_set}
 use Rattle.std.proofs.lemmas.Bool.{eqb-false}
 use Rattle.std.proofs.lemmas.List.{length-append, length-set}
@@ -35,7 +36,6 @@ use Rattle.sim_spec.specs.declared.placement.Placement.{Placement}
 use Rattle.world_spec.specs.World.{PlacementLaw, home_by}
 use Rattle.cycle_core.specs.Standings.{WorldStandsAt}
 use Rattle.cycle_core.specs.Worlds.{IsNodeOf, StandsAt, WorldView}
-use Rattle.cycle_core.proofs.CommitFacts.{enqueue_all-parts}
 use Rattle.cycle_core.proofs.EndLemmas.{node-same, stands-as, to-world}
 use Rattle.cycle_core.proofs.PlaceLemmas.{at-some, same-some}
 use Rattle.cycle_core.proofs.WorldLemmas.{data-is}
@@ -139,7 +139,7 @@ module _ {M : Type 0} (meaning_of : M → Meaning) (model : M) (terms : Terms) (
 
   dests : Each (λ (e : Event). e.key.dest < m.objects) starts
   unfolding initial_state
-  dests = (enqueue_all-parts (λ (e : Event). e.key.dest < m.objects) starts [] (AllSound-dest m (initial_state m).objects (enqueue_all starts []) lawful.sound)).0
+  dests = (Each-enqueued_all (λ (e : Event). e.key.dest < m.objects) starts [] (AllSound-dest m (initial_state m).objects (enqueue_all starts []) lawful.sound)).0
 
   up-at : (number : ℕ) → IsAscending (enqueue_all (filter (p number) starts) [])
   up-at number = subst IsAscending (filter-enqueue_all (p number) starts [] up) (Ascends-filter key_of (p number) (enqueue_all starts []) up)
@@ -257,7 +257,25 @@ module _ {M : Type 0} (meaning_of : M → Meaning) (model : M) (terms : Terms) (
     unfolding WorldStandsAt
     start-standing = (start-stands, refl)
 
--- homes by the placement are nodes
-pub placed-within : PlacementLaw → (placement : Placement) (objects nodes : ℕ) (homes : HomesView) → 1 ≤ nodes → homes.nodes ≡ nodes → ((object : ℕ) → object < objects → home_of homes object ≡ home_by placement objects nodes object)
-    → (object : ℕ) → object < objects → home_of homes object < homes.nodes
-placed-within law placement objects nodes homes low same at object below = let lt = law placement objects nodes object low below in let is = at object below in omega arith
+-- what a world begins with: a lawful model, objects that have their nodes, and the initial events of each node
+pub record Begins {M : Type 0} (meaning_of : M → Meaning) (model : M) (homes : HomesView) (parcels : List (List Event)) : Type 0 where
+  pub laws : MeaningLaws (meaning_of model)
+  pub placed : (object : ℕ) → object < (meaning_of model).objects → home_of homes object < homes.nodes
+  pub some : 0 < homes.nodes
+  pub first : AreFirstParcels (meaning_of model) (home_of homes) homes.nodes (meaning_of model).starts parcels
+
+module _ {M : Type 0} (meaning_of : M → Meaning) (model : M) (homes : HomesView) (parcels : List (List Event)) where
+  -- it does, as the calls of the beginning find it: each of them reads the model and the homes again
+  pub begins : PlacementLaw → (placement : Placement) (objects nodes : ℕ) (lawful counted started : M) (built given : HomesView) → MeaningLaws (meaning_of lawful) → lawful ≡ model
+      → objects ≡ (meaning_of counted).objects → counted ≡ model → 1 ≤ nodes → built.nodes ≡ nodes → ((object : ℕ) → object < objects → home_of built object ≡ home_by placement objects nodes object) → homes ≡ built
+      → AreFirstParcels (meaning_of started) (home_of given) given.nodes (meaning_of started).starts parcels → started ≡ model → given ≡ homes → Begins meaning_of model homes parcels
+  begins law placement objects nodes lawful counted started built given laws lawful_is count counted_is low wide at built_is first started_is given_is =
+      let P : HomesView → Type 0 = λ h. (object : ℕ) → object < objects → home_of h object < h.nodes in
+      let within : P built = λ object below. let lt = law placement objects nodes object low below in let is = at object below in omega arith in
+      let first_here = subst (λ v. AreFirstParcels (meaning_of v) (home_of given) given.nodes (meaning_of v).starts parcels) started_is first in
+      record {
+        laws = subst (λ v. MeaningLaws (meaning_of v)) lawful_is laws;
+        placed = subst (λ n. (object : ℕ) → object < n → home_of homes object < homes.nodes) (count ∙ ap (λ v. (meaning_of v).objects) counted_is) (subst P (sym built_is) within);
+        some = (let same : homes.nodes ≡ nodes = ap (λ (h : HomesView). h.nodes) built_is ∙ wide in omega arith);
+        first = subst (λ h. AreFirstParcels (meaning_of model) (home_of h) h.nodes (meaning_of model).starts parcels) given_is first_here;
+      }

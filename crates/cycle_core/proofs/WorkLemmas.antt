@@ -1,4 +1,5 @@
 -- Work of a node, step by step.
+use Rattle.sim_spec.proofs.PartLemmas.{emissions_of-append}
 use Rattle.std.proofs.Common.{◌≡◌, ◌≢◌, ◌⊎◌, ℕ, suc, ◌+◌, ◌<◌, ◌≤◌, min, Bool, true, false, cond, List, [], ◌∷◌, ◌++◌, length, refl, sym, ap, ◌∙◌, subst, inl, inr, arith, eqb, eqb-true, ltb, ltb-true, ltb-false, append_assoc}
 use Rattle.std.proofs.lemmas.Bool.{eqb-false}
 use Rattle.std.proofs.lemmas.List.{length-append, length-map, append-nil}
@@ -25,11 +26,6 @@ use Rattle.node_core.specs.Nodes.{NodeView, log_at, log_or, slot_at, base_at, pe
 use Rattle.node_core.specs.Shares.{AreProcessedKeys}
 use Rattle.node_core.specs.Steps.{HoldsMessageAt, HasProcessed, IsLeftIdle, raised}
 use Rattle.cycle_core.specs.Works.{IsSmall, HasFault, IsFull, WorksOn, IsHeldFrom, IsSettled}
-
-pub emissions_of-append : (xs ys : List (Event × Firing)) → emissions_of (xs ++ ys) ≡ emissions_of xs ++ emissions_of ys
-unfolding emissions_of
-emissions_of-append [] ys = refl
-emissions_of-append (x ∷ xs) ys = ap (λ es. x.1.events ++ es) (emissions_of-append xs ys) ∙ sym (append_assoc x.1.events (emissions_of xs) (emissions_of ys))
 
 pub raised-cases : (n : ℕ) → (raised n ≡ n + 1) ⊎ ((raised n ≡ n) × IsFull n)
 raised-cases n = by_test (ltb n 18446744073709551615) refl

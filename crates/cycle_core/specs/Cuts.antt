@@ -1,5 +1,5 @@
 -- Where a cycle is cut, and what comes of it.
-use Rattle.std.specs.Prelude.{◌≡◌, ℕ, ◌-◌, ◌*◌, ◌^◌, ◌<◌, ◌≤◌, false, List, [], length, filter, map, ◌==◌, nat_lt, slice_get, slice_index_or, Option, Some, None, IsPermutation}
+use Rattle.std.specs.Prelude.{◌≡◌, ℕ, ◌-◌, ◌*◌, ◌^◌, ◌<◌, ◌≤◌, false, List, [], length, filter, ◌==◌, nat_lt, slice_get, slice_index_or, Option, Some, None, IsPermutation}
 use Rattle.event_key.specs.declared.key.Key.{Key}
 use Rattle.event_key.specs.Keys.{key_lt}
 use Rattle.model_core.specs.declared.event.Event.{Event}
@@ -12,7 +12,7 @@ use Rattle.world_spec.specs.Share.{IsHome}
 use Rattle.node_core.specs.declared.committed.Committed.{Committed}
 use Rattle.node_core.specs.Nodes.{NodeView, log_at, home, data_of}
 use Rattle.cycle_core.specs.declared.cut.Cut.{Cut}
-use Rattle.cycle_core.specs.Ends.{AreDueDone, CommitUpto, AllCanReceive, ReceiveUpto, sent_to, records_in, joined}
+use Rattle.cycle_core.specs.Ends.{AreDueDone, CommitUpto, AllCanReceive, ReceiveUpto, sent_to, told_by}
 use Rattle.cycle_core.specs.Known.{AreKnown}
 use Rattle.cycle_core.specs.Places.{AtEach}
 use Rattle.cycle_core.specs.Records.{RecordsDiffer}
@@ -67,7 +67,7 @@ module _ {M : Type 0} (meaning_of : M → Meaning) where
     pub few : AtEach (λ number n. 8 * length n.processed < 2 ^ 60) nodes
     pub wide : AtEach (λ number n. n.homes.nodes ≡ length nodes) nodes
     pub sent : (mids : List (NodeView M)) (all : List Committed) → CommitUpto meaning_of bound cut (length nodes) nodes mids all → (to : ℕ) → to < length nodes → length (sent_to to all) < 2 ^ 60
-    pub told : (mids : List (NodeView M)) (all : List Committed) → CommitUpto meaning_of bound cut (length nodes) nodes mids all → RecordsDiffer (joined (map records_in all))
+    pub told : (mids : List (NodeView M)) (all : List Committed) → CommitUpto meaning_of bound cut (length nodes) nodes mids all → RecordsDiffer (told_by all)
     pub arrives : (mids : List (NodeView M)) (all : List Committed) (parcels : List (List Event)) → CommitUpto meaning_of bound cut (length nodes) nodes mids all → length parcels ≡ length nodes
         → ((to : ℕ) → to < length nodes → IsPermutation (sent_to to all) (slice_index_or parcels to [])) → AreKnown meaning_of mids → AllCanReceive meaning_of parcels mids
 
@@ -81,5 +81,5 @@ module _ {M : Type 0} (meaning_of : M → Meaning) where
     pub sorted : (to : ℕ) → to < length old → IsPermutation (sent_to to all) (slice_index_or parcels to [])
     pub known : AreKnown meaning_of mids
     pub receives : ReceiveUpto meaning_of (length mids) parcels mids new
-    pub permutes : IsPermutation (joined (map records_in all)) records
+    pub permutes : IsPermutation (told_by all) records
     pub ordered : Ascends (λ (x : Key × Note). x.0) records

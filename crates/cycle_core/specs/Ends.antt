@@ -1,6 +1,5 @@
 -- What a node does at the end of a cycle.
-use Rattle.std.specs.Prelude.{◌≡◌, ℕ, ◌+◌, ◌^◌, ◌<◌, ◌≤◌, List, [], ◌∷◌, ◌++◌, length, slice_get, slice_index_or, Option, Some, Vec}
-use Rattle.std.specs.declared.alloc.Global.{Global}
+use Rattle.std.specs.Prelude.{◌≡◌, ℕ, ◌+◌, ◌^◌, ◌<◌, ◌≤◌, List, [], ◌∷◌, ◌++◌, length, slice_get, slice_index_or, Option, Some}
 use Rattle.std.specs.List.{AllByRecursion}
 use Rattle.event_key.specs.declared.key.Key.{Key}
 use Rattle.model_core.specs.declared.event.Event.{Event}
@@ -38,11 +37,11 @@ module _ {M : Type 0} (meaning_of : M → Meaning) where
   abbrev pub AreDueDone : ℕ → Option Key → List (NodeView M) → Type 0
   AreDueDone bound cut = AtEach (λ number n. IsDueDone (meaning_of n.model) (home n) n.number bound cut (data_of n))
 
-  -- the first so many nodes committed what was due, and handed this out, one after another
+  -- the first so many nodes committed what was due, and each handed this out
   pub record CommitUpto (bound : ℕ) (cut : Option Key) (place : ℕ) (old new : List (NodeView M)) (all : List Committed) : Type 0 where
     pub many : length new ≡ length old
-    pub count : length all ≡ place
-    pub each : (number : ℕ) (x y : NodeView M) (c : Committed) → slice_get old number ≡ Some x → slice_get new number ≡ Some y → slice_get all number ≡ Some c
+    pub count : length all ≡ length old
+    pub each : (number : ℕ) (x y : NodeView M) (c : Committed) → number < place → slice_get old number ≡ Some x → slice_get new number ≡ Some y → slice_get all number ≡ Some c
         → HasCommitted (meaning_of x.model) bound cut x y c.done.items c.out.items
     pub rest : (number : ℕ) → place ≤ number → slice_get new number ≡ slice_get old number
 
@@ -79,10 +78,6 @@ unfoldable pub told_by : List Committed → List (Key × Note)
 told_by [] = []
 told_by (c ∷ cs) = c.done.items ++ told_by cs
 
-abbrev pub records_in : Committed → Vec (Key × Note) Global
-records_in c = c.done
-
--- all of these lists, one after another
-unfoldable pub joined : {X Z : Type 0} → List (Vec X Z) → List X
-joined [] = []
-joined (v ∷ vs) = v.items ++ joined vs
+-- what a commit sends, node by node
+abbrev pub sent_in : Committed → List (List Event)
+sent_in c = c.out.items

@@ -2,8 +2,7 @@
 ghost use Rattle.std.specs.Prelude.{◌≡◌, ◌<◌, ◌+◌, ◌++◌, ◌∷◌, ◌^◌, [], ℕ, length, slice_index_or, slice_set, IfOk};
 ghost use Rattle.std.specs.Arc.{arc_value};
 ghost use Rattle.model_core.specs.Meaning.{MeaningLaws};
-ghost use Rattle.node_core.specs.Homes.{home_of};
-ghost use Rattle.cycle_core.specs.Starts.{AreNewNodes, AreFirstParcels};
+ghost use Rattle.cycle_core.specs.Starts.{AreAllFirst, AreAllNew};
 
 use crate::parcels::no_parcels;
 use event_chain::{Cell, Chain};
@@ -32,7 +31,7 @@ pub fn first_parcels<M: SimulationModel>(
 ) -> Result<Vec<Chain<Event>>, OutOfMemory>
     requires laws { MeaningLaws (M.meaning model.now) }
     requires objects { length homes.now.homes ≡ (M.meaning model.now).objects }
-    ensures { IfOk result (λ parcels. AreFirstParcels (M.meaning model.now) (home_of homes.now) homes.now.nodes (M.meaning model.now).starts parcels.items) }
+    ensures { IfOk result (λ parcels. AreAllFirst (M.meaning model.now) homes.now parcels.items) }
 {
     let mut parcels = no_parcels(alloc, homes.nodes() as usize)?;
     for i in 0..model.starts() {
@@ -54,7 +53,7 @@ pub fn first_nodes<M: SimulationModel>(
     homes: &Arc<Homes>,
 ) -> Result<Vec<Node<M>>, OutOfMemory>
     requires { length (arc_value homes.now).homes ≡ (M.meaning (arc_value model.now)).objects }
-    ensures { IfOk result (λ nodes. AreNewNodes (M.meaning (arc_value model.now)) (arc_value model.now) terms (arc_value homes.now) (arc_value homes.now).nodes nodes.items) }
+    ensures { IfOk result (λ nodes. AreAllNew M.meaning (arc_value model.now) terms (arc_value homes.now) nodes.items) }
 {
     let count = homes.nodes();
     let mut nodes = Vec::with_capacity(alloc, count as usize)?;

@@ -1,33 +1,39 @@
 //! The records of a cycle, in the order of their keys.
-ghost use Rattle.std.specs.Prelude.{◌≡◌, ◌++◌, IfOk, IsPermutation};
+ghost use Rattle.std.specs.Prelude.{◌≡◌, ◌<◌, ◌++◌, [], length, IfOk, IfNone, IfSome, OnOk, IsPermutation};
 ghost use Rattle.std.specs.List.{AllByRecursion};
-ghost use Rattle.cycle_core.specs.Ends.{joined};
-ghost use Rattle.cycle_core.specs.Records.{AreInOrder, RecordsDiffer};
+ghost use Rattle.cycle_core.specs.Ends.{told_by};
+ghost use Rattle.cycle_core.specs.Records.{AreInOrder, RecordsDiffer, HaveGiven, HaveMerged, IsOnlyTold, MergesInto};
 
 use event_key::Key;
 use model_core::{Note, OutOfMemory};
+use node_core::Committed;
 use std::alloc::Global;
 use std::mem;
 
-/// Two lists as one. Where one of them is empty, the other is handed on as it is.
+/// Two lists as one, in time linear in their records. Both are left empty. A list that is alone is handed on as it is.
 fn merge_two(
-    alloc: Global,
-    left: Vec<(Key, Note)>,
-    right: Vec<(Key, Note)>,
-) -> Result<Vec<(Key, Note)>, OutOfMemory>
-    requires left { AreInOrder left.items }
-    requires right { AreInOrder right.items }
-    requires differ { RecordsDiffer (left.items ++ right.items) }
-    ensures permutes { IfOk result (λ merged. IsPermutation (left.items ++ right.items) merged.items) }
-    ensures ordered { IfOk result (λ merged. AreInOrder merged.items) }
+    left: &mut Vec<(Key, Note)>,
+    right: &mut Vec<(Key, Note)>,
+    merged: &mut Vec<(Key, Note)>,
+) -> Result<(), OutOfMemory>
+    requires left { AreInOrder left.old.items }
+    requires right { AreInOrder right.old.items }
+    requires differ { RecordsDiffer (left.old.items ++ right.old.items) }
+    requires empty { merged.old.items ≡ [] }
+    ensures permutes { OnOk result (IsPermutation (left.old.items ++ right.old.items) merged.new.items) }
+    ensures ordered { OnOk result (AreInOrder merged.new.items) }
+    ensures left { OnOk result (left.new.items ≡ []) }
+    ensures right { OnOk result (right.new.items ≡ []) }
 {
     if right.is_empty() {
-        return Ok(left);
+        mem::swap(left, merged);
+        return Ok(());
     }
     if left.is_empty() {
-        return Ok(right);
+        mem::swap(right, merged);
+        return Ok(());
     }
-    let mut merged = Vec::with_capacity(alloc, left.len() + right.len())?;
+    merged.reserve(left.len() + right.len())?;
     let (mut i, mut j) = (0, 0);
     'heads: while i < left.len() && j < right.len() {
         if left[i].0.is_before(&right[j].0) {
@@ -40,37 +46,100 @@ fn merge_two(
     }
     merged.extend_from_slice(&left[i..])?;
     merged.extend_from_slice(&right[j..])?;
+    left.clear();
+    right.clear();
+    Ok(())
+}
+
+/// The records of two commits, in the first one.
+fn merge_into(
+    first: &mut Committed,
+    second: &mut Committed,
+    spare: &mut Vec<(Key, Note)>,
+) -> Result<(), OutOfMemory>
+    requires first { AreInOrder first.old.done.items }
+    requires second { AreInOrder second.old.done.items }
+    requires differ { RecordsDiffer (first.old.done.items ++ second.old.done.items) }
+    requires spare { spare.old.items ≡ [] }
+    ensures merged { OnOk result (MergesInto first.old second.old first.new second.new) }
+    ensures spare { OnOk result (spare.new.items ≡ []) }
+{
+    if second.done.is_empty() {
+        return Ok(());
+    }
+    merge_two(&mut first.done, &mut second.done, spare)?;
+    mem::swap(&mut first.done, spare);
+    Ok(())
+}
+
+/// The records of all these commits in the first one, merged two by two.
+fn merge_all(parts: &mut [Committed], spare: &mut Vec<(Key, Note)>) -> Result<(), OutOfMemory>
+    requires some { 0 < length parts.old }
+    requires ordered { AllByRecursion (λ c. AreInOrder c.done.items) parts.old }
+    requires differ { RecordsDiffer (told_by parts.old) }
+    requires spare { spare.old.items ≡ [] }
+    ensures merged { OnOk result (HaveMerged parts.old parts.new) }
+    ensures spare { OnOk result (spare.new.items ≡ []) }
+{
+    let count = parts.len();
+    if count == 1 {
+        return Ok(());
+    }
+    let (front, back) = parts.split_at_mut(count / 2);
+    merge_all(front, spare)?;
+    merge_all(back, spare)?;
+    merge_into(&mut front[0], &mut back[0], spare)
+}
+
+/// The place of a commit without which the others tell of nothing, unless there are two that tell of something.
+fn only_told(committed: &[Committed]) -> Option<usize>
+    requires { 0 < length committed.now }
+    ensures some { IfSome result (IsOnlyTold committed.now) }
+    ensures none { IfNone result (1 < length committed.now) }
+{
+    let mut only = 0;
+    let mut told = false;
+    for i in 0..committed.len() {
+        if committed[i].done.is_empty() {
+            continue;
+        }
+        if told {
+            return None;
+        }
+        only = i;
+        told = true;
+    }
+    Some(only)
+}
+
+/// All records of these commits in the order of their keys, in time linear in their number and logarithmic in that of
+/// the commits. They are taken out of their lists, which keep their room. Where one commit alone tells of something, its
+/// list is handed out as it is.
+pub fn merge(
+    alloc: Global,
+    committed: &mut [Committed],
+    spare: &mut Vec<(Key, Note)>,
+) -> Result<Vec<(Key, Note)>, OutOfMemory>
+    requires ordered { AllByRecursion (λ c. AreInOrder c.done.items) committed.old }
+    requires differ { RecordsDiffer (told_by committed.old) }
+    requires spare { spare.old.items ≡ [] }
+    ensures permutes { IfOk result (λ merged. IsPermutation (told_by committed.old) merged.items) }
+    ensures ordered { IfOk result (λ merged. AreInOrder merged.items) }
+    ensures given { OnOk result (HaveGiven committed.old committed.new) }
+    ensures spare { OnOk result (spare.new.items ≡ []) }
+{
+    let mut merged = Vec::new(alloc);
+    let count = committed.len();
+    if count == 0 {
+        return Ok(merged);
+    }
+    if let Some(only) = only_told(committed) {
+        mem::swap(&mut committed[only].done, &mut merged);
+        return Ok(merged);
+    }
+    let (front, back) = committed.split_at_mut(count / 2);
+    merge_all(front, spare)?;
+    merge_all(back, spare)?;
+    merge_two(&mut front[0].done, &mut back[0].done, &mut merged)?;
     Ok(merged)
-}
-
-/// The lists as one, merged two by two.
-fn merge_all(alloc: Global, parts: &mut [Vec<(Key, Note)>]) -> Result<Vec<(Key, Note)>, OutOfMemory>
-    requires ordered { AllByRecursion (λ part. AreInOrder part.items) parts.old }
-    requires differ { RecordsDiffer (joined parts.old) }
-    ensures permutes { IfOk result (λ merged. IsPermutation (joined parts.old) merged.items) }
-    ensures ordered { IfOk result (λ merged. AreInOrder merged.items) }
-{
-    if parts.len() == 0 {
-        return Ok(Vec::new(alloc));
-    }
-    if parts.len() == 1 {
-        return Ok(mem::replace(&mut parts[0], Vec::new(alloc)));
-    }
-    let half = parts.len() / 2;
-    let (front, back) = parts.split_at_mut(half);
-    let front = merge_all(alloc, front)?;
-    let back = merge_all(alloc, back)?;
-    merge_two(alloc, front, back)
-}
-
-/// All records of these lists in the order of their keys, in time linear in their number and logarithmic in that of the
-/// lists. A list that is alone, as when the others are empty, is not copied.
-pub fn merge(alloc: Global, parts: Vec<Vec<(Key, Note)>>) -> Result<Vec<(Key, Note)>, OutOfMemory>
-    requires ordered { AllByRecursion (λ part. AreInOrder part.items) parts.items }
-    requires differ { RecordsDiffer (joined parts.items) }
-    ensures permutes { IfOk result (λ merged. IsPermutation (joined parts.items) merged.items) }
-    ensures ordered { IfOk result (λ merged. AreInOrder merged.items) }
-{
-    let mut parts = parts;
-    merge_all(alloc, parts.as_mut_slice())
 }

@@ -1,7 +1,7 @@
 -- What an object draws, one value after another.
 use Rattle.std.specs.Prelude.{ℕ, zero, suc, ◌==◌, if◌then◌else◌, List, [], ◌∷◌, map, filter, slice_index}
 use Rattle.random_streams.specs.declared.law.Law.{Law}
-use Rattle.random_streams.specs.declared.law.Law.TheVariants.{Fixed}
+use Rattle.random_streams.specs.declared.law.Law.TheVariants.{Fixed, Choice}
 use Rattle.random_streams.specs.Laws.{draw}
 use Rattle.model_core.specs.declared.effect.Outcome.{Outcome}
 use Rattle.model_core.specs.declared.effect.Outcome.TheVariants.{Goes, Fails}
@@ -11,8 +11,8 @@ use Rattle.model_core.specs.Meaning.{Meaning}
 use Rattle.sim_spec.specs.declared.terms.Terms.{Terms}
 use Rattle.sim_spec.specs.State.{State, object_at as state_at}
 use Rattle.sim_spec.specs.Run.{Next, stops, does}
-use Rattle.queue_models.specs.declared.object.Role.{Role}
-use Rattle.queue_models.specs.declared.object.Role.TheVariants.{Makes, Serves, Holds, Routes, Ends}
+use Rattle.queue_models.specs.declared.kind.KindOver.{KindOver}
+use Rattle.queue_models.specs.declared.kind.KindOver.TheVariants.{Source, Station, Delay, Router, Sink}
 use Rattle.queue_models.specs.Meaning.{network_meaning}
 use Rattle.queue_models.specs.Objects.{NetworkParts, object_at}
 use Rattle.run_laws.specs.Reached.{gathered}
@@ -27,32 +27,32 @@ abbrev pub nth_draw : ℕ → ℕ → Law → ℕ → ℕ
 nth_draw seed object law n = (draw seed object (draw_place seed object law n) law).0
 
 -- the law by which an object draws; a sink draws nothing
-abbrev pub law_of : Role → Law
-law_of (Makes source) = source.every
-law_of (Serves station) = station.service
-law_of (Holds delay) = delay.delay
-law_of (Routes router) = router.choice
-law_of (Ends sink) = Fixed 0
+abbrev pub law_of : KindOver ℕ → Law
+law_of (Source first every count next) = every
+law_of (Station servers service line strict next) = service
+law_of (Delay delay next) = delay
+law_of (Router next weights) = Choice weights
+law_of (Sink due) = Fixed 0
 
 -- how a draw shows: a router's is the way that it sends a job, any other a delay
-abbrev pub as_shown : Role → ℕ → ℕ
-as_shown (Makes source) value = value
-as_shown (Serves station) value = value
-as_shown (Holds delay) value = value
-as_shown (Routes router) value = slice_index router.next value
-as_shown (Ends sink) value = value
+abbrev pub as_shown : KindOver ℕ → ℕ → ℕ
+as_shown (Source first every count next) value = value
+as_shown (Station servers service line strict next) value = value
+as_shown (Delay delay next) value = value
+as_shown (Router next weights) value = slice_index next value
+as_shown (Sink due) value = value
 
 abbrev pub delays_of : ℕ → List Send → List ℕ
 delays_of kind sends = map (λ (s : Send). s.delay) (filter (λ (s : Send). s.kind == kind) sends)
 
 -- the draws that show in what an object sends: when a source makes its next job, when a service ends, how long a delay
 -- holds a job, and which way a router sends it
-abbrev pub shown_by : Role → List Send → List ℕ
-shown_by (Makes source) sends = delays_of 1 sends
-shown_by (Serves station) sends = delays_of 2 sends
-shown_by (Holds delay) sends = delays_of 3 sends
-shown_by (Routes router) sends = map (λ (s : Send). s.dest) sends
-shown_by (Ends sink) sends = []
+abbrev pub shown_by : KindOver ℕ → List Send → List ℕ
+shown_by (Source first every count next) sends = delays_of 1 sends
+shown_by (Station servers service line strict next) sends = delays_of 2 sends
+shown_by (Delay delay next) sends = delays_of 3 sends
+shown_by (Router next weights) sends = map (λ (s : Send). s.dest) sends
+shown_by (Sink due) sends = []
 
 abbrev pub sends_of : Outcome → List Send
 sends_of (Goes x) = x.sends
@@ -66,7 +66,7 @@ first_sends m s (e ∷ rest) = sends_of (m.effect e.key.dest (state_at s.objects
 abbrev pub draws_next : NetworkParts → ℕ → State → Next → List ℕ
 draws_next p i s (stops stop) = []
 draws_next p i s (does told after) =
-    if told.0.dest == i then shown_by (object_at p.objects i).role (first_sends (network_meaning p) s s.pending) else []
+    if told.0.dest == i then shown_by (object_at p.objects i).kind (first_sends (network_meaning p) s s.pending) else []
 
 -- what an object draws within the first n events, in order
 abbrev pub drawn_by : NetworkParts → Terms → ℕ → ℕ → List ℕ

@@ -1,29 +1,27 @@
 -- What an event that is settled says of its firing.
-use Rattle.std.proofs.Common.{◌≡◌, ℕ, ◌+◌, Bool, true, false, cond, length, refl, sym, ap, ◌∙◌, subst}
+use Rattle.sim_spec.proofs.FiringLemmas.{goes-effect}
+use Rattle.std.proofs.Common.{◌≡◌, ℕ, Bool, true, false, cond, refl, sym, ap, ◌∙◌, subst}
 use Rattle.std.specs.Prelude.{IsTrue, ◌<◌}
-use Rattle.delta_exchange.specs.Changes.{CellData, cells_after_all, inverses_of}
+use Rattle.delta_exchange.specs.Changes.{CellData}
 use Rattle.model_core.specs.declared.effect.Effect.{Effect}
 use Rattle.model_core.specs.declared.effect.Outcome.{Outcome}
 use Rattle.model_core.specs.declared.effect.Outcome.TheVariants.{Goes, Fails}
 use Rattle.model_core.specs.declared.event.Event.{Event}
 use Rattle.model_core.specs.Meaning.{Meaning, MeaningLaws, EffectLaws, OutcomeLaws}
-use Rattle.sim_spec.specs.Firing.{ObjectState, Firing, Fired, goes, fails, fired_by, fire, firing_of, has_chain, emissions}
+use Rattle.sim_spec.specs.Firing.{ObjectState, Fired, goes, fails, fired_by, fire, firing_of, has_endless_chain}
 use Rattle.event_firing.specs.Settling.{settled}
-
-outcome_inside : (x y : Effect) → Goes x ≡ Goes y → x ≡ y
-outcome_inside x y is = cc
 
 no_effect : (x : Effect) (code : ℕ) → Goes x ≡ Fails code → ⊥
 no_effect x code is = cc
 
 -- a settled effect is the model's, and chains nothing
-pub settled-goes : (stamp : ℕ) (o : Outcome) (x : Effect) → Goes x ≡ settled stamp o → (o ≡ Goes x) × (has_chain stamp x.sends ≡ false)
+pub settled-goes : (stamp : ℕ) (o : Outcome) (x : Effect) → Goes x ≡ settled stamp o → (o ≡ Goes x) × (has_endless_chain stamp x.sends ≡ false)
 settled-goes stamp (Fails code) x is = absurd (no_effect x code is)
-settled-goes stamp (Goes y) x is = by_test (has_chain stamp y.sends) refl is
+settled-goes stamp (Goes y) x is = by_test (has_endless_chain stamp y.sends) refl is
   where
-    by_test : (b : Bool) → has_chain stamp y.sends ≡ b → Goes x ≡ cond b (Fails 1) (Goes y) → (Goes y ≡ Goes x) × (has_chain stamp x.sends ≡ false)
+    by_test : (b : Bool) → has_endless_chain stamp y.sends ≡ b → Goes x ≡ cond b (Fails 1) (Goes y) → (Goes y ≡ Goes x) × (has_endless_chain stamp x.sends ≡ false)
     by_test true chained is = absurd (no_effect x 1 is)
-    by_test false chained is = (sym is, ap (λ (z : Effect). has_chain stamp z.sends) (outcome_inside x y is) ∙ chained)
+    by_test false chained is = (sym is, ap (λ (z : Effect). has_endless_chain stamp z.sends) (goes-effect x y is) ∙ chained)
 
 -- a settled fault is that of firing
 fails_by : (object : ℕ) (s : ObjectState) (e : Event) (o : Outcome) (code : ℕ) → Fails code ≡ settled e.key.stamp o → fired_by object s e o ≡ fails code
@@ -32,7 +30,7 @@ fails_by object s e (Fails word) code is = ap fails (inside word code (sym is))
   where
     inside : (a b : ℕ) → ◌≡◌ {A = Outcome} (Fails a) (Fails b) → a ≡ b
     inside a b is = cc
-fails_by object s e (Goes x) code is = by_test (has_chain e.key.stamp x.sends) _ is
+fails_by object s e (Goes x) code is = by_test (has_endless_chain e.key.stamp x.sends) _ is
   where
     by_test : (b : Bool) (f : Fired) → Fails code ≡ cond b (Fails 1) (Goes x) → cond b (fails 1) f ≡ fails code
     by_test true f is = ap fails (one (sym is))

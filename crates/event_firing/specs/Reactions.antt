@@ -5,7 +5,7 @@ use Rattle.model_core.specs.declared.effect.Ending.{Ending}
 use Rattle.model_core.specs.declared.effect.Ending.TheVariants.{Goes, Fails}
 use Rattle.model_core.specs.declared.event.Event.{Event}
 use Rattle.model_core.specs.Meaning.{Meaning, SendsInRange}
-use Rattle.sim_spec.specs.Firing.{ObjectState, Firing, goes, fails, fire, has_chain, emissions}
+use Rattle.sim_spec.specs.Firing.{ObjectState, Firing, goes, fails, fire, has_endless_chain, emissions}
 
 -- the event goes as its firing says: what is sent are the firing's events, which the model's laws bound
 pub record IsSending (m : Meaning) (old : ObjectState) (e : Event) (sheet : Effect) (new : ObjectState) : Type 0 where
@@ -14,7 +14,7 @@ pub record IsSending (m : Meaning) (old : ObjectState) (e : Event) (sheet : Effe
   pub state : new ≡ firing.state
   pub note : sheet.note ≡ firing.note
   pub events : firing.events ≡ emissions e.key.stamp e.key.dest old.sent sheet.sends
-  pub stepping : has_chain e.key.stamp sheet.sends ≡ false
+  pub stepping : has_endless_chain e.key.stamp sheet.sends ≡ false
   pub ranged : SendsInRange m.objects sheet.sends
   pub few : length sheet.sends ≤ 8
 

@@ -9,4 +9,4 @@ mod settling;
 pub use beginning::{first_event, first_objects};
 pub use object::Object;
 pub use sending::{has_endless_chain, sent_event};
-pub use settling::{ENDLESS_CHAIN, settle};
+pub use settling::settle;

@@ -1,15 +1,15 @@
 //! What an event sends.
 ghost use Rattle.std.specs.Prelude.{◌≡◌, ◌<◌, ◌≤◌, ◌^◌, false};
 ghost use Rattle.event_key.specs.Stamps.{time_part, has_no_step};
-ghost use Rattle.sim_spec.specs.Firing.{has_chain, emission};
+ghost use Rattle.sim_spec.specs.Firing.{has_endless_chain, emission};
 
 use event_key::{Key, later, step_of};
 use model_core::{Event, Send};
 
 /// Whether something is sent without delay from the last step of a tick, as a chain of events does that never leaves it.
-#[tactic(auto, unfolding(sim_spec::specs::Firing::has_chain, event_key::specs::Stamps::has_no_step))]
+#[tactic(auto, unfolding(sim_spec::specs::Firing::has_endless_chain, event_key::specs::Stamps::has_no_step))]
 pub fn has_endless_chain(stamp: u64, sends: &[Send]) -> bool
-    ensures { result ≡ has_chain stamp sends.now }
+    ensures { result ≡ has_endless_chain stamp sends.now }
 {
     sends
         .iter()

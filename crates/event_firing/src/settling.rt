@@ -6,11 +6,8 @@ ghost use Rattle.event_firing.specs.Settling.{settled};
 
 use crate::sending::has_endless_chain;
 use model_core::model::Model;
-use model_core::{Cells, Effect, Ending, Event, OutOfMemory};
+use model_core::{Cells, ENDLESS_CHAIN, Effect, Ending, Event, OutOfMemory};
 use random_streams::Stream;
-
-/// The code of an event that sends without delay at the last step of a tick.
-pub const ENDLESS_CHAIN: u32 = 1;
 
 /// What an event comes to at an object with these cells, written into a sheet: the model's fault first, then the fault
 /// of a chain without end in one tick, else the model's effect.

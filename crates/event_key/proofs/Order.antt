@@ -1,13 +1,13 @@
 -- The order of keys is total and strict, and the stamp comes first.
-use Rattle.std.proofs.Common.{◌≡◌, ◌∙◌, ℕ, ◌<◌, ◌≤◌, Bool, true, false, cond, ◌||◌, ◌&&◌, refl, ap, arith}
+use Rattle.std.proofs.Common.{◌≡◌, ◌≢◌, ◌∙◌, ℕ, ◌<◌, ◌≤◌, Bool, true, false, cond, ◌||◌, ◌&&◌, refl, ap, arith}
 use Rattle.std.specs.Prelude.{nat_lt, ◌==◌}
 use Rattle.std.specs.Cmp.{IsTotalOrder, tied_itself}
 use Rattle.std.proofs.lemmas.Cmp.{nat_cmp_total, on_total, then_total, ranked, by_ranked}
-use Rattle.std.specs.Ordering.{nat_cmp, ordering_then, ordering_reverse, is_lt}
+use Rattle.std.specs.Ordering.{nat_cmp, ordering_then, ordering_reverse, is_lt, is_eq}
 use Rattle.std.specs.declared.cmp.Ordering.{Ordering}
 use Rattle.std.specs.declared.cmp.Ordering.TheVariants.{Less, Equal, Greater}
 use Rattle.event_key.specs.declared.key.Key.{Key}
-use Rattle.event_key.specs.Keys.{key_cmp, key_lt, lt_then}
+use Rattle.event_key.specs.Keys.{key_cmp, key_lt, same_key, lt_then}
 
 pub key_total : IsTotalOrder key_cmp
 unfolding key_cmp
@@ -43,6 +43,37 @@ key_exact a b h =
     let src = nat_equal a.src b.src by_src.0 in
     let serial = nat_equal a.serial b.serial by_src.1 in
     λ i. record { stamp = stamp i; rank = rank i; dest = dest i; src = src i; serial = serial i }
+
+eq_is : (o : Ordering) → is_eq o ≡ true → o ≡ Equal
+eq_is Less h = absurd (cc)
+eq_is Equal h = refl
+eq_is Greater h = absurd (cc)
+
+-- keys that are the same are one
+pub same_key-is : (a b : Key) → same_key a b ≡ true → a ≡ b
+unfolding same_key
+same_key-is a b h = key_exact a b (eq_is (key_cmp a b) h)
+
+pub same_key-itself : (a : Key) → same_key a a ≡ true
+unfolding same_key
+same_key-itself a = ap is_eq (tied_itself key_total a)
+
+pub same_key-other : (a b : Key) → a ≢ b → same_key a b ≡ false
+same_key-other a b apart = by (same_key a b) refl
+  where
+    by : (same : Bool) → same_key a b ≡ same → same ≡ false
+    by true h = absurd (apart (same_key-is a b h))
+    by false h = refl
+
+-- a key that comes before another isn't the same
+pub same_key-lt : (a b : Key) → key_lt a b ≡ true → same_key a b ≡ false
+unfolding same_key key_lt
+same_key-lt a b h = by_order (key_cmp a b) h
+  where
+    by_order : (o : Ordering) → is_lt o ≡ true → is_eq o ≡ false
+    by_order Less h = refl
+    by_order Equal h = absurd (cc)
+    by_order Greater h = refl
 
 pub key_lt-irrefl : (a : Key) → key_lt a a ≡ false
 unfolding key_lt

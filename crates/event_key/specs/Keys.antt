@@ -1,6 +1,6 @@
 -- The order of keys.
 use Rattle.std.specs.Prelude.{ℕ, Bool, nat_lt, ◌==◌, ◌||◌, ◌&&◌}
-use Rattle.std.specs.Ordering.{nat_cmp, on, then_cmp, is_lt}
+use Rattle.std.specs.Ordering.{nat_cmp, on, then_cmp, is_lt, is_eq}
 use Rattle.std.specs.declared.cmp.Ordering.{Ordering}
 use Rattle.event_key.specs.declared.key.Key.{Key}
 
@@ -15,6 +15,10 @@ key_cmp =
 -- the first key comes before the second
 unfoldable pub key_lt : Key → Key → Bool
 key_lt a b = is_lt (key_cmp a b)
+
+-- the same key
+unfoldable pub same_key : Key → Key → Bool
+same_key a b = is_eq (key_cmp a b)
 
 -- one number before another; where they are the same, what comes after them decides
 abbrev pub lt_then : ℕ → ℕ → Bool → Bool

@@ -7,7 +7,7 @@ ghost use Rattle.event_key.specs.Keys.{key_lt};
 pub struct Key {
     /// When the event happens: a time and a step.
     pub stamp: u64,
-    /// Of events of one stamp the one of smaller rank comes first.
+    /// Of events of one stamp the one of smaller rank comes first. At most `MOST_RANK` in a simulation.
     pub rank: u32,
     /// The object at which the event happens.
     pub dest: u32,
@@ -16,6 +16,9 @@ pub struct Key {
     /// How many events its source had sent before, or its place among the initial events.
     pub serial: u64,
 }
+
+/// The greatest rank.
+pub const MOST_RANK: u32 = 255;
 
 /// The source of an initial event.
 pub const INITIAL: u32 = 4294967295;

@@ -4,8 +4,8 @@
 mod key;
 mod stamp;
 
-pub use key::{INITIAL, Key};
-pub use stamp::{NO_STAMP, end_bound, later, stamp_of, step_of, time_of};
+pub use key::{INITIAL, Key, MOST_RANK};
+pub use stamp::{LAST_TICK, NO_STAMP, STEPS, end_bound, later, stamp_of, step_of, time_of};
 
 #[cfg(test)]
 mod tests;

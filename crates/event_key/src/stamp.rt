@@ -9,7 +9,10 @@ ghost use Rattle.event_key.specs.Stamps.{stamp_at, time_part, step_part, later_s
 pub const NO_STAMP: u64 = 18446744073709551615;
 
 /// How many steps a tick has.
-const STEPS: u64 = 65536;
+pub const STEPS: u64 = 65_536;
+
+/// The last tick in which a simulation may end, or something in it begin: 2^46 - 1.
+pub const LAST_TICK: u64 = 70_368_744_177_663;
 
 /// The stamp of a step of a tick.
 pub fn stamp_of(time: u64, step: u32) -> u64

@@ -1,54 +1,99 @@
-//! Runs each example on one thread, and says whether its text is the stored one, which an independent simulator wrote.
+//! Runs each example on one thread and on nodes, and says whether its text is the stored one, which an independent
+//! simulator wrote.
 #![tactic(auto)]
 
-ghost use Rattle.std.specs.Prelude.{◌≡◌, IfOk, IfSome, false};
-ghost use Rattle.sim_io.specs.CycleTexts.{text_from_start};
+ghost use Rattle.std.specs.Prelude.{◌≡◌, IfOk, IfSome};
+ghost use Rattle.sim_io.specs.Words.{AreInBounds};
 ghost use Rattle.model_text.specs.Meanings.{meaning_of};
 ghost use Rattle.model_text.specs.ModelTexts.{model_of};
+ghost use Rattle.sim_text.specs.WholeTexts.{text_from_start};
 
 use model_runs::run_model;
 use model_text::{AnyModel, read_model};
-use sim_io::MemSink;
-use sim_spec::Terms;
+use node_team::Open;
+use sim_io::{MemSink, Settings};
+use sim_spec::{Placement, Terms};
 use sim_text::Unfinished;
-use std::alloc::Global;
+use std::alloc::{AllocGlobal, Global};
+use std::rt::Files;
+use std::thread::Threads;
 use std::{fs, io};
 
 /// The examples by name. Each is a model and its text in `data`, which the folder `examples` at the top stands for.
-const EXAMPLES: [&str; 6] = ["bank", "clinic", "job-shop", "phold", "switch", "tandem"];
+const EXAMPLES: [&str; 10] = [
+    "adder",
+    "bank",
+    "clinic",
+    "counter",
+    "full-adder",
+    "job-shop",
+    "latch",
+    "phold",
+    "switch",
+    "tandem",
+];
 
 /// More bytes than any of the texts has.
 const ROOM: usize = 1_048_576;
 
+/// The engine for one thread.
+const ONE_THREAD: Settings = Settings::One { cycles: false };
+
+/// The engine on nodes, as it is where nothing is said of it.
+const NODES: Settings = Settings::Run {
+    nodes: 4,
+    ahead: 8,
+    placement: Placement::Round,
+    cycles: false,
+};
+
 /// The text of a model's simulation.
-fn text_of(alloc: Global, model: AnyModel, terms: Terms) -> Result<MemSink, Unfinished>
-    ensures { IfOk result (λ sink. sink.taken ≡ text_from_start (meaning_of model) terms false) }
+fn text_of<R: Threads + Sync>(
+    rt: &R,
+    alloc: Global,
+    model: AnyModel,
+    terms: Terms,
+    settings: Settings,
+) -> Result<MemSink, Unfinished>
+    requires { AreInBounds settings }
+    ensures { IfOk result (λ sink. sink.taken ≡ text_from_start (meaning_of model) terms settings) }
 {
     let mut sink = MemSink::new(alloc, ROOM, Vec::new(alloc), Vec::new(alloc), ROOM)?;
-    run_model(alloc, model, terms, false, &mut sink)?;
+    run_model(rt, alloc, &Open, model, terms, settings, &mut sink)?;
     Ok(sink)
 }
 
 /// The text of the simulation of the model that these bytes are, and nothing where there is none.
-fn told_of(alloc: Global, bytes: &[u8]) -> Option<MemSink>
-    ensures { IfSome result (λ sink. IfOk (model_of bytes.now) (λ read. sink.taken ≡ text_from_start read.meaning read.terms false)) }
+fn told_of<R: Threads + Sync>(
+    rt: &R,
+    alloc: Global,
+    bytes: &[u8],
+    settings: Settings,
+) -> Option<MemSink>
+    requires { AreInBounds settings }
+    ensures { IfSome result (λ sink. IfOk (model_of bytes.now) (λ read. sink.taken ≡ text_from_start read.meaning read.terms settings)) }
 {
     let (model, terms) = read_model(alloc, bytes).ok()?;
-    text_of(alloc, model, terms).ok()
+    text_of(rt, alloc, model, terms, settings).ok()
 }
 
-/// Whether the example has the text that is stored beside it.
-fn agrees(rt: &HostRuntime, name: &str) -> io::Result<bool> {
-    let alloc = rt.alloc();
+/// Whether the example has the text that is stored beside it, by either engine.
+fn agrees<R: AllocGlobal + Files + Threads + Sync>(
+    rt: &R,
+    alloc: Global,
+    name: &str,
+) -> io::Result<bool> {
     let model = fs::read(rt, format!(in alloc; "{name}.toml")?)?;
     let text = fs::read(rt, format!(in alloc; "{name}.txt")?)?;
-    let told = told_of(alloc, model.as_slice());
-    Ok(told.is_some_and(|sink| sink.bytes() == text.as_slice()))
+    let by_one = told_of(rt, alloc, model.as_slice(), ONE_THREAD);
+    let by_nodes = told_of(rt, alloc, model.as_slice(), NODES);
+    let is_text = |told: Option<MemSink>| told.is_some_and(|sink| sink.bytes() == text.as_slice());
+    Ok(is_text(by_one) && is_text(by_nodes))
 }
 
 fn main(rt: HostRuntime) -> io::Result<()> {
     for name in EXAMPLES {
-        if agrees(&rt, name)? {
+        if agrees(&rt, rt.alloc(), name)? {
             println!(rt; "{name} agrees")?;
         } else {
             println!(rt; "{name} differs")?;

@@ -1,5 +1,5 @@
 -- No job is lost or doubled.
-use Rattle.std.proofs.Common.{◌≡◌, ℕ, suc, ◌+◌, Bool, cond, List, [], ◌∷◌, length, refl, sym, ap, ◌∙◌, subst, arith}
+use Rattle.std.proofs.Common.{◌≡◌, ℕ, suc, ◌+◌, Bool, true, cond, List, [], ◌∷◌, length, refl, sym, ap, ◌∙◌, subst, arith}
 use Rattle.std.specs.Prelude.{sum_by, count_by}
 use Rattle.std.specs.List.{range_with_len}
 use Rattle.std.proofs.lemmas.List.Sums.{sum_by-cons}
@@ -8,8 +8,7 @@ use Rattle.model_core.specs.declared.note.Note.{Note}
 use Rattle.sim_spec.specs.declared.terms.Terms.{Terms}
 use Rattle.sim_spec.specs.State.{State}
 use Rattle.sim_spec.specs.Run.{Next, stops, does, next}
-use Rattle.queue_models.specs.declared.object.Role.TheVariants.{Makes}
-use Rattle.queue_models.specs.declared.source.Source.{Source}
+use Rattle.queue_models.specs.Kinds.{is_source}
 use Rattle.queue_models.specs.Meaning.{network_meaning}
 use Rattle.queue_models.specs.Objects.{NetworkParts, object_at}
 use Rattle.queue_models.specs.Parts.{IsNetwork}
@@ -36,14 +35,14 @@ whereabouts-next p t n x is_next = ap (places_after p (after_events n (network_m
 -- the jobs have their names, and hold the places of the state
 record AreThere (p : NetworkParts) (s : State) (jobs : List (Job × Place)) : Type 0 where
   pub put_in : numbers_from listed jobs ≡ range_with_len 1 (length p.jobs)
-  pub made : (i : ℕ) (source : Source) → (object_at p.objects i).role ≡ Makes source → numbers_from (made_by i) jobs ≡ range_with_len 1 (made_of (cells_at s i))
+  pub made : (i : ℕ) → is_source (object_at p.objects i).kind ≡ true → numbers_from (made_by i) jobs ≡ range_with_len 1 (made_of (cells_at s i))
   pub agree : Agree p s jobs
 
 there_on : (p : NetworkParts) (t : Terms) (s : State) (told : Key × Note) (after : State) (jobs : List (Job × Place)) → IsNetwork p → IsNetworkStep p t s told after
     → AreThere p s jobs → AreThere p after (places_after p s jobs (does told after))
 there_on p t s told after jobs fine n before = record {
   put_in = listed_on p t s told after jobs n ∙ before.put_in;
-  made = λ i source is. made_on p t s told after jobs n i source is (before.made i source is);
+  made = λ i is. made_on p t s told after jobs n i is (before.made i is);
   agree = agree_on p t s told after jobs fine n before.agree;
 }
 

@@ -1,64 +1,33 @@
 -- How the weight of a place moves with an event.
+use Rattle.std.proofs.lemmas.Bool.{and_from, and_parts}
 use Rattle.std.proofs.Common.{◌≡◌, ◌≢◌, ℕ, suc, ◌+◌, Bool, true, false, cond, not, List, [], ◌∷◌, ◌++◌, length, refl, ap, ◌∙◌, arith, eqb-true, eq-eqb}
 use Rattle.std.specs.Prelude.{sum_by, ◌==◌, ◌&&◌, if◌then◌else◌}
 use Rattle.std.proofs.lemmas.List.Sums.{sum_by-cons}
 use Rattle.event_key.specs.declared.key.Key.{Key}
+use Rattle.event_key.proofs.Order.{same_key-itself, same_key-other}
 use Rattle.model_core.specs.declared.event.Event.{Event}
-use Rattle.queue_models.specs.Objects.{NetworkParts, object_at, is_source}
-use Rattle.job_laws.specs.Places.{Place, at_event, in_line, same_key, key_number, own_place, moved_up, place_after}
+use Rattle.queue_models.specs.Kinds.{is_source}
+use Rattle.queue_models.specs.Objects.{NetworkParts, object_at}
+use Rattle.job_laws.specs.Places.{Place, at_event, in_line, key_number, own_place, moved_up, place_after}
 use Rattle.job_laws.specs.Jobs.{is_of_job, places_in_line}
 use Rattle.job_laws.proofs.Weights.{event_weight, line_weight}
-
-pub and_both : (a b : Bool) → a ≡ true → b ≡ true → (a && b) ≡ true
-and_both a b p q = ap (λ c. c && b) p ∙ q
-
-pub same_key-same : (k : Key) → same_key k k ≡ true
-same_key-same k =
-    and_both _ _ (and_both _ _ (and_both _ _ (and_both _ _ (eq-eqb k.stamp k.stamp refl) (eq-eqb k.rank k.rank refl)) (eq-eqb k.dest k.dest refl)) (eq-eqb k.src k.src refl)) (eq-eqb k.serial k.serial refl)
-
-pub and_first : (a b : Bool) → (a && b) ≡ true → a ≡ true
-and_first true b h = refl
-and_first false b h = absurd (cc)
-
-pub and_second : (a b : Bool) → (a && b) ≡ true → b ≡ true
-and_second true b h = h
-and_second false b h = absurd (cc)
-
-pub same_key-true : (a b : Key) → same_key a b ≡ true → a ≡ b
-same_key-true a b h =
-    let four = and_first _ _ h in
-    let three = and_first _ _ four in
-    let two = and_first _ _ three in
-    let stamp : a.stamp ≡ b.stamp = eqb-true a.stamp b.stamp (and_first _ _ two) in
-    let rank : a.rank ≡ b.rank = eqb-true a.rank b.rank (and_second _ _ two) in
-    let dest : a.dest ≡ b.dest = eqb-true a.dest b.dest (and_second _ _ three) in
-    let src : a.src ≡ b.src = eqb-true a.src b.src (and_second _ _ four) in
-    let serial : a.serial ≡ b.serial = eqb-true a.serial b.serial (and_second _ _ h) in
-    λ i. record { stamp = stamp i; rank = rank i; dest = dest i; src = src i; serial = serial i }
-
-pub same_key-other : (a b : Key) → a ≢ b → same_key a b ≡ false
-same_key-other a b apart = by (same_key a b) refl
-  where
-    by : (same : Bool) → same_key a b ≡ same → same ≡ false
-    by true h = absurd (apart (same_key-true a b h))
-    by false h = refl
 
 -- the weight of where an event moves a job
 abbrev pub moved_weight : (ℕ × Place → ℕ) → Key → ℕ → ℕ → List Event → ℕ × Place → ℕ
 moved_weight w key word waiting sent at = w (at.0, place_after key word waiting sent at.1)
 
 -- the event's own job moves, where it has one
-pub own_moves : (p : NetworkParts) (w : ℕ × Place → ℕ) (e : Event) (word waiting : ℕ) (sent : List Event) → is_source (object_at p.objects e.key.dest).role ≡ false
+pub own_moves : (p : NetworkParts) (w : ℕ × Place → ℕ) (e : Event) (word waiting : ℕ) (sent : List Event) → is_source (object_at p.objects e.key.dest).kind ≡ false
     → event_weight p (moved_weight w e.key word waiting sent) e ≡ w (e.a, own_place word e.key.dest waiting sent)
 own_moves p w e word waiting sent no_source =
     ap (λ b. cond (not b) (moved_weight w e.key word waiting sent (e.a, at_event e.key)) 0) no_source
-    ∙ ap (λ b. w (e.a, if b then own_place word e.key.dest waiting sent else at_event e.key)) (same_key-same e.key)
+    ∙ ap (λ b. w (e.a, if b then own_place word e.key.dest waiting sent else at_event e.key)) (same_key-itself e.key)
 
 -- an event at a source has none
-pub no_job : (p : NetworkParts) (w : ℕ × Place → ℕ) (e : Event) → is_source (object_at p.objects e.key.dest).role ≡ true → event_weight p w e ≡ 0
+pub no_job : (p : NetworkParts) (w : ℕ × Place → ℕ) (e : Event) → is_source (object_at p.objects e.key.dest).kind ≡ true → event_weight p w e ≡ 0
 no_job p w e source = ap (λ b. cond (not b) (w (e.a, at_event e.key)) 0) source
 
-pub has_job : (p : NetworkParts) (w : ℕ × Place → ℕ) (e : Event) → is_source (object_at p.objects e.key.dest).role ≡ false → event_weight p w e ≡ w (e.a, at_event e.key)
+pub has_job : (p : NetworkParts) (w : ℕ × Place → ℕ) (e : Event) → is_source (object_at p.objects e.key.dest).kind ≡ false → event_weight p w e ≡ w (e.a, at_event e.key)
 has_job p w e no_source = ap (λ b. cond (not b) (w (e.a, at_event e.key)) 0) no_source
 
 -- every other pending event's job stays

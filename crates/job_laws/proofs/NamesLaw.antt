@@ -10,17 +10,17 @@ use Rattle.delta_exchange.specs.Changes.{CellData, cells_after_all}
 use Rattle.model_core.specs.declared.effect.Effect.{Effect}
 use Rattle.model_core.specs.declared.event.Event.{Event}
 use Rattle.model_core.specs.declared.note.Note.{Note}
+use Rattle.model_core.proofs.Numbers.{numbers-more}
 use Rattle.sim_spec.specs.declared.terms.Terms.{Terms}
 use Rattle.sim_spec.specs.Firing.{emissions}
 use Rattle.sim_spec.specs.State.{State, initial_state, start_event, object_at as state_at}
 use Rattle.sim_spec.specs.Run.{does}
-use Rattle.queue_models.specs.declared.object.Role.{Role}
-use Rattle.queue_models.specs.declared.object.Role.TheVariants.{Makes}
+use Rattle.queue_models.specs.declared.kind.KindOver.{KindOver}
+use Rattle.queue_models.specs.declared.kind.KindOver.TheVariants.{Source, Station, Delay, Router, Sink}
 use Rattle.queue_models.specs.declared.site.Site.{Site}
-use Rattle.queue_models.specs.declared.source.Source.{Source}
+use Rattle.queue_models.specs.Kinds.{is_lawful, is_source, first_cells_of}
 use Rattle.queue_models.specs.Meaning.{network_meaning, site_of}
 use Rattle.queue_models.specs.Objects.{NetworkParts, object_at, source_numbers}
-use Rattle.queue_models.specs.Roles.{is_lawful, first_cells_of}
 use Rattle.queue_models.specs.Sources.{made_of, left_of, idle_effect, last_effect, make_effect}
 use Rattle.queue_models.specs.Sites.{place_of}
 use Rattle.run_laws.proofs.Steps.{first_firing}
@@ -88,15 +88,6 @@ listed_on p t s told after jobs n =
     ∙ ap (λ ns. numbers_from listed jobs ++ ns) (none_listed (word_told note) key.dest (job_told note) sent)
     ∙ append-nil (numbers_from listed jobs)
 
-range_more : (a n : ℕ) → range_with_len a (n + 1) ≡ range_with_len a n ++ (a + n) ∷ []
-range_more a zero =
-    let at : a ≡ a + 0 = omega arith in
-    ap (λ b. b ∷ []) at
-range_more a (suc n) =
-    let more : suc n + 1 ≡ suc (n + 1) = omega arith in
-    let at : a + 1 + n ≡ a + suc n = omega arith in
-    ap (range_with_len a) more ∙ ap (λ ns. a ∷ ns) (range_more (a + 1) n ∙ ap (λ b. range_with_len (a + 1) n ++ b ∷ []) at)
-
 -- a source's jobs are numbered from 1 on
 Numbered : ℕ → ℕ → List (Job × Place) → Type 0
 Numbered i made jobs = numbers_from (made_by i) jobs ≡ range_with_len 1 made
@@ -105,49 +96,51 @@ one_more : (i made : ℕ) (jobs : List (Job × Place)) (new : List ℕ) → Numb
 unfolding Numbered
 one_more i made jobs new so_far is_new =
     let at : made + 1 ≡ 1 + made = omega arith in
-    ap (λ ns. ns ++ new) so_far ∙ ap (λ ns. range_with_len 1 made ++ ns) (is_new ∙ ap (λ b. b ∷ []) at) ∙ sym (range_more 1 made)
+    ap (λ ns. ns ++ new) so_far ∙ ap (λ ns. range_with_len 1 made ++ ns) (is_new ∙ ap (λ b. b ∷ []) at) ∙ sym (numbers-more 1 made (1 + made) refl)
 
 own_job : (i number : ℕ) (k : Key) → numbers_from (made_by i) ((record { origin = made_by i; number = number }, at_event k) ∷ []) ≡ number ∷ []
 own_job i number k =
     ap (λ b. map (λ (job : Job × Place). job.0.number) (cond b ((record { origin = made_by i; number = number }, at_event k) ∷ []) [])) (eq-eqb i i refl)
 
 -- what a source makes gets the next number
-source_numbers_on : (site : Site) (cells : CellData) (e : Event) (source : Source) (x : Effect) (i stamp object serial : ℕ) (jobs : List (Job × Place))
-    → cells ≡ source_cells (place_of cells) (made_of cells) (left_of cells) → EventDoes site cells e (Makes source) x → Numbered i (made_of cells) jobs
+source_numbers_on : (site : Site) (cells : CellData) (e : Event) (kind : KindOver ℕ) (x : Effect) (i stamp object serial : ℕ) (jobs : List (Job × Place))
+    → is_source kind ≡ true → IsTrue (is_lawful kind cells) → EventDoes site cells e kind x → Numbered i (made_of cells) jobs
     → numbers_from (made_by i) jobs ++ numbers_from (made_by i) (newly_made (word_told x.note) i (job_told x.note) (emissions stamp object serial x.sends))
     ≡ range_with_len 1 (made_of (cells_after_all x.changes cells))
 unfolding emissions idle_effect last_effect make_effect Numbered
-source_numbers_on site cells e source x i stamp object serial jobs are (idles src none) so_far =
+source_numbers_on site cells e (Source first every count next) x i stamp object serial jobs makes_jobs lawful (idles none) so_far =
     append-nil (numbers_from (made_by i) jobs) ∙ so_far ∙ ap (λ (c : CellData). range_with_len 1 (made_of c)) (sym (idle_leaves cells))
-source_numbers_on site cells e source x i stamp object serial jobs are (makes_last src one) so_far =
+source_numbers_on site cells e (Source first every count next) x i stamp object serial jobs makes_jobs lawful (makes_last one) so_far =
     one_more i (made_of cells) jobs _ so_far (own_job i (made_of cells + 1) _)
-    ∙ ap (λ (c : CellData). range_with_len 1 (made_of c)) (sym (last_leaves site source cells (time_part e.key.stamp) are))
-source_numbers_on site cells e source x i stamp object serial jobs are (makes src more) so_far =
+    ∙ ap (λ (c : CellData). range_with_len 1 (made_of c)) (sym (last_leaves site next cells (time_part e.key.stamp) (source_shape count cells lawful)))
+source_numbers_on site cells e (Source first every count next) x i stamp object serial jobs makes_jobs lawful (makes more) so_far =
     one_more i (made_of cells) jobs _ so_far (own_job i (made_of cells + 1) _)
-    ∙ ap (λ (c : CellData). range_with_len 1 (made_of c)) (sym (make_leaves site source cells (time_part e.key.stamp) are))
+    ∙ ap (λ (c : CellData). range_with_len 1 (made_of c)) (sym (make_leaves site every next cells (time_part e.key.stamp) (source_shape count cells lawful)))
+source_numbers_on site cells e (Station servers service line strict next) x i stamp object serial jobs makes_jobs lawful does_so so_far = cc
+source_numbers_on site cells e (Delay delay next) x i stamp object serial jobs makes_jobs lawful does_so so_far = cc
+source_numbers_on site cells e (Router next weights) x i stamp object serial jobs makes_jobs lawful does_so so_far = cc
+source_numbers_on site cells e (Sink due) x i stamp object serial jobs makes_jobs lawful does_so so_far = cc
 
 pub made_on : (p : NetworkParts) (t : Terms) (s : State) (told : Key × Note) (after : State) (jobs : List (Job × Place)) → IsNetworkStep p t s told after
-    → (i : ℕ) (source : Source) → (object_at p.objects i).role ≡ Makes source
+    → (i : ℕ) → is_source (object_at p.objects i).kind ≡ true
     → numbers_from (made_by i) jobs ≡ range_with_len 1 (made_of (cells_at s i))
     → numbers_from (made_by i) (places_after p s jobs (does told after)) ≡ range_with_len 1 (made_of (cells_at after i))
 unfolding Numbered
-made_on p t s told after jobs n i source is so_far =
+made_on p t s told after jobs n i is so_far =
     ap (numbers_from (made_by i)) (places_after-step p t s told after n jobs)
     ∙ names_after (made_by i) n.step.event.key n.step.effect.note _ (first_firing s n.step.event n.step.effect).events jobs
     ∙ by (eqb i n.step.event.key.dest) refl
   where
-    at_source : (source : Source) → (object_at p.objects n.step.event.key.dest).role ≡ Makes source
+    at_source : is_source (object_at p.objects n.step.event.key.dest).kind ≡ true
         → numbers_from (made_by n.step.event.key.dest) jobs ≡ range_with_len 1 (made_of (cells_at s n.step.event.key.dest))
         → numbers_from (made_by n.step.event.key.dest) jobs
         ++ numbers_from (made_by n.step.event.key.dest) (newly_made (word_told n.step.effect.note) n.step.event.key.dest (job_told n.step.effect.note) (first_firing s n.step.event n.step.effect).events)
         ≡ range_with_len 1 (made_of (cells_at after n.step.event.key.dest))
-    at_source source is so_far =
+    at_source is so_far =
         let e : Event = n.step.event in
         let d : ℕ = e.key.dest in
         let cells : CellData = cells_at s d in
-        let L : Role → Type 0 = λ role. IsTrue (is_lawful role cells) in
-        let D : Role → Type 0 = λ role. EventDoes (site_of p d) cells e role n.step.effect in
-        source_numbers_on (site_of p d) cells e source n.step.effect d e.key.stamp d (state_at s.objects d).sent jobs (source_shape source cells (subst L is n.cells)) (subst D is n.does_so) so_far
+        source_numbers_on (site_of p d) cells e (object_at p.objects d).kind n.step.effect d e.key.stamp d (state_at s.objects d).sent jobs is n.cells n.does_so so_far
         ∙ ap (λ (c : CellData). range_with_len 1 (made_of c)) (sym (cells_here p t s told after n))
 
     by : (here : Bool) → eqb i n.step.event.key.dest ≡ here
@@ -155,10 +148,10 @@ made_on p t s told after jobs n i source is so_far =
         ≡ range_with_len 1 (made_of (cells_at after i))
     by true here_is =
         let same : i ≡ n.step.event.key.dest = eqb-true i n.step.event.key.dest here_is in
-        let P : ℕ → Type 0 = λ j. (object_at p.objects j).role ≡ Makes source → numbers_from (made_by j) jobs ≡ range_with_len 1 (made_of (cells_at s j))
+        let P : ℕ → Type 0 = λ j. is_source (object_at p.objects j).kind ≡ true → numbers_from (made_by j) jobs ≡ range_with_len 1 (made_of (cells_at s j))
         → numbers_from (made_by j) jobs ++ numbers_from (made_by j) (newly_made (word_told n.step.effect.note) n.step.event.key.dest (job_told n.step.effect.note) (first_firing s n.step.event n.step.effect).events)
         ≡ range_with_len 1 (made_of (cells_at after j)) in
-        subst P (sym same) (at_source source) is so_far
+        subst P (sym same) at_source is so_far
     by false apart_is =
         let apart : i ≢ n.step.event.key.dest = λ same. let yes = eq-eqb i n.step.event.key.dest same in cc in
         ap (λ ns. numbers_from (made_by i) jobs ++ ns) (none_of_other i (word_told n.step.effect.note) n.step.event.key.dest (job_told n.step.effect.note) _ apart)
@@ -178,8 +171,15 @@ first_made : (p : NetworkParts) (j a n : ℕ)
 first_made p j a zero = refl
 first_made p j a (suc n) = first_made p j (a + 1) n
 
-pub made_first : (p : NetworkParts) (i : ℕ) (source : Source) → (object_at p.objects i).role ≡ Makes source
+none_made : (kind : KindOver ℕ) → is_source kind ≡ true → made_of (first_cells_of kind) ≡ 0
+none_made (Source first every count next) is = refl
+none_made (Station servers service line strict next) is = cc
+none_made (Delay delay next) is = cc
+none_made (Router next weights) is = cc
+none_made (Sink due) is = cc
+
+pub made_first : (p : NetworkParts) (i : ℕ) → is_source (object_at p.objects i).kind ≡ true
     → numbers_from (made_by i) (first_places p) ≡ range_with_len 1 (made_of (cells_at (initial_state (network_meaning p)) i))
-made_first p i source is =
+made_first p i is =
     first_made p i 0 (length p.jobs)
-    ∙ sym (ap (λ (c : CellData). range_with_len 1 (made_of c)) (cells_at_start p i (source_exists p i source is) ∙ ap first_cells_of is))
+    ∙ sym (ap (λ (c : CellData). range_with_len 1 (made_of c)) (cells_at_start p i (source_exists p i is)) ∙ ap (range_with_len 1) (none_made (object_at p.objects i).kind is))

@@ -1,4 +1,5 @@
 -- The places that jobs hold are those of the state, after each event.
+use Rattle.std.proofs.lemmas.Bool.{and_right}
 use Rattle.std.proofs.Common.{◌≡◌, ℕ, zero, suc, ◌+◌, ◌-◌, ◌<◌, ◌≤◌, Bool, true, false, List, [], ◌∷◌, ◌++◌, length, map, refl, sym, ap, ◌∙◌, subst, arith, ne_eqb}
 use Rattle.std.specs.Prelude.{sum_by, slice_index, ◌==◌, ◌&&◌}
 use Rattle.std.specs.List.{range_with_len}
@@ -16,13 +17,13 @@ use Rattle.key_order.specs.Ascending.{IsAscending, Ascends}
 use Rattle.sim_spec.specs.State.{State, initial_state, start_event, event_of_start, object_at as state_at}
 use Rattle.sim_spec.specs.Run.{does}
 use Rattle.key_order.proofs.EachLemmas.{Each-map}
-use Rattle.queue_models.specs.declared.object.Role.{Role}
-use Rattle.queue_models.specs.declared.object.Role.TheVariants.{Makes, Serves, Holds, Routes, Ends}
+use Rattle.queue_models.specs.declared.kind.KindOver.{KindOver}
+use Rattle.queue_models.specs.declared.kind.KindOver.TheVariants.{Source, Station, Delay, Router, Sink}
+use Rattle.queue_models.specs.Kinds.{first_cells_of, is_source}
 use Rattle.queue_models.specs.Meaning.{network_meaning, source_start, job_start}
 use Rattle.queue_models.specs.ModelLaws.{object_fine}
-use Rattle.queue_models.specs.Objects.{NetworkParts, object_at, is_source, source_numbers, sources_below}
+use Rattle.queue_models.specs.Objects.{NetworkParts, object_at, source_numbers, sources_below}
 use Rattle.queue_models.specs.Parts.{IsNetwork}
-use Rattle.queue_models.specs.Roles.{first_cells_of}
 use Rattle.run_laws.specs.Sent.{sent_next}
 use Rattle.run_laws.proofs.Steps.{first_firing, sent_next-step}
 use Rattle.queue_laws.specs.Stations.{cells_at, waiting_at}
@@ -100,12 +101,8 @@ lines_change p t s told after n v word waiting sent =
     let key : Key = n.step.event.key in
     let move : ℕ × Place → ℕ = moved_weight v key word waiting sent in
     range-change (λ i. line_weight move i (waiting_at s i)) (λ i. line_weight v i (waiting_at after i)) 0 (length p.objects) key.dest (omega arith) (omega (arith, n.exists))
-    (λ i apart. line_stays v key word waiting sent i 0 (waiting_at s i) (none (word == 6) (i == key.dest) (ne_eqb i key.dest apart))
+    (λ i apart. line_stays v key word waiting sent i 0 (waiting_at s i) (and_right (word == 6) (i == key.dest) (ne_eqb i key.dest apart))
     ∙ ap (line_weight v i) (sym (ap (λ (c : CellData). line_of c 0) (cells_elsewhere p t s told after n i apart))))
-  where
-    none : (a b : Bool) → b ≡ false → (a && b) ≡ false
-    none true b is = is
-    none false b is = refl
 
 pub agree_on : (p : NetworkParts) (t : Terms) (s : State) (told : Key × Note) (after : State) (jobs : List (Job × Place)) → IsNetwork p → IsNetworkStep p t s told after
     → Agree p s jobs → Agree p after (places_after p s jobs (does told after))
@@ -127,7 +124,7 @@ agree_on p t s told after jobs fine n agree w =
     sum-held w (moved_jobs e.key x.note waiting sent jobs) ∙ moved_sum v e.key x.note waiting sent jobs live in
     let before : sum_by move (held jobs) ≡ sum_by (event_weight p move) s.pending + sum_by (λ i. line_weight move i (waiting_at s i)) (range_with_len 0 (length p.objects)) =
     agree move ∙ sum-in_the_system p s move in
-    let balance = balances p v e cells (object_at p.objects d).role x serial live refl (object_fine p fine d n.exists).role n.cells n.does_so in
+    let balance = balances p v e cells (object_at p.objects d).kind x serial live refl (object_fine p fine d n.exists).kind n.cells n.does_so in
     let line : line_weight v d (waiting_at after d) ≡ line_weight v d (line_of (cells_after_all x.changes cells) 0) =
     ap (λ (c : CellData). line_weight v d (line_of c 0)) (cells_here p t s told after n) in
     let then : sum_by v (in_the_system p after) ≡ sum_by (event_weight p v) after.pending + sum_by (λ i. line_weight v i (waiting_at after i)) (range_with_len 0 (length p.objects)) =
@@ -145,9 +142,9 @@ agree_on p t s told after jobs fine n agree w =
 -- at the start
 
 -- the numbers of sources are sources'
-source_number : (p : NetworkParts) (k : ℕ) → k < length (source_numbers p.objects) → is_source (object_at p.objects (slice_index (source_numbers p.objects) k)).role ≡ true
+source_number : (p : NetworkParts) (k : ℕ) → k < length (source_numbers p.objects) → is_source (object_at p.objects (slice_index (source_numbers p.objects) k)).kind ≡ true
 unfolding sources_below
-source_number p k within = filter_passes (λ number. is_source (object_at p.objects number).role) (range_with_len 0 (length p.objects)) k 0 within
+source_number p k within = filter_passes (λ number. is_source (object_at p.objects number).kind) (range_with_len 0 (length p.objects)) k 0 within
 
 source_weight : (p : NetworkParts) (w : ℕ × Place → ℕ) (k : ℕ) → k < length (source_numbers p.objects) → event_weight p w (start_event (network_meaning p) k) ≡ 0
 source_weight p w k early =
@@ -194,19 +191,19 @@ shifted F G S J a (suc n) room same =
     )
 
 -- nobody waits
-first_line : (role : Role) → line_of (first_cells_of role) 0 ≡ []
-first_line (Makes source) = refl
-first_line (Serves station) = refl
-first_line (Holds d) = refl
-first_line (Routes router) = refl
-first_line (Ends sink) = refl
+first_line : (kind : KindOver ℕ) → line_of (first_cells_of kind) 0 ≡ []
+first_line (Source first every count next) = refl
+first_line (Station servers service line strict next) = refl
+first_line (Delay delay next) = refl
+first_line (Router next weights) = refl
+first_line (Sink due) = refl
 
 no_lines : (p : NetworkParts) (w : ℕ × Place → ℕ) (a n : ℕ) → a + n ≤ length p.objects
     → sum_by (λ i. line_weight w i (waiting_at (initial_state (network_meaning p)) i)) (range_with_len a n) ≡ 0
 no_lines p w a zero room = refl
 no_lines p w a (suc n) room =
     let f : ℕ → ℕ = λ i. line_weight w i (waiting_at (initial_state (network_meaning p)) i) in
-    let none : f a ≡ 0 = ap (line_weight w a) (ap (λ (c : CellData). line_of c 0) (cells_at_start p a (omega arith)) ∙ first_line (object_at p.objects a).role) in
+    let none : f a ≡ 0 = ap (line_weight w a) (ap (λ (c : CellData). line_of c 0) (cells_at_start p a (omega arith)) ∙ first_line (object_at p.objects a).kind) in
     omega (arith, sum_by-cons f a (range_with_len (a + 1) n), no_lines p w (a + 1) n (omega arith))
 
 pub agree_first : (p : NetworkParts) → IsNetwork p → Agree p (initial_state (network_meaning p)) (first_places p)

@@ -1,8 +1,10 @@
 -- A test of places.
+use Rattle.std.proofs.lemmas.Bool.{and_from, and_parts}
 use Rattle.std.proofs.Common.{◌≡◌, ℕ, Bool, true, false, refl, ap, ◌∙◌, eqb-true, eq-eqb}
 use Rattle.std.specs.Prelude.{◌==◌, ◌&&◌}
-use Rattle.job_laws.specs.Places.{Place, at_event, in_line, has_left, was_lost, same_key}
-use Rattle.job_laws.proofs.Moving.{same_key-same, same_key-true, and_first, and_second, and_both}
+use Rattle.event_key.specs.Keys.{same_key}
+use Rattle.event_key.proofs.Order.{same_key-is, same_key-itself}
+use Rattle.job_laws.specs.Places.{Place, at_event, in_line, has_left, was_lost}
 
 pub same_place : Place → Place → Bool
 same_place (at_event j) (at_event k) = same_key j k
@@ -24,13 +26,13 @@ same_place was_lost was_lost = true
 
 same_place-true : (a b : Place) → same_place a b ≡ true → a ≡ b
 unfolding same_place
-same_place-true (at_event j) (at_event k) h = ap at_event (same_key-true j k h)
+same_place-true (at_event j) (at_event k) h = ap at_event (same_key-is j k h)
 same_place-true (at_event j) (in_line i k) h = absurd (cc)
 same_place-true (at_event j) has_left h = absurd (cc)
 same_place-true (at_event j) was_lost h = absurd (cc)
 same_place-true (in_line g j) (at_event k) h = absurd (cc)
 same_place-true (in_line g j) (in_line i k) h =
-    ap (λ l. in_line l j) (eqb-true g i (and_first (g == i) (j == k) h)) ∙ ap (λ l. in_line i l) (eqb-true j k (and_second (g == i) (j == k) h))
+    ap (λ l. in_line l j) (eqb-true g i (and_parts (g == i) (j == k) h).0) ∙ ap (λ l. in_line i l) (eqb-true j k (and_parts (g == i) (j == k) h).1)
 same_place-true (in_line g j) has_left h = absurd (cc)
 same_place-true (in_line g j) was_lost h = absurd (cc)
 same_place-true has_left (at_event k) h = absurd (cc)
@@ -44,8 +46,8 @@ same_place-true was_lost was_lost h = refl
 
 same_place-same : (a : Place) → same_place a a ≡ true
 unfolding same_place
-same_place-same (at_event k) = same_key-same k
-same_place-same (in_line i k) = and_both (i == i) (k == k) (eq-eqb i i refl) (eq-eqb k k refl)
+same_place-same (at_event k) = same_key-itself k
+same_place-same (in_line i k) = and_from (i == i) (k == k) (eq-eqb i i refl) (eq-eqb k k refl)
 same_place-same has_left = refl
 same_place-same was_lost = refl
 
@@ -54,9 +56,9 @@ same_at a b = a.0 == b.0 && same_place a.1 b.1
 
 pub same_at-true : (a b : ℕ × Place) → same_at a b ≡ true → a ≡ b
 same_at-true a b h =
-    let number : a.0 ≡ b.0 = eqb-true a.0 b.0 (and_first (a.0 == b.0) (same_place a.1 b.1) h) in
-    let place : a.1 ≡ b.1 = same_place-true a.1 b.1 (and_second (a.0 == b.0) (same_place a.1 b.1) h) in
+    let number : a.0 ≡ b.0 = eqb-true a.0 b.0 (and_parts (a.0 == b.0) (same_place a.1 b.1) h).0 in
+    let place : a.1 ≡ b.1 = same_place-true a.1 b.1 (and_parts (a.0 == b.0) (same_place a.1 b.1) h).1 in
     λ i. (number i, place i)
 
 pub same_at-same : (a : ℕ × Place) → same_at a a ≡ true
-same_at-same a = and_both (a.0 == a.0) (same_place a.1 a.1) (eq-eqb a.0 a.0 refl) (same_place-same a.1)
+same_at-same a = and_from (a.0 == a.0) (same_place a.1 a.1) (eq-eqb a.0 a.0 refl) (same_place-same a.1)

@@ -2,8 +2,7 @@
 use Rattle.std.specs.Prelude.{◌≡◌, ℕ, ◌+◌, Bool, true, false, ◌==◌, List, length, map, filter, count_by, IsPermutation}
 use Rattle.std.specs.List.{range_with_len}
 use Rattle.sim_spec.specs.declared.terms.Terms.{Terms}
-use Rattle.queue_models.specs.declared.object.Role.TheVariants.{Makes}
-use Rattle.queue_models.specs.declared.source.Source.{Source}
+use Rattle.queue_models.specs.Kinds.{is_source}
 use Rattle.queue_models.specs.Meaning.{network_meaning}
 use Rattle.queue_models.specs.Objects.{NetworkParts, object_at}
 use Rattle.queue_models.specs.Parts.{IsNetwork}
@@ -39,7 +38,7 @@ is_lost was_lost = true
 -- have left, those that were lost, and those in the system
 pub record AreAllThere (p : NetworkParts) (t : Terms) (n : ℕ) : Type 0 where
   pub put_in : numbers_from listed (whereabouts p t n) ≡ range_with_len 1 (length p.jobs)
-  pub made : (i : ℕ) (source : Source) → (object_at p.objects i).role ≡ Makes source
+  pub made : (i : ℕ) → is_source (object_at p.objects i).kind ≡ true
       → numbers_from (made_by i) (whereabouts p t n) ≡ range_with_len 1 (made_of (cells_at (after_events n (network_meaning p) t) i))
   pub places : IsPermutation (held (whereabouts p t n)) (in_the_system p (after_events n (network_meaning p) t))
   pub count : length (whereabouts p t n)

@@ -6,7 +6,8 @@ use Rattle.sim_spec.specs.declared.terms.Terms.{Terms}
 use Rattle.sim_spec.specs.State.{State, start_event}
 use Rattle.sim_spec.specs.Run.{Next, stops, does, next}
 use Rattle.queue_models.specs.Meaning.{network_meaning}
-use Rattle.queue_models.specs.Objects.{NetworkParts, object_at, is_source, source_numbers}
+use Rattle.queue_models.specs.Kinds.{is_source}
+use Rattle.queue_models.specs.Objects.{NetworkParts, object_at, source_numbers}
 use Rattle.run_laws.specs.Reached.{after_events}
 use Rattle.run_laws.specs.Sent.{sent_next}
 use Rattle.queue_laws.specs.Stations.{waiting_at}
@@ -60,7 +61,7 @@ held jobs = filter (λ at. is_in_system at.1) (map (λ (job : Job × Place). (jo
 
 -- each pending event is a job's, but for those at sources
 abbrev pub is_of_job : NetworkParts → Event → Bool
-is_of_job p e = not (is_source (object_at p.objects e.key.dest).role)
+is_of_job p e = not (is_source (object_at p.objects e.key.dest).kind)
 
 -- the places of a line, from the one behind k others on
 abbrev pub places_in_line : ℕ → ℕ → List ℕ → List (ℕ × Place)

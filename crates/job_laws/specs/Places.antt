@@ -1,6 +1,7 @@
 -- Where a job can stand, and where it stands after an event.
 use Rattle.std.specs.Prelude.{ℕ, zero, suc, Bool, ◌==◌, ◌&&◌, if◌then◌else◌, List, [], ◌∷◌, slice_index_or}
 use Rattle.event_key.specs.declared.key.Key.{Key}
+use Rattle.event_key.specs.Keys.{same_key}
 use Rattle.model_core.specs.declared.event.Event.{Event}
 use Rattle.model_core.specs.declared.note.Note.{Note}
 
@@ -11,9 +12,6 @@ pub data Place : Type 0 where
   in_line : ℕ → ℕ → Place
   has_left : Place
   was_lost : Place
-
-abbrev pub same_key : Key → Key → Bool
-same_key a b = a.stamp == b.stamp && a.rank == b.rank && a.dest == b.dest && a.src == b.src && a.serial == b.serial
 
 -- the word that a note tells, and the job of which it tells
 abbrev pub word_told : Note → ℕ

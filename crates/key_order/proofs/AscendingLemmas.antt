@@ -1,5 +1,5 @@
 -- Parts of a list in the order of its keys, and its images.
-use Rattle.std.proofs.Common.{◌≡◌, ℕ, zero, suc, Bool, true, false, cond, List, [], ◌∷◌, ◌++◌, map, take}
+use Rattle.std.proofs.Common.{◌≡◌, ℕ, zero, suc, Bool, true, false, cond, List, [], ◌∷◌, ◌++◌, map, take, subst, sym}
 use Rattle.std.proofs.lemmas.Bool.{false_from_ne_true}
 use Rattle.std.specs.Prelude.{filter}
 use Rattle.std.specs.List.{AllByRecursion as Each}
@@ -26,6 +26,11 @@ module _ {X : Type 0} (key : X → Key) where
   pub After-head : (k : Key) (x : X) (xs : List X) → key_lt k (key x) ≡ true → Ascends key (x ∷ xs) → After key k (x ∷ xs)
   unfolding Ascends
   After-head k x xs lt up = (lt, After-trans k (key x) xs lt up.0)
+
+  -- a single element is in order
+  pub Ascends-one : (xs : List X) (x : X) → xs ≡ x ∷ [] → Ascends key xs
+  unfolding Ascends
+  Ascends-one xs x is = let P : List X → Type 0 = Ascends key in subst P (sym is) (tt, tt)
 
   pub Ascends-filter : (p : X → Bool) (xs : List X) → Ascends key xs → Ascends key (filter p xs)
   unfolding Ascends

@@ -6,7 +6,7 @@ use Rattle.std.proofs.lemmas.List.Sorted.{sum_by-IsPermutation}
 use Rattle.std.proofs.lemmas.List.Sums.{sum_by-cons, sum_by-append}
 use Rattle.event_key.specs.declared.key.Key.{Key}
 use Rattle.event_key.specs.Keys.{key_lt}
-use Rattle.event_key.proofs.Order.{key_lt-irrefl, key_lt-apart}
+use Rattle.event_key.proofs.Order.{key_lt-irrefl, key_lt-apart, key_lt-trans}
 use Rattle.key_order.specs.Ascending.{After, Ascends}
 use Rattle.key_order.specs.Keys.{unless, at_key, times, Differ}
 
@@ -29,6 +29,18 @@ same_or_other j k = by_tests (key_lt j k) (key_lt k j) refl refl
     by_tests true b h g = inr (key_lt-differs j k h)
     by_tests false true h g = inr (λ same. key_lt-differs k j g (sym same))
     by_tests false false h g = inl (key_lt-apart j k h g)
+
+-- of keys none of which comes before the next, the first doesn't come before the last
+pub key_lt-none-trans : (i j k : Key) → key_lt i j ≡ false → key_lt j k ≡ false → key_lt i k ≡ false
+key_lt-none-trans i j k h g = by_test (key_lt i k) refl
+  where
+    by_test : (t : Bool) → key_lt i k ≡ t → t ≡ false
+    by_test false is = refl
+    by_test true is =
+        elim (same_or_other i j) [
+          | inl same ↦ (let yes : key_lt j k ≡ true = ap (λ v. key_lt v k) (sym same) ∙ is in absurd (cc))
+          | inr apart ↦ (let yes : key_lt j k ≡ true = key_lt-trans j i k (key_lt-other i j apart h) is in absurd (cc))
+        ]
 
 module _ {X : Type 0} (key : X → Key) where
   pub at_key-same : (k : Key) (x : X) → k ≡ key x → at_key key k x ≡ 1

@@ -1,5 +1,5 @@
 -- Members of lists, and parts of them.
-use Rattle.std.proofs.Common.{Bool, List, [], arith, cond, false, inl, inr, length, refl, subst, suc, true, zero, ℕ, ◌<◌, ◌∷◌, ◌≡◌, ◌⊎◌}
+use Rattle.std.proofs.Common.{Bool, List, [], ap, arith, cond, false, inl, inr, length, refl, subst, suc, true, zero, ℕ, ◌<◌, ◌∙◌, ◌∷◌, ◌≡◌, ◌⊎◌}
 use Rattle.std.specs.List.{AllByRecursion as Each}
 use Rattle.std.specs.Prelude.{Contains, IsPermutation, filter, slice_index_or}
 use Rattle.std.proofs.lemmas.List.Sorted.{Contains-permutation, IsPermutation-sym}
@@ -39,6 +39,15 @@ filter-contains p x (y ∷ ys) is_in = by_test (p y) (filter-contains p x ys) is
           | inr there ↦ is-later x y ys (more there)
         ]
     by_test false more is_in = is-later x y ys (more is_in)
+
+-- a member that passes the test is one of the part
+pub contains-filter : {X : Type 0} (p : X → Bool) (x : X) (xs : List X) → p x ≡ true → Contains xs x → Contains (filter p xs) x
+contains-filter p x [] passes is_in = is_in
+contains-filter p x (y ∷ ys) passes is_in = by_test (p y) refl (contains-filter p x ys passes)
+  where
+    by_test : (b : Bool) → p y ≡ b → (Contains ys x → Contains (filter p ys) x) → Contains (cond b (y ∷ filter p ys) (filter p ys)) x
+    by_test true here more = elim (first-or-later x y ys is_in) [ inl same ↦ is-first x y (filter p ys) same | inr later ↦ is-later x y (filter p ys) (more later) ]
+    by_test false here more = elim (first-or-later x y ys is_in) [ inl same ↦ (let good : p y ≡ true = ap p same ∙ passes in absurd (cc)) | inr later ↦ more later ]
 
 -- what holds of each member holds of each
 pub each-member : {X : Type 0} (P : X → Type 0) (xs : List X) → ((x : X) → Contains xs x → P x) → Each P xs

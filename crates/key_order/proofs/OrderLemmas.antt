@@ -1,12 +1,16 @@
 -- A list in the order of its keys is known by its members, and object by object.
-use Rattle.std.proofs.Common.{Bool, List, [], ap, cond, eq-eqb, eqb, false, inl, inr, refl, subst, sym, true, ℕ, ◌∷◌, ◌≡◌}
+use Rattle.std.proofs.Common.{Bool, List, [], ap, arith, cond, eq-eqb, eqb, false, inl, inr, refl, subst, sym, true, ℕ, ◌+◌, ◌∙◌, ◌∷◌, ◌≡◌}
 use Rattle.std.specs.Prelude.{Contains, IsPermutation, filter}
+use Rattle.std.proofs.lemmas.Bool.{eqb-false}
 use Rattle.std.proofs.lemmas.List.Sorted.{Contains-permutation, IsPermutation-sym}
+use Rattle.std.proofs.lemmas.List.Sums.{sum_by-cons}
 use Rattle.event_key.proofs.Order.{key_lt-trans}
 use Rattle.event_key.specs.Keys.{key_lt}
 use Rattle.event_key.specs.declared.key.Key.{Key}
 use Rattle.key_order.specs.Ascending.{After, Ascends}
+use Rattle.key_order.specs.Keys.{Differ, at_key, times}
 use Rattle.key_order.proofs.AscendingLemmas.{key_lt-never}
+use Rattle.key_order.proofs.KeyLemmas.{at_key-other}
 use Rattle.key_order.proofs.MemberLemmas.{each-contains, filter-contains, first-or-later, is-first, is-later, none-in}
 
 module _ {X : Type 0} (key : X → Key) where
@@ -78,3 +82,20 @@ module _ {X : Type 0} (key : X → Key) where
       by-members xs ys up down
       (λ x is_in. filter-contains (λ z. eqb (key z).dest (key x).dest) x ys (subst (P x) (same (key x).dest) (in_part x xs is_in)))
       (λ x is_in. filter-contains (λ z. eqb (key z).dest (key x).dest) x xs (subst (P x) (sym (same (key x).dest)) (in_part x ys is_in)))
+
+  -- a key is as often in a list as in the part of its object
+  times-part : (k : Key) (xs : List X) → times key k xs ≡ times key k (part k.dest xs)
+  times-part k [] = refl
+  times-part k (x ∷ xs) = by_test (times-part k xs) (eqb (key x).dest k.dest) refl
+    where
+      by_test : times key k xs ≡ times key k (part k.dest xs) → (b : Bool) → eqb (key x).dest k.dest ≡ b → times key k (x ∷ xs) ≡ times key k (cond b (x ∷ part k.dest xs) (part k.dest xs))
+      by_test more true here = sum_by-cons (at_key key k) x xs ∙ ap (λ n. at_key key k x + n) more ∙ sym (sum_by-cons (at_key key k) x (part k.dest xs))
+      by_test more false there =
+          let apart = eqb-false (key x).dest k.dest there in
+          let none : at_key key k x ≡ 0 = at_key-other key k x (λ same. apart (sym (ap (λ (j : Key). j.dest) same))) in
+          let sum : times key k (x ∷ xs) ≡ at_key key k x + times key k xs = sum_by-cons (at_key key k) x xs in
+          omega arith
+
+  -- keys differ where those of each object do
+  pub differ-by-parts : (xs : List X) → ((object : ℕ) → Differ key (part object xs)) → Differ key xs
+  differ-by-parts xs parts k = let one = parts k.dest k in let same = times-part k xs in omega arith

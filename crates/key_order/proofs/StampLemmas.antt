@@ -11,10 +11,6 @@ use Rattle.key_order.proofs.EachLemmas.{Each-map}
 pub NoneBelow-le : (g h : ℕ) (es : List Event) → g ≤ h → NoneBelow h es → NoneBelow g es
 NoneBelow-le g h es le from = Each-map (λ (e : Event). h ≤ e.key.stamp) (λ (e : Event). g ≤ e.key.stamp) es (λ e late. omega arith) from
 
--- what comes after a key has no lower stamp, and an event with a lower stamp than others comes before them
-pub NoneBelow-after : (k : Key) (es : List Event) → AllAfter k es → NoneBelow k.stamp es
-NoneBelow-after k es all = Each-map (λ (e : Event). key_lt k e.key ≡ true) (λ (e : Event). k.stamp ≤ e.key.stamp) es (λ e lt. stamp-le k e.key lt) all
-
 pub after-below : (h : ℕ) (k : Key) (es : List Event) → NoneBelow h es → k.stamp < h → AllAfter k es
 after-below h k es from low = Each-map (λ (e : Event). h ≤ e.key.stamp) (λ (e : Event). key_lt k e.key ≡ true) es (λ e late. key_lt-stamp k e.key (omega arith)) from
 

@@ -1,3 +1,5 @@
 pub mod Effects
 pub mod Meaning
 pub mod Notes
+pub mod Places
+pub mod Words

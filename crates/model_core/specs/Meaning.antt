@@ -1,12 +1,14 @@
 -- What a model means, and the laws that each model keeps.
 use Rattle.std.specs.Prelude.{ℕ, ◌^◌, ◌<◌, ◌≤◌, Bool, IsTrue, List, [], ◌∷◌, length}
 use Rattle.delta_exchange.specs.Changes.{CellData, AllFit, cells_after_all}
+use Rattle.event_key.specs.declared.key.TheConstants.{MOST_RANK}
 use Rattle.model_core.specs.declared.event.Event.{Event}
 use Rattle.model_core.specs.declared.event.Send.{Send}
 use Rattle.model_core.specs.declared.event.Start.{Start}
 use Rattle.model_core.specs.declared.effect.Effect.{Effect}
 use Rattle.model_core.specs.declared.effect.Outcome.{Outcome}
 use Rattle.model_core.specs.declared.effect.Outcome.TheVariants.{Goes, Fails}
+use Rattle.model_core.specs.declared.limits.TheConstants.{MOST_OBJECTS}
 
 -- how many objects there are, which cells an object may have, what an event does at an object,
 -- the cells of each object at the start, the initial events, and the names that are printed
@@ -22,7 +24,7 @@ pub record Meaning : Type 0 where
 -- what is sent has a destination, no long delay and a small rank
 abbrev pub SendsInRange : ℕ → List Send → Type 0
 SendsInRange objects [] = Unit {0}
-SendsInRange objects (s ∷ rest) = (s.dest < objects) × (s.delay ≤ 2 ^ 40) × (s.rank ≤ 255) × SendsInRange objects rest
+SendsInRange objects (s ∷ rest) = (s.dest < objects) × (s.delay ≤ 2 ^ 40) × (s.rank ≤ MOST_RANK) × SendsInRange objects rest
 
 -- an effect on lawful cells is small, fits them and leaves lawful ones
 pub record EffectLaws (m : Meaning) (object : ℕ) (cells : CellData) (x : Effect) : Type 0 where
@@ -41,10 +43,10 @@ OutcomeLaws m object cells (Fails code) = 2 ≤ code
 pub record StartLaws (m : Meaning) (start : Start) : Type 0 where
   pub dest : start.dest < m.objects
   pub time : start.time < 2 ^ 46
-  pub rank : start.rank ≤ 255
+  pub rank : start.rank ≤ MOST_RANK
 
 pub record MeaningLaws (m : Meaning) : Type 0 where
-  pub objects : m.objects ≤ 65536
+  pub objects : m.objects ≤ MOST_OBJECTS
   pub starts : m.starts ≤ 400000
   pub first : (object : ℕ) → object < m.objects → IsTrue (m.lawful object (m.first object))
   pub outcome : (object : ℕ) (cells : CellData) (event : Event) → object < m.objects → IsTrue (m.lawful object cells) → OutcomeLaws m object cells (m.effect object cells event)

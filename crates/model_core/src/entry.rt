@@ -6,6 +6,6 @@ pub struct Entry {
     /// In ticks, below 2^46.
     pub time: u64,
     pub at: u32,
-    /// At most 255.
+    /// At most `MOST_RANK`.
     pub rank: u32,
 }

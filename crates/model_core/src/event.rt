@@ -21,7 +21,7 @@ pub struct Send {
     pub kind: u32,
     pub a: u64,
     pub b: u64,
-    /// At most 255.
+    /// At most `MOST_RANK`.
     pub rank: u32,
 }
 
@@ -34,6 +34,6 @@ pub struct Start {
     pub kind: u32,
     pub a: u64,
     pub b: u64,
-    /// At most 255.
+    /// At most `MOST_RANK`.
     pub rank: u32,
 }

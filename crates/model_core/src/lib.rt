@@ -5,20 +5,30 @@ mod effect;
 mod entry;
 mod event;
 mod few;
+mod limits;
 pub mod model;
 mod name;
 mod note;
+mod place;
 mod sequence;
+mod words;
 
 pub use delta_exchange::{Cells, Change, OutOfMemory};
 pub use effect::{Effect, Ending, Outcome};
 pub use entry::Entry;
 pub use event::{Event, Send, Start};
 pub use few::Few;
+pub use limits::{MOST_ENTRIES, MOST_OBJECTS, MOST_TEXT_BYTES};
 pub use name::Name;
 pub use note::{Note, Part};
+pub use place::keep_place;
 pub use random_streams::Stream;
 pub use sequence::Sequence;
+pub use words::{
+    DONE_WORD, ENDLESS_CHAIN, HELD_WORD, HOP_WORD, LATE, LEFT_WORD, LEVEL_WORD, LINE_FULL,
+    LOAD_WORD, LOST_WORD, MADE_WORD, ROUTED_WORD, TAKEN_WORD, WAITING_WORD, fault_word,
+    record_word,
+};
 
 #[cfg(test)]
 mod tests;

@@ -15,7 +15,7 @@ pub trait Model: std::marker::Send + Sync + Drop {
     /// What it means.
     ghost meaning: { Self → Meaning };
 
-    /// How many objects it has, at most 65,536.
+    /// How many objects it has, at most `MOST_OBJECTS`.
     fn objects(&self) -> u32
         ensures { result ≡ (meaning self.now).objects };
 

@@ -1,5 +1,5 @@
 //! What is told of an event: a short list of parts.
-ghost use Rattle.std.specs.Prelude.{◌≡◌, ◌<◌, ◌++◌, ◌∷◌, [], length, slice_get, Some};
+ghost use Rattle.std.specs.Prelude.{◌≡◌, ◌<◌, ◌≤◌, ◌++◌, ◌∷◌, [], length, slice_get, Some};
 
 use std::marker::Model;
 
@@ -76,7 +76,8 @@ impl Note {
 
     /// How many parts it tells.
     pub fn len(&self) -> usize
-        ensures { result ≡ length self.now }
+        ensures count { result ≡ length self.now }
+        ensures few { result ≤ 4 }
     {
         match self.parts {
             Parts::Silent => 0,

@@ -1,27 +1,33 @@
 //! A whole simulation of a model.
 ghost use Rattle.std.specs.Prelude.{◌≡◌, ◌≤◌, IfOk, OnOk, OnErr, IsErrOf, None};
 ghost use Rattle.std.specs.Arc.{arc_value};
-ghost use Rattle.std.specs.Io.KnownBytes.{Appends};
+ghost use Rattle.std.specs.Io.KnownBytes.{Appends, Keeps};
+ghost use Rattle.std.specs.Thread.{IsSync};
 ghost use Rattle.sim_spec.specs.Run.{run};
 ghost use Rattle.sim_spec.specs.Standing.{stands};
 ghost use Rattle.sim_spec.specs.State.{initial_state};
 ghost use Rattle.sim_io.specs.Causes.{Rose};
-ghost use Rattle.sim_io.specs.CycleTexts.{text_from_start};
-ghost use Rattle.sim_io.specs.Transfers.{AppendsFront};
+ghost use Rattle.sim_io.specs.Transfers.{AppendsPrefix};
+ghost use Rattle.sim_io.specs.Words.{AreInBounds};
+ghost use Rattle.sim_text.specs.WholeTexts.{text_from_start};
 ghost use Rattle.sim_text.specs.declared.unfinished.Unfinished.TheVariants.{WriteFault};
+ghost use Rattle.cycle_core.specs.Standings.{WorldStandsAt, GoesOn, HasCycled};
 ghost use Rattle.model_text.specs.Meanings.{meaning_of};
 
 use crate::one_thread_run::OneThreadRun;
+use crate::team_run::{DEFAULT_SPREAD, Spread, TeamRun};
 use model_core::OutOfMemory;
 use model_text::AnyModel;
-use sim_io::Sink;
-use sim_spec::{Stop, Terms};
+use node_team::Gate;
+use sim_io::{Settings, Sink};
+use sim_spec::{Bucket, Stop, Terms};
 use sim_text::{Unfinished, simulate};
 use std::alloc::Global;
 use std::sync::Arc;
+use std::thread::Threads;
 
-/// A simulation at its start, and its model, which names what the simulation tells.
-fn run_of(
+/// A simulation at its start on one thread, and its model, which names what the simulation tells.
+fn one_thread(
     alloc: Global,
     model: AnyModel,
     terms: Terms,
@@ -36,21 +42,129 @@ fn run_of(
     Ok((model, run))
 }
 
-/// Runs a model on one thread, and writes the text of its simulation, with a line for each cycle where these are told.
-pub fn run_model<K: Sink>(
+/// The same on nodes.
+fn on_nodes(
     alloc: Global,
     model: AnyModel,
     terms: Terms,
-    cycles: bool,
+    spread: Spread,
+) -> Result<(Arc<AnyModel>, TeamRun), OutOfMemory>
+    requires low { 1 ≤ spread.nodes }
+    requires high { spread.nodes ≤ 64 }
+    ensures named { IfOk result (λ both. arc_value both.0 ≡ model) }
+    ensures model { IfOk result (λ both. both.1.team.world.model ≡ model) }
+    ensures terms { IfOk result (λ both. both.1.team.world.terms ≡ terms) }
+    ensures begins { IfOk result (λ both. WorldStandsAt meaning_of both.1.team.world (stands (initial_state (meaning_of model)) None)) }
+{
+    let model = Arc::new(alloc, model)?;
+    let run = TeamRun::new(alloc, model.clone()?, terms, spread)?;
+    Ok((model, run))
+}
+
+/// Runs a model on one thread, and writes the text of its simulation.
+fn run_one_thread<K: Sink>(
+    alloc: Global,
+    model: AnyModel,
+    terms: Terms,
+    settings: Settings,
     out: &mut K,
 ) -> Result<Stop, Unfinished>
-    ensures whole { OnOk result (Appends (K.told out.old) (K.told out.new) (text_from_start (meaning_of model) terms cycles)) }
+    ensures whole { OnOk result (Appends (K.told out.old) (K.told out.new) (text_from_start (meaning_of model) terms settings)) }
     ensures stop { IfOk result (λ stop. stop ≡ (run (meaning_of model) terms (initial_state (meaning_of model))).stop) }
-    ensures front { OnErr result (AppendsFront (K.told out.old) (K.told out.new) (text_from_start (meaning_of model) terms cycles)) }
+    ensures prefix { OnErr result (AppendsPrefix (K.told out.old) (K.told out.new) (text_from_start (meaning_of model) terms settings)) }
     ensures fault { IsErrOf result WriteFault → Rose (K.faults out.old) (K.faults out.new) }
     ensures later { K.faults out.old ≤ K.faults out.new }
 {
-    let (model, mut run) = run_of(alloc, model, terms)?;
+    let (model, mut run) = one_thread(alloc, model, terms)?;
     let cycle = |run: &mut OneThreadRun, alloc: Global| run.engine.bucket(alloc);
-    simulate(alloc, &*model, &terms, &mut run, &cycle, cycles, out)
+    simulate(alloc, &*model, &terms, &mut run, &cycle, settings, out)
+}
+
+/// Runs a model on nodes that advance in threads, and writes the text of its simulation.
+fn run_on_nodes<R: Threads + Sync, G: Gate, K: Sink>(
+    rt: &R,
+    alloc: Global,
+    gate: &G,
+    model: AnyModel,
+    terms: Terms,
+    spread: Spread,
+    settings: Settings,
+    out: &mut K,
+) -> Result<Stop, Unfinished>
+    requires low { 1 ≤ spread.nodes }
+    requires high { spread.nodes ≤ 64 }
+    ensures whole { OnOk result (Appends (K.told out.old) (K.told out.new) (text_from_start (meaning_of model) terms settings)) }
+    ensures stop { IfOk result (λ stop. stop ≡ (run (meaning_of model) terms (initial_state (meaning_of model))).stop) }
+    ensures prefix { OnErr result (AppendsPrefix (K.told out.old) (K.told out.new) (text_from_start (meaning_of model) terms settings)) }
+    ensures fault { IsErrOf result WriteFault → Rose (K.faults out.old) (K.faults out.new) }
+    ensures later { K.faults out.old ≤ K.faults out.new }
+{
+    let (model, mut run) = on_nodes(alloc, model, terms, spread)?;
+    let cycle = |run: &mut TeamRun, alloc: Global| -> Result<Bucket, OutOfMemory>
+        requires { IsSync R.row × IsSync G.row × GoesOn meaning_of run.old.team.world }
+        ensures { HasCycled meaning_of run.old.team.world result run.new.team.world }
+    { run.team.cycle(rt, alloc, gate) };
+    simulate(alloc, &*model, &terms, &mut run, &cycle, settings, out)
+}
+
+/// Runs a model by the engine that is asked for, and writes the text of its simulation.
+fn run_as_set<R: Threads + Sync, G: Gate, K: Sink>(
+    rt: &R,
+    alloc: Global,
+    gate: &G,
+    model: AnyModel,
+    terms: Terms,
+    settings: Settings,
+    out: &mut K,
+) -> Result<Stop, Unfinished>
+    requires { AreInBounds settings }
+    ensures whole { OnOk result (Appends (K.told out.old) (K.told out.new) (text_from_start (meaning_of model) terms settings)) }
+    ensures stop { IfOk result (λ stop. stop ≡ (run (meaning_of model) terms (initial_state (meaning_of model))).stop) }
+    ensures prefix { OnErr result (AppendsPrefix (K.told out.old) (K.told out.new) (text_from_start (meaning_of model) terms settings)) }
+    ensures fault { IsErrOf result WriteFault → Rose (K.faults out.old) (K.faults out.new) }
+    ensures later { K.faults out.old ≤ K.faults out.new }
+{
+    match settings {
+        Settings::Run {
+            nodes,
+            ahead,
+            placement,
+            ..
+        } => {
+            let spread = Spread {
+                nodes,
+                ahead,
+                placement,
+            };
+            run_on_nodes(rt, alloc, gate, model, terms, spread, settings, out)
+        }
+        Settings::One { .. } => run_one_thread(alloc, model, terms, settings, out),
+        Settings::Totals | Settings::Demo { .. } => {
+            run_on_nodes(rt, alloc, gate, model, terms, DEFAULT_SPREAD, settings, out)
+        }
+    }
+}
+
+/// Runs a model as it is set, writes the text of its simulation, and hands it on. The text is the same whatever the
+/// engine, the nodes, their placement, how far they work ahead, and the schedule of threads.
+pub fn run_model<R: Threads + Sync, G: Gate, K: Sink>(
+    rt: &R,
+    alloc: Global,
+    gate: &G,
+    model: AnyModel,
+    terms: Terms,
+    settings: Settings,
+    out: &mut K,
+) -> Result<Stop, Unfinished>
+    requires { AreInBounds settings }
+    ensures whole { OnOk result (Appends (K.told out.old) (K.told out.new) (text_from_start (meaning_of model) terms settings)) }
+    ensures handed { OnOk result (Keeps (K.told out.new) (K.handed out.new)) }
+    ensures stop { IfOk result (λ stop. stop ≡ (run (meaning_of model) terms (initial_state (meaning_of model))).stop) }
+    ensures prefix { OnErr result (AppendsPrefix (K.told out.old) (K.told out.new) (text_from_start (meaning_of model) terms settings)) }
+    ensures fault { IsErrOf result WriteFault → Rose (K.faults out.old) (K.faults out.new) }
+    ensures later { K.faults out.old ≤ K.faults out.new }
+{
+    let outcome = run_as_set(rt, alloc, gate, model, terms, settings, out);
+    out.flush()?;
+    outcome
 }

@@ -6,34 +6,31 @@ use Rattle.std.proofs.lemmas.Bool.Decides.{nat_tests}
 use Rattle.std.proofs.lemmas.List.{length-map, get_or-map}
 use Rattle.std.proofs.lemmas.List.Elements.{All-nil, All-cons, All-head, All-tail, All-weaker}
 use Rattle.model_core.specs.declared.entry.Entry.{Entry}
-use Rattle.queue_models.specs.declared.object.Object.{Object}
-use Rattle.queue_models.specs.declared.object.Role.{Role}
-use Rattle.queue_models.specs.declared.object.Role.TheVariants.{Ends}
-use Rattle.queue_models.specs.Objects.{network_of, no_object, is_source}
-use Rattle.queue_models.specs.Parts.{IsName, IsLink, IsRole, IsObject, IsJob, IsNetwork}
+use Rattle.queue_models.specs.declared.kind.KindOver.{KindOver}
+use Rattle.queue_models.specs.declared.kind.KindOver.TheVariants.{Source, Station, Delay, Router, Sink}
+use Rattle.queue_models.specs.Kinds.{is_source}
+use Rattle.queue_models.specs.Objects.{Item, network_of, no_object}
+use Rattle.queue_models.specs.Parts.{IsName, IsLink, IsKind, IsObject, IsJob, IsNetwork}
 use Rattle.model_text.specs.declared.directory.Place.{Place}
-use Rattle.model_text.specs.declared.named.NamedItem.{NamedItem}
-use Rattle.model_text.specs.declared.named.NamedKind.{NamedKind}
-use Rattle.model_text.specs.declared.named.NamedKind.TheVariants.{Source, Station, Delay, Router, Sink}
 use Rattle.model_text.specs.Checks.{Checked, ◌>>=◌}
 use Rattle.model_text.specs.Fields.{each_of}
 use Rattle.model_text.specs.Linked.{IsFound, IsLinkedJob}
-use Rattle.model_text.specs.Links.{found_link, link, links, linked_role, linked_object, linked_from}
-use Rattle.model_text.specs.NamedItems.{IsNamedKind, IsNamedItem}
-use Rattle.model_text.specs.Names.{is_name, Finder, takes_jobs, place_of, place_from, place_in}
+use Rattle.model_text.specs.Links.{found_link, link, links, linked_kind, linked_item, linked_from}
+use Rattle.model_text.specs.NamedItems.{AnyName, IsNamedItem}
+use Rattle.model_text.specs.Names.{is_name, Finder, NamedItem, NamedKind, place_of, place_from, place_in}
 
 -- where two checks in a row give something, each does
-bound : {A B : Type 0} (check : Checked A) (next : A → Checked B) (b : B) → check >>= next ≡ Ok b → (a : A) × (check ≡ Ok a) × (next a ≡ Ok b)
+pub bound : {A B : Type 0} (check : Checked A) (next : A → Checked B) (b : B) → check >>= next ≡ Ok b → (a : A) × (check ≡ Ok a) × (next a ≡ Ok b)
 bound (Ok a) next b gives = (a, refl, gives)
 bound (Err e) next b gives = cc
 
 -- and where it is a check and a view of it
-seen : {A B : Type 0} (check : Checked A) (view : A → B) (b : B) → check >>= (λ a. Ok (view a)) ≡ Ok b → (a : A) × (check ≡ Ok a) × (view a ≡ b)
+pub seen : {A B : Type 0} (check : Checked A) (view : A → B) (b : B) → check >>= (λ a. Ok (view a)) ≡ Ok b → (a : A) × (check ≡ Ok a) × (view a ≡ b)
 seen (Ok a) view b gives = (a, refl, cc)
 seen (Err e) view b gives = cc
 
 abbrev placed : ℕ → Bool → Place
-placed number takes = record { number = number; takes_jobs = takes }
+placed number takes = record { number = number; takes_links = takes }
 
 by_place : (number : ℕ) (takes : Bool) (at n : ℕ) → found_link (Some (placed number takes)) at ≡ Ok n → Some (placed number takes) ≡ Some (placed n true)
 by_place number true at n gives = let same : number ≡ n = cc in ap (λ m. Some (placed m true)) same
@@ -41,12 +38,12 @@ by_place number false at n gives = cc
 
 by_found : (place : Option Place) (at n : ℕ) → found_link place at ≡ Ok n → place ≡ Some (placed n true)
 by_found None at n gives = cc
-by_found (Some place) at n gives = by_place place.number place.takes_jobs at n gives
+by_found (Some place) at n gives = by_place place.number place.takes_links at n gives
 
 link-found : (find : Finder) (at : ℕ) (name : List ℕ) (n : ℕ) → link find at name ≡ Ok n → IsFound find n
 link-found find at name n gives = (name, by_found (find name) at n gives)
 
-links-found : (find : Finder) (at k : ℕ) (names : List (List ℕ)) (ns : List ℕ) → each_of (λ i. link find at) k names ≡ Ok ns → All (IsFound find) ns × (length names ≡ length ns)
+pub links-found : (find : Finder) (at k : ℕ) (names : List (List ℕ)) (ns : List ℕ) → each_of (λ i. link find at) k names ≡ Ok ns → All (IsFound find) ns × (length names ≡ length ns)
 links-found find at k [] ns gives =
     let none : [] ≡ ns = cc in
     (subst (All (IsFound find)) none (All-nil (IsFound find)), ap length none)
@@ -59,79 +56,79 @@ links-found find at k (name ∷ names) ns gives =
     )
 
 -- whether each object is a source
-sources : List Object → List Bool
-sources objects = map (λ object. is_source object.role) objects
+sources : List Item → List Bool
+sources objects = map (λ object. is_source object.kind) objects
 
 named_sources : List NamedItem → List Bool
-named_sources named = map (λ object. not (takes_jobs object.kind)) named
+named_sources named = map (λ object. is_source object.kind) named
 
-role-source : (find : Finder) (at : ℕ) (kind : NamedKind) (role : Role) → linked_role find at kind ≡ Ok role → is_source role ≡ not (takes_jobs kind)
-role-source find at (Source first every count next) role gives = let one = seen (link find at next) _ role gives in sym (ap is_source one.2)
-role-source find at (Station servers service line strict next) role gives = let one = seen (link find at next) _ role gives in sym (ap is_source one.2)
-role-source find at (Delay delay next) role gives = let one = seen (link find at next) _ role gives in sym (ap is_source one.2)
-role-source find at (Router next weights) role gives = let one = seen (links find at next) _ role gives in sym (ap is_source one.2)
-role-source find at (Sink due) role gives = let one : Ends (record { due = due }) ≡ role = cc in sym (ap is_source one)
+kind-source : (find : Finder) (at : ℕ) (named : NamedKind) (kind : KindOver ℕ) → linked_kind find at named ≡ Ok kind → is_source kind ≡ is_source named
+kind-source find at (Source first every count next) kind gives = let one = seen (link find at next) _ kind gives in sym (ap is_source one.2)
+kind-source find at (Station servers service line strict next) kind gives = let one = seen (link find at next) _ kind gives in sym (ap is_source one.2)
+kind-source find at (Delay delay next) kind gives = let one = seen (link find at next) _ kind gives in sym (ap is_source one.2)
+kind-source find at (Router next weights) kind gives = let one = seen (links find at next) _ kind gives in sym (ap is_source one.2)
+kind-source find at (Sink due) kind gives = let one : Sink due ≡ kind = cc in sym (ap is_source one)
 
-role-lawful : (objects : List Object) (find : Finder) (links_are : (n : ℕ) → IsFound find n → IsLink objects n) (at : ℕ) (kind : NamedKind) (role : Role)
-    → IsNamedKind kind → linked_role find at kind ≡ Ok role → IsRole objects role
-role-lawful objects find links_are at (Source first every count next) role fine gives =
-    let one = seen (link find at next) _ role gives in
-    subst (IsRole objects) one.2 (record { first = fine.starts; every = fine.law; some = fine.some; few = fine.few; next = links_are one.0 (link-found find at next one.0 one.1) })
-role-lawful objects find links_are at (Station servers service line strict next) role fine gives =
-    let one = seen (link find at next) _ role gives in
-    subst (IsRole objects) one.2 (record { some = fine.some; few = fine.few; service = fine.law; line = fine.short; next = links_are one.0 (link-found find at next one.0 one.1) })
-role-lawful objects find links_are at (Delay delay next) role fine gives =
-    let one = seen (link find at next) _ role gives in
-    subst (IsRole objects) one.2 (record { delay = fine; next = links_are one.0 (link-found find at next one.0 one.1) })
-role-lawful objects find links_are at (Router next weights) role fine gives =
-    let one = seen (links find at next) _ role gives in
+kind-lawful : (objects : List Item) (find : Finder) (links_are : (n : ℕ) → IsFound find n → IsLink objects n) (at : ℕ) (named : NamedKind) (kind : KindOver ℕ)
+    → IsKind AnyName named → linked_kind find at named ≡ Ok kind → IsKind (IsLink objects) kind
+kind-lawful objects find links_are at (Source first every count next) kind fine gives =
+    let one = seen (link find at next) _ kind gives in
+    subst (IsKind (IsLink objects)) one.2 (fine.0, links_are one.0 (link-found find at next one.0 one.1))
+kind-lawful objects find links_are at (Station servers service line strict next) kind fine gives =
+    let one = seen (link find at next) _ kind gives in
+    subst (IsKind (IsLink objects)) one.2 (fine.0, links_are one.0 (link-found find at next one.0 one.1))
+kind-lawful objects find links_are at (Delay delay next) kind fine gives =
+    let one = seen (link find at next) _ kind gives in
+    subst (IsKind (IsLink objects)) one.2 (fine.0, links_are one.0 (link-found find at next one.0 one.1))
+kind-lawful objects find links_are at (Router next weights) kind fine gives =
+    let one = seen (links find at next) _ kind gives in
     let found = links-found find at 0 next one.0 one.1 in
-    subst (IsRole objects) one.2 (record { next = All-weaker (IsFound find) (IsLink objects) links_are one.0 found.0; choice = (fine.0 ∙ found.1, fine.1) })
-role-lawful objects find links_are at (Sink due) role fine gives =
-    let one : Ends (record { due = due }) ≡ role = cc in
-    subst (IsRole objects) one fine
+    subst (IsKind (IsLink objects)) one.2 (fine.0 ∙ found.1, fine.1, All-weaker (IsFound find) (IsLink objects) links_are one.0 found.0)
+kind-lawful objects find links_are at (Sink due) kind fine gives =
+    let one : Sink due ≡ kind = cc in
+    subst (IsKind (IsLink objects)) one fine
 
 name-lawful : (name : List ℕ) → IsTrue (is_name name) → IsName name
 name-lawful name test = record { some = grind (arith, nat_tests); short = grind (arith, nat_tests); bytes = grind (arith, nat_tests) }
 
 -- pass two keeps the names, and which objects are sources
-linked-names : (find : Finder) (k : ℕ) (named : List NamedItem) (objects : List Object) → each_of (linked_object find) k named ≡ Ok objects
+linked-names : (find : Finder) (k : ℕ) (named : List NamedItem) (objects : List Item) → each_of (linked_item find) k named ≡ Ok objects
     → map (λ object. object.name) objects ≡ map (λ object. object.name) named
-linked-names find k [] objects gives = let none : [] ≡ objects = cc in sym (ap (λ (os : List Object). map (λ object. object.name) os) none)
+linked-names find k [] objects gives = let none : [] ≡ objects = cc in sym (ap (λ (os : List Item). map (λ object. object.name) os) none)
 linked-names find k (o ∷ named) objects gives =
-    let first = bound (linked_object find k o) _ objects gives in
-    let others = seen (each_of (linked_object find) (k + 1) named) (λ os. first.0 ∷ os) objects first.2 in
-    let role = seen (linked_role find k o.kind) _ first.0 first.1 in
-    sym (ap (λ (os : List Object). map (λ object. object.name) os) others.2)
-    ∙ ap (λ (name : List ℕ). name ∷ map (λ (object : Object). object.name) others.0) (sym (ap (λ (object : Object). object.name) role.2))
+    let first = bound (linked_item find k o) _ objects gives in
+    let others = seen (each_of (linked_item find) (k + 1) named) (λ os. first.0 ∷ os) objects first.2 in
+    let kind = seen (linked_kind find k o.kind) _ first.0 first.1 in
+    sym (ap (λ (os : List Item). map (λ object. object.name) os) others.2)
+    ∙ ap (λ (name : List ℕ). name ∷ map (λ (object : Item). object.name) others.0) (sym (ap (λ (object : Item). object.name) kind.2))
     ∙ ap (λ (names : List (List ℕ)). o.name ∷ names) (linked-names find (k + 1) named others.0 others.1)
 
-linked-sources : (find : Finder) (k : ℕ) (named : List NamedItem) (objects : List Object) → each_of (linked_object find) k named ≡ Ok objects
+linked-sources : (find : Finder) (k : ℕ) (named : List NamedItem) (objects : List Item) → each_of (linked_item find) k named ≡ Ok objects
     → sources objects ≡ named_sources named
 unfolding sources named_sources
-linked-sources find k [] objects gives = let none : [] ≡ objects = cc in sym (ap (λ (os : List Object). sources os) none)
+linked-sources find k [] objects gives = let none : [] ≡ objects = cc in sym (ap (λ (os : List Item). sources os) none)
 linked-sources find k (o ∷ named) objects gives =
-    let first = bound (linked_object find k o) _ objects gives in
-    let others = seen (each_of (linked_object find) (k + 1) named) (λ os. first.0 ∷ os) objects first.2 in
-    let role = seen (linked_role find k o.kind) _ first.0 first.1 in
-    let same : is_source first.0.role ≡ not (takes_jobs o.kind) = sym (ap (λ (object : Object). is_source object.role) role.2) ∙ role-source find k o.kind role.0 role.1 in
-    sym (ap (λ (os : List Object). sources os) others.2)
+    let first = bound (linked_item find k o) _ objects gives in
+    let others = seen (each_of (linked_item find) (k + 1) named) (λ os. first.0 ∷ os) objects first.2 in
+    let kind = seen (linked_kind find k o.kind) _ first.0 first.1 in
+    let same : is_source first.0.kind ≡ is_source o.kind = sym (ap (λ (object : Item). is_source object.kind) kind.2) ∙ kind-source find k o.kind kind.0 kind.1 in
+    sym (ap (λ (os : List Item). sources os) others.2)
     ∙ ap (λ (b : Bool). b ∷ sources others.0) same
-    ∙ ap (λ (bs : List Bool). not (takes_jobs o.kind) ∷ bs) (linked-sources find (k + 1) named others.0 others.1)
+    ∙ ap (λ (bs : List Bool). is_source o.kind ∷ bs) (linked-sources find (k + 1) named others.0 others.1)
 
-linked-lawful : (all : List Object) (find : Finder) (links_are : (n : ℕ) → IsFound find n → IsLink all n) (k : ℕ) (named : List NamedItem) (objects : List Object)
-    → All IsNamedItem named → each_of (linked_object find) k named ≡ Ok objects → All (IsObject all) objects
+linked-lawful : (all : List Item) (find : Finder) (links_are : (n : ℕ) → IsFound find n → IsLink all n) (k : ℕ) (named : List NamedItem) (objects : List Item)
+    → All IsNamedItem named → each_of (linked_item find) k named ≡ Ok objects → All (IsObject all) objects
 linked-lawful all find links_are k [] objects fine gives = let none : [] ≡ objects = cc in subst (All (IsObject all)) none (All-nil (IsObject all))
 linked-lawful all find links_are k (o ∷ named) objects fine gives =
-    let first = bound (linked_object find k o) _ objects gives in
-    let others = seen (each_of (linked_object find) (k + 1) named) (λ os. first.0 ∷ os) objects first.2 in
-    let role = seen (linked_role find k o.kind) _ first.0 first.1 in
+    let first = bound (linked_item find k o) _ objects gives in
+    let others = seen (each_of (linked_item find) (k + 1) named) (λ os. first.0 ∷ os) objects first.2 in
+    let kind = seen (linked_kind find k o.kind) _ first.0 first.1 in
     let here = All-head IsNamedItem o named fine in
     let lawful : IsObject all first.0 =
-    subst (IsObject all) role.2 (record {
+    subst (IsObject all) kind.2 (record {
       name = name-lawful o.name here.named;
-      role = role-lawful all find links_are k o.kind role.0 here.in_range role.1;
-      rank = omega arith;
+      kind = kind-lawful all find links_are k o.kind kind.0 here.in_range kind.1;
+      rank = here.rank;
     }) in
     subst (All (IsObject all)) others.2
     (All-cons (IsObject all) first.0 others.0 lawful (linked-lawful all find links_are (k + 1) named others.0 (All-tail IsNamedItem o named fine) others.1))
@@ -146,24 +143,24 @@ unfolding named_sources
 stands_first o named k n others true found later =
     let same : place_of k o ≡ placed n true = cc in
     let number : k ≡ n = ap (λ (place : Place). place.number) same in
-    let takes : takes_jobs o.kind ≡ true = ap (λ (place : Place). place.takes_jobs) same in
-    (0, omega arith, omega arith, ap not takes)
+    let takes : not (is_source o.kind) ≡ true = ap (λ (place : Place). place.takes_links) same in
+    (0, omega arith, omega arith, grind (arith, takes))
 stands_first o named k n others false found later =
     let rest = later found in
     let number : n ≡ k + 1 + rest.0 = rest.1 in
     let within : rest.0 < length named = rest.2 in
     (suc rest.0, omega arith, omega arith, rest.3)
 
-stands_at : (named : List NamedItem) (k n : ℕ) (name : List ℕ) → place_from k named name ≡ Some (placed n true) → StandsAt named k n
+stands_at : (named : List NamedItem) (k n : ℕ) (name : List ℕ) → place_from (λ object. object.name) place_of k named name ≡ Some (placed n true) → StandsAt named k n
 stands_at [] k n name found = cc
 stands_at (o ∷ named) k n name found =
-    stands_first o named k n (place_from (k + 1) named name) (bytes_eq name o.name) found (stands_at named (k + 1) n name)
+    stands_first o named k n (place_from (λ (object : NamedItem). object.name) place_of (k + 1) named name) (bytes_eq name o.name) found (stands_at named (k + 1) n name)
 
-same-length : (named : List NamedItem) (objects : List Object) → sources objects ≡ named_sources named → length objects ≡ length named
+same-length : (named : List NamedItem) (objects : List Item) → sources objects ≡ named_sources named → length objects ≡ length named
 unfolding sources named_sources
-same-length named objects same = sym (length-map objects (λ (object : Object). is_source object.role)) ∙ ap length same ∙ length-map named (λ (object : NamedItem). not (takes_jobs object.kind))
+same-length named objects same = sym (length-map objects (λ (object : Item). is_source object.kind)) ∙ ap length same ∙ length-map named (λ (object : NamedItem). is_source object.kind)
 
-found-link : (named : List NamedItem) (objects : List Object) → sources objects ≡ named_sources named → (n : ℕ) → IsFound (place_in named) n → IsLink objects n
+found-link : (named : List NamedItem) (objects : List Item) → sources objects ≡ named_sources named → (n : ℕ) → IsFound (place_in named) n → IsLink objects n
 unfolding sources
 found-link named objects same n found =
     let stands = stands_at named 0 n found.0 found.1 in
@@ -171,27 +168,27 @@ found-link named objects same n found =
     let within : n < length objects = omega (arith, stands.2, same-length named objects same) in
     record {
       exists = within;
-      takes = sym (get_or-map (λ (object : Object). is_source object.role) objects n no_object false within)
+      takes = sym (get_or-map (λ (object : Item). is_source object.kind) objects n no_object false within)
           ∙ ap (λ (bs : List Bool). get_or bs n false) same ∙ ap (λ m. get_or (named_sources named) m false) at ∙ stands.3;
     }
 
-name_at : (named : List NamedItem) (objects : List Object) → map (λ (object : Object). object.name) objects ≡ map (λ (object : NamedItem). object.name) named
-    → (i : ℕ) (d : Object) (e : NamedItem) → i < length objects → i < length named → (get_or objects i d).name ≡ (get_or named i e).name
+name_at : (named : List NamedItem) (objects : List Item) → map (λ (object : Item). object.name) objects ≡ map (λ (object : NamedItem). object.name) named
+    → (i : ℕ) (d : Item) (e : NamedItem) → i < length objects → i < length named → (get_or objects i d).name ≡ (get_or named i e).name
 name_at named objects same i d e within named_within =
-    sym (get_or-map (λ (object : Object). object.name) objects i d [] within)
+    sym (get_or-map (λ (object : Item). object.name) objects i d [] within)
     ∙ ap (λ (names : List (List ℕ)). get_or names i []) same
     ∙ get_or-map (λ (object : NamedItem). object.name) named i e [] named_within
 
-names-differ : (named : List NamedItem) (objects : List Object) → map (λ (object : Object). object.name) objects ≡ map (λ (object : NamedItem). object.name) named
-    → length objects ≡ length named → AllPairs (λ (a b : NamedItem). a.name ≢ b.name) named → AllPairs (λ (a b : Object). a.name ≢ b.name) objects
+names-differ : (named : List NamedItem) (objects : List Item) → map (λ (object : Item). object.name) objects ≡ map (λ (object : NamedItem). object.name) named
+    → length objects ≡ length named → AllPairs (λ (a b : NamedItem). a.name ≢ b.name) named → AllPairs (λ (a b : Item). a.name ≢ b.name) objects
 names-differ named objects same long apart i j d before within = λ equal.
-    let e : NamedItem = record { name = []; kind = Sink None } in
+    let e : NamedItem = record { name = []; kind = Sink None; rank = 0 } in
     let first = name_at named objects same i d e (omega arith) (omega arith) in
     let second = name_at named objects same j d e within (omega arith) in
     apart i j e before (omega arith) (sym first ∙ equal ∙ second)
 
 -- the parts are lawful where the three passes accept them
-pub network-lawful : (seed : ℕ) (named : List NamedItem) (find : Finder) (objects : List Object) (jobs : List Entry)
+pub network-lawful : (seed : ℕ) (named : List NamedItem) (find : Finder) (objects : List Item) (jobs : List Entry)
     → seed < 2 ^ 63 → length named ≤ 65536 → length jobs ≤ 65536 → find ≡ place_in named
     → All IsNamedItem named → AllPairs (λ (a b : NamedItem). a.name ≢ b.name) named
     → linked_from find 1 named ≡ Ok objects → All (IsLinkedJob find) jobs → IsNetwork (network_of seed objects jobs)

@@ -4,11 +4,10 @@ use Rattle.toml.specs.Data.{item}
 use Rattle.toml.specs.View.{view, items_view}
 use Rattle.toml.specs.declared.value.Value.{Value}
 use Rattle.toml.proofs.Views.{items_view-drop}
-use Rattle.model_text.specs.declared.named.NamedItem.{NamedItem}
 use Rattle.model_text.specs.declared.refusal.Refusal.{Refusal}
 use Rattle.model_text.specs.declared.refusal.Refusal.TheVariants.{At, OutOfMemory}
 use Rattle.model_text.specs.Checks.{Checked, Fails, ◌>>=◌}
-use Rattle.model_text.specs.Names.{Finder, place_in}
+use Rattle.model_text.specs.Names.{Finder, NamedItem, place_in}
 use Rattle.model_text.specs.Objects.{object, objects_after}
 
 next_object : (before : List NamedItem) (find : Finder) (k i : ℕ) (vs : List Value) (v : Value) → i < length vs → v ≡ get_or vs i v → find ≡ place_in before → k ≡ length before + 1

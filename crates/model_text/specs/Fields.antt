@@ -1,5 +1,5 @@
 -- The checks of one field of a table.
-use Rattle.std.specs.Prelude.{ℕ, ◌+◌, ◌==◌, pos, Bool, true, not, ◌&&◌, List, [], ◌∷◌, Option, Some, None, Ok, nat_lt, if◌then◌else◌}
+use Rattle.std.specs.Prelude.{ℕ, ◌+◌, pos, Bool, true, not, ◌&&◌, List, [], ◌∷◌, ◌++◌, Option, Some, None, Ok, nat_lt, if◌then◌else◌}
 use Rattle.std.specs.List.{list_any}
 use Rattle.std.specs.Str.{bytes_eq}
 use Rattle.toml.specs.Data.{Data, string, integer, boolean, array, table, Items, no_items, item, Members, no_members, member, get_member}
@@ -11,11 +11,6 @@ abbrev pub number : ℕ → ℕ → ℕ → Data → Checked ℕ
 number at least most (integer (pos n)) =
     if nat_lt n least then refusal BadValue at else if nat_lt most n then refusal Limit at else Ok n
 number at least most _ = refusal BadValue at
-
--- this number and no other
-abbrev pub only_number : ℕ → ℕ → Data → Checked ℕ
-only_number at wanted (integer (pos n)) = if n == wanted then Ok n else refusal BadValue at
-only_number at wanted _ = refusal BadValue at
 
 abbrev pub text : ℕ → Data → Checked (List ℕ)
 text at (string s) = Ok s
@@ -43,21 +38,21 @@ abbrev pub array_of : ℕ → ℕ → Data → Checked Items
 array_of at most (array ds) = if nat_lt most (item_count ds) then refusal Limit at else Ok ds
 array_of at most _ = refusal BadValue at
 
--- a field that has to be there
-abbrev pub required_by : {A : Type 0} → ℕ → (Data → Checked A) → Option Data → Checked A
-required_by at check None = refusal Missing at
-required_by at check (Some d) = check d
+-- what a table has at a key that has to be there
+abbrev pub present : ℕ → Option Data → Checked Data
+present at None = refusal Missing at
+present at (Some d) = Ok d
 
-abbrev pub required : {A : Type 0} → ℕ → (Data → Checked A) → List ℕ → Members → Checked A
-required at check key ms = required_by at check (get_member key ms)
+abbrev pub required : ℕ → List ℕ → Members → Checked Data
+required at key ms = present at (get_member key ms)
 
--- a field that stands for a default where it is absent
-abbrev pub optional_by : {A : Type 0} → A → (Data → Checked A) → Option Data → Checked A
-optional_by default check None = Ok default
-optional_by default check (Some d) = check d
+abbrev pub or_default : Data → Option Data → Data
+or_default default None = default
+or_default default (Some d) = d
 
-abbrev pub optional : {A : Type 0} → A → (Data → Checked A) → List ℕ → Members → Checked A
-optional default check key ms = optional_by default check (get_member key ms)
+-- what a table has at a key, or what stands for it where the key is absent
+abbrev pub optional : Data → List ℕ → Members → Data
+optional default key ms = or_default default (get_member key ms)
 
 -- whether each key is a known one
 abbrev pub has_only : List (List ℕ) → Members → Bool
@@ -77,7 +72,17 @@ each_from check k (item d ds) = check k d >>= (λ first. each_from check (k + 1)
 abbrev pub each : {A : Type 0} → (Data → Checked A) → Items → Checked (List A)
 each check ds = each_from (λ k. check) 0 ds
 
+-- each entry of an array by a check that knows those before it
+abbrev pub each_after : {A : Type 0} → (List A → Data → Checked A) → List A → Items → Checked (List A)
+each_after check before no_items = Ok before
+each_after check before (item d ds) = check before d >>= (λ next. each_after check (before ++ next ∷ []) ds)
+
 -- each element of a list by the check of its item, with items from k on
 abbrev pub each_of : {X A : Type 0} → (ℕ → X → Checked A) → ℕ → List X → Checked (List A)
 each_of check k [] = Ok []
 each_of check k (x ∷ xs) = check k x >>= (λ first. each_of check (k + 1) xs >>= (λ others. Ok (first ∷ others)))
+
+-- each element of a list passes the check of its item, with items from k on
+abbrev pub all_of : {X : Type 0} → (ℕ → X → Checked (Unit {0})) → ℕ → List X → Checked (Unit {0})
+all_of check k [] = Ok tt
+all_of check k (x ∷ xs) = check k x >>= (λ passed. all_of check (k + 1) xs)

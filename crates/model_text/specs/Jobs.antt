@@ -1,18 +1,18 @@
 -- Pass three: the jobs one after another.
 use Rattle.std.specs.Prelude.{ℕ, List, [], ◌∷◌, Ok, codes}
 use Rattle.toml.specs.Data.{Data, Items}
+use Rattle.event_key.specs.declared.stamp.TheConstants.{LAST_TICK}
 use Rattle.model_core.specs.declared.entry.Entry.{Entry}
 use Rattle.model_text.specs.Checks.{Checked, ◌>>=◌}
 use Rattle.model_text.specs.Fields.{number, text, table_of, required, only, each_from}
 use Rattle.model_text.specs.Links.{link}
 use Rattle.model_text.specs.Names.{Finder}
-use Rattle.model_text.specs.Objects.{most_time}
 
 unfoldable pub job : Finder → ℕ → Data → Checked Entry
 job find at d = do
   ms ← table_of at d
-  time ← required at (number at 0 most_time) (codes "time") ms
-  name ← required at (text at) (codes "at") ms
+  time ← required at (codes "time") ms >>= number at 0 LAST_TICK
+  name ← required at (codes "at") ms >>= text at
   known ← only at (codes "time" ∷ codes "at" ∷ []) ms
   number ← link find at name
   Ok (record { time = time; at = number; rank = 0 })

@@ -3,25 +3,22 @@ use Rattle.std.specs.Prelude.{ℕ, ◌-◌, List, [], ◌∷◌, Ok, codes, nat_
 use Rattle.std.specs.Str.{bytes_eq}
 use Rattle.toml.specs.Data.{Data, Members}
 use Rattle.random_streams.specs.declared.law.Law.{Law}
+use Rattle.random_streams.specs.declared.law.TheConstants.{MOST_TRIALS, MOST_VALUE}
 use Rattle.random_streams.specs.declared.law.Law.TheVariants.{Fixed, Uniform, Geometric}
 use Rattle.model_text.specs.declared.refusal.Cause.TheVariants.{BadValue, Limit}
 use Rattle.model_text.specs.Checks.{Checked, refusal, refusal_where, ◌>>=◌}
 use Rattle.model_text.specs.Fields.{number, text, table_of, required, only}
 
--- 2^40 ticks
-abbrev pub most_delay : ℕ
-most_delay = 1099511627776
-
 unfoldable pub fixed_law : ℕ → Members → Checked Law
 fixed_law at ms = do
-  value ← required at (number at 0 most_delay) (codes "value") ms
+  value ← required at (codes "value") ms >>= number at 0 MOST_VALUE
   known ← only at (codes "law" ∷ codes "value" ∷ []) ms
   Ok (Fixed value)
 
 unfoldable pub uniform_law : ℕ → Members → Checked Law
 uniform_law at ms = do
-  low ← required at (number at 0 most_delay) (codes "low") ms
-  high ← required at (number at 0 most_delay) (codes "high") ms
+  low ← required at (codes "low") ms >>= number at 0 MOST_VALUE
+  high ← required at (codes "high") ms >>= number at 0 MOST_VALUE
   ordered ← refusal_where (nat_lt high low) BadValue at
   narrow ← refusal_where (nat_lt 4294967295 (high - low)) Limit at
   known ← only at (codes "law" ∷ codes "low" ∷ codes "high" ∷ []) ms
@@ -29,8 +26,8 @@ uniform_law at ms = do
 
 unfoldable pub geometric_law : ℕ → Members → Checked Law
 geometric_law at ms = do
-  p ← required at (number at 1 4294967295) (codes "p") ms
-  cap ← required at (number at 1 65536) (codes "cap") ms
+  p ← required at (codes "p") ms >>= number at 1 4294967295
+  cap ← required at (codes "cap") ms >>= number at 1 MOST_TRIALS
   known ← only at (codes "law" ∷ codes "p" ∷ codes "cap" ∷ []) ms
   Ok (Geometric p cap)
 
@@ -44,5 +41,5 @@ named_law at ms name =
 unfoldable pub law : ℕ → Data → Checked Law
 law at d = do
   ms ← table_of at d
-  name ← required at (text at) (codes "law") ms
+  name ← required at (codes "law") ms >>= text at
   named_law at ms name

@@ -1,13 +1,17 @@
 pub mod Causes
 pub mod Checks
+pub mod Circuits
 pub mod Directories
 pub mod Fields
+pub mod Formats
+pub mod GateFields
 pub mod Jobs
 pub mod LawTexts
 pub mod Linked
 pub mod Links
 pub mod Meanings
 pub mod ModelTexts
+pub mod NamedGates
 pub mod NamedItems
 pub mod Names
 pub mod Networks

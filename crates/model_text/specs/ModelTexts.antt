@@ -1,15 +1,20 @@
 -- The model of a text: the checks in the order in which the first refusal counts.
-use Rattle.std.specs.Prelude.{ℕ, List, [], ◌∷◌, length, Option, Some, None, Ok, codes, nat_lt, if◌then◌else◌}
+use Rattle.std.specs.Prelude.{ℕ, pos, List, [], ◌∷◌, length, Option, Some, None, Ok, codes, nat_lt, ◌&&◌, if◌then◌else◌}
 use Rattle.std.specs.Str.{bytes_eq, is_utf8}
-use Rattle.toml.specs.Data.{Members}
+use Rattle.toml.specs.Data.{integer, Members}
 use Rattle.toml.specs.Parse.{parse_document}
 use Rattle.model_core.specs.Meaning.{Meaning}
 use Rattle.sim_spec.specs.declared.terms.Terms.{Terms}
+use Rattle.event_key.specs.declared.stamp.TheConstants.{LAST_TICK}
+use Rattle.model_core.specs.declared.limits.TheConstants.{MOST_TEXT_BYTES}
+use Rattle.model_text.specs.declared.formats.Format.{Format}
 use Rattle.model_text.specs.declared.top.ModelKind.{ModelKind}
-use Rattle.model_text.specs.declared.top.ModelKind.TheVariants.{Phold, Network}
+use Rattle.model_text.specs.declared.top.ModelKind.TheVariants.{Phold, Network, Circuit}
 use Rattle.model_text.specs.declared.refusal.Cause.TheVariants.{TooLong, NotToml, BadValue}
 use Rattle.model_text.specs.Checks.{Checked, refusal, refusal_where, ◌>>=◌}
-use Rattle.model_text.specs.Fields.{number, only_number, text, required, optional, only}
+use Rattle.model_text.specs.Circuits.{circuit}
+use Rattle.model_text.specs.Fields.{number, text, required, optional, only}
+use Rattle.model_text.specs.Formats.{format_of, has_circuits}
 use Rattle.model_text.specs.Networks.{network}
 use Rattle.model_text.specs.Phold.{phold}
 use Rattle.model_text.specs.TermsOf.{terms_of}
@@ -19,36 +24,39 @@ pub record ModelOf : Type 0 where
   pub meaning : Meaning
   pub terms : Terms
 
-abbrev pub kind_of : List ℕ → Checked ModelKind
-kind_of name =
+abbrev pub kind_of : Format → List ℕ → Checked ModelKind
+kind_of format name =
     if bytes_eq name (codes "phold") then Ok Phold
     else if bytes_eq name (codes "network") then Ok Network
+    else if has_circuits format && bytes_eq name (codes "circuit") then Ok Circuit
     else refusal BadValue 0
 
 -- the keys of the body
 abbrev pub body_keys : ModelKind → List (List ℕ)
 body_keys Phold = codes "phold" ∷ []
 body_keys Network = codes "object" ∷ codes "job" ∷ []
+body_keys Circuit = codes "gate" ∷ []
 
 -- the keys of the top table
 abbrev pub top_keys : ModelKind → List (List ℕ)
 top_keys kind = codes "format" ∷ codes "model" ∷ codes "end" ∷ codes "seed" ∷ codes "limit" ∷ body_keys kind
 
-abbrev pub body : ModelKind → ℕ → Members → Checked Meaning
-body Phold seed ms = required 0 (phold seed) (codes "phold") ms
-body Network seed ms = network seed ms
+abbrev pub body : Format → ModelKind → ℕ → Members → Checked Meaning
+body format Phold seed ms = required 0 (codes "phold") ms >>= phold format seed
+body format Network seed ms = network format seed ms
+body format Circuit seed ms = circuit ms
 
 -- the top table, and then the body of the model
 unfoldable pub top : Members → Checked ModelOf
 top ms = do
-  format ← required 0 (only_number 0 1) (codes "format") ms
-  name ← required 0 (text 0) (codes "model") ms
-  kind ← kind_of name
-  end ← required 0 (number 0 0 70368744177663) (codes "end") ms
-  seed ← optional 0 (number 0 0 9223372036854775807) (codes "seed") ms
-  limit ← optional 10000000 (number 0 1 1000000000) (codes "limit") ms
+  format ← required 0 (codes "format") ms >>= format_of
+  name ← required 0 (codes "model") ms >>= text 0
+  kind ← kind_of format name
+  end ← required 0 (codes "end") ms >>= number 0 0 LAST_TICK
+  seed ← number 0 0 9223372036854775807 (optional (integer (pos 0)) (codes "seed") ms)
+  limit ← number 0 1 1000000000 (optional (integer (pos 10000000)) (codes "limit") ms)
   known ← only 0 (top_keys kind) ms
-  meaning ← body kind seed ms
+  meaning ← body format kind seed ms
   Ok (record { meaning = meaning; terms = terms_of end limit })
 
 -- what TOML makes of the bytes, where they are a document
@@ -65,6 +73,6 @@ tree bytes = found_tree (tree_of bytes)
 -- the model of a text, or the code and the item of the first check that fails
 unfoldable pub model_of : List ℕ → Checked ModelOf
 model_of bytes = do
-  short ← refusal_where (nat_lt 1048576 (length bytes)) TooLong 0
+  short ← refusal_where (nat_lt MOST_TEXT_BYTES (length bytes)) TooLong 0
   ms ← tree bytes
   top ms

@@ -1,15 +1,16 @@
 -- The check of the body of a network: both arrays, and then three passes.
 use Rattle.std.specs.Prelude.{ℕ, ◌+◌, List, length, Ok, codes}
-use Rattle.toml.specs.Data.{Members, Items, no_items}
+use Rattle.toml.specs.Data.{array, Members, Items, no_items}
+use Rattle.model_core.specs.declared.limits.TheConstants.{MOST_ENTRIES, MOST_OBJECTS}
 use Rattle.model_core.specs.Meaning.{Meaning}
 use Rattle.queue_models.specs.Objects.{network_of}
 use Rattle.queue_models.specs.Meaning.{network_meaning}
-use Rattle.model_text.specs.declared.named.NamedItem.{NamedItem}
+use Rattle.model_text.specs.declared.formats.Format.{Format}
 use Rattle.model_text.specs.Checks.{Checked, ◌>>=◌}
 use Rattle.model_text.specs.Fields.{array_of, optional}
 use Rattle.model_text.specs.Jobs.{jobs_from}
 use Rattle.model_text.specs.Links.{linked_from}
-use Rattle.model_text.specs.Names.{place_in}
+use Rattle.model_text.specs.Names.{NamedItem, place_in}
 use Rattle.model_text.specs.Objects.{objects}
 
 -- passes two and three, after pass one; the items of the objects begin with 1, and those of the jobs follow them
@@ -19,9 +20,9 @@ linked_network seed named entries = do
   jobs ← jobs_from (place_in named) (length named + 1) entries
   Ok (network_meaning (network_of seed linked jobs))
 
-unfoldable pub network : ℕ → Members → Checked Meaning
-network seed ms = do
-  tables ← optional no_items (array_of 0 65536) (codes "object") ms
-  entries ← optional no_items (array_of 0 65536) (codes "job") ms
+unfoldable pub network : Format → ℕ → Members → Checked Meaning
+network format seed ms = do
+  tables ← array_of 0 MOST_OBJECTS (optional (array no_items) (codes "object") ms)
+  entries ← array_of 0 MOST_ENTRIES (optional (array no_items) (codes "job") ms)
   named ← objects tables
   linked_network seed named entries

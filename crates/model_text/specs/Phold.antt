@@ -1,10 +1,12 @@
 -- The check of the body of a PHOLD model.
-use Rattle.std.specs.Prelude.{ℕ, Bool, true, false, List, [], ◌∷◌, Ok, codes, if◌then◌else◌}
+use Rattle.std.specs.Prelude.{ℕ, pos, Bool, true, false, List, [], ◌∷◌, Ok, codes, if◌then◌else◌}
 use Rattle.std.specs.Str.{bytes_eq}
-use Rattle.toml.specs.Data.{Data, no_items}
+use Rattle.toml.specs.Data.{Data, integer, array, no_items}
+use Rattle.model_core.specs.declared.limits.TheConstants.{MOST_ENTRIES, MOST_OBJECTS}
 use Rattle.model_core.specs.Meaning.{Meaning}
 use Rattle.phold_model.specs.Parts.{phold_parts}
 use Rattle.phold_model.specs.Meaning.{phold_meaning}
+use Rattle.model_text.specs.declared.formats.Format.{Format}
 use Rattle.model_text.specs.declared.refusal.Cause.TheVariants.{BadValue}
 use Rattle.model_text.specs.Checks.{Checked, refusal, ◌>>=◌}
 use Rattle.model_text.specs.Fields.{number, text, table_of, array_of, required, optional, only}
@@ -24,14 +26,14 @@ destination at d = do
   named_destination at name
 
 -- the table `phold`: its fields in their order, unknown keys, and then the entries of `start`
-unfoldable pub phold : ℕ → Data → Checked Meaning
-phold seed d = do
+unfoldable pub phold : Format → ℕ → Data → Checked Meaning
+phold format seed d = do
   ms ← table_of 0 d
-  objects ← required 0 (number 0 0 65536) (codes "objects") ms
-  delay ← required 0 (law 0) (codes "delay") ms
-  uniform ← required 0 (destination 0) (codes "to") ms
-  each ← optional 0 (number 0 0 4) (codes "each") ms
-  entries ← optional no_items (array_of 0 65536) (codes "start") ms
+  objects ← required 0 (codes "objects") ms >>= number 0 0 MOST_OBJECTS
+  delay ← required 0 (codes "delay") ms >>= law 0
+  uniform ← required 0 (codes "to") ms >>= destination 0
+  each ← number 0 0 4 (optional (integer (pos 0)) (codes "each") ms)
+  entries ← array_of 0 MOST_ENTRIES (optional (array no_items) (codes "start") ms)
   known ← only 0 (codes "objects" ∷ codes "delay" ∷ codes "to" ∷ codes "each" ∷ codes "start" ∷ []) ms
   start ← start_entries objects entries
   Ok (phold_meaning (phold_parts seed objects delay uniform each start 0))

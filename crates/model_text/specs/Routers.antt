@@ -1,5 +1,5 @@
 -- The check of a router's arrays: the objects to which it sends, and their weights.
-use Rattle.std.specs.Prelude.{ℕ, ◌==◌, not, List, sum, Ok}
+use Rattle.std.specs.Prelude.{ℕ, ◌==◌, not, List, sum, replicate, Option, Some, None, Ok}
 use Rattle.toml.specs.Data.{Data}
 use Rattle.model_text.specs.declared.refusal.Cause.TheVariants.{BadValue}
 use Rattle.model_text.specs.Checks.{Checked, refusal_where, ◌>>=◌}
@@ -20,3 +20,8 @@ weights at count d = do
   numbers ← each (number at 0 65535) ds
   some ← refusal_where (sum numbers == 0) BadValue at
   Ok numbers
+
+-- all 1 where they are absent
+abbrev pub weights_or_ones : ℕ → ℕ → Option Data → Checked (List ℕ)
+weights_or_ones at count None = Ok (replicate count 1)
+weights_or_ones at count (Some d) = weights at count d

@@ -1,7 +1,9 @@
 -- The check of the entries of `start`.
-use Rattle.std.specs.Prelude.{ℕ, List, [], ◌∷◌, Ok, codes, not, nat_lt}
+use Rattle.std.specs.Prelude.{ℕ, ◌-◌, List, [], ◌∷◌, Ok, codes, not, nat_lt}
 use Rattle.toml.specs.Data.{Data, Items}
+use Rattle.event_key.specs.declared.stamp.TheConstants.{LAST_TICK}
 use Rattle.model_core.specs.declared.entry.Entry.{Entry}
+use Rattle.model_core.specs.declared.limits.TheConstants.{MOST_OBJECTS}
 use Rattle.model_text.specs.declared.refusal.Cause.TheVariants.{BadLink}
 use Rattle.model_text.specs.Checks.{Checked, refusal_where, ◌>>=◌}
 use Rattle.model_text.specs.Fields.{number, table_of, required, only, each_from}
@@ -10,8 +12,8 @@ use Rattle.model_text.specs.Fields.{number, table_of, required, only, each_from}
 unfoldable pub start_entry : ℕ → ℕ → Data → Checked Entry
 start_entry objects at d = do
   ms ← table_of at d
-  time ← required at (number at 0 70368744177663) (codes "time") ms
-  object ← required at (number at 0 65535) (codes "at") ms
+  time ← required at (codes "time") ms >>= number at 0 LAST_TICK
+  object ← required at (codes "at") ms >>= number at 0 (MOST_OBJECTS - 1)
   known ← only at (codes "time" ∷ codes "at" ∷ []) ms
   linked ← refusal_where (not (nat_lt object objects)) BadLink at
   Ok (record { time = time; at = object; rank = 0 })

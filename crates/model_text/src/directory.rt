@@ -1,20 +1,19 @@
-//! Finding objects by their names.
-ghost use Rattle.std.specs.Prelude.{◌≡◌, ℕ, List, [], Some, OnOk, if◌then◌else◌};
-ghost use Rattle.std.specs.Str.{bytes_eq};
+//! Finding objects and gates by their names.
+ghost use Rattle.std.specs.Prelude.{◌≡◌, [], OnOk};
 
 use std::alloc::{AllocError, Global};
 use std::collections::BTreeMap;
 
-/// Which object has a name.
+/// What has a name: an object or a gate.
 #[derive(Clone, Copy, Debug)]
 pub(crate) struct Place {
-    /// Its place among the objects, counted from 0.
+    /// Its number among those of the model, counted from 0.
     pub(crate) number: u32,
-    /// Whether jobs may be sent to it.
-    pub(crate) takes_jobs: bool,
+    /// Whether others may name it.
+    pub(crate) takes_links: bool,
 }
 
-/// The objects that were read so far, by their names.
+/// What was read so far, by its names.
 #[derive(Drop)]
 pub(crate) struct Directory {
     places: BTreeMap<String, Place>,
@@ -22,8 +21,9 @@ pub(crate) struct Directory {
 
 impl Directory {
     ghost use Rattle.model_text.specs.Directories.{finder};
-    ghost use Rattle.model_text.specs.Names.{place_in};
+    ghost use Rattle.model_text.specs.Names.{TakesIn, place_in};
 
+    /// A directory of nothing.
     pub(crate) fn new(alloc: Global) -> Directory
         ensures { finder result ≡ place_in [] }
     {
@@ -32,16 +32,16 @@ impl Directory {
         }
     }
 
-    /// The object with this name.
+    /// What has this name.
     pub(crate) fn find(&self, name: &str) -> Option<Place>
         ensures { result ≡ finder self.now name.now }
     {
         self.places.get(name).copied()
     }
 
-    /// Takes in an object.
+    /// Takes in what has a name that it doesn't have yet.
     pub(crate) fn add(&mut self, alloc: Global, name: &str, place: Place) -> Result<(), AllocError>
-        ensures { OnOk result ((other : List ℕ) → finder self.new other ≡ (if bytes_eq name.now other then Some place else finder self.old other)) }
+        ensures { OnOk result (TakesIn (finder self.old) (finder self.new) name.now place) }
     {
         let key = String::from_str(alloc, name)?;
         self.places.insert(key, place)?;

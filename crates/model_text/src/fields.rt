@@ -3,10 +3,10 @@ ghost use Rattle.std.specs.Prelude.{◌≡◌, ◌≤◌, ℕ, map, length, opti
 ghost use Rattle.std.specs.List.{list_any, list_all};
 ghost use Rattle.std.specs.Str.{bytes_eq};
 ghost use Rattle.std.specs.BTreeMap.{keys};
-ghost use Rattle.toml.specs.Data.{get_member, no_items};
+ghost use Rattle.toml.specs.Data.{get_member};
 ghost use Rattle.toml.specs.View.{view, table_view, items_view};
 ghost use Rattle.model_text.specs.Checks.{Gives};
-ghost use Rattle.model_text.specs.Fields.{number, only_number, text, truth, table_of, item_count, entries_of, array_of, required, optional, has_only, only};
+ghost use Rattle.model_text.specs.Fields.{number, text, truth, table_of, item_count, entries_of, array_of, required, optional, has_only, only};
 
 use crate::refusal::{Cause, Refusal};
 use toml::{Table, Value};
@@ -33,23 +33,7 @@ pub(crate) fn number(value: &Value, item: u32, least: u64, most: u64) -> Result<
     Ok(n)
 }
 
-/// This number and no other.
-pub(crate) fn only_number(value: &Value, item: u32, wanted: u64) -> Result<u64, Refusal>
-    ensures { Gives (λ n. n) result (only_number item wanted (view value.now)) }
-{
-    let Some(integer) = value.as_integer() else {
-        return Err(Cause::BadValue.at(item));
-    };
-    if integer < 0 {
-        return Err(Cause::BadValue.at(item));
-    }
-    let n = integer as u64;
-    if n != wanted {
-        return Err(Cause::BadValue.at(item));
-    }
-    Ok(n)
-}
-
+/// A text.
 pub(crate) fn text(value: &Value, item: u32) -> Result<&str, Refusal>
     ensures { Gives (λ s. s.now) result (text item (view value.now)) }
 {
@@ -59,7 +43,8 @@ pub(crate) fn text(value: &Value, item: u32) -> Result<&str, Refusal>
     }
 }
 
-fn truth(value: &Value, item: u32) -> Result<bool, Refusal>
+/// A truth value.
+pub(crate) fn truth(value: &Value, item: u32) -> Result<bool, Refusal>
     ensures { Gives (λ answer. answer) result (truth item (view value.now)) }
 {
     match value.as_bool() {
@@ -68,6 +53,7 @@ fn truth(value: &Value, item: u32) -> Result<bool, Refusal>
     }
 }
 
+/// A table.
 pub(crate) fn table_of(value: &Value, item: u32) -> Result<&Table, Refusal>
     ensures { Gives (λ table. table_view table.now) result (table_of item (view value.now)) }
 {
@@ -77,6 +63,7 @@ pub(crate) fn table_of(value: &Value, item: u32) -> Result<&Table, Refusal>
     }
 }
 
+/// How many entries an array has.
 pub(crate) fn item_count(values: &[Value]) -> usize
     ensures count { result ≡ item_count (items_view values.now) }
     ensures length { result ≡ length values.now }
@@ -116,94 +103,41 @@ pub(crate) fn field<'a>(table: &'a Table, key: &str) -> Option<&'a Value>
     table.get(key)
 }
 
-pub(crate) fn required_number(
-    table: &Table,
-    key: &str,
-    item: u32,
-    least: u64,
-    most: u64,
-) -> Result<u64, Refusal>
-    ensures read { Gives (λ n. n) result (required item (number item least most) key.now (table_view table.now)) }
-    ensures least { IfOk result (λ n. least ≤ n) }
-    ensures most { IfOk result (λ n. n ≤ most) }
+/// What the table has at a key that has to be there.
+pub(crate) fn required<'a>(table: &'a Table, key: &str, item: u32) -> Result<&'a Value, Refusal>
+    ensures { Gives (λ value. view value.now) result (required item key.now (table_view table.now)) }
 {
     match field(table, key) {
-        Some(value) => number(value, item, least, most),
+        Some(value) => Ok(value),
         None => Err(Cause::Missing.at(item)),
     }
 }
 
-pub(crate) fn optional_number(
-    table: &Table,
-    key: &str,
-    item: u32,
-    least: u64,
-    most: u64,
-    default: u64,
-) -> Result<u64, Refusal>
-    requires least { least ≤ default }
-    requires most { default ≤ most }
-    ensures read { Gives (λ n. n) result (optional default (number item least most) key.now (table_view table.now)) }
-    ensures least { IfOk result (λ n. least ≤ n) }
-    ensures most { IfOk result (λ n. n ≤ most) }
+/// What the table has at a key, or what stands for it where the key is absent.
+pub(crate) fn optional<'a>(table: &'a Table, key: &str, default: &'a Value) -> &'a Value
+    ensures { view result.now ≡ optional (view default.now) key.now (table_view table.now) }
 {
     match field(table, key) {
-        Some(value) => number(value, item, least, most),
-        None => Ok(default),
+        Some(value) => value,
+        None => default,
     }
 }
 
-pub(crate) fn optional_truth(
-    table: &Table,
-    key: &str,
-    item: u32,
-    default: bool,
-) -> Result<bool, Refusal>
-    ensures { Gives (λ answer. answer) result (optional default (truth item) key.now (table_view table.now)) }
-{
-    match field(table, key) {
-        Some(value) => truth(value, item),
-        None => Ok(default),
-    }
-}
-
-pub(crate) fn required_text<'a>(table: &'a Table, key: &str, item: u32) -> Result<&'a str, Refusal>
-    ensures { Gives (λ s. s.now) result (required item (text item) key.now (table_view table.now)) }
-{
-    match field(table, key) {
-        Some(value) => text(value, item),
-        None => Err(Cause::Missing.at(item)),
-    }
-}
-
-/// The entries of an array, none where it is absent.
-pub(crate) fn optional_array<'a>(
-    table: &'a Table,
-    key: &str,
-    item: u32,
-    most: usize,
-) -> Result<&'a [Value], Refusal>
-    ensures read { Gives (λ values. items_view values.now) result (optional no_items (array_of item most) key.now (table_view table.now)) }
-    ensures most { IfOk result (λ values. length values.now ≤ most) }
-{
-    match field(table, key) {
-        Some(value) => array_of(value, item, most),
-        None => Ok(&[]),
-    }
-}
-
+/// Whether a key is a known one.
 fn is_known(known: &[&str], key: &str) -> bool
     ensures { result ≡ list_any (λ name. bytes_eq name.now key.now) known.now }
 {
     known.iter().any(|name| *name == key)
 }
 
+/// Whether each key of the table is a known one.
 fn has_known_keys(table: &Table, known: &[&str]) -> bool
     ensures { result ≡ list_all (λ key. list_any (λ name. bytes_eq name.now (string_bytes key)) known.now) (keys table.now) }
 {
     table.keys().all(|key| is_known(known, key.as_str()))
 }
 
+/// The same, in the words of the definitions, which see a table as a list of members.
 fn has_only(table: &Table, known: &[&str]) -> bool
     ensures { result ≡ has_only (map (λ name. name.now) known.now) (table_view table.now) }
 {

@@ -1,28 +1,30 @@
 //! Pass three: the jobs.
-ghost use Rattle.std.specs.Prelude.{◌≡◌, ◌≤◌, length, All, IfOk};
+ghost use Rattle.std.specs.Prelude.{◌≡◌, ◌≤◌, ◌+◌, length, All, IfOk};
 ghost use Rattle.toml.specs.View.{view, items_view};
+ghost use Rattle.model_core.specs.declared.limits.TheConstants.{MOST_ENTRIES, MOST_OBJECTS};
 ghost use Rattle.model_text.specs.Checks.{Gives};
 ghost use Rattle.model_text.specs.Directories.{finder};
 ghost use Rattle.model_text.specs.Jobs.{job, jobs_from};
 ghost use Rattle.model_text.specs.Linked.{IsLinkedJob};
 
 use crate::directory::Directory;
-use crate::fields::{only, required_number, required_text, table_of};
-use crate::kinds::MOST_TIME;
+use crate::fields::{number, only, required, table_of, text};
 use crate::links::link;
 use crate::refusal::Refusal;
+use event_key::LAST_TICK;
 use model_core::Entry;
 use std::alloc::Global;
 use toml::Value;
 
+/// A job, which begins at an object that is named and is no source.
 #[tactic(auto, unfolding(crate::specs::Jobs::job))]
 fn job(value: &Value, directory: &Directory, item: u32) -> Result<Entry, Refusal>
     ensures read { Gives (λ job. job) result (job (finder directory.now) item (view value.now)) }
     ensures linked { IfOk result (IsLinkedJob (finder directory.now)) }
 {
     let table = table_of(value, item)?;
-    let time = required_number(table, "time", item, 0, MOST_TIME)?;
-    let name = required_text(table, "at", item)?;
+    let time = number(required(table, "time", item)?, item, 0, LAST_TICK)?;
+    let name = text(required(table, "at", item)?, item)?;
     only(table, &["time", "at"], item)?;
     let at = link(directory, name, item)?;
     Ok(Entry { time, at, rank: 0 })
@@ -35,8 +37,8 @@ pub(crate) fn jobs(
     directory: &Directory,
     first_item: u32,
 ) -> Result<Vec<Entry>, Refusal>
-    requires objects { first_item ≤ 65537 }
-    requires few { length values.now ≤ 65536 }
+    requires objects { first_item ≤ MOST_OBJECTS + 1 }
+    requires few { length values.now ≤ MOST_ENTRIES }
     ensures read { Gives (λ jobs. jobs.items) result (jobs_from (finder directory.now) first_item (items_view values.now)) }
     ensures count { IfOk result (λ jobs. length jobs.items ≡ length values.now) }
     ensures linked { IfOk result (λ jobs. All (IsLinkedJob (finder directory.now)) jobs.items) }

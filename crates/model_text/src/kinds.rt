@@ -1,40 +1,34 @@
 //! The kinds of objects, each with its fields.
-ghost use Rattle.std.specs.Prelude.{◌≡◌, ◌^◌, ◌<◌, IfOk, None};
+ghost use Rattle.std.specs.Prelude.{◌≡◌, ◌^◌, ◌<◌, IfOk, map};
 ghost use Rattle.std.specs.Option.{ForSome};
+ghost use Rattle.toml.specs.Data.{get_member};
 ghost use Rattle.toml.specs.View.{view, table_view};
+ghost use Rattle.queue_models.specs.Parts.{IsKind};
 ghost use Rattle.model_text.specs.Checks.{Gives};
-ghost use Rattle.model_text.specs.Fields.{optional};
-ghost use Rattle.model_text.specs.NamedItems.{IsNamedKind};
-ghost use Rattle.model_text.specs.Objects.{source, station, delay, router, due_time, sink, named_kind};
+ghost use Rattle.model_text.specs.NamedItems.{AnyName};
+ghost use Rattle.model_text.specs.Objects.{source, station, delay, router, due_time, sink, named_kind, known_keys};
 
-use crate::fields::{
-    field, number, only, optional_number, optional_truth, required_number, required_text,
-};
+use crate::fields::{field, number, optional, required, text, truth};
 use crate::label::Label;
-use crate::laws::required_law;
+use crate::laws::law;
 use crate::named::NamedKind;
 use crate::refusal::{Cause, Refusal};
-use crate::routers::{optional_weights, required_ways};
+use crate::routers::{optional_weights, ways};
+use event_key::LAST_TICK;
+use queue_models::MOST_WAITING;
 use std::alloc::Global;
-use toml::Table;
+use toml::{Table, Value};
 
-/// The last tick: 2^46 - 1.
-pub(crate) const MOST_TIME: u64 = 70_368_744_177_663;
-
+/// A source.
 #[tactic(auto, unfolding(crate::specs::Objects::source))]
 fn source(alloc: Global, table: &Table, item: u32) -> Result<NamedKind, Refusal>
     ensures read { Gives (λ kind. kind) result (source item (table_view table.now)) }
-    ensures in_range { IfOk result IsNamedKind }
+    ensures in_range { IfOk result (IsKind AnyName) }
 {
-    let first = required_number(table, "first", item, 0, MOST_TIME)?;
-    let every = required_law(table, "every", item)?;
-    let count = required_number(table, "count", item, 1, 1_000_000)?;
-    let next = required_text(table, "next", item)?;
-    only(
-        table,
-        &["name", "kind", "first", "every", "count", "next"],
-        item,
-    )?;
+    let first = number(required(table, "first", item)?, item, 0, LAST_TICK)?;
+    let every = law(required(table, "every", item)?, item)?;
+    let count = number(required(table, "count", item)?, item, 1, 1_000_000)?;
+    let next = text(required(table, "next", item)?, item)?;
     Ok(NamedKind::Source {
         first,
         every,
@@ -43,23 +37,28 @@ fn source(alloc: Global, table: &Table, item: u32) -> Result<NamedKind, Refusal>
     })
 }
 
+/// A station.
 #[tactic(auto, unfolding(crate::specs::Objects::station))]
 fn station(alloc: Global, table: &Table, item: u32) -> Result<NamedKind, Refusal>
     ensures read { Gives (λ kind. kind) result (station item (table_view table.now)) }
-    ensures in_range { IfOk result IsNamedKind }
+    ensures in_range { IfOk result (IsKind AnyName) }
 {
-    let servers = optional_number(table, "servers", item, 1, 1024, 1)?;
-    let service = required_law(table, "service", item)?;
-    let line = optional_number(table, "line", item, 0, 65_536, 65_536)?;
-    let strict = optional_truth(table, "strict", item, false)?;
-    let next = required_text(table, "next", item)?;
-    only(
-        table,
-        &[
-            "name", "kind", "servers", "service", "line", "strict", "next",
-        ],
+    let servers = number(
+        optional(table, "servers", &Value::Integer(1)),
         item,
+        1,
+        1024,
     )?;
+    let service = law(required(table, "service", item)?, item)?;
+    let most = Value::Integer(i64::from(MOST_WAITING));
+    let line = number(
+        optional(table, "line", &most),
+        item,
+        0,
+        u64::from(MOST_WAITING),
+    )?;
+    let strict = truth(optional(table, "strict", &Value::Boolean(false)), item)?;
+    let next = text(required(table, "next", item)?, item)?;
     Ok(NamedKind::Station {
         servers: servers as u32,
         service,
@@ -69,49 +68,49 @@ fn station(alloc: Global, table: &Table, item: u32) -> Result<NamedKind, Refusal
     })
 }
 
+/// A delay.
 #[tactic(auto, unfolding(crate::specs::Objects::delay))]
 fn delay(alloc: Global, table: &Table, item: u32) -> Result<NamedKind, Refusal>
     ensures read { Gives (λ kind. kind) result (delay item (table_view table.now)) }
-    ensures in_range { IfOk result IsNamedKind }
+    ensures in_range { IfOk result (IsKind AnyName) }
 {
-    let delay = required_law(table, "delay", item)?;
-    let next = required_text(table, "next", item)?;
-    only(table, &["name", "kind", "delay", "next"], item)?;
+    let delay = law(required(table, "delay", item)?, item)?;
+    let next = text(required(table, "next", item)?, item)?;
     Ok(NamedKind::Delay {
         delay,
         next: Label::new(alloc, next)?,
     })
 }
 
+/// A router.
 #[tactic(auto, unfolding(crate::specs::Objects::router, random_streams::specs::Laws::is_drawable))]
 fn router(alloc: Global, table: &Table, item: u32) -> Result<NamedKind, Refusal>
     ensures read { Gives (λ kind. kind) result (router item (table_view table.now)) }
-    ensures in_range { IfOk result IsNamedKind }
+    ensures in_range { IfOk result (IsKind AnyName) }
 {
-    let next = required_ways(alloc, table, "next", item)?;
+    let next = ways(alloc, required(table, "next", item)?, item)?;
     let weights = optional_weights(alloc, table, "weights", item, next.as_slice().len())?;
-    only(table, &["name", "kind", "next", "weights"], item)?;
     Ok(NamedKind::Router { next, weights })
 }
 
-/// The age that a job may have, where there is one.
+/// The age that a job may have, where there is a greatest.
 fn optional_due(table: &Table, key: &str, item: u32) -> Result<Option<u64>, Refusal>
-    ensures read { Gives (λ due. due) result (optional None (due_time item) key.now (table_view table.now)) }
+    ensures read { Gives (λ due. due) result (due_time item (get_member key.now (table_view table.now))) }
     ensures in_range { IfOk result (λ due. ForSome due (λ time. time < 2 ^ 46)) }
 {
     match field(table, key) {
-        Some(value) => Ok(Some(number(value, item, 0, MOST_TIME)?)),
+        Some(value) => Ok(Some(number(value, item, 0, LAST_TICK)?)),
         None => Ok(None),
     }
 }
 
+/// A sink.
 #[tactic(auto, unfolding(crate::specs::Objects::sink))]
 fn sink(table: &Table, item: u32) -> Result<NamedKind, Refusal>
     ensures read { Gives (λ kind. kind) result (sink item (table_view table.now)) }
-    ensures in_range { IfOk result IsNamedKind }
+    ensures in_range { IfOk result (IsKind AnyName) }
 {
     let due = optional_due(table, "due", item)?;
-    only(table, &["name", "kind", "due"], item)?;
     Ok(NamedKind::Sink { due })
 }
 
@@ -123,7 +122,7 @@ pub(crate) fn named_kind(
     item: u32,
 ) -> Result<NamedKind, Refusal>
     ensures read { Gives (λ kind. kind) result (named_kind item (table_view table.now) word.now) }
-    ensures in_range { IfOk result IsNamedKind }
+    ensures in_range { IfOk result (IsKind AnyName) }
 {
     match word {
         "source" => source(alloc, table, item),
@@ -132,5 +131,20 @@ pub(crate) fn named_kind(
         "router" => router(alloc, table, item),
         "sink" => sink(table, item),
         _ => Err(Cause::BadValue.at(item)),
+    }
+}
+
+/// The keys that an object of each kind may have.
+pub(crate) fn known_keys(kind: &NamedKind) -> &'static [&'static str]
+    ensures { map (λ name. name.now) result.now ≡ known_keys kind.now }
+{
+    match kind {
+        NamedKind::Source { .. } => &["name", "kind", "first", "every", "count", "next"],
+        NamedKind::Station { .. } => &[
+            "name", "kind", "servers", "service", "line", "strict", "next",
+        ],
+        NamedKind::Delay { .. } => &["name", "kind", "delay", "next"],
+        NamedKind::Router { .. } => &["name", "kind", "next", "weights"],
+        NamedKind::Sink { .. } => &["name", "kind", "due"],
     }
 }

@@ -20,6 +20,7 @@ impl Model for Label {
 }
 
 impl Label {
+    /// The name with this text.
     pub(crate) fn new(alloc: Global, text: &str) -> Result<Label, AllocError>
         ensures { IfOk result (λ label. label ≡ text.now) }
     {
@@ -27,6 +28,7 @@ impl Label {
         Ok(Label { text })
     }
 
+    /// Its text.
     pub(crate) fn as_str(&self) -> &str
         ensures { result.now ≡ self.now }
     {
@@ -38,33 +40,5 @@ impl Label {
         ensures { result ≡ self }
     {
         Name::new(self.text.into_bytes())
-    }
-}
-
-/// The names of several objects.
-#[derive(Debug, Drop)]
-pub(crate) struct Labels {
-    list: Vec<Label>,
-}
-
-impl Model for Labels {
-    ghost use Rattle.std.specs.Prelude.{ℕ, List};
-
-    ghost Value = { List (List ℕ) };
-
-    ghost view = { λ labels. labels.list.items };
-}
-
-impl Labels {
-    pub(crate) fn new(list: Vec<Label>) -> Labels
-        ensures { result ≡ list.items }
-    {
-        Labels { list }
-    }
-
-    pub(crate) fn as_slice(&self) -> &[Label]
-        ensures { result.now ≡ self.now }
-    {
-        &self.list
     }
 }

@@ -3,37 +3,35 @@ ghost use Rattle.std.specs.Prelude.{IfOk, IsTrue};
 ghost use Rattle.toml.specs.View.{view, table_view};
 ghost use Rattle.random_streams.specs.Laws.{is_delay};
 ghost use Rattle.model_text.specs.Checks.{Gives};
-ghost use Rattle.model_text.specs.Fields.{required};
 ghost use Rattle.model_text.specs.LawTexts.{fixed_law, uniform_law, geometric_law, law};
 
-use crate::fields::{field, only, required_number, required_text, table_of};
+use crate::fields::{number, only, required, table_of, text};
 use crate::refusal::{Cause, Refusal};
-use random_streams::Law;
+use random_streams::{Law, MOST_TRIALS, MOST_VALUE};
 use toml::{Table, Value};
-
-/// The greatest value of a law in ticks: 2^40.
-const MOST_DELAY: u64 = 1_099_511_627_776;
 
 /// How far the greatest value of a uniform law may lie above its least.
 const MOST_WIDTH: u64 = 4_294_967_295;
 
+/// The law that always gives one value.
 #[tactic(auto, unfolding(crate::specs::LawTexts::fixed_law, random_streams::specs::Laws::is_delay, random_streams::specs::Laws::is_drawable))]
 fn fixed_law(table: &Table, item: u32) -> Result<Law, Refusal>
     ensures read { Gives (λ law. law) result (fixed_law item (table_view table.now)) }
     ensures delay { IfOk result (λ law. IsTrue (is_delay law)) }
 {
-    let value = required_number(table, "value", item, 0, MOST_DELAY)?;
+    let value = number(required(table, "value", item)?, item, 0, MOST_VALUE)?;
     only(table, &["law", "value"], item)?;
     Ok(Law::Fixed { value })
 }
 
+/// The law of numbers that are drawn evenly.
 #[tactic(auto, unfolding(crate::specs::LawTexts::uniform_law, random_streams::specs::Laws::is_delay, random_streams::specs::Laws::is_drawable))]
 fn uniform_law(table: &Table, item: u32) -> Result<Law, Refusal>
     ensures read { Gives (λ law. law) result (uniform_law item (table_view table.now)) }
     ensures delay { IfOk result (λ law. IsTrue (is_delay law)) }
 {
-    let low = required_number(table, "low", item, 0, MOST_DELAY)?;
-    let high = required_number(table, "high", item, 0, MOST_DELAY)?;
+    let low = number(required(table, "low", item)?, item, 0, MOST_VALUE)?;
+    let high = number(required(table, "high", item)?, item, 0, MOST_VALUE)?;
     if high < low {
         return Err(Cause::BadValue.at(item));
     }
@@ -44,13 +42,19 @@ fn uniform_law(table: &Table, item: u32) -> Result<Law, Refusal>
     Ok(Law::Uniform { low, high })
 }
 
+/// The law of the first trial that succeeds.
 #[tactic(auto, unfolding(crate::specs::LawTexts::geometric_law, random_streams::specs::Laws::is_delay, random_streams::specs::Laws::is_drawable))]
 fn geometric_law(table: &Table, item: u32) -> Result<Law, Refusal>
     ensures read { Gives (λ law. law) result (geometric_law item (table_view table.now)) }
     ensures delay { IfOk result (λ law. IsTrue (is_delay law)) }
 {
-    let p = required_number(table, "p", item, 1, 4_294_967_295)?;
-    let cap = required_number(table, "cap", item, 1, 65_536)?;
+    let p = number(required(table, "p", item)?, item, 1, 4_294_967_295)?;
+    let cap = number(
+        required(table, "cap", item)?,
+        item,
+        1,
+        u64::from(MOST_TRIALS),
+    )?;
     only(table, &["law", "p", "cap"], item)?;
     Ok(Law::Geometric {
         p: p as u32,
@@ -58,13 +62,14 @@ fn geometric_law(table: &Table, item: u32) -> Result<Law, Refusal>
     })
 }
 
+/// A law of any name.
 #[tactic(auto, unfolding(crate::specs::LawTexts::law))]
-fn law(value: &Value, item: u32) -> Result<Law, Refusal>
+pub(crate) fn law(value: &Value, item: u32) -> Result<Law, Refusal>
     ensures read { Gives (λ law. law) result (law item (view value.now)) }
     ensures delay { IfOk result (λ law. IsTrue (is_delay law)) }
 {
     let table = table_of(value, item)?;
-    let name = required_text(table, "law", item)?;
+    let name = text(required(table, "law", item)?, item)?;
     if name == "fixed" {
         return fixed_law(table, item);
     }
@@ -75,15 +80,4 @@ fn law(value: &Value, item: u32) -> Result<Law, Refusal>
         return geometric_law(table, item);
     }
     Err(Cause::BadValue.at(item))
-}
-
-/// A law that has to be there.
-pub(crate) fn required_law(table: &Table, key: &str, item: u32) -> Result<Law, Refusal>
-    ensures read { Gives (λ law. law) result (required item (law item) key.now (table_view table.now)) }
-    ensures delay { IfOk result (λ law. IsTrue (is_delay law)) }
-{
-    match field(table, key) {
-        Some(value) => law(value, item),
-        None => Err(Cause::Missing.at(item)),
-    }
 }

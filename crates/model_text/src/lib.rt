@@ -2,8 +2,12 @@
 //! fails.
 #![tactic(auto)]
 
+mod circuits;
 mod directory;
 mod fields;
+mod formats;
+mod gate_fields;
+mod gates;
 mod jobs;
 mod kinds;
 mod label;
@@ -11,6 +15,7 @@ mod laws;
 mod links;
 mod model;
 mod named;
+mod named_gate;
 mod names;
 mod network;
 mod objects;

@@ -1,49 +1,52 @@
 //! Pass two: the names to which objects send become numbers of objects.
-ghost use Rattle.std.specs.Prelude.{◌≡◌, ◌≤◌, length, map, IfOk};
-ghost use Rattle.queue_models.specs.Objects.{object_of, role_of};
+ghost use Rattle.std.specs.Prelude.{◌≡◌, ◌≤◌, length};
+ghost use Rattle.model_core.specs.declared.limits.TheConstants.{MOST_OBJECTS};
 ghost use Rattle.model_text.specs.Checks.{Gives};
 ghost use Rattle.model_text.specs.Directories.{finder};
-ghost use Rattle.model_text.specs.Links.{link, links, linked_role, linked_object, linked_from};
+ghost use Rattle.model_text.specs.Links.{link, links, linked_kind, linked_item, linked_from};
 
 use crate::directory::Directory;
 use crate::label::Label;
 use crate::named::{NamedItem, NamedKind};
 use crate::refusal::{Cause, Refusal};
+use model_core::Sequence;
 use queue_models::{Item, Kind};
 use std::alloc::Global;
 
-/// The number of the object with this name, which has to be no source.
+/// The number of what has this name, which may not be a source.
 pub(crate) fn link(directory: &Directory, name: &str, item: u32) -> Result<u32, Refusal>
     ensures { Gives (λ number. number) result (link (finder directory.now) item name.now) }
 {
     match directory.find(name) {
-        Some(place) if place.takes_jobs => Ok(place.number),
+        Some(place) if place.takes_links => Ok(place.number),
         _ => Err(Cause::BadLink.at(item)),
     }
 }
 
-fn links(
+/// The numbers of those that have these names, none of which may be a source.
+pub(crate) fn links(
     alloc: Global,
     directory: &Directory,
     names: &[Label],
     item: u32,
-) -> Result<Vec<u32>, Refusal>
-    ensures { Gives (λ numbers. numbers.items) result (links (finder directory.now) item names.now) }
+) -> Result<Sequence<u32>, Refusal>
+    ensures { Gives (λ numbers. numbers) result (links (finder directory.now) item names.now) }
 {
     let mut numbers = Vec::new(alloc);
     for name in names {
         numbers.push(link(directory, name.as_str(), item)?)?;
     }
-    Ok(numbers)
+    Ok(Sequence::new(numbers))
 }
 
+/// What an object does, with numbers of objects in place of their names.
 fn linked_kind(
     alloc: Global,
     directory: &Directory,
     kind: NamedKind,
     item: u32,
 ) -> Result<Kind, Refusal>
-    ensures { Gives role_of result (linked_role (finder directory.now) item kind) }
+    ensures { Gives (λ kind. kind) result (linked_kind (finder directory.now) item kind) }
 {
     match kind {
         NamedKind::Source {
@@ -88,19 +91,20 @@ fn linked_kind(
     }
 }
 
+/// An object, with numbers of objects in place of their names.
 fn linked_item(
     alloc: Global,
     directory: &Directory,
     object: NamedItem,
     item: u32,
 ) -> Result<Item, Refusal>
-    ensures { Gives object_of result (linked_object (finder directory.now) item object) }
+    ensures { Gives (λ item. item) result (linked_item (finder directory.now) item object) }
 {
     let kind = linked_kind(alloc, directory, object.kind, item)?;
     Ok(Item {
-        name: object.name.into_name(),
+        name: object.name,
         kind,
-        rank: 0,
+        rank: object.rank,
     })
 }
 
@@ -110,8 +114,8 @@ pub(crate) fn linked_items(
     directory: &Directory,
     objects: Vec<NamedItem>,
 ) -> Result<Vec<Item>, Refusal>
-    requires { length objects.items ≤ 65536 }
-    ensures { Gives (λ items. map object_of items.items) result (linked_from (finder directory.now) 1 objects.items) }
+    requires { length objects.items ≤ MOST_OBJECTS }
+    ensures { Gives (λ items. items.items) result (linked_from (finder directory.now) 1 objects.items) }
 {
     let mut items = Vec::with_capacity(alloc, objects.len())?;
     for object in objects {

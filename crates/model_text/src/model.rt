@@ -1,4 +1,5 @@
 //! The models that a text can describe.
+use circuit_model::Circuit;
 use delta_exchange::{Cells, OutOfMemory};
 use model_core::model::Model as SimulationModel;
 use model_core::{Effect, Ending, Event, Start};
@@ -12,6 +13,7 @@ use std::alloc::Global;
 pub enum AnyModel {
     Phold(Phold),
     Network(Network),
+    Circuit(Circuit),
 }
 
 impl SimulationModel for AnyModel {
@@ -25,6 +27,7 @@ impl SimulationModel for AnyModel {
         match self {
             AnyModel::Phold(phold) => phold.objects(),
             AnyModel::Network(network) => network.objects(),
+            AnyModel::Circuit(circuit) => circuit.objects(),
         }
     }
 
@@ -32,6 +35,7 @@ impl SimulationModel for AnyModel {
         match self {
             AnyModel::Phold(phold) => phold.starts(),
             AnyModel::Network(network) => network.starts(),
+            AnyModel::Circuit(circuit) => circuit.starts(),
         }
     }
 
@@ -39,6 +43,7 @@ impl SimulationModel for AnyModel {
         match self {
             AnyModel::Phold(phold) => phold.start(i),
             AnyModel::Network(network) => network.start(i),
+            AnyModel::Circuit(circuit) => circuit.start(i),
         }
     }
 
@@ -46,6 +51,7 @@ impl SimulationModel for AnyModel {
         match self {
             AnyModel::Phold(phold) => phold.first_cells(alloc, object),
             AnyModel::Network(network) => network.first_cells(alloc, object),
+            AnyModel::Circuit(circuit) => circuit.first_cells(alloc, object),
         }
     }
 
@@ -53,6 +59,7 @@ impl SimulationModel for AnyModel {
         match self {
             AnyModel::Phold(phold) => phold.is_lawful(object, cells),
             AnyModel::Network(network) => network.is_lawful(object, cells),
+            AnyModel::Circuit(circuit) => circuit.is_lawful(object, cells),
         }
     }
 
@@ -67,6 +74,7 @@ impl SimulationModel for AnyModel {
         match self {
             AnyModel::Phold(phold) => phold.respond(words, object, cells, event, sheet),
             AnyModel::Network(network) => network.respond(words, object, cells, event, sheet),
+            AnyModel::Circuit(circuit) => circuit.respond(words, object, cells, event, sheet),
         }
     }
 
@@ -74,6 +82,7 @@ impl SimulationModel for AnyModel {
         match self {
             AnyModel::Phold(phold) => phold.put_name(alloc, object, into),
             AnyModel::Network(network) => network.put_name(alloc, object, into),
+            AnyModel::Circuit(circuit) => circuit.put_name(alloc, object, into),
         }
     }
 }

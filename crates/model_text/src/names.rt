@@ -1,35 +1,37 @@
 //! Names of objects.
 ghost use Rattle.std.specs.Prelude.{◌≡◌, IfOk, IsTrue, None};
 ghost use Rattle.std.specs.List.{list_all};
-ghost use Rattle.toml.specs.View.{view, table_view};
+ghost use Rattle.toml.specs.View.{view};
 ghost use Rattle.queue_models.specs.Parts.{is_name_byte};
 ghost use Rattle.model_text.specs.Checks.{Gives};
 ghost use Rattle.model_text.specs.Directories.{finder};
-ghost use Rattle.model_text.specs.Fields.{required};
 ghost use Rattle.model_text.specs.Names.{is_name, new_name};
 
 use crate::directory::Directory;
-use crate::fields::{field, text};
+use crate::fields::text;
 use crate::label::Label;
 use crate::refusal::{Cause, Refusal};
 use std::alloc::Global;
-use toml::{Table, Value};
+use toml::Value;
 
 /// How many bytes a name has at most.
 const MOST_NAME_BYTES: usize = 16;
 
+/// Whether a name may have this byte.
 fn is_name_byte(byte: u8) -> bool
     ensures { result ≡ is_name_byte byte }
 {
     matches!(byte, b'A'..=b'Z' | b'a'..=b'z' | b'0'..=b'9' | b'_' | b'-')
 }
 
+/// Whether a name may have each byte of the text.
 fn has_name_bytes(name: &str) -> bool
     ensures { result ≡ list_all is_name_byte name.now }
 {
     name.as_bytes().iter().all(|byte| is_name_byte(*byte))
 }
 
+/// Whether the text is a name.
 fn is_name(name: &str) -> bool
     ensures { result ≡ is_name name.now }
 {
@@ -38,7 +40,7 @@ fn is_name(name: &str) -> bool
 
 /// A name that no object before has.
 #[tactic(auto, unfolding(crate::specs::Names::new_name))]
-fn new_name(
+pub(crate) fn new_name(
     alloc: Global,
     value: &Value,
     directory: &Directory,
@@ -56,22 +58,4 @@ fn new_name(
         return Err(Cause::BadValue.at(item));
     }
     Ok(Label::new(alloc, name)?)
-}
-
-/// A name that has to be there.
-pub(crate) fn required_new_name(
-    alloc: Global,
-    table: &Table,
-    key: &str,
-    directory: &Directory,
-    item: u32,
-) -> Result<Label, Refusal>
-    ensures read { Gives (λ name. name) result (required item (new_name (finder directory.now) item) key.now (table_view table.now)) }
-    ensures named { IfOk result (λ name. IsTrue (is_name name)) }
-    ensures new { IfOk result (λ name. finder directory.now name ≡ None) }
-{
-    match field(table, key) {
-        Some(value) => new_name(alloc, value, directory, item),
-        None => Err(Cause::Missing.at(item)),
-    }
 }

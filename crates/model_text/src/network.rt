@@ -1,32 +1,31 @@
 //! The body of a network.
 ghost use Rattle.std.specs.Prelude.{◌≡◌, ◌≢◌, ◌+◌, ◌<◌, ◌≤◌, ◌^◌, length, All, AllPairs};
 ghost use Rattle.toml.specs.View.{items_view, table_view};
+ghost use Rattle.model_core.specs.declared.limits.TheConstants.{MOST_ENTRIES, MOST_OBJECTS};
 ghost use Rattle.queue_models.specs.Meaning.{network_meaning};
 ghost use Rattle.queue_models.specs.Views.{parts_of};
 ghost use Rattle.model_text.specs.Checks.{Gives};
-ghost use Rattle.model_text.specs.declared.named.NamedItem.{NamedItem};
 ghost use Rattle.model_text.specs.Directories.{finder};
 ghost use Rattle.model_text.specs.NamedItems.{IsNamedItem};
-ghost use Rattle.model_text.specs.Names.{place_in};
+ghost use Rattle.model_text.specs.Names.{NamedItem, place_in};
 ghost use Rattle.model_text.specs.Networks.{linked_network, network};
 
 use crate::directory::Directory;
-use crate::fields::optional_array;
+use crate::fields::{array_of, optional};
+use crate::formats::Format;
 use crate::jobs::jobs;
 use crate::links::linked_items;
 use crate::named::NamedItem;
 use crate::objects::objects;
 use crate::refusal::Refusal;
+use model_core::{MOST_ENTRIES, MOST_OBJECTS};
 use queue_models::Network;
 use std::alloc::Global;
 use toml::{Table, Value};
 
-/// How many objects there are at most, and how many jobs.
-const MOST_ENTRIES: usize = 65_536;
-
 /// The item of the first job, which follows those of the objects.
 fn first_job_item(objects: &[NamedItem]) -> u32
-    requires { length objects.now ≤ 65536 }
+    requires { length objects.now ≤ MOST_OBJECTS }
     ensures { result ≡ length objects.now + 1 }
 {
     objects.len() as u32 + 1
@@ -42,8 +41,8 @@ fn linked_network(
     entries: &[Value],
 ) -> Result<Network, Refusal>
     requires seed { seed < 2 ^ 63 }
-    requires few_objects { length named.items ≤ 65536 }
-    requires few_jobs { length entries.now ≤ 65536 }
+    requires few_objects { length named.items ≤ MOST_OBJECTS }
+    requires few_jobs { length entries.now ≤ MOST_ENTRIES }
     requires found { finder directory.now ≡ place_in named.items }
     requires in_range { All IsNamedItem named.items }
     requires names_differ { AllPairs (λ (a b : NamedItem). a.name ≢ b.name) named.items }
@@ -57,12 +56,18 @@ fn linked_network(
 
 /// The arrays `object` and `job`.
 #[tactic(auto, unfolding(crate::specs::Networks::network))]
-pub(crate) fn network(alloc: Global, table: &Table, seed: u64) -> Result<Network, Refusal>
+pub(crate) fn network(
+    alloc: Global,
+    table: &Table,
+    _format: Format,
+    seed: u64,
+) -> Result<Network, Refusal>
     requires { seed < 2 ^ 63 }
-    ensures { Gives (λ model. network_meaning (parts_of model)) result (network seed (table_view table.now)) }
+    ensures { Gives (λ model. network_meaning (parts_of model)) result (network _format seed (table_view table.now)) }
 {
-    let tables = optional_array(table, "object", 0, MOST_ENTRIES)?;
-    let entries = optional_array(table, "job", 0, MOST_ENTRIES)?;
+    let none = Value::Array(Vec::new(alloc));
+    let tables = array_of(optional(table, "object", &none), 0, MOST_OBJECTS as usize)?;
+    let entries = array_of(optional(table, "job", &none), 0, MOST_ENTRIES)?;
     let (named, directory) = objects(alloc, tables)?;
     linked_network(alloc, seed, named, &directory, entries)
 }

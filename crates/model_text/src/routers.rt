@@ -1,15 +1,17 @@
 //! The arrays of a router.
-ghost use Rattle.std.specs.Prelude.{◌≡◌, ◌≤◌, nat_le, length, sum, replicate, IfOk, IsTrue};
+ghost use Rattle.std.specs.Prelude.{◌≡◌, ◌≤◌, nat_le, length, sum, IfOk, IsTrue};
 ghost use Rattle.std.specs.List.{list_all};
+ghost use Rattle.toml.specs.Data.{get_member};
 ghost use Rattle.toml.specs.View.{view, items_view, table_view};
 ghost use Rattle.random_streams.specs.Laws.{is_choice};
 ghost use Rattle.model_text.specs.Checks.{Gives};
-ghost use Rattle.model_text.specs.Fields.{number, text, each, required, optional};
-ghost use Rattle.model_text.specs.Routers.{ways, weights};
+ghost use Rattle.model_text.specs.Fields.{number, text, each};
+ghost use Rattle.model_text.specs.Routers.{ways, weights, weights_or_ones};
 
 use crate::fields::{array_of, entries_of, field, item_count, number, text};
-use crate::label::{Label, Labels};
+use crate::label::Label;
 use crate::refusal::{Cause, Refusal};
+use model_core::Sequence;
 use random_streams::Weights;
 use std::alloc::Global;
 use toml::{Table, Value};
@@ -20,7 +22,8 @@ const MOST_WAYS: usize = 64;
 /// The greatest weight.
 const MOST_WEIGHT: u64 = 65_535;
 
-fn labels(alloc: Global, values: &[Value], item: u32) -> Result<Vec<Label>, Refusal>
+/// The texts of an array.
+pub(crate) fn labels(alloc: Global, values: &[Value], item: u32) -> Result<Vec<Label>, Refusal>
     ensures read { Gives (λ labels. labels.items) result (each (text item) (items_view values.now)) }
     ensures count { IfOk result (λ labels. length labels.items ≡ length values.now) }
 {
@@ -33,7 +36,7 @@ fn labels(alloc: Global, values: &[Value], item: u32) -> Result<Vec<Label>, Refu
 
 /// The names of the objects to which a router sends.
 #[tactic(auto, unfolding(crate::specs::Routers::ways))]
-fn ways(alloc: Global, value: &Value, item: u32) -> Result<Labels, Refusal>
+pub(crate) fn ways(alloc: Global, value: &Value, item: u32) -> Result<Sequence<Label>, Refusal>
     ensures read { Gives (λ names. names) result (ways item (view value.now)) }
     ensures some { IfOk result (λ names. 1 ≤ length names) }
     ensures few { IfOk result (λ names. length names ≤ 64) }
@@ -42,25 +45,10 @@ fn ways(alloc: Global, value: &Value, item: u32) -> Result<Labels, Refusal>
     if item_count(values) == 0 {
         return Err(Cause::BadValue.at(item));
     }
-    Ok(Labels::new(labels(alloc, values, item)?))
+    Ok(Sequence::new(labels(alloc, values, item)?))
 }
 
-pub(crate) fn required_ways(
-    alloc: Global,
-    table: &Table,
-    key: &str,
-    item: u32,
-) -> Result<Labels, Refusal>
-    ensures read { Gives (λ names. names) result (required item (ways item) key.now (table_view table.now)) }
-    ensures some { IfOk result (λ names. 1 ≤ length names) }
-    ensures few { IfOk result (λ names. length names ≤ 64) }
-{
-    match field(table, key) {
-        Some(value) => ways(alloc, value, item),
-        None => Err(Cause::Missing.at(item)),
-    }
-}
-
+/// The weights of an array.
 fn numbers(alloc: Global, values: &[Value], item: u32) -> Result<Vec<u32>, Refusal>
     ensures read { Gives (λ numbers. numbers.items) result (each (number item 0 65535) (items_view values.now)) }
     ensures count { IfOk result (λ numbers. length numbers.items ≡ length values.now) }
@@ -73,6 +61,7 @@ fn numbers(alloc: Global, values: &[Value], item: u32) -> Result<Vec<u32>, Refus
     Ok(numbers)
 }
 
+/// The sum of the weights.
 fn total(weights: &[u32]) -> u64
     requires { length weights.now ≤ 64 }
     ensures { result ≡ sum weights.now }
@@ -110,7 +99,7 @@ pub(crate) fn optional_weights(
 ) -> Result<Weights, Refusal>
     requires some { 1 ≤ count }
     requires few { count ≤ 64 }
-    ensures read { Gives (λ list. list) result (optional (replicate count 1) (weights item count) key.now (table_view table.now)) }
+    ensures read { Gives (λ list. list) result (weights_or_ones item count (get_member key.now (table_view table.now))) }
     ensures count { IfOk result (λ list. length list ≡ count) }
     ensures choice { IfOk result (λ list. IsTrue (is_choice list)) }
 {

@@ -1,13 +1,15 @@
 //! The entries of `start`.
 ghost use Rattle.std.specs.Prelude.{◌≡◌, ◌≤◌, length, All, IfOk};
+ghost use Rattle.model_core.specs.declared.limits.TheConstants.{MOST_ENTRIES};
 ghost use Rattle.phold_model.specs.Parts.{IsEntry};
 ghost use Rattle.toml.specs.View.{view, items_view};
 ghost use Rattle.model_text.specs.Checks.{Gives};
 ghost use Rattle.model_text.specs.Starts.{start_entry, start_entries};
 
-use crate::fields::{only, required_number, table_of};
+use crate::fields::{number, only, required, table_of};
 use crate::refusal::{Cause, Refusal};
-use model_core::Entry;
+use event_key::LAST_TICK;
+use model_core::{Entry, MOST_OBJECTS};
 use std::alloc::Global;
 use toml::Value;
 
@@ -18,8 +20,13 @@ fn start_entry(value: &Value, objects: u32, item: u32) -> Result<Entry, Refusal>
     ensures entry { IfOk result (IsEntry objects) }
 {
     let table = table_of(value, item)?;
-    let time = required_number(table, "time", item, 0, 70_368_744_177_663)?;
-    let at = required_number(table, "at", item, 0, 65_535)?;
+    let time = number(required(table, "time", item)?, item, 0, LAST_TICK)?;
+    let at = number(
+        required(table, "at", item)?,
+        item,
+        0,
+        u64::from(MOST_OBJECTS - 1),
+    )?;
     only(table, &["time", "at"], item)?;
     let at = at as u32;
     if at >= objects {
@@ -34,7 +41,7 @@ pub(crate) fn start_entries(
     values: &[Value],
     objects: u32,
 ) -> Result<Vec<Entry>, Refusal>
-    requires { length values.now ≤ 65536 }
+    requires { length values.now ≤ MOST_ENTRIES }
     ensures read { Gives (λ entries. entries.items) result (start_entries objects (items_view values.now)) }
     ensures count { IfOk result (λ entries. length entries.items ≡ length values.now) }
     ensures entries { IfOk result (λ entries. All (IsEntry objects) entries.items) }

@@ -1,3 +1,4 @@
+mod circuits;
 mod networks;
 
 use super::*;
@@ -13,6 +14,12 @@ fn refusal_of(alloc: Global, text: &[u8]) -> Option<(u8, u32)> {
         Err(Refusal::At { code, item }) => Some((code, item)),
         Err(Refusal::OutOfMemory) => None,
     }
+}
+
+/// The text with the first place of `old` replaced.
+fn replaced(alloc: Global, text: &str, old: &str, new: &str) -> Result<String, Fail> {
+    let (front, back) = text.split_once(old).ok_or("no such place")?;
+    Ok(format!(in alloc; "{front}{new}{back}")?)
 }
 
 /// A PHOLD model with this table.
@@ -71,7 +78,9 @@ fn the_first_check_that_fails_is_told(rt: HostRuntime) {
         (b"end = 1\nend = 1", (2, 0)),
         (b"a = \"\xFF\"\n", (2, 0)),
         (b"\xFF", (2, 0)),
-        (b"format = 2\n", (5, 0)),
+        (b"format = 2\n", (3, 0)),
+        (b"format = 0\n", (5, 0)),
+        (b"format = 3\n", (5, 0)),
         (b"format = 1.0\n", (5, 0)),
         (b"format = -1\n", (5, 0)),
         (b"format = 1\nend = 3", (3, 0)),

@@ -1,25 +1,27 @@
 //! The top table, and the whole text.
-ghost use Rattle.std.specs.Prelude.{◌≡◌, ◌<◌, ◌≤◌, ◌^◌, IfOk, IfErr, codes};
+ghost use Rattle.std.specs.Prelude.{◌≡◌, ◌<◌, ◌≤◌, ◌^◌, IfOk, IfErr};
 ghost use Rattle.toml.specs.View.{table_view};
 ghost use Rattle.model_text.specs.Checks.{Gives, Fails};
-ghost use Rattle.model_text.specs.Fields.{required, only_number, only};
+ghost use Rattle.model_text.specs.Fields.{only};
 ghost use Rattle.model_text.specs.Meanings.{meaning_of};
 ghost use Rattle.model_text.specs.ModelTexts.{kind_of, top_keys, body, top, tree, model_of};
 ghost use Rattle.model_text.specs.TermsOf.{terms_of};
 
-use crate::fields::{field, only, only_number, optional_number, required_number, required_text};
+use crate::circuits::circuit;
+use crate::fields::{number, only, optional, required, text};
+use crate::formats::{Format, format_of};
 use crate::model::AnyModel;
 use crate::network::network;
-use crate::phold::required_phold;
+use crate::phold::phold;
 use crate::refusal::{Cause, Refusal};
+use event_key::LAST_TICK;
+use model_core::MOST_TEXT_BYTES;
 use model_core::model::Model as SimulationModel;
 use sim_spec::Terms;
 use std::alloc::Global;
-use toml::Table;
+use toml::{Table, Value};
 
-/// How many bytes a text has at most.
-const MOST_BYTES: usize = 1_048_576;
-
+/// The terms with this end and this limit.
 fn terms_of(end: u64, limit: u64) -> Terms
     requires end { end < 2 ^ 46 }
     requires some_event { 1 ≤ limit }
@@ -29,29 +31,22 @@ fn terms_of(end: u64, limit: u64) -> Terms
     Terms { end, limit }
 }
 
-/// The version of the language of model texts.
-fn format(table: &Table) -> Result<u64, Refusal>
-    ensures { Gives (λ n. n) result (required 0 (only_number 0 1) (codes "format") (table_view table.now)) }
-{
-    match field(table, "format") {
-        Some(value) => only_number(value, 0, 1),
-        None => Err(Cause::Missing.at(0)),
-    }
-}
-
 /// The kinds of models.
 #[derive(Clone, Copy, Debug, PartialEq, Eq)]
 pub(crate) enum ModelKind {
     Phold,
     Network,
+    Circuit,
 }
 
-fn kind_of(name: &str) -> Result<ModelKind, Refusal>
-    ensures { Gives (λ kind. kind) result (kind_of name.now) }
+/// The kind of model with this name.
+fn kind_of(format: Format, name: &str) -> Result<ModelKind, Refusal>
+    ensures { Gives (λ kind. kind) result (kind_of format name.now) }
 {
     match name {
         "phold" => Ok(ModelKind::Phold),
         "network" => Ok(ModelKind::Network),
+        "circuit" if format.has_circuits() => Ok(ModelKind::Circuit),
         _ => Err(Cause::BadValue.at(0)),
     }
 }
@@ -71,16 +66,32 @@ fn only_known(table: &Table, kind: ModelKind) -> Result<(), Refusal>
             &["format", "model", "end", "seed", "limit", "object", "job"],
             0,
         ),
+        ModelKind::Circuit => only(
+            table,
+            &["format", "model", "end", "seed", "limit", "gate"],
+            0,
+        ),
     }
 }
 
-fn body(alloc: Global, table: &Table, kind: ModelKind, seed: u64) -> Result<AnyModel, Refusal>
+/// The body of a model of this kind.
+fn body(
+    alloc: Global,
+    table: &Table,
+    format: Format,
+    kind: ModelKind,
+    seed: u64,
+) -> Result<AnyModel, Refusal>
     requires { seed < 2 ^ 63 }
-    ensures { Gives (λ model. meaning_of model) result (body kind seed (table_view table.now)) }
+    ensures { Gives (λ model. meaning_of model) result (body format kind seed (table_view table.now)) }
 {
     match kind {
-        ModelKind::Phold => Ok(AnyModel::Phold(required_phold(alloc, table, "phold", seed)?)),
-        ModelKind::Network => Ok(AnyModel::Network(network(alloc, table, seed)?)),
+        ModelKind::Phold => {
+            let body = required(table, "phold", 0)?;
+            Ok(AnyModel::Phold(phold(alloc, body, format, seed)?))
+        }
+        ModelKind::Network => Ok(AnyModel::Network(network(alloc, table, format, seed)?)),
+        ModelKind::Circuit => Ok(AnyModel::Circuit(circuit(alloc, table)?)),
     }
 }
 
@@ -89,16 +100,19 @@ fn body(alloc: Global, table: &Table, kind: ModelKind, seed: u64) -> Result<AnyM
 fn top(alloc: Global, table: &Table) -> Result<(AnyModel, Terms), Refusal>
     ensures { Gives (λ read. record { meaning = meaning_of read.0; terms = read.1 }) result (top (table_view table.now)) }
 {
-    format(table)?;
-    let kind = kind_of(required_text(table, "model", 0)?)?;
-    let end = required_number(table, "end", 0, 0, 70_368_744_177_663)?;
-    let seed = optional_number(table, "seed", 0, 0, 9_223_372_036_854_775_807, 0)?;
-    let limit = optional_number(table, "limit", 0, 1, 1_000_000_000, 10_000_000)?;
+    let format = format_of(required(table, "format", 0)?)?;
+    let kind = kind_of(format, text(required(table, "model", 0)?, 0)?)?;
+    let end = number(required(table, "end", 0)?, 0, 0, LAST_TICK)?;
+    let seed = optional(table, "seed", &Value::Integer(0));
+    let seed = number(seed, 0, 0, 9_223_372_036_854_775_807)?;
+    let limit = optional(table, "limit", &Value::Integer(10_000_000));
+    let limit = number(limit, 0, 1, 1_000_000_000)?;
     only_known(table, kind)?;
-    let model = body(alloc, table, kind, seed)?;
+    let model = body(alloc, table, format, kind, seed)?;
     Ok((model, terms_of(end, limit)))
 }
 
+/// The TOML document of a text.
 fn tree(alloc: Global, bytes: &[u8]) -> Result<Table, Refusal>
     ensures { Gives (λ table. table_view table) result (tree bytes.now) }
 {
@@ -124,7 +138,7 @@ pub fn read_model(alloc: Global, bytes: &[u8]) -> Result<(AnyModel, Terms), Refu
     ensures read { IfOk result (λ read. model_of bytes.now ≡ Ok (record { meaning = meaning_of read.0; terms = read.1 })) }
     ensures refused { IfErr result (λ refusal. Fails refusal (model_of bytes.now)) }
 {
-    if bytes.len() > MOST_BYTES {
+    if bytes.len() > MOST_TEXT_BYTES {
         return Err(Cause::TooLong.at(0));
     }
     let table = tree(alloc, bytes)?;

@@ -1,6 +1,6 @@
 -- One event after another is committed: those so far are the first ones of their logs.
-use Rattle.std.proofs.Common.{◌≡◌, ℕ, ◌+◌, ◌<◌, ◌≤◌, ◌^◌, true, false, cond, List, [], ◌∷◌, ◌++◌, length, map, eq-eqb, ne_eqb, Option, Some, refl, sym, ap, ◌∙◌, subst, arith, append_assoc, length-append}
-use Rattle.std.specs.Prelude.{filter, slice_index_or}
+use Rattle.std.proofs.Common.{◌≡◌, ℕ, ◌+◌, ◌<◌, ◌≤◌, ◌^◌, true, false, cond, List, [], ◌∷◌, ◌++◌, length, map, eq-eqb, ne_eqb, Option, Some, None, refl, sym, ap, ◌∙◌, subst, arith, append_assoc, length-append}
+use Rattle.std.specs.Prelude.{filter, slice_index_or, is_some, IfNone, IfSome}
 use Rattle.std.specs.List.{AllByRecursion as Each}
 use Rattle.std.proofs.lemmas.List.{append-nil, length-map, map-append}
 use Rattle.std.proofs.lemmas.List.Elements.{filter-append}
@@ -9,9 +9,9 @@ use Rattle.model_core.specs.declared.event.Event.{Event}
 use Rattle.model_core.specs.declared.note.Note.{Note}
 use Rattle.sim_spec.specs.Cut.{emissions_of, events_of}
 use Rattle.sim_spec.specs.Firing.{Firing, ObjectState}
-use Rattle.sim_spec.specs.Replay.{Replay, done_at}
+use Rattle.sim_spec.specs.Replay.{Replay, done_at, replay_after}
 use Rattle.key_order.proofs.EachLemmas.{Each-append, Each-back}
-use Rattle.sim_spec.proofs.PartLemmas.{done_at-append}
+use Rattle.sim_spec.proofs.PartLemmas.{done_at-append, emissions_of-more}
 use Rattle.object_log.specs.declared.done.Done.{Done}
 use Rattle.object_log.specs.declared.done.Verdict.{Verdict}
 use Rattle.object_log.specs.declared.done.Verdict.TheVariants.{Noted, Failed}
@@ -20,7 +20,7 @@ use Rattle.object_log.specs.Replays.{IsLogOf, firing_of, replay_of, told}
 use Rattle.key_order.specs.Due.{is_due}
 use Rattle.world_spec.specs.Share.{is_at}
 use Rattle.key_order.proofs.FilterLemmas.{length-filter_le}
-use Rattle.node_core.specs.Handed.{AddsOne, AreTaken, CanCommit, IsFaultLate, IsLogLess, IsNoted, IsTellingOf, told_of, with_front}
+use Rattle.node_core.specs.Handed.{AddsOne, AreTaken, CanCommit, HasHandedOut, IsFaultLate, IsLogLess, IsNoted, IsTellingOf, told_of}
 use Rattle.node_core.specs.Homes.{HomesView, home_of}
 use Rattle.node_core.specs.Marks.{MarkView, code_of, fault_or, first_fault, first_mark}
 use Rattle.node_core.specs.Moves.{IsCommittedAt}
@@ -82,18 +82,13 @@ other-part object done x apart =
 each-push : {X : Type 0} (P : X → Type 0) (xs : List X) (x : X) → Each P xs → P x → Each P (xs ++ x ∷ [])
 each-push P xs x all more = Each-append P xs (x ∷ []) all (more, tt)
 
-emissions-push : (done : List (Event × Firing)) (x : Event × Firing) → emissions_of (done ++ x ∷ []) ≡ emissions_of done ++ x.1.events
-unfolding emissions_of
-emissions-push [] x = append-nil x.1.events
-emissions-push (d ∷ done) x = ap (λ es. d.1.events ++ es) (emissions-push done x) ∙ sym (append_assoc d.1.events (emissions_of done) x.1.events)
-
 -- an event that went is the first of its log's replay
 first-told : (s : ObjectState) (d : Done) (ds : List Done) (note : Note) → d.verdict ≡ Noted note → (r : Replay) → r ≡ replay_of s ds
-    → replay_of s (d ∷ ds) ≡ with_front ((d.event, firing_of (undone s ds) d note) ∷ []) r
+    → replay_of s (d ∷ ds) ≡ replay_after ((d.event, firing_of (undone s ds) d note) ∷ []) r
 unfolding replay_of
-first-told s d ds note same r is = ap (λ v. told (undone s ds) d v (replay_of s ds)) same ∙ ap (with_front ((d.event, firing_of (undone s ds) d note) ∷ [])) (sym is)
+first-told s d ds note same r is = ap (λ v. told (undone s ds) d v (replay_of s ds)) same ∙ ap (replay_after ((d.event, firing_of (undone s ds) d note) ∷ [])) (sym is)
 
-front-twice : (xs ys : List (Event × Firing)) (r : Replay) → with_front xs (with_front ys r) ≡ with_front (xs ++ ys) r
+front-twice : (xs ys : List (Event × Firing)) (r : Replay) → replay_after xs (replay_after ys r) ≡ replay_after (xs ++ ys) r
 front-twice xs ys r = ap (λ ds. record r { done = ds }) (sym (append_assoc xs ys r.done))
 
 -- the log that lost its oldest event
@@ -109,8 +104,8 @@ less-here object old now next done d note dest same s c =
       noted = each-push (λ (d : Done). IsNoted d.verdict) s.gone d s.noted (went-noted d.verdict note same);
       state = c.state ∙ s.state;
       events = ap events_of part ∙ map-append (λ (d : Event × Firing). d.0) (done_at object done) (x ∷ []) ∙ ap (λ es. es ++ d.event ∷ []) s.events ∙ sym (events_of-append s.gone (d ∷ []));
-      told = s.told ∙ ap (with_front (done_at object done)) ((λ i. replay_of (sym c.state i) (c.done i)) ∙ first-told log.state d log.done note same (replay_of log.state log.done) refl)
-          ∙ front-twice (done_at object done) (x ∷ []) (replay_of log.state log.done) ∙ ap (λ ds. with_front ds (replay_of log.state log.done)) (sym part);
+      told = s.told ∙ ap (replay_after (done_at object done)) ((λ i. replay_of (sym c.state i) (c.done i)) ∙ first-told log.state d log.done note same (replay_of log.state log.done) refl)
+          ∙ front-twice (done_at object done) (x ∷ []) (replay_of log.state log.done) ∙ ap (λ ds. replay_after ds (replay_of log.state log.done)) (sym part);
       here = λ h. c.moved.here;
       back = λ h. s.back (here-done now object d log.done c.done);
       replay = λ m h. c.replay m (s.replay m h);
@@ -127,7 +122,7 @@ less-there object old now next done x apart same here back s =
       noted = s.noted;
       state = ap (λ (l : LogView). l.state) same ∙ s.state;
       events = ap events_of part ∙ s.events;
-      told = s.told ∙ (λ i. with_front (sym part i) (replay_of (sym same i).state (sym same i).done));
+      told = s.told ∙ (λ i. replay_after (sym part i) (replay_of (sym same i).state (sym same i).done));
       here = λ h. here (s.here h);
       back = λ h. s.back (back h);
       replay = λ m h. (let P : LogView → Type 0 = IsLogOf m in subst P (sym same) (s.replay m h));
@@ -145,7 +140,7 @@ taken-step horizon cut old now next done d note so_far is same few =
     let x = fired next d note in
     let at = here-done now.logs dest d (log_at next.logs dest).done c.done in
     let L : ℕ → Type 0 = λ o. IsLogLess old.logs next.logs (done ++ x ∷ []) o in
-    let sent = ap length (emissions-push done x) in
+    let sent = ap length (emissions_of-more done x) in
     let sum = length-append (emissions_of done) d.sends in
     let longer = length-append done (x ∷ []) in
     let before = so_far.few in
@@ -178,7 +173,7 @@ telling-step homes done next d note told told' out out' same t a =
       long = a.long ∙ t.long;
       parcels = λ to within.
           (let at = is_at (home_of homes) to in
-          a.parcels to within ∙ ap (λ es. es ++ filter at d.sends) (t.parcels to within) ∙ sym (filter-append at (emissions_of done) d.sends) ∙ ap (filter at) (sym (emissions-push done x)));
+          a.parcels to within ∙ ap (λ es. es ++ filter at d.sends) (t.parcels to within) ∙ sym (filter-append at (emissions_of done) d.sends) ∙ ap (filter at) (sym (emissions_of-more done x)));
     }
 
 -- what is handed out so far, with room for all that is still due
@@ -193,6 +188,16 @@ pub handing-start : (homes : HomesView) (horizon : ℕ) (cut : Option Key) (s : 
 handing-start homes horizon cut s told out room due none long empty counted within =
     let nothing = ap length none in
     record { done = []; taken = taken-start horizon cut s; tells = telling-start homes told out none long empty; room_left = omega arith }
+
+when-none : {A : Type 0} (found : Option A) (P : Type 0) → is_some found ≡ false → IfNone found P → P
+when-none None P not_some holds = holds
+when-none (Some x) P not_some holds = absurd (cc)
+
+-- nothing is due
+pub handed-none : (homes : HomesView) (horizon : ℕ) (cut : Option Key) (s : StoreView) (told : List (Key × Note)) (out : List (List Event)) (found : Option Key) → told ≡ [] → length out ≡ homes.nodes → ((to : ℕ) → slice_index_or out to [] ≡ [])
+    → is_some found ≡ false → IfNone found (IfSome (first_mark s.marks) (λ key. is_due horizon cut key ≡ false)) → HasHandedOut homes horizon cut s s told out
+handed-none homes horizon cut s told out found none long empty not_some rest =
+    record { done = []; taken = taken-start horizon cut s; tells = telling-start homes told out none long empty; rest = when-none found _ not_some rest }
 
 -- what is known of the event that is committed
 pub record IsNextDue (homes : HomesView) (horizon : ℕ) (cut : Option Key) (old now next : StoreView) (told : List (Key × Note)) (out : List (List Event)) (room : ℕ) (d : Done) : Type 0 where

@@ -1,4 +1,5 @@
 -- The replay of a log whose first events went.
+use Rattle.sim_spec.proofs.FiringLemmas.{goes-firing}
 use Rattle.std.proofs.Common.{◌≡◌, ℕ, ◌+◌, ◌<◌, ◌≤◌, Bool, true, false, cond, List, [], ◌∷◌, ◌++◌, length, refl, sym, ap, ◌∙◌, subst, arith}
 use Rattle.std.specs.Prelude.{IsTrue}
 use Rattle.std.specs.List.{AllByRecursion as Each}
@@ -8,7 +9,7 @@ use Rattle.model_core.specs.declared.effect.Outcome.{Outcome}
 use Rattle.model_core.specs.declared.effect.Outcome.TheVariants.{Fails, Goes}
 use Rattle.model_core.specs.declared.event.Event.{Event}
 use Rattle.model_core.specs.declared.event.Send.{Send}
-use Rattle.sim_spec.specs.Firing.{Firing, ObjectState, emissions, fails, fire, fired_by, goes, has_chain}
+use Rattle.sim_spec.specs.Firing.{Firing, ObjectState, emissions, fails, fire, fired_by, goes, has_endless_chain}
 use Rattle.sim_spec.specs.Replay.{Replay, replay}
 use Rattle.sim_spec.proofs.BucketInduction.{replay-goes}
 use Rattle.sim_spec.proofs.SerialLemmas.{length-emissions}
@@ -34,23 +35,10 @@ fired-little : (m : Meaning) (object : ℕ) (state : ObjectState) (e : Event) (o
 unfolding fired_by
 fired-little m object state e (Fails code) x laws is_x = absurd (cc)
 fired-little m object state e (Goes y) x laws is_x =
-    let new : Firing = record {
-      state = record { cells = cells_after_all y.changes state.cells; sent = state.sent + length y.sends };
-      events = emissions e.key.stamp object state.sent y.sends;
-      undo = inverses_of y.changes state.cells;
-      note = y.note;
-    } in
     let P : Firing → Type 0 = λ x. IsLittle m object x.state x.events in
     let count = length-emissions e.key.stamp object state.sent y.sends in
-    subst P (chosen (has_chain e.key.stamp y.sends) new x is_x)
+    subst P (goes-firing object state e y x is_x)
     (record { lawful = laws.lawful; few = omega (arith, laws.few_sends); homed = emissions-homed m.objects e.key.stamp object state.sent y.sends laws.sends })
-  where
-    goes_is : (x y : Firing) → goes x ≡ goes y → x ≡ y
-    goes_is x y h = cc
-
-    chosen : (b : Bool) (x y : Firing) → cond b (fails 1) (goes x) ≡ goes y → x ≡ y
-    chosen true x y h = absurd (cc)
-    chosen false x y h = goes_is x y h
 
 -- so it is with each event of a log
 told-little : (m : Meaning) (object : ℕ) (earlier later : ObjectState) (d : Done) (v : Verdict) → MeaningLaws m → object < m.objects → IsTrue (m.lawful object earlier.cells) → IsTold (fire m object earlier d.event) earlier later d v

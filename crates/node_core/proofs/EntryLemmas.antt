@@ -4,15 +4,15 @@ use Rattle.std.specs.List.{list_any}
 use Rattle.std.proofs.Math.Nat.{min-le_left, min-le_right, min-eq_left}
 use Rattle.event_key.specs.declared.key.Key.{Key}
 use Rattle.event_key.specs.declared.stamp.TheConstants.{NO_STAMP}
-use Rattle.event_key.specs.Keys.{key_lt}
-use Rattle.event_key.proofs.Order.{key_lt-apart, key_lt-trans}
+use Rattle.event_key.specs.Keys.{key_lt, same_key}
+use Rattle.event_key.proofs.Order.{key_lt-apart, key_lt-trans, same_key-itself, same_key-lt}
 use Rattle.key_order.proofs.AscendingLemmas.{key_lt-turned}
 use Rattle.key_order.specs.Ascending.{After, Ascends}
 use Rattle.node_core.specs.declared.entries.Entry.{Entry}
 use Rattle.node_core.specs.Entries.{AreLeast, AreLeastBut, IsLeast, IsLeastBut, first_held, mark_in, marks_of}
-use Rattle.node_core.specs.Marks.{MarkView, AreInOrder, is_first, least_sent, place_of, put_mark, same_key, set_mark, without}
+use Rattle.node_core.specs.Marks.{MarkView, AreInOrder, is_first, least_sent, place_of, put_mark, set_mark, without}
 use Rattle.node_core.specs.Rows.{keys_of}
-use Rattle.node_core.proofs.MarkLemmas.{behind, same_key-itself, same_key-lt}
+use Rattle.node_core.proofs.MarkLemmas.{behind}
 use Rattle.node_core.proofs.MarkedLemmas.{behind-trans, same-after}
 
 abbrev Entries : Type 0

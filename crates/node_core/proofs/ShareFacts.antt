@@ -1,4 +1,5 @@
 -- The share that a node's logs and waiting events make up: it stands for it, and for no other.
+use Rattle.std.proofs.Math.Seq.{take-append_seam}
 use Rattle.std.proofs.Common.{◌≡◌, ℕ, zero, suc, ◌+◌, ◌<◌, true, false, List, [], ◌∷◌, ◌++◌, length, take, eqb, eq-eqb, Option, refl, sym, ap, ◌∙◌, subst, arith, append_assoc}
 use Rattle.std.specs.Prelude.{filter, ◌==◌}
 use Rattle.std.specs.List.{AllByRecursion as Each}
@@ -10,8 +11,8 @@ use Rattle.key_order.specs.Ascending.{IsAscending, key_of}
 use Rattle.key_order.specs.Pending.{enqueue_all}
 use Rattle.sim_spec.specs.Replay.{events_at, taken}
 use Rattle.key_order.proofs.EachLemmas.{Each-append, Each-map}
-use Rattle.key_order.proofs.EnqueueLemmas.{length-enqueue_all}
-use Rattle.sim_spec.proofs.PartLemmas.{events_at-append, events_at-enqueue_all}
+use Rattle.key_order.proofs.EnqueueLemmas.{length-enqueue_all, Each-enqueue_all}
+use Rattle.sim_spec.proofs.PartLemmas.{events_at-append, events_at-enqueue_all, KeysDiffer-objects, events_at-all}
 use Rattle.world_spec.specs.Share.{IsAhead, IsAtHome, IsHome, Share, ahead_events, log_of}
 use Rattle.key_order.specs.Keys.{KeysDiffer}
 use Rattle.key_order.proofs.KeyLemmas.{Ascends-differ}
@@ -25,11 +26,10 @@ use Rattle.node_core.specs.Marks.{MarkView, mark_of}
 use Rattle.node_core.specs.Nodes.{IsHere, NodeView, Stands, ahead_of, base_at, data_of, home, log_at, log_or, pending_at, processed_events, share_of, slot_at}
 use Rattle.node_core.specs.Shares.{IsOwnShare, total_upto}
 use Rattle.node_core.specs.Sound.{AreOrderly, AreMarked, IsNode, IsStore}
-use Rattle.node_core.proofs.GiveBackFacts.{each-enqueue_all, enqueue_all-front}
+use Rattle.node_core.proofs.GiveBackFacts.{enqueue_all-front}
 use Rattle.node_core.proofs.HeldFacts.{mark-done, part-of}
 use Rattle.node_core.proofs.LogLemmas.{inside}
-use Rattle.node_core.proofs.QueueFacts.{parts-differ}
-use Rattle.node_core.proofs.RollbackFacts.{ahead-is, home-here, left-log, rest-waits, take-front}
+use Rattle.node_core.proofs.RollbackFacts.{ahead-is, home-here, left-log, rest-waits}
 use Rattle.node_core.proofs.OldestFacts.{here-done}
 use Rattle.node_core.proofs.TotalLemmas.{eqb-apart, length-parts, total-same}
 
@@ -46,11 +46,6 @@ unfolding events_at
 none-of object other es apart own = filter-none (λ (e : Event). e.key.dest == object) es
     (Each-map (λ (e : Event). e.key.dest ≡ other) (λ (e : Event). eqb e.key.dest object ≡ false) es (λ e is. eqb-apart e.key.dest object (λ same. apart (sym is ∙ same))) own)
 
-all-of : (object : ℕ) (es : List Event) → Each (λ (e : Event). e.key.dest ≡ object) es → events_at object es ≡ es
-unfolding events_at
-all-of object es own = filter-all (λ (e : Event). e.key.dest == object) es
-    (Each-map (λ (e : Event). e.key.dest ≡ object) (λ (e : Event). eqb e.key.dest object ≡ true) es (λ e is. eq-eqb e.key.dest object is) own)
-
 processed-none : (base object : ℕ) (slots : List (Option LogView)) → object < base → AreOwnFrom base slots → events_at object (processed_events slots) ≡ []
 unfolding processed_events AreOwnFrom events_at
 processed-none base object [] lt own = refl
@@ -66,7 +61,7 @@ processed-at base (suc object) [] own = refl
 processed-at base zero (slot ∷ slots) own =
     let es = events_of (log_or slot).done in
     events_at-append (base + 0) es (processed_events slots)
-    ∙ ap (λ xs. xs ++ events_at (base + 0) (processed_events slots)) (all-of (base + 0) es (own 0))
+    ∙ ap (λ xs. xs ++ events_at (base + 0) (processed_events slots)) (events_at-all (base + 0) es (own 0))
     ∙ ap (λ xs. es ++ xs) (processed-none (base + 1) (base + 0) slots (omega arith) (own-later base slot slots own))
     ∙ append-nil es
 processed-at base (suc object) (slot ∷ slots) own =
@@ -136,7 +131,7 @@ module _ {M : Type 0} (m : Meaning) (n : NodeView M) (marks : List MarkView) (no
       let es = processed_events n.logs in
       let K : List Event → Type 0 = KeysDiffer in
       enqueue_all-ascending es n.waiting
-      (parts-differ (es ++ n.waiting)
+      (KeysDiffer-objects (es ++ n.waiting)
       (λ o. subst K (sym (events_at-append o es n.waiting ∙ ap (λ xs. xs ++ events_at o n.waiting) (processed-parts n.logs n.waiting store.held o)))
       (Ascends-differ key_of (pending_at n.logs n.waiting o) (store.held.ordered o))))
       store.held.waiting_ordered
@@ -151,7 +146,7 @@ module _ {M : Type 0} (m : Meaning) (n : NodeView M) (marks : List MarkView) (no
   at-home es here = Each-map (λ (e : Event). IsHere n.logs e.key.dest) (IsAtHome m (home n) n.number) es (λ e h. home-here m n.terms n.number n.homes n.logs marks n.counts e.key.dest node h) here
 
   own-homed : Each (IsAtHome m (home n) n.number) (share_of n).pending
-  own-homed = each-enqueue_all (IsAtHome m (home n) n.number) (processed_events n.logs) n.waiting (at-home (processed_events n.logs) (processed-here n.logs n.waiting store.held)) (at-home n.waiting store.held.waiting_here)
+  own-homed = Each-enqueue_all (IsAtHome m (home n) n.number) (processed_events n.logs) n.waiting (at-home (processed_events n.logs) (processed-here n.logs n.waiting store.held)) (at-home n.waiting store.held.waiting_here)
 
   own-log : (object : ℕ) → IsHome m (home n) n.number object → (data_of n).log object ≡ log_of m (share_of n) object (ahead_of n object)
   unfolding log_of
@@ -163,7 +158,7 @@ module _ {M : Type 0} (m : Meaning) (n : NodeView M) (marks : List MarkView) (no
   own-ahead object here =
       let log = log_at n.logs object in
       let long : length log.done ≡ length (events_of log.done) = sym (length-map log.done (λ (d : Done). d.event)) in
-      let front : ahead_events (share_of n) object (ahead_of n object) ≡ events_of log.done = (λ i. take (long i) (own-pending object i)) ∙ take-front (events_of log.done) (events_at object n.waiting) in
+      let front : ahead_events (share_of n) object (ahead_of n object) ≡ events_of log.done = (λ i. take (long i) (own-pending object i)) ∙ take-append_seam (events_of log.done) (events_at object n.waiting) in
       let B : List Event → Type 0 = Each (λ (e : Event). e.key.stamp < end_stamp n.terms.end) in
       record { whole = ap taken (sym (own-log object here)) ∙ taken_is log.state log.done (store.held.last object); below = subst B (sym front) (node.lawful.below object) }
 

@@ -7,7 +7,7 @@ use Rattle.model_core.specs.declared.note.Note.{Note}
 use Rattle.model_core.specs.Meaning.{Meaning}
 use Rattle.sim_spec.specs.Cut.{emissions_of, events_of, records_of}
 use Rattle.sim_spec.specs.Firing.{Firing}
-use Rattle.sim_spec.specs.Replay.{Replay, done_at}
+use Rattle.sim_spec.specs.Replay.{Replay, done_at, replay_after}
 use Rattle.object_log.specs.declared.done.Done.{Done}
 use Rattle.object_log.specs.declared.done.Verdict.{Verdict}
 use Rattle.object_log.specs.declared.done.Verdict.TheVariants.{Noted, Failed}
@@ -49,10 +49,6 @@ pub record CanCommit (homes : HomesView) (horizon : ℕ) (cut : Option Key) (s :
   pub homed : (object : ℕ) → AllByRecursion (λ d. AllByRecursion (λ e. e.key.dest < length homes.homes) d.sends) (log_at s.logs object).done
   pub few : 8 * length s.marks < 2 ^ 60
 
--- a replay with other events before its own
-abbrev pub with_front : List (Event × Firing) → Replay → Replay
-with_front ds r = record r { done = ds ++ r.done }
-
 -- the first events of an object went, and were taken out of its log
 pub record IsLogLess (old now : List (Option LogView)) (done : List (Event × Firing)) (object : ℕ) : Type 0 where
   pub gone : List Done
@@ -60,7 +56,7 @@ pub record IsLogLess (old now : List (Option LogView)) (done : List (Event × Fi
   pub noted : AllByRecursion (λ d. IsNoted d.verdict) gone
   pub state : (log_at now object).state ≡ (log_at old object).state
   pub events : events_of (done_at object done) ≡ log_events gone
-  pub told : replay_of (log_at old object).state (log_at old object).done ≡ with_front (done_at object done) (replay_of (log_at now object).state (log_at now object).done)
+  pub told : replay_of (log_at old object).state (log_at old object).done ≡ replay_after (done_at object done) (replay_of (log_at now object).state (log_at now object).done)
   pub here : IsHere old object → IsHere now object
   pub back : IsHere now object → IsHere old object
   pub replay : (m : Meaning) → IsLogOf m (log_at old object) → IsLogOf m (log_at now object)

@@ -3,9 +3,10 @@
 ghost use Rattle.std.specs.Prelude.{◌≡◌, ◌≤◌, ◌++◌, length, filter, drop, nat_lt, false, true, OnOk, OnErr};
 ghost use Rattle.std.specs.List.{list_any};
 ghost use Rattle.event_key.specs.declared.stamp.TheConstants.{NO_STAMP};
+ghost use Rattle.event_key.specs.Keys.{same_key};
 ghost use Rattle.key_order.specs.Due.{is_due};
 ghost use Rattle.node_core.specs.Entries.{marks_of, AreLeast, AreLeastBut, first_held};
-ghost use Rattle.node_core.specs.Marks.{blank_at, set_mark, put_mark, without, first_fault, is_first, place_of, same_key, AreInOrder};
+ghost use Rattle.node_core.specs.Marks.{blank_at, set_mark, put_mark, without, first_fault, is_first, place_of, AreInOrder};
 ghost use Rattle.node_core.specs.Rows.{keys_of};
 
 use crate::marks::{Mark, is_due_at, is_same};

@@ -5,6 +5,7 @@ ghost use Rattle.std.specs.Arc.{arc_value};
 ghost use Rattle.event_key.specs.Stamps.{end_stamp};
 ghost use Rattle.world_spec.specs.Share.{IsAtHome};
 ghost use Rattle.world_spec.specs.Moves.{IsDueDone};
+ghost use Rattle.node_core.specs.Blank.{IsBlank};
 ghost use Rattle.node_core.specs.Calls.{HasCommitted, HasReceived, HasUndoneFrom, HaveOwnKeys, HaveSentFew, IsLeastFaultOf, IsLeastKeyOf, IsNewNode, tallies_of};
 ghost use Rattle.node_core.specs.Nodes.{IsAsBefore, Stands, ahead_of, data_of, home, share_of};
 ghost use Rattle.node_core.specs.Shares.{AreProcessedKeys, SendAtMostEight, StandsForItsOwn};
@@ -219,24 +220,26 @@ impl<M: SimulationModel> Node<M> {
     }
 
     /// Commits each processed event that is due: its stamp is below the horizon, and its key below the cut where there
-    /// is one.
+    /// is one. It fills lists that the caller keeps, and takes memory only where they have too little room.
     pub fn commit(
         &mut self,
-        alloc: Global,
         horizon: u64,
         cut: Option<Key>,
-    ) -> Result<Committed, OutOfMemory>
+        into: &mut Committed,
+    ) -> Result<(), OutOfMemory>
         requires done { IsDueDone (M.meaning self.old.model) (home self.old) self.old.number horizon cut (data_of self.old) }
         requires few { 8 * length self.old.processed < 2 ^ 60 }
-        ensures ok { IfOk result (λ committed. HasCommitted (M.meaning self.old.model) horizon cut self.old self.new committed.done.items committed.out.items) }
+        requires blank { IsBlank self.old.homes.nodes into.old }
+        ensures ok { OnOk result (HasCommitted (M.meaning self.old.model) horizon cut self.old self.new into.new.done.items into.new.out.items) }
         ensures err { OnErr result (self.new ≡ self.old) }
+        ensures blank { OnErr result (IsBlank self.old.homes.nodes into.new) }
     {
         keeps_laws(&*self.model);
         self.store.tells();
-        let committed = self.store.commit(alloc, &self.homes, horizon, &cut)?;
+        self.store.commit(&self.homes, horizon, &cut, into)?;
         self.store.tells();
-        self.committed = self.committed.wrapping_add(committed.done.len() as u64);
-        Ok(committed)
+        self.committed = self.committed.wrapping_add(into.done.len() as u64);
+        Ok(())
     }
 
     /// What it counted, and how many events are processed now.

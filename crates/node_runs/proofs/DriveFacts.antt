@@ -1,8 +1,9 @@
 -- A node that is driven by hand keeps what its driver knows of it.
+use Rattle.std.proofs.lemmas.Bool.{or_left, or_right, or_from, or_parts}
 use Rattle.std.proofs.Common.{◌≡◌, ◌⊎◌, inl, inr, zero, suc, ℕ, ◌+◌, ◌<◌, ◌≤◌, Bool, true, false, cond, ◌||◌, List, [], ◌∷◌, ◌++◌, length, take, drop, Option, Some, None, refl, sym, ap, ◌∙◌, subst, arith, length-append}
 use Rattle.std.specs.Prelude.{filter, not, slice_index_or, ◌==◌}
 use Rattle.std.proofs.lemmas.Bool.Decides.{nat_tests}
-use Rattle.event_key.proofs.Order.{key_lt-apart}
+use Rattle.event_key.proofs.Order.{key_lt-apart, same_key-itself}
 use Rattle.key_order.proofs.DueLemmas.{due-down}
 use Rattle.key_order.proofs.AscendingLemmas.{key_lt-turned}
 use Rattle.key_order.proofs.KeyLemmas.{new-cons}
@@ -10,7 +11,7 @@ use Rattle.std.specs.List.{AllByRecursion as Each, list_any}
 use Rattle.std.proofs.lemmas.List.{length-map}
 use Rattle.std.proofs.lemmas.List.Folds.{list_any-append}
 use Rattle.event_key.specs.declared.key.Key.{Key}
-use Rattle.event_key.specs.Keys.{key_lt}
+use Rattle.event_key.specs.Keys.{key_lt, same_key}
 use Rattle.event_key.specs.Stamps.{end_stamp}
 use Rattle.model_core.specs.declared.event.Event.{Event}
 use Rattle.model_core.specs.Meaning.{Meaning}
@@ -21,7 +22,7 @@ use Rattle.key_order.specs.Keys.{IsNewKey}
 use Rattle.key_order.specs.Pending.{enqueue_all}
 use Rattle.sim_spec.specs.Replay.{events_at}
 use Rattle.key_order.proofs.EachLemmas.{Each-append, Each-back, Each-drop, Each-front, Each-map, Each-take}
-use Rattle.key_order.proofs.EnqueueLemmas.{IsAscending-enqueue, length-enqueue_all}
+use Rattle.key_order.proofs.EnqueueLemmas.{IsAscending-enqueue, length-enqueue_all, Each-enqueue_all}
 use Rattle.sim_spec.proofs.PartLemmas.{Each-events_at, IsAscending-events_at}
 use Rattle.key_order.specs.Due.{is_due}
 use Rattle.world_spec.specs.Moves.{IsDueDone, IsIdle, IsPastFaultOf, received, received_ahead}
@@ -32,15 +33,12 @@ use Rattle.object_log.specs.Logs.{events_of, keys_of, undone}
 use Rattle.object_log.specs.Parts.{left_of}
 use Rattle.node_core.specs.Calls.{HasCommitted, HasReceived, HasUndoneFrom, HaveOwnKeys, HaveSentFew, IsLeastFaultOf, IsNewNode}
 use Rattle.node_core.specs.Homes.{HomesView, home_of}
-use Rattle.node_core.specs.Marks.{same_key}
 use Rattle.node_core.specs.Nodes.{IsAsBefore, IsSameNode, NodeView, Stands, ahead_of, base_at, data_of, home, log_at, log_or, pending_at, share_of}
 use Rattle.node_core.specs.Shares.{AreProcessedKeys, SendAtMostEight, StandsForItsOwn}
 use Rattle.node_core.specs.Steps.{HasStepped, IsLeftIdle}
 use Rattle.node_core.specs.Stores.{kept_count}
 use Rattle.node_core.specs.declared.step.Step.{Step}
 use Rattle.node_core.specs.declared.step.Step.TheVariants.{Did, Idle}
-use Rattle.node_core.proofs.GiveBackFacts.{each-enqueue_all}
-use Rattle.node_core.proofs.MarkLemmas.{same_key-itself}
 use Rattle.node_core.proofs.ReceiveLoop.{events-take}
 use Rattle.node_core.proofs.StoreLemmas.{by_object}
 use Rattle.node_runs.specs.Drives.{IsDriven, fault_is_due}
@@ -48,22 +46,14 @@ use Rattle.node_runs.specs.Drives.{IsDriven, fault_is_due}
 abbrev pub Known : List Key → Event → Type 0
 Known keys e = list_any (same_key e.key) keys ≡ true
 
-either : (a b : Bool) → a ≡ true → (a || b) ≡ true
-either true b h = refl
-either false b h = absurd (cc)
-
-later : (a b : Bool) → b ≡ true → (a || b) ≡ true
-later true b h = refl
-later false b h = h
-
 known-more : (keys : List Key) (key : Key) (es : List Event) → Each (Known keys) es → Each (Known (keys ++ key ∷ [])) es
 known-more keys key es all =
     Each-map (Known keys) (Known (keys ++ key ∷ [])) es
-    (λ e h. list_any-append (same_key e.key) keys (key ∷ []) ∙ either (list_any (same_key e.key) keys) (list_any (same_key e.key) (key ∷ [])) h) all
+    (λ e h. list_any-append (same_key e.key) keys (key ∷ []) ∙ or_left (list_any (same_key e.key) keys) (list_any (same_key e.key) (key ∷ [])) h) all
 
 known-itself : (keys : List Key) (e : Event) → Known (keys ++ e.key ∷ []) e
 known-itself keys e =
-    list_any-append (same_key e.key) keys (e.key ∷ []) ∙ later (list_any (same_key e.key) keys) (same_key e.key e.key || false) (either (same_key e.key e.key) false (same_key-itself e.key))
+    list_any-append (same_key e.key) keys (e.key ∷ []) ∙ or_right (list_any (same_key e.key) keys) (same_key e.key e.key || false) (or_left (same_key e.key e.key) false (same_key-itself e.key))
 
 -- a key that isn't known is that of no event
 none-known : (keys : List Key) (key : Key) (es : List Event) → list_any (same_key key) keys ≡ false → Each (Known keys) es → IsNewKey key es
@@ -164,7 +154,7 @@ module _ {M : Type 0} (m : Meaning) where
             Each-append (Known more) (events_of (log_at new.logs object).done) (events_at object new.waiting)
             (subst E (sym (ap events_of (r.kept object) ∙ events-take k ds)) (Each-take (Known more) k (events_of ds) done))
             (subst E (sym (r.waiting object))
-            (each-enqueue_all (Known more) (events_at object (e ∷ [])) (drop k (events_of ds) ++ events_at object old.waiting)
+            (Each-enqueue_all (Known more) (events_at object (e ∷ [])) (drop k (events_of ds) ++ events_at object old.waiting)
             (Each-events_at (Known more) object (e ∷ []) (known-itself keys e, tt))
             (Each-append (Known more) (drop k (events_of ds)) (events_at object old.waiting) (Each-drop (Known more) k (events_of ds) done) rest))));
         few = omega arith;
@@ -271,16 +261,8 @@ module _ {M : Type 0} (m : Meaning) (n : NodeView M) (horizon bound : ℕ) (cut 
 
 any-found : (p : Key → Bool) (xs : List Key) (i : ℕ) (d : Key) → i < length xs → p (slice_index_or xs i d) ≡ true → list_any p xs ≡ true
 any-found p [] i d lt is = absurd (omega arith)
-any-found p (y ∷ xs) zero d lt is = either (p y) (list_any p xs) is
-any-found p (y ∷ xs) (suc i) d lt is = later (p y) (list_any p xs) (any-found p xs i d (omega arith) is)
-
-neither : (a b : Bool) → a ≡ false → b ≡ false → (a || b) ≡ false
-neither true b g h = absurd (cc)
-neither false b g h = h
-
-right : (a b : Bool) → (a || b) ≡ false → (a ≡ false) × (b ≡ false)
-right true b h = absurd (cc)
-right false b h = (refl, h)
+any-found p (y ∷ xs) zero d lt is = or_left (p y) (list_any p xs) is
+any-found p (y ∷ xs) (suc i) d lt is = or_right (p y) (list_any p xs) (any-found p xs i d (omega arith) is)
 
 any-none : (p : Key → Bool) (xs : List Key) → list_any p (take 0 xs) ≡ false
 any-none p [] = refl
@@ -288,10 +270,10 @@ any-none p (x ∷ xs) = refl
 
 any-next : (p : Key → Bool) (xs : List Key) (i : ℕ) (d : Key) → i < length xs → p (slice_index_or xs i d) ≡ false → list_any p (take i xs) ≡ false → list_any p (take (suc i) xs) ≡ false
 any-next p [] i d lt is none = absurd (omega arith)
-any-next p (y ∷ xs) zero d lt is none = neither (p y) (list_any p (take 0 xs)) is (any-none p xs)
+any-next p (y ∷ xs) zero d lt is none = or_from (p y) (list_any p (take 0 xs)) is (any-none p xs)
 any-next p (y ∷ xs) (suc i) d lt is none =
-    let parts = right (p y) (list_any p (take i xs)) none in
-    neither (p y) (list_any p (take (suc i) xs)) parts.0 (any-next p xs i d (omega arith) is parts.1)
+    let parts = or_parts (p y) (list_any p (take i xs)) none in
+    or_from (p y) (list_any p (take (suc i) xs)) parts.0 (any-next p xs i d (omega arith) is parts.1)
 
 -- the key at a place is the one, or is passed by
 pub known-found : (key : Key) (keys : List Key) (i : ℕ) (d : Key) → i < length keys → same_key key (slice_index_or keys i d) ≡ true → list_any (same_key key) keys ≡ true

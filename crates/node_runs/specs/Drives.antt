@@ -2,10 +2,10 @@
 use Rattle.std.specs.Prelude.{◌≡◌, ℕ, ◌+◌, ◌≤◌, List, length, Bool, true, false, Option, Some, None}
 use Rattle.std.specs.List.{AllByRecursion, list_any}
 use Rattle.event_key.specs.declared.key.Key.{Key}
+use Rattle.event_key.specs.Keys.{same_key}
 use Rattle.key_order.specs.Due.{is_due}
 use Rattle.model_core.specs.Meaning.{Meaning}
 use Rattle.world_spec.specs.Share.{IsHome}
-use Rattle.node_core.specs.Marks.{same_key}
 use Rattle.node_core.specs.Nodes.{NodeView, base_at, home, pending_at}
 
 -- a fault, if there is one, is due

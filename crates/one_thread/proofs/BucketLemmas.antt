@@ -17,7 +17,7 @@ use Rattle.key_order.specs.Stamps.{least_stamp}
 use Rattle.sim_spec.specs.Cut.{events_of, records_of, emissions_of, objects_after}
 use Rattle.sim_spec.proofs.BucketInduction.{bucket-goes}
 use Rattle.sim_spec.proofs.LawfulLemmas.{next-lawful}
-use Rattle.sim_spec.proofs.PartLemmas.{events_of-append, emissions_of-append, records_of-append}
+use Rattle.sim_spec.proofs.PartLemmas.{events_of-append, records_of-append, emissions_of-more}
 use Rattle.key_order.proofs.EnqueueLemmas.{enqueue_all-append, enqueue_all-behind}
 use Rattle.sim_spec.proofs.RunLemmas.{next-fires}
 use Rattle.key_order.proofs.StampLemmas.{after-below, NoneBelow-least_stamp, least_stamp-le, least_stamp-append}
@@ -67,10 +67,6 @@ objects_after-append : (objects : List ObjectState) (ds : List (Event × Firing)
 unfolding objects_after
 objects_after-append objects [] d = refl
 objects_after-append objects (x ∷ ds) d = objects_after-append (slice_set objects x.0.key.dest x.1.state) ds d
-
-emissions_of-more : (ds : List (Event × Firing)) (d : Event × Firing) → emissions_of (ds ++ d ∷ []) ≡ emissions_of ds ++ d.1.events
-unfolding emissions_of
-emissions_of-more ds d = emissions_of-append ds (d ∷ []) ∙ ap (λ es. emissions_of ds ++ es) (append-nil d.1.events)
 
 -- the event that is due comes next, and leaves a lawful state
 lawful_done : (m : Meaning) (t : Terms) (c : Course) (key : Key) (note : Note) (new : Course) → MeaningLaws m → Lawful m t (state_of c) → IsDone m t c key note new → Lawful m t (state_of new)

@@ -1,4 +1,5 @@
 -- How a bucket ends: at its horizon, at the limit, or at a fault.
+use Rattle.std.proofs.lemmas.Bool.{and_right, or_from, or_right}
 use Rattle.std.proofs.Common.{◌≡◌, ◌⊎◌, ℕ, ◌+◌, ◌-◌, ◌<◌, ◌≤◌, Bool, true, false, cond, ◌&&◌, ◌||◌, List, [], ◌∷◌, ◌++◌, length, take, drop, sym, refl, ap, ◌∙◌, subst, inl, inr, arith, eqb, ltb, eq-eqb, lt-ltb, le-ltb, ltb-false, ne_eqb, length-append}
 use Rattle.std.proofs.lemmas.List.{append-nil, take_all}
 use Rattle.std.proofs.Math.Seq.{take-append_seam}
@@ -47,19 +48,12 @@ cut_as left b ds limited comes i = record {
   limited = comes.is_cut i;
 }
 
-or_both : (a b : Bool) → a ≡ false → b ≡ false → (a || b) ≡ false
-or_both a b is_a is_b i = is_a i || is_b i
-
-and_false : (a : Bool) → (a && false) ≡ false
-and_false true = refl
-and_false false = refl
-
 -- a whole bucket
 whole_comes : (left h : ℕ) (ds : List (Event × Firing)) → length ds ≤ left → ComesTo left (record { done = ds; horizon = h; fault = None }) ds false
 unfolding is_limited
 whole_comes left h ds few = record {
   happen = take_all left ds few;
-  is_cut = or_both (ltb left (length ds)) (eqb left (length ds) && false) (le-ltb _ _ few) (and_false (eqb left (length ds)));
+  is_cut = or_from (ltb left (length ds)) (eqb left (length ds) && false) (le-ltb _ _ few) (and_right (eqb left (length ds)) false refl);
 }
 
 -- one that ends at a fault
@@ -67,16 +61,12 @@ fault_comes : (left h : ℕ) (ds : List (Event × Firing)) (fault : Key × ℕ) 
 unfolding is_limited
 fault_comes left h ds fault few = record {
   happen = take_all left ds (omega arith);
-  is_cut = or_both (ltb left (length ds)) (eqb left (length ds) && true) (le-ltb _ _ (omega arith)) (ap (λ b. b && true) (ne_eqb left (length ds) (λ same. omega arith)));
+  is_cut = or_from (ltb left (length ds)) (eqb left (length ds) && true) (le-ltb _ _ (omega arith)) (ap (λ b. b && true) (ne_eqb left (length ds) (λ same. omega arith)));
 }
 
 -- there is an event or a fault
 abbrev GoesOn : HorizonBucket → Type 0
 GoesOn b = (0 < length b.done) ⊎ (is_some b.fault ≡ true)
-
-or_true : (a : Bool) → (a || true) ≡ true
-or_true true = refl
-or_true false = refl
 
 take_front : (left : ℕ) (ds more : List (Event × Firing)) → left ≡ length ds → take left (ds ++ more) ≡ ds
 take_front left ds more is_left = ap (λ n. take n (ds ++ more)) is_left ∙ take-append_seam ds more
@@ -100,7 +90,7 @@ limit_comes left ds b is_left more = record {
     by_fault fault false is_a =
         let l = long in
         let no = ltb-false left (length (ds ++ b.done)) is_a in
-        (λ i. ltb left (length (ds ++ b.done)) || (eq-eqb left (length (ds ++ b.done)) (omega arith) i && fault i)) ∙ or_true (ltb left (length (ds ++ b.done)))
+        (λ i. ltb left (length (ds ++ b.done)) || (eq-eqb left (length (ds ++ b.done)) (omega arith) i && fault i)) ∙ or_right (ltb left (length (ds ++ b.done))) true refl
 
 -- the state in the end
 state_done : (m : Meaning) (t : Terms) (s : State) (told : List (Key × Note)) (c : Course) (so_far : InBucket m t s told c) → state_of c ≡ state_with_done s so_far.done

@@ -154,11 +154,6 @@ pub serials_read : (i n : ℕ) (objects : List ObjectState) (o : ObjectState) (e
 serials_read i n objects o es is_o is_n below =
     let P : ℕ → Type 0 = λ n. SerialsBelow i n es in subst P (sym (is_n ∙ ap (λ (o : ObjectState). o.sent) is_o)) below
 
--- one event is in order
-pub one_ascending : (es : List Event) (e : Event) → es ≡ e ∷ [] → IsAscending es
-unfolding Ascends
-one_ascending es e is = let P : List Event → Type 0 = IsAscending in subst P (sym is) (tt, tt)
-
 -- the event that failed is where it was
 pub back_in_place : (m : Meaning) (t : Terms) (old : Course) (cell e : Event) (primary fresh chain now : List Event) → IsTaken m t old e primary fresh → e ≡ cell → chain ≡ cell ∷ []
     → now ≡ enqueue_all chain primary → now ≡ old.primary

@@ -1,4 +1,5 @@
 -- The horizon, and the event that is due below it.
+use Rattle.sim_spec.proofs.NextLemmas.{has_first, has_none}
 use Rattle.std.proofs.Common.{◌≡◌, ℕ, ◌<◌, ◌≤◌, min, List, [], ◌∷◌, sym, refl, ap, ◌∙◌, subst, arith}
 use Rattle.std.specs.Prelude.{Some, None}
 use Rattle.event_key.specs.declared.key.Key.{Key}
@@ -10,7 +11,6 @@ use Rattle.key_order.specs.Stamps.{least_stamp}
 use Rattle.key_order.specs.Keys.{first_key}
 use Rattle.one_thread.specs.Engines.{Course}
 use Rattle.one_thread.specs.Turns.{horizon_of, NoneDue, HasDue, IsFull}
-use Rattle.one_thread.proofs.CourseLemmas.{has_first, has_none}
 
 least_stamp-min : (a b : ℕ) (es : List Event) → min (least_stamp a es) b ≡ least_stamp (min a b) es
 unfolding least_stamp

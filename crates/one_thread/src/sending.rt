@@ -2,7 +2,7 @@
 ghost use Rattle.std.specs.Prelude.{◌≡◌, ◌<◌, ◌≤◌, ◌+◌, ◌++◌, ◌^◌, length, OnOk, false};
 ghost use Rattle.event_key.specs.Stamps.{time_part};
 ghost use Rattle.model_core.specs.Meaning.{SendsInRange};
-ghost use Rattle.sim_spec.specs.Firing.{has_chain, emissions};
+ghost use Rattle.sim_spec.specs.Firing.{has_endless_chain, emissions};
 ghost use Rattle.key_order.specs.Serials.{SerialsBelow};
 
 use event_chain::CellPool;
@@ -23,7 +23,7 @@ pub fn send_all(
     objects: u32,
 ) -> Result<(), OutOfMemory>
     requires time { time_part cause.now.stamp < 2 ^ 46 }
-    requires stepping { has_chain cause.now.stamp sends.now ≡ false }
+    requires stepping { has_endless_chain cause.now.stamp sends.now ≡ false }
     requires ranged { SendsInRange objects sends.now }
     requires serials { serial + length sends.now < 2 ^ 64 }
     requires primary { SerialsBelow cause.now.dest serial queue.old.primary }

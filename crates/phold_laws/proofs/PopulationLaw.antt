@@ -1,4 +1,5 @@
 -- Each event of PHOLD sends one event.
+use Rattle.sim_spec.proofs.FiringLemmas.{goes-effect}
 use Rattle.std.proofs.Common.{◌≡◌, ◌+◌, List, [], ◌∷◌, length, map, sym, ap, ◌∙◌, arith}
 use Rattle.std.specs.List.{range_with_len}
 use Rattle.std.proofs.lemmas.List.FromFn.{length-map-range_with_len}
@@ -17,13 +18,13 @@ use Rattle.phold_model.specs.Meaning.{phold_meaning, hop_effect}
 use Rattle.phold_model.specs.Parts.{PholdParts}
 use Rattle.phold_model.specs.Starts.{length-starts_of}
 use Rattle.run_laws.proofs.Induction.{each_reached}
-use Rattle.run_laws.proofs.Steps.{goes_is, IsStep, is_step, first_firing}
+use Rattle.run_laws.proofs.Steps.{IsStep, is_step, first_firing}
 use Rattle.phold_laws.specs.PholdLaws.{population, PopulationStays}
 
 -- an event sends one event
 one_send : (p : PholdParts) (e : Event) (s : State) (x : Effect) → (phold_meaning p).effect e.key.dest (object_at s.objects e.key.dest).cells e ≡ Goes x → length x.sends ≡ 1
 unfolding phold_meaning hop_effect
-one_send p e s x is_x = ap (λ (x : Effect). length x.sends) (sym (goes_is _ x is_x))
+one_send p e s x is_x = ap (λ (x : Effect). length x.sends) (sym (goes-effect _ x is_x))
 
 population_kept : (p : PholdParts) (t : Terms) (s : State) (told : Key × Note) (after : State) → next (phold_meaning p) t s ≡ does told after
     → length s.pending ≡ population p → length after.pending ≡ population p

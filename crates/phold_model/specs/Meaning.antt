@@ -1,13 +1,13 @@
 -- What a PHOLD model means: every event hops on to another object after a drawn delay.
 use Rattle.std.specs.Prelude.{ℕ, ◌+◌, ◌%◌, ◌^◌, ◌==◌, ◌&&◌, Bool, if◌then◌else◌, List, [], ◌∷◌, ◌++◌, length, map, flat_map, replicate, slice_index, slice_index_or, codes, decimal}
 use Rattle.std.specs.List.{range_with_len}
-use Rattle.delta_exchange.specs.declared.change.Change.{Change}
-use Rattle.delta_exchange.specs.declared.change.Change.TheVariants.{Set}
 use Rattle.delta_exchange.specs.Changes.{CellData}
 use Rattle.model_core.specs.declared.effect.Outcome.{Outcome}
 use Rattle.model_core.specs.declared.effect.Outcome.TheVariants.{Goes}
 use Rattle.model_core.specs.declared.event.Start.{Start}
+use Rattle.model_core.specs.declared.words.TheConstants.{HOP_WORD}
 use Rattle.model_core.specs.Meaning.{Meaning}
+use Rattle.model_core.specs.Places.{place_changes}
 use Rattle.random_streams.specs.Laws.{draw}
 use Rattle.random_streams.specs.Words.{word_of}
 use Rattle.phold_model.specs.Parts.{PholdParts}
@@ -36,10 +36,6 @@ unfoldable pub hop_next : PholdParts → ℕ → ℕ → ℕ
 hop_next p object place =
     let next = (draw p.seed object place p.delay).1 in if p.uniform then (next + 1) % 2 ^ 64 else next
 
--- word 0 takes the next place where words were read: fewer than 2 ^ 64 are, so that it is then another place
-unfoldable pub place_changes : ℕ → ℕ → List Change
-place_changes place next = if next == place then [] else Set 0 next ∷ []
-
 -- what an event does, whatever its kind: one event is sent on, and told of
 unfoldable pub hop_effect : PholdParts → ℕ → CellData → Outcome
 hop_effect p object cells =
@@ -49,7 +45,7 @@ hop_effect p object cells =
     Goes (record {
       changes = place_changes place (hop_next p object place);
       sends = record { dest = dest; delay = delay; kind = 4; a = 0; b = 0; rank = p.rank } ∷ [];
-      note = record { word = 1; a = delay; b = dest } ∷ [];
+      note = record { word = HOP_WORD; a = delay; b = dest } ∷ [];
     })
 
 -- one word, the random place, and no line

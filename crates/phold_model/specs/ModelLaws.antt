@@ -12,7 +12,8 @@ use Rattle.random_streams.proofs.Bounds.{draw-le, is_drawable-delay}
 use Rattle.random_streams.specs.Laws.{draw}
 use Rattle.random_streams.specs.Words.{word_of}
 use Rattle.phold_model.specs.Parts.{PholdParts, IsEntry, IsPhold}
-use Rattle.phold_model.specs.Meaning.{phold_meaning, hop_effect, hop_delay, hop_dest, place_changes, is_hop_cells, starts_of, hop_start}
+use Rattle.model_core.specs.Places.{place_changes}
+use Rattle.phold_model.specs.Meaning.{phold_meaning, hop_effect, hop_delay, hop_dest, is_hop_cells, starts_of, hop_start}
 use Rattle.phold_model.specs.Starts.{length-starts_of, All-starts_of}
 
 few_place_changes : (place next : ℕ) → length (place_changes place next) ≤ 16

@@ -1,6 +1,8 @@
 -- The parts of which a PHOLD model is made.
 use Rattle.std.specs.Prelude.{ℕ, ◌^◌, ◌<◌, ◌≤◌, Bool, IsTrue, List, length, All}
+use Rattle.event_key.specs.declared.key.TheConstants.{MOST_RANK}
 use Rattle.model_core.specs.declared.entry.Entry.{Entry}
+use Rattle.model_core.specs.declared.limits.TheConstants.{MOST_ENTRIES, MOST_OBJECTS}
 use Rattle.random_streams.specs.declared.law.Law.{Law}
 use Rattle.random_streams.specs.Laws.{is_delay}
 
@@ -23,14 +25,14 @@ phold_parts seed objects delay uniform each start rank =
 pub record IsEntry (objects : ℕ) (entry : Entry) : Type 0 where
   pub time : entry.time < 2 ^ 46
   pub at : entry.at < objects
-  pub rank : entry.rank ≤ 255
+  pub rank : entry.rank ≤ MOST_RANK
 
 -- the parts lie within their bounds
 pub record IsPhold (p : PholdParts) : Type 0 where
   pub seed : p.seed < 2 ^ 63
-  pub objects : p.objects ≤ 65536
+  pub objects : p.objects ≤ MOST_OBJECTS
   pub delay : IsTrue (is_delay p.delay)
   pub each : p.each ≤ 4
-  pub few_entries : length p.start ≤ 65536
+  pub few_entries : length p.start ≤ MOST_ENTRIES
   pub entries : All (IsEntry p.objects) p.start
-  pub rank : p.rank ≤ 255
+  pub rank : p.rank ≤ MOST_RANK

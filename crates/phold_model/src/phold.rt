@@ -1,21 +1,18 @@
 //! The model PHOLD.
-ghost use Rattle.std.specs.Prelude.{◌≡◌, ◌<◌, [], IsOkAnd};
+ghost use Rattle.std.specs.Prelude.{◌≡◌, ◌<◌, IsOkAnd};
 ghost use Rattle.phold_model.specs.Parts.{IsPhold, phold_parts};
-ghost use Rattle.phold_model.specs.Meaning.{phold_meaning, hop_start, place_changes};
+ghost use Rattle.phold_model.specs.Meaning.{phold_meaning, hop_start};
 
 use itoa::Buffer;
 use model_core::model::Model as SimulationModel;
 use model_core::{
-    Cells, Change, Effect, Ending, Entry, Event, Few, Note, OutOfMemory, Part, Send, Start,
+    Cells, Effect, Ending, Entry, Event, HOP_WORD, Note, OutOfMemory, Part, Send, Start, keep_place,
 };
 use random_streams::{Law, Stream};
 use std::alloc::Global;
 
 /// The kind of a hop's event.
 const HOP_KIND: u32 = 4;
-
-/// The word that tells of a hop.
-const HOP_WORD: u32 = 1;
 
 /// Objects that hand events on: each event sends one to the next object, or to one that is drawn evenly, after a
 /// delay that is drawn by a law.
@@ -79,20 +76,6 @@ fn hop_start(time: u64, dest: u32, rank: u32) -> Start
         a: 0,
         b: 0,
         rank,
-    }
-}
-
-/// Keeps an object's place, where words were read.
-#[tactic(auto, unfolding(crate::specs::Meaning::place_changes))]
-fn keep_place(changes: &mut Few<Change, 16>, place: u64, next: u64)
-    requires { changes.old ≡ [] }
-    ensures { changes.new ≡ place_changes place next }
-{
-    if next != place {
-        changes.push(Change::Set {
-            word: 0,
-            value: next,
-        });
     }
 }
 

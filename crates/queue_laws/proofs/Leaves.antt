@@ -1,4 +1,5 @@
 -- The cells that an event leaves.
+use Rattle.queue_models.specs.StationLaws.{station_cells}
 use Rattle.std.proofs.Common.{◌≡◌, ℕ, ◌+◌, ◌-◌, Bool, true, false, List, [], ◌∷◌, ◌++◌, length, drop, refl, sym, ap, ◌∙◌, arith, eqb-true, get_or, append-nil}
 use Rattle.std.specs.Prelude.{IsTrue, ◌==◌, if◌then◌else◌}
 use Rattle.std.proofs.lemmas.Bool.Decides.{nat_tests}
@@ -7,16 +8,12 @@ use Rattle.delta_exchange.specs.declared.change.Change.TheVariants.{Set, Push, P
 use Rattle.delta_exchange.specs.Changes.{CellData, line_of, cells_after_all}
 use Rattle.model_core.specs.declared.event.Event.{Event}
 use Rattle.queue_models.specs.declared.site.Site.{Site}
-use Rattle.queue_models.specs.declared.source.Source.{Source}
-use Rattle.queue_models.specs.declared.station.Station.{Station}
+use Rattle.random_streams.specs.declared.law.Law.{Law}
 use Rattle.queue_models.specs.Keeping.{two_elements, three_elements, one_element}
-use Rattle.queue_models.specs.Sites.{place_of, drawn_at, place_changes, is_plain_cells}
+use Rattle.model_core.specs.Places.{place_changes}
+use Rattle.queue_models.specs.Sites.{place_of, drawn_at, is_plain_cells}
 use Rattle.queue_models.specs.Sources.{made_of, left_of, is_source_cells, last_effect, make_effect}
-use Rattle.queue_models.specs.Stations.{busy_servers, is_station_cells, take_effect, wait_effect, serve_effect, free_effect}
-
--- a station's cells: its place, how many servers are busy, who waits, and when each of them was born
-abbrev pub station_cells : ℕ → ℕ → List ℕ → List ℕ → CellData
-station_cells place busy jobs births = record { words = place ∷ busy ∷ []; lines = jobs ∷ births ∷ [] }
+use Rattle.queue_models.specs.Stations.{Station, busy_servers, is_station_cells, take_effect, wait_effect, serve_effect, free_effect}
 
 -- a source's: its place, how many jobs are made, and how many are left
 abbrev pub source_cells : ℕ → ℕ → ℕ → CellData
@@ -30,8 +27,8 @@ pub record HasStationCells (cells : CellData) : Type 0 where
   pub are : cells ≡ station_cells (place_of cells) (busy_servers cells) (line_of cells 0) (line_of cells 1)
   pub births : length (line_of cells 0) ≡ length (line_of cells 1)
 
-pub station_shape : (station : Station) (cells : CellData) → IsTrue (is_station_cells station cells) → HasStationCells cells
-station_shape station cells lawful =
+pub station_shape : (servers line : ℕ) (cells : CellData) → IsTrue (is_station_cells servers line cells) → HasStationCells cells
+station_shape servers line cells lawful =
     two_elements (λ words. (length cells.lines ≡ 2) → (length (line_of cells 0) ≡ length (line_of cells 1)) → HasStationCells (record { words = words; lines = cells.lines })) cells.words (grind (arith, nat_tests))
     (λ place busy. λ two same. two_elements (λ lines. (length (line_of (record { words = place ∷ busy ∷ []; lines = lines }) 0) ≡ length (line_of (record { words = place ∷ busy ∷ []; lines = lines }) 1)) → HasStationCells (record { words = place ∷ busy ∷ []; lines = lines })) cells.lines two
     (λ jobs births same. record { are = refl; births = same }) same)
@@ -41,8 +38,8 @@ no_lines : (lines : List (List ℕ)) → length lines ≡ 0 → lines ≡ []
 no_lines [] none = refl
 no_lines (line ∷ lines) none = absurd (omega arith)
 
-pub source_shape : (source : Source) (cells : CellData) → IsTrue (is_source_cells source cells) → cells ≡ source_cells (place_of cells) (made_of cells) (left_of cells)
-source_shape source cells lawful =
+pub source_shape : (count : ℕ) (cells : CellData) → IsTrue (is_source_cells count cells) → cells ≡ source_cells (place_of cells) (made_of cells) (left_of cells)
+source_shape count cells lawful =
     three_elements (λ words. (length cells.lines ≡ 0) → record { words = words; lines = cells.lines } ≡ source_cells (get_or words 0 0) (get_or words 1 0) (get_or words 2 0)) cells.words (grind (arith, nat_tests))
     (λ place made left none. ap (λ (lines : List (List ℕ)). record { words = place ∷ made ∷ left ∷ []; lines = lines }) (no_lines cells.lines none))
     (grind (arith, nat_tests))
@@ -97,16 +94,16 @@ free_leaves site station cells e has = by (busy_servers cells == 0) refl
         has.are ∙ ap (λ busy. station_cells (place_of cells) busy (line_of cells 0) (line_of cells 1)) same
     by false none_is = ap (cells_after_all (Set 1 (busy_servers cells - 1) ∷ [])) has.are
 
-pub last_leaves : (site : Site) (source : Source) (cells : CellData) (time : ℕ) → cells ≡ source_cells (place_of cells) (made_of cells) (left_of cells)
-    → cells_after_all (last_effect site source cells time).changes cells ≡ source_cells (place_of cells) (made_of cells + 1) 0
+pub last_leaves : (site : Site) (dest : ℕ) (cells : CellData) (time : ℕ) → cells ≡ source_cells (place_of cells) (made_of cells) (left_of cells)
+    → cells_after_all (last_effect site dest cells time).changes cells ≡ source_cells (place_of cells) (made_of cells + 1) 0
 unfolding last_effect cells_after_all
-last_leaves site source cells time are = ap (cells_after_all (Set 1 (made_of cells + 1) ∷ Set 2 0 ∷ [])) are
+last_leaves site dest cells time are = ap (cells_after_all (Set 1 (made_of cells + 1) ∷ Set 2 0 ∷ [])) are
 
-pub make_leaves : (site : Site) (source : Source) (cells : CellData) (time : ℕ) → cells ≡ source_cells (place_of cells) (made_of cells) (left_of cells)
-    → cells_after_all (make_effect site source cells time).changes cells ≡ source_cells (drawn_at site cells source.every).1 (made_of cells + 1) (left_of cells - 1)
+pub make_leaves : (site : Site) (every : Law) (dest : ℕ) (cells : CellData) (time : ℕ) → cells ≡ source_cells (place_of cells) (made_of cells) (left_of cells)
+    → cells_after_all (make_effect site every dest cells time).changes cells ≡ source_cells (drawn_at site cells every).1 (made_of cells + 1) (left_of cells - 1)
 unfolding make_effect cells_after_all
-make_leaves site source cells time are =
-    let next = (drawn_at site cells source.every).1 in
+make_leaves site every dest cells time are =
+    let next = (drawn_at site cells every).1 in
     ap (cells_after_all (place_changes (place_of cells) next ++ Set 1 (made_of cells + 1) ∷ Set 2 (left_of cells - 1) ∷ [])) are
     ∙ place_moves (place_of cells) next (made_of cells ∷ left_of cells ∷ []) [] (Set 1 (made_of cells + 1) ∷ Set 2 (left_of cells - 1) ∷ [])
 

@@ -9,37 +9,31 @@ use Rattle.model_core.specs.declared.event.Event.{Event}
 use Rattle.model_core.specs.Meaning.{Meaning}
 use Rattle.sim_spec.specs.Firing.{ObjectState}
 use Rattle.sim_spec.specs.State.{initial_state, start_event, event_of_start, first_object, no_object as no_state}
-use Rattle.queue_models.specs.declared.object.Object.{Object}
-use Rattle.queue_models.specs.declared.object.Role.{Role}
-use Rattle.queue_models.specs.declared.object.Role.TheVariants.{Makes, Serves}
-use Rattle.queue_models.specs.declared.source.Source.{Source}
-use Rattle.queue_models.specs.declared.station.Station.{Station}
 use Rattle.queue_models.specs.Meaning.{network_meaning, source_start, job_start, start_of}
-use Rattle.queue_models.specs.Objects.{NetworkParts, object_at, no_object, source_numbers}
-use Rattle.queue_models.specs.Roles.{first_cells_of}
-use Rattle.queue_models.specs.Stations.{first_station_cells}
+use Rattle.queue_models.specs.Kinds.{first_cells_of, is_source, kind_of_station}
+use Rattle.queue_models.specs.Objects.{Item, NetworkParts, object_at, no_object, source_numbers}
+use Rattle.queue_models.specs.Stations.{Station, first_station_cells}
 use Rattle.run_laws.proofs.EnqueueSums.{sum_by-enqueue_all}
 use Rattle.queue_laws.specs.Stations.{IsStationAt, cells_at}
 
 -- a number without an object is a sink's
-exists_as : (p : NetworkParts) (i : ℕ) (role : Role) → (object_at p.objects i).role ≡ role → (no_object.role ≡ role → ⊥) → i < length p.objects
-exists_as p i role is no_sink = by (ltb i (length p.objects)) refl
+exists_as : (p : NetworkParts) (i : ℕ) (P : Item → Type 0) → P (object_at p.objects i) → (P no_object → ⊥) → i < length p.objects
+exists_as p i P is no_sink = by (ltb i (length p.objects)) refl
   where
     by : (inside : Bool) → ltb i (length p.objects) ≡ inside → i < length p.objects
     by true inside = ltb-true i (length p.objects) inside
     by false inside = absurd (
         let none : object_at p.objects i ≡ no_object = get_or_past p.objects i no_object (ltb-false i (length p.objects) inside) in
-        let R : Object → Type 0 = λ o. o.role ≡ role in
-        no_sink (subst R none is)
+        no_sink (subst P none is)
         )
 
 pub station_exists : (p : NetworkParts) (i : ℕ) (station : Station) → IsStationAt p i station → i < length p.objects
-station_exists p i station is = exists_as p i (Serves station) is (λ sink. cc)
+station_exists p i station is = exists_as p i (λ o. o.kind ≡ kind_of_station station) is (λ sink. cc)
 
-pub source_exists : (p : NetworkParts) (i : ℕ) (source : Source) → (object_at p.objects i).role ≡ Makes source → i < length p.objects
-source_exists p i source is = exists_as p i (Makes source) is (λ sink. cc)
+pub source_exists : (p : NetworkParts) (i : ℕ) → is_source (object_at p.objects i).kind ≡ true → i < length p.objects
+source_exists p i is = exists_as p i (λ o. is_source o.kind ≡ true) is (λ sink. cc)
 
-pub cells_at_start : (p : NetworkParts) (i : ℕ) → i < length p.objects → cells_at (initial_state (network_meaning p)) i ≡ first_cells_of (object_at p.objects i).role
+pub cells_at_start : (p : NetworkParts) (i : ℕ) → i < length p.objects → cells_at (initial_state (network_meaning p)) i ≡ first_cells_of (object_at p.objects i).kind
 unfolding initial_state network_meaning
 cells_at_start p i exists =
     ap (λ (o : ObjectState). o.cells) (get_or-map-range_with_len (first_object (network_meaning p)) 0 (length p.objects) i i no_state exists (omega arith))

@@ -11,11 +11,11 @@ use Rattle.sim_spec.specs.Firing.{ObjectState}
 use Rattle.sim_spec.specs.State.{State, Lawful, no_object}
 use Rattle.sim_spec.specs.Run.{does, next}
 use Rattle.sim_spec.proofs.RunLemmas.{first_sound}
+use Rattle.queue_models.specs.Kinds.{is_lawful}
 use Rattle.queue_models.specs.Meaning.{network_meaning, site_of}
 use Rattle.queue_models.specs.ModelLaws.{network_laws}
 use Rattle.queue_models.specs.Objects.{NetworkParts, object_at}
 use Rattle.queue_models.specs.Parts.{IsNetwork}
-use Rattle.queue_models.specs.Roles.{is_lawful}
 use Rattle.run_laws.specs.Reached.{Reaches}
 use Rattle.run_laws.proofs.EnqueueSums.{sum_by-enqueue_all}
 use Rattle.run_laws.proofs.ReachedLemmas.{reached-lawful}
@@ -29,8 +29,8 @@ pub record IsNetworkStep (p : NetworkParts) (t : Terms) (s : State) (told : Key 
   pub lawful : Lawful (network_meaning p) t s
   pub exists : step.event.key.dest < length p.objects
   pub long : length s.objects ≡ length p.objects
-  pub cells : IsTrue (is_lawful (object_at p.objects step.event.key.dest).role (cells_at s step.event.key.dest))
-  pub does_so : EventDoes (site_of p step.event.key.dest) (cells_at s step.event.key.dest) step.event (object_at p.objects step.event.key.dest).role step.effect
+  pub cells : IsTrue (is_lawful (object_at p.objects step.event.key.dest).kind (cells_at s step.event.key.dest))
+  pub does_so : EventDoes (site_of p step.event.key.dest) (cells_at s step.event.key.dest) step.event (object_at p.objects step.event.key.dest).kind step.effect
 
 pub reached_lawful : (p : NetworkParts) (t : Terms) (s : State) → IsNetwork p → Reaches (network_meaning p) t s → Lawful (network_meaning p) t s
 reached_lawful p t s fine reached = reached-lawful (network_meaning p) t s (network_laws p fine) reached
@@ -48,7 +48,7 @@ network_step p t s told after fine reached is_next =
       exists = exists;
       long = lawful.objects;
       cells = lawful.cells step.event.key.dest exists;
-      does_so = event_does (site_of p step.event.key.dest) (object_at p.objects step.event.key.dest).role (cells_at s step.event.key.dest) step.event step.effect step.outcome;
+      does_so = event_does (site_of p step.event.key.dest) (object_at p.objects step.event.key.dest).kind (cells_at s step.event.key.dest) step.event step.effect step.outcome;
     }
 
 -- the object of the event has other cells, and each other object keeps its own

@@ -17,16 +17,15 @@ use Rattle.sim_spec.specs.State.{State, initial_state, object_at as state_at}
 use Rattle.sim_spec.specs.Run.{stops, does, next}
 use Rattle.sim_spec.proofs.LawfulLemmas.{next-lawful}
 use Rattle.key_order.proofs.ShareLemmas.{filter-enqueue_all}
-use Rattle.queue_models.specs.declared.object.Role.{Role}
-use Rattle.queue_models.specs.declared.object.Role.TheVariants.{Serves}
+use Rattle.queue_models.specs.declared.kind.KindOver.{KindOver}
 use Rattle.queue_models.specs.declared.site.Site.{Site}
-use Rattle.queue_models.specs.declared.station.Station.{Station}
+use Rattle.queue_models.specs.Kinds.{kind_of_station}
 use Rattle.queue_models.specs.Meaning.{network_meaning, site_of}
 use Rattle.queue_models.specs.ModelLaws.{network_laws}
 use Rattle.queue_models.specs.Objects.{NetworkParts, object_at}
 use Rattle.queue_models.specs.Parts.{IsNetwork}
 use Rattle.queue_models.specs.Sites.{drawn_at}
-use Rattle.queue_models.specs.Stations.{busy_servers, waiting_jobs, is_station_cells, done_after, take_effect, wait_effect, lose_effect, serve_effect, free_effect}
+use Rattle.queue_models.specs.Stations.{Station, busy_servers, waiting_jobs, is_station_cells, done_after, take_effect, wait_effect, lose_effect, serve_effect, free_effect}
 use Rattle.run_laws.specs.Reached.{after_events, Reaches, gathered}
 use Rattle.run_laws.proofs.Induction.{after_events-does, after_events-stops, gathered-more, each_number}
 use Rattle.run_laws.proofs.Steps.{first_firing, sent_next-step}
@@ -104,11 +103,11 @@ none_sent es others none = ap (λ xs. enqueue_all xs others) none
 
 moves_on : (site : Site) (cells : CellData) (e : Event) (station : Station) (x : Effect) (stamp object serial : ℕ) (others : List Event)
     → HasStationCells cells → busy_servers cells ≡ length (serving_of e others) → (0 < waiting_jobs cells → busy_servers cells ≡ station.servers) → busy_servers cells ≤ station.servers
-    → EventDoes site cells e (Serves station) x
+    → EventDoes site cells e (kind_of_station station) x
     → (let sent : List Event = filter (ends_service_at site.object) (emissions stamp object serial x.sends) in
     Moves station.servers (line_of cells 0) (jobs_of is_coming x.note) (numbers_of sent) (line_of (cells_after_all x.changes cells) 0) (jobs_of is_done x.note) (serving_of e others) (enqueue_all sent others))
 unfolding jobs_of emissions take_effect wait_effect lose_effect serve_effect free_effect
-moves_on site cells e station x stamp object serial others has busy full upto (takes st other free) =
+moves_on site cells e station x stamp object serial others has busy full upto (takes other free) =
     let line : List ℕ = line_of cells 0 in
     let sent = take_sends site station cells e stamp object serial in
     let begins = one_number _ sent.0 e.a sent.1 sent.2 in
@@ -125,7 +124,7 @@ moves_on site cells e station x stamp object serial others has busy full upto (t
     by_waiting : (n : ℕ) → (0 < n → n ≡ 0) → n ≡ 0
     by_waiting zero h = refl
     by_waiting (suc n) h = h (omega arith)
-moves_on site cells e station x stamp object serial others has busy full upto (waits st other all room) =
+moves_on site cells e station x stamp object serial others has busy full upto (waits other all room) =
     let line : List ℕ = line_of cells 0 in
     let kept = ap (λ c. line_of c 0) (wait_leaves cells e has) in
     record {
@@ -134,7 +133,7 @@ moves_on site cells e station x stamp object serial others has busy full upto (w
           joined _ [] [] _ (numbers_of others) [] [] (numbers_of others) (ap numbers_of (serving_arrival e others other)) refl refl (ap numbers_of (none_sent [] others refl))
           (append-nil (numbers_of others));
     }
-moves_on site cells e station x stamp object serial others has busy full upto (loses st other all none) =
+moves_on site cells e station x stamp object serial others has busy full upto (loses other all none) =
     let line : List ℕ = line_of cells 0 in
     let kept = ap (λ c. line_of c 0) (lose_leaves cells e) in
     record {
@@ -143,7 +142,7 @@ moves_on site cells e station x stamp object serial others has busy full upto (l
           joined _ [] [] _ (numbers_of others) [] [] (numbers_of others) (ap numbers_of (serving_arrival e others other)) refl refl (ap numbers_of (none_sent [] others refl))
           (append-nil (numbers_of others));
     }
-moves_on site cells e station x stamp object serial others has busy full upto (serves st is_done some) =
+moves_on site cells e station x stamp object serial others has busy full upto (serves is_done some) =
     let line : List ℕ = line_of cells 0 in
     let job : ℕ = slice_index line 0 in
     let sent = serve_sends site station cells e stamp object serial in
@@ -157,7 +156,7 @@ moves_on site cells e station x stamp object serial others has busy full upto (s
           joined _ _ (e.a ∷ []) _ (e.a ∷ []) (job ∷ []) (e.a ∷ []) (job ∷ []) (ap numbers_of (serving ∙ ap (λ es. e ∷ es) no_others)) begins refl
           (one_number _ sent.0 job (alone _ others sent.0 sent.1 no_others) sent.2) refl;
     }
-moves_on site cells e station x stamp object serial others has busy full upto (frees st is_done none) =
+moves_on site cells e station x stamp object serial others has busy full upto (frees is_done none) =
     let line : List ℕ = line_of cells 0 in
     let kept = ap (λ c. line_of c 0) (free_leaves site station cells e has) in
     record {
@@ -208,7 +207,7 @@ moved_elsewhere p t s told after n i station up apart =
     let away : (e.key.dest == i) ≡ false = ne_eqb e.key.dest i (λ same. apart (sym same)) in
     let none : filter (ends_service_at i) events ≡ [] =
     empty_list (filter (ends_service_at i) events) (length-filter (ends_service_at i) events
-    ∙ ends_elsewhere (site_of p e.key.dest) (cells_at s e.key.dest) e (object_at p.objects e.key.dest).role n.step.effect i e.key.stamp e.key.dest _ (λ eq. apart (sym eq)) n.does_so) in
+    ∙ ends_elsewhere (site_of p e.key.dest) (cells_at s e.key.dest) e (object_at p.objects e.key.dest).kind n.step.effect i e.key.stamp e.key.dest _ (λ eq. apart (sym eq)) n.does_so) in
     let begins : begins_at (network_meaning p) i s (does told after) ≡ [] = begins_are p t s told after n i ∙ ap numbers_of none in
     let line : List ℕ = waiting_at s i in
     let kept : waiting_at after i ≡ line = ap (λ (c : CellData). line_of c 0) (cells_elsewhere p t s told after n i apart) in
@@ -237,12 +236,12 @@ moved_here p t s told after n station up is good =
     let events : List Event = (first_firing s e x).events in
     let others : List Event = filter (ends_service_at d) n.step.rest in
     let here : (e.key.dest == d) ≡ true = eq-eqb d d refl in
-    let R : Role → Type 0 = λ role. EventDoes (site_of p d) cells e role x in
-    let lawful : IsTrue (is_station_cells station cells) = station_lawful p s d station is n.cells in
+    let R : KindOver ℕ → Type 0 = λ kind. EventDoes (site_of p d) cells e kind x in
+    let lawful : IsTrue (is_station_cells station.servers station.line cells) = station_lawful p s d station is n.cells in
     let was : in_service_at s d ≡ serving_of e others =
     served_before p t s told after n d ∙ ap (λ b. cond b (e ∷ others) others) (ap (λ b. (e.kind == 2) && b) here ∙ and_true (e.kind == 2)) in
     let moves : Moves station.servers (line_of cells 0) (jobs_of is_coming x.note) (numbers_of (filter (ends_service_at d) events)) (line_of (cells_after_all x.changes cells) 0) (jobs_of is_done x.note) (serving_of e others) (enqueue_all (filter (ends_service_at d) events) others) =
-    moves_on (site_of p d) cells e station x e.key.stamp d (state_at s.objects d).sent others (station_shape station cells lawful)
+    moves_on (site_of p d) cells e station x e.key.stamp d (state_at s.objects d).sent others (station_shape station.servers station.line cells lawful)
     (good.under_way ∙ ap length was) good.none_idle good.no_more (subst R is n.does_so) in
     let begins = begins_are p t s told after n d in
     let coming = told_here is_coming d s after told e x.note true n.step.tells here in

@@ -11,15 +11,13 @@ use Rattle.model_core.specs.declared.note.Note.{Note}
 use Rattle.sim_spec.specs.declared.terms.Terms.{Terms}
 use Rattle.sim_spec.specs.Firing.{emissions}
 use Rattle.sim_spec.specs.State.{State, initial_state, start_event, event_of_start, object_at as state_at}
-use Rattle.queue_models.specs.declared.object.Role.{Role}
-use Rattle.queue_models.specs.declared.object.Role.TheVariants.{Serves}
+use Rattle.queue_models.specs.declared.kind.KindOver.{KindOver}
 use Rattle.queue_models.specs.declared.site.Site.{Site}
-use Rattle.queue_models.specs.declared.station.Station.{Station}
+use Rattle.queue_models.specs.Kinds.{is_lawful, kind_of_station}
 use Rattle.queue_models.specs.Meaning.{network_meaning, site_of, source_start, job_start}
 use Rattle.queue_models.specs.Objects.{NetworkParts, object_at, source_numbers}
-use Rattle.queue_models.specs.Roles.{is_lawful}
 use Rattle.queue_models.specs.Sources.{idle_effect, last_effect, make_effect}
-use Rattle.queue_models.specs.Stations.{busy_servers, waiting_jobs, is_station_cells, take_effect, wait_effect, lose_effect, serve_effect, free_effect}
+use Rattle.queue_models.specs.Stations.{Station, busy_servers, waiting_jobs, is_station_cells, take_effect, wait_effect, lose_effect, serve_effect, free_effect}
 use Rattle.run_laws.proofs.Induction.{each_reached}
 use Rattle.run_laws.proofs.Steps.{first_firing}
 use Rattle.queue_laws.specs.ServerLaws.{ServersLaw}
@@ -34,20 +32,20 @@ unfoldable pub ends : ℕ → List Event → ℕ
 ends i es = count_by (ends_service_at i) es
 
 -- no object sends the end of a service to another one
-pub ends_elsewhere : (site : Site) (cells : CellData) (e : Event) (role : Role) (x : Effect) (i stamp object serial : ℕ) → site.object ≢ i → EventDoes site cells e role x
+pub ends_elsewhere : (site : Site) (cells : CellData) (e : Event) (kind : KindOver ℕ) (x : Effect) (i stamp object serial : ℕ) → site.object ≢ i → EventDoes site cells e kind x
     → ends i (emissions stamp object serial x.sends) ≡ 0
 unfolding ends emissions idle_effect last_effect make_effect take_effect wait_effect lose_effect serve_effect free_effect
-ends_elsewhere site cells e role x i stamp object serial apart (idles source none) = refl
-ends_elsewhere site cells e role x i stamp object serial apart (makes_last source one) = refl
-ends_elsewhere site cells e role x i stamp object serial apart (makes source more) = refl
-ends_elsewhere site cells e role x i stamp object serial apart (takes station other free) = ap (λ b. 0 + cond b 1 0) (ne_eqb site.object i apart)
-ends_elsewhere site cells e role x i stamp object serial apart (waits station other full room) = refl
-ends_elsewhere site cells e role x i stamp object serial apart (loses station other full none) = refl
-ends_elsewhere site cells e role x i stamp object serial apart (serves station done some) = ap (λ b. 0 + cond b 1 0) (ne_eqb site.object i apart)
-ends_elsewhere site cells e role x i stamp object serial apart (frees station done none) = refl
-ends_elsewhere site cells e role x i stamp object serial apart (holds d) = refl
-ends_elsewhere site cells e role x i stamp object serial apart (routes router) = refl
-ends_elsewhere site cells e role x i stamp object serial apart (leaves sink) = refl
+ends_elsewhere site cells e kind x i stamp object serial apart (idles none) = refl
+ends_elsewhere site cells e kind x i stamp object serial apart (makes_last one) = refl
+ends_elsewhere site cells e kind x i stamp object serial apart (makes more) = refl
+ends_elsewhere site cells e kind x i stamp object serial apart (takes other free) = ap (λ b. 0 + cond b 1 0) (ne_eqb site.object i apart)
+ends_elsewhere site cells e kind x i stamp object serial apart (waits other full room) = refl
+ends_elsewhere site cells e kind x i stamp object serial apart (loses other full none) = refl
+ends_elsewhere site cells e kind x i stamp object serial apart (serves done some) = ap (λ b. 0 + cond b 1 0) (ne_eqb site.object i apart)
+ends_elsewhere site cells e kind x i stamp object serial apart (frees done none) = refl
+ends_elsewhere site cells e kind x i stamp object serial apart holds = refl
+ends_elsewhere site cells e kind x i stamp object serial apart routes = refl
+ends_elsewhere site cells e kind x i stamp object serial apart leaves = refl
 
 -- a station's servers, where this many of its services are under way
 record Serving (station : Station) (cells : CellData) (services : ℕ) : Type 0 where
@@ -84,37 +82,37 @@ free_ends i stamp object serial site station cells e = refl
 -- an event at a station, where so many services are under way besides it
 serving_on : (site : Site) (cells : CellData) (e : Event) (station : Station) (x : Effect) (stamp object serial others : ℕ)
     → HasStationCells cells → busy_servers cells ≤ station.servers
-    → (e.kind ≢ 2 → Serving station cells others) → (e.kind ≡ 2 → Serving station cells (1 + others)) → EventDoes site cells e (Serves station) x
+    → (e.kind ≢ 2 → Serving station cells others) → (e.kind ≡ 2 → Serving station cells (1 + others)) → EventDoes site cells e (kind_of_station station) x
     → Serving station (cells_after_all x.changes cells) (ends site.object (emissions stamp object serial x.sends) + others)
-serving_on site cells e station x stamp object serial others has upto arrives done (takes st other free) =
+serving_on site cells e station x stamp object serial others has upto arrives done (takes other free) =
     let S : CellData → Type 0 = λ c. Serving station c (ends site.object (emissions stamp object serial (take_effect site station cells e).sends) + others) in
     let before : Serving station cells others = arrives other in
     subst S (sym (take_leaves site station cells e has)) (record {
       under_way = omega (arith, before.under_way, take_ends site station cells e stamp object serial);
       none_idle = λ some. absurd (let full = before.none_idle some in omega arith);
     })
-serving_on site cells e station x stamp object serial others has upto arrives done (waits st other full room) =
+serving_on site cells e station x stamp object serial others has upto arrives done (waits other full room) =
     let S : CellData → Type 0 = λ c. Serving station c (ends site.object (emissions stamp object serial (wait_effect cells e).sends) + others) in
     let before : Serving station cells others = arrives other in
     subst S (sym (wait_leaves cells e has)) (record {
       under_way = omega (arith, before.under_way, wait_ends site.object stamp object serial cells e);
       none_idle = λ some. omega arith;
     })
-serving_on site cells e station x stamp object serial others has upto arrives done (loses st other full none) =
+serving_on site cells e station x stamp object serial others has upto arrives done (loses other full none) =
     let S : CellData → Type 0 = λ c. Serving station c (ends site.object (emissions stamp object serial (lose_effect cells e).sends) + others) in
     let before : Serving station cells others = arrives other in
     subst S (sym (lose_leaves cells e)) (record {
       under_way = omega (arith, before.under_way, lose_ends site.object stamp object serial cells e);
       none_idle = before.none_idle;
     })
-serving_on site cells e station x stamp object serial others has upto arrives done (serves st is_done some) =
+serving_on site cells e station x stamp object serial others has upto arrives done (serves is_done some) =
     let S : CellData → Type 0 = λ c. Serving station c (ends site.object (emissions stamp object serial (serve_effect site station cells e).sends) + others) in
     let before : Serving station cells (1 + others) = done is_done in
     subst S (sym (serve_leaves site station cells e has)) (record {
       under_way = omega (arith, before.under_way, serve_ends site station cells e stamp object serial);
       none_idle = λ more. before.none_idle some;
     })
-serving_on site cells e station x stamp object serial others has upto arrives done (frees st is_done none) =
+serving_on site cells e station x stamp object serial others has upto arrives done (frees is_done none) =
     let S : CellData → Type 0 = λ c. Serving station c (ends site.object (emissions stamp object serial (free_effect site station cells e).sends) + others) in
     let before : Serving station cells (1 + others) = done is_done in
     subst S (sym (free_leaves site station cells e has)) (record {
@@ -127,9 +125,9 @@ AllServing : NetworkParts → State → Type 0
 AllServing p s = (i : ℕ) (station : Station) → IsStationAt p i station → Serving station (cells_at s i) (ends i s.pending)
 
 -- a station's cells in a lawful state
-pub station_lawful : (p : NetworkParts) (s : State) (i : ℕ) (station : Station) → IsStationAt p i station → IsTrue (is_lawful (object_at p.objects i).role (cells_at s i))
-    → IsTrue (is_station_cells station (cells_at s i))
-station_lawful p s i station is lawful = let L : Role → Type 0 = λ role. IsTrue (is_lawful role (cells_at s i)) in subst L is lawful
+pub station_lawful : (p : NetworkParts) (s : State) (i : ℕ) (station : Station) → IsStationAt p i station → IsTrue (is_lawful (object_at p.objects i).kind (cells_at s i))
+    → IsTrue (is_station_cells station.servers station.line (cells_at s i))
+station_lawful p s i station is lawful = let L : KindOver ℕ → Type 0 = λ kind. IsTrue (is_lawful kind (cells_at s i)) in subst L is lawful
 
 weight : ℕ → Event → ℕ
 weight i x = cond (ends_service_at i x) 1 0
@@ -162,12 +160,12 @@ serving_here p t s told after n station is before =
     let cells : CellData = cells_at s d in
     let x : Effect = n.step.effect in
     let others : ℕ = ends d n.step.rest in
-    let lawful : IsTrue (is_station_cells station cells) = station_lawful p s d station is n.cells in
-    let D : Role → Type 0 = λ role. EventDoes (site_of p d) cells e role x in
+    let lawful : IsTrue (is_station_cells station.servers station.line cells) = station_lawful p s d station is n.cells in
+    let D : KindOver ℕ → Type 0 = λ kind. EventDoes (site_of p d) cells e kind x in
     let C : ℕ → Type 0 = Serving station cells in
     let had : ends d s.pending ≡ weight d e + others = sum_before p t s told after n (weight d) in
     let on : Serving station (cells_after_all x.changes cells) (ends d (first_firing s e x).events + others) =
-    serving_on (site_of p d) cells e station x e.key.stamp d (state_at s.objects d).sent others (station_shape station cells lawful)
+    serving_on (site_of p d) cells e station x e.key.stamp d (state_at s.objects d).sent others (station_shape station.servers station.line cells lawful)
     (grind (arith, nat_tests))
     (λ other. subst C (omega (arith, weight_arrival d e other)) before)
     (λ done. subst C (omega (arith, weight_done e done)) before)
@@ -186,7 +184,7 @@ serving_kept p t s told after n before i station is = by (eqb i n.step.event.key
         let apart : i ≢ e.key.dest = λ same. let yes = eq-eqb i e.key.dest same in cc in
         let same : cells_at after i ≡ cells_at s i = cells_elsewhere p t s told after n i apart in
         let none_sent : ends i (first_firing s e n.step.effect).events ≡ 0 =
-        ends_elsewhere (site_of p e.key.dest) (cells_at s e.key.dest) e (object_at p.objects e.key.dest).role n.step.effect i e.key.stamp e.key.dest _ (λ eq. apart (sym eq)) n.does_so in
+        ends_elsewhere (site_of p e.key.dest) (cells_at s e.key.dest) e (object_at p.objects e.key.dest).kind n.step.effect i e.key.stamp e.key.dest _ (λ eq. apart (sym eq)) n.does_so in
         let not_it : weight i e ≡ 0 = weight_elsewhere i e (λ eq. apart (sym eq)) in
         let now : ends i after.pending ≡ ends i s.pending = omega (arith, sum_before p t s told after n (weight i), sum_after p t s told after n (weight i)) in
         let S : CellData → Type 0 = λ c. Serving station c (ends i after.pending) in
@@ -218,7 +216,7 @@ servers_law p t s i station fine reached is =
     let all : AllServing p s = each_reached (network_meaning p) t (AllServing p) (serving_first p)
     (λ s told after here is_next before. serving_kept p t s told after (network_step p t s told after fine here is_next) before) s reached in
     let here : Serving station (cells_at s i) (ends i s.pending) = all i station is in
-    let lawful : IsTrue (is_station_cells station (cells_at s i)) = station_lawful p s i station is ((reached_lawful p t s fine reached).cells i (station_exists p i station is)) in
+    let lawful : IsTrue (is_station_cells station.servers station.line (cells_at s i)) = station_lawful p s i station is ((reached_lawful p t s fine reached).cells i (station_exists p i station is)) in
     record {
       no_more = grind (arith, nat_tests);
       under_way = here.under_way ∙ sym (length-filter (ends_service_at i) s.pending);

@@ -1,7 +1,7 @@
 -- First come, first served.
 use Rattle.std.specs.Prelude.{◌≡◌, ℕ, ◌++◌}
 use Rattle.sim_spec.specs.declared.terms.Terms.{Terms}
-use Rattle.queue_models.specs.declared.station.Station.{Station}
+use Rattle.queue_models.specs.Stations.{Station}
 use Rattle.queue_models.specs.Meaning.{network_meaning}
 use Rattle.queue_models.specs.Objects.{NetworkParts}
 use Rattle.queue_models.specs.Parts.{IsNetwork}

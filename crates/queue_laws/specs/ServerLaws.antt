@@ -2,7 +2,7 @@
 use Rattle.std.specs.Prelude.{◌≡◌, ℕ, ◌<◌, ◌≤◌, length}
 use Rattle.sim_spec.specs.declared.terms.Terms.{Terms}
 use Rattle.sim_spec.specs.State.{State}
-use Rattle.queue_models.specs.declared.station.Station.{Station}
+use Rattle.queue_models.specs.Stations.{Station}
 use Rattle.queue_models.specs.Meaning.{network_meaning}
 use Rattle.queue_models.specs.Objects.{NetworkParts}
 use Rattle.queue_models.specs.Parts.{IsNetwork}

@@ -4,12 +4,13 @@ use Rattle.std.specs.Prelude.{IsTrue, if◌then◌else◌, ◌==◌}
 use Rattle.delta_exchange.specs.declared.change.Change.{Change}
 use Rattle.delta_exchange.specs.declared.change.Change.TheVariants.{Set}
 use Rattle.delta_exchange.specs.Changes.{CellData, AllFit, cells_after_all}
+use Rattle.event_key.specs.declared.key.TheConstants.{MOST_RANK}
 use Rattle.model_core.specs.declared.effect.Effect.{Effect}
 use Rattle.model_core.specs.declared.effect.Outcome.{Outcome}
 use Rattle.model_core.specs.declared.effect.Outcome.TheVariants.{Goes, Fails}
 use Rattle.model_core.specs.Meaning.{Meaning, OutcomeLaws, SendsInRange}
 use Rattle.queue_models.specs.declared.site.Site.{Site}
-use Rattle.queue_models.specs.Sites.{place_changes}
+use Rattle.model_core.specs.Places.{place_changes}
 
 -- the changes fit the cells, and leave lawful ones
 pub record Keeps (lawful : CellData → Bool) (changes : List Change) (cells : CellData) : Type 0 where
@@ -39,7 +40,7 @@ outcome_laws m object cells (Fails code) keeps = keeps
 -- the site is at an object of the network
 pub record IsSite (objects : ℕ) (site : Site) : Type 0 where
   pub object : site.object < objects
-  pub rank : site.rank ≤ 255
+  pub rank : site.rank ≤ MOST_RANK
 
 pub place_cases : (P : List Change → Type 0) (place next : ℕ) → P [] → P (Set 0 next ∷ []) → P (place_changes place next)
 unfolding place_changes

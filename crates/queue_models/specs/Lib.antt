@@ -1,12 +1,13 @@
 pub mod Delays
 pub mod Keeping
+pub mod Kinds
 pub mod Meaning
 pub mod ModelLaws
 pub mod Objects
 pub mod Parts
 pub mod PartsProps
 pub mod PlainLaws
-pub mod Roles
+pub mod Rings
 pub mod Routers
 pub mod Sinks
 pub mod Sites

@@ -4,8 +4,8 @@ use Rattle.model_core.specs.declared.entry.Entry.{Entry}
 use Rattle.model_core.specs.declared.event.Start.{Start}
 use Rattle.model_core.specs.Meaning.{Meaning}
 use Rattle.queue_models.specs.declared.site.Site.{Site}
-use Rattle.queue_models.specs.Objects.{NetworkParts, object_at, source_numbers, first_time_of}
-use Rattle.queue_models.specs.Roles.{is_lawful, effect_at, first_cells_of}
+use Rattle.queue_models.specs.Kinds.{is_lawful, effect_at, first_cells_of, first_time_of}
+use Rattle.queue_models.specs.Objects.{NetworkParts, object_at, source_numbers}
 
 -- where the events of an object happen
 abbrev pub site_of : NetworkParts → ℕ → Site
@@ -15,7 +15,7 @@ site_of p object = record { seed = p.seed; object = object; rank = (object_at p.
 abbrev pub source_start : NetworkParts → ℕ → Start
 source_start p number =
     let source = object_at p.objects number in
-    record { time = first_time_of source.role; dest = number; kind = 1; a = 0; b = 0; rank = source.rank }
+    record { time = first_time_of source.kind; dest = number; kind = 1; a = 0; b = 0; rank = source.rank }
 
 -- a job arrives that was not made by a source; these are numbered from 1 on
 abbrev pub job_start : NetworkParts → ℕ → Start
@@ -33,9 +33,9 @@ start_of p i =
 unfoldable pub network_meaning : NetworkParts → Meaning
 network_meaning p = record {
   objects = length p.objects;
-  lawful = λ object cells. is_lawful (object_at p.objects object).role cells;
-  effect = λ object cells event. effect_at (site_of p object) (object_at p.objects object).role cells event;
-  first = λ object. first_cells_of (object_at p.objects object).role;
+  lawful = λ object cells. is_lawful (object_at p.objects object).kind cells;
+  effect = λ object cells event. effect_at (site_of p object) (object_at p.objects object).kind cells event;
+  first = λ object. first_cells_of (object_at p.objects object).kind;
   starts = length (source_numbers p.objects) + length p.jobs;
   start_at = λ i. start_of p i;
   label = λ object. (object_at p.objects object).name;

@@ -6,52 +6,52 @@ use Rattle.delta_exchange.specs.Changes.{CellData}
 use Rattle.model_core.specs.declared.event.Event.{Event}
 use Rattle.model_core.specs.Meaning.{MeaningLaws, StartLaws}
 use Rattle.random_streams.proofs.Bounds.{is_drawable-delay}
-use Rattle.queue_models.specs.declared.object.Object.{Object}
-use Rattle.queue_models.specs.declared.object.Role.{Role}
-use Rattle.queue_models.specs.declared.object.Role.TheVariants.{Makes, Serves, Holds, Routes, Ends}
+use Rattle.queue_models.specs.declared.kind.KindOver.{KindOver}
+use Rattle.queue_models.specs.declared.kind.KindOver.TheVariants.{Source, Station, Delay, Router, Sink}
 use Rattle.queue_models.specs.declared.site.Site.{Site}
 use Rattle.queue_models.specs.Keeping.{OutcomeKeeps, IsSite, outcome_laws}
+use Rattle.queue_models.specs.Kinds.{KindCanDraw, is_lawful, effect_at, first_cells_of, first_time_of}
 use Rattle.queue_models.specs.Meaning.{network_meaning, site_of, source_start, job_start, start_of}
-use Rattle.queue_models.specs.Objects.{NetworkParts, object_at, source_numbers, first_time_of}
-use Rattle.queue_models.specs.Parts.{IsNetwork, IsObject, IsRole}
+use Rattle.queue_models.specs.Objects.{Item, NetworkParts, object_at, source_numbers}
+use Rattle.queue_models.specs.Parts.{IsKind, IsLink, IsNetwork, IsObject}
 use Rattle.queue_models.specs.PlainLaws.{delay_keeps, router_keeps, sink_keeps}
-use Rattle.queue_models.specs.Roles.{RoleCanDraw, is_lawful, effect_at, first_cells_of}
 use Rattle.queue_models.specs.SourceLaws.{source_keeps}
 use Rattle.queue_models.specs.Starts.{length-source_numbers, source_numbers-exist}
 use Rattle.queue_models.specs.StationLaws.{station_keeps}
 
-role_keeps : (objects : List Object) (site : Site) (role : Role) (cells : CellData) (event : Event) → IsRole objects role → IsSite (length objects) site
-    → IsTrue (is_lawful role cells) → OutcomeKeeps (length objects) (λ c. is_lawful role c) cells (effect_at site role cells event)
-role_keeps objects site (Makes source) cells event fine here lawful = source_keeps objects site source cells event fine here lawful
-role_keeps objects site (Serves station) cells event fine here lawful = station_keeps objects site station cells event fine here lawful
-role_keeps objects site (Holds delay) cells event fine here lawful = delay_keeps objects site delay cells event fine here lawful
-role_keeps objects site (Routes router) cells event fine here lawful = router_keeps objects site router cells event fine here lawful
-role_keeps objects site (Ends sink) cells event fine here lawful = sink_keeps objects sink cells event lawful
+kind_keeps : (objects : List Item) (site : Site) (kind : KindOver ℕ) (cells : CellData) (event : Event) → IsKind (IsLink objects) kind → IsSite (length objects) site
+    → IsTrue (is_lawful kind cells) → OutcomeKeeps (length objects) (λ c. is_lawful kind c) cells (effect_at site kind cells event)
+kind_keeps objects site (Source first every count next) cells event fine here lawful = source_keeps objects site first every count next cells event fine.0 fine.1 here lawful
+kind_keeps objects site (Station servers service line strict next) cells event fine here lawful =
+    station_keeps objects site (record { servers = servers; service = service; line = line; strict = strict; next = next }) cells event fine.0 fine.1 here lawful
+kind_keeps objects site (Delay delay next) cells event fine here lawful = delay_keeps objects site delay next cells event fine.0 fine.1 here lawful
+kind_keeps objects site (Router next weights) cells event fine here lawful = router_keeps objects site next weights cells event fine.0 fine.1 fine.2 here lawful
+kind_keeps objects site (Sink due) cells event fine here lawful = sink_keeps objects due cells event lawful
 
-first_lawful : (objects : List Object) (role : Role) → IsRole objects role → IsTrue (is_lawful role (first_cells_of role))
-first_lawful objects (Makes source) fine =
-    let all : 0 + source.count ≡ source.count = omega arith in grind (arith, nat_tests)
-first_lawful objects (Serves station) fine = grind (arith, nat_tests)
-first_lawful objects (Holds delay) fine = refl
-first_lawful objects (Routes router) fine = refl
-first_lawful objects (Ends sink) fine = refl
+first_lawful : (objects : List Item) (kind : KindOver ℕ) → IsKind (IsLink objects) kind → IsTrue (is_lawful kind (first_cells_of kind))
+first_lawful objects (Source first every count next) fine =
+    let all : 0 + count ≡ count = omega arith in grind (arith, nat_tests)
+first_lawful objects (Station servers service line strict next) fine = grind (arith, nat_tests)
+first_lawful objects (Delay delay next) fine = refl
+first_lawful objects (Router next weights) fine = refl
+first_lawful objects (Sink due) fine = refl
 
-first_time : (objects : List Object) (role : Role) → IsRole objects role → first_time_of role < 2 ^ 46
-first_time objects (Makes source) fine = fine.first
-first_time objects (Serves station) fine = omega arith
-first_time objects (Holds delay) fine = omega arith
-first_time objects (Routes router) fine = omega arith
-first_time objects (Ends sink) fine = omega arith
+first_time : (objects : List Item) (kind : KindOver ℕ) → IsKind (IsLink objects) kind → first_time_of kind < 2 ^ 46
+first_time objects (Source first every count next) fine = fine.0.starts
+first_time objects (Station servers service line strict next) fine = omega arith
+first_time objects (Delay delay next) fine = omega arith
+first_time objects (Router next weights) fine = omega arith
+first_time objects (Sink due) fine = omega arith
 
 pub object_fine : (p : NetworkParts) → IsNetwork p → (object : ℕ) → object < length p.objects → IsObject p.objects (object_at p.objects object)
 object_fine p fine object exists = fine.objects object _ exists
 
-pub role_can_draw : (objects : List Object) (role : Role) → IsRole objects role → RoleCanDraw role
-role_can_draw objects (Makes source) fine = is_drawable-delay source.every fine.every
-role_can_draw objects (Serves station) fine = is_drawable-delay station.service fine.service
-role_can_draw objects (Holds delay) fine = is_drawable-delay delay.delay fine.delay
-role_can_draw objects (Routes router) fine = fine.choice
-role_can_draw objects (Ends sink) fine = tt
+pub kind_can_draw : (objects : List Item) (kind : KindOver ℕ) → IsKind (IsLink objects) kind → KindCanDraw kind
+kind_can_draw objects (Source first every count next) fine = is_drawable-delay every fine.0.law
+kind_can_draw objects (Station servers service line strict next) fine = is_drawable-delay service fine.0.law
+kind_can_draw objects (Delay delay next) fine = is_drawable-delay delay fine.0
+kind_can_draw objects (Router next weights) fine = (fine.0, fine.1)
+kind_can_draw objects (Sink due) fine = tt
 
 start_laws : (p : NetworkParts) → IsNetwork p → (i : ℕ) → i < length (source_numbers p.objects) + length p.jobs → StartLaws (network_meaning p) (start_of p i)
 unfolding network_meaning start_of
@@ -66,7 +66,7 @@ start_laws p fine i exists = by (nat_lt i (length (source_numbers p.objects))) r
         let number = slice_index (source_numbers p.objects) i in
         let there : number < length p.objects = source_numbers-exist p.objects i (grind (arith, nat_tests)) in
         let object = object_fine p fine number there in
-        record { dest = there; time = first_time p.objects _ object.role; rank = object.rank }
+        record { dest = there; time = first_time p.objects _ object.kind; rank = object.rank }
     by false early_is =
         let within : i - from < length p.jobs = grind (arith, nat_tests) in
         let job = fine.jobs (i - from) (record { time = 0; at = 0; rank = 0 }) within in
@@ -77,10 +77,10 @@ unfolding network_meaning
 network_laws p fine = record {
   objects = fine.few_objects;
   starts = omega (arith, length-source_numbers p.objects, fine.few_objects, fine.few_jobs);
-  first = λ object exists. first_lawful p.objects _ (object_fine p fine object exists).role;
+  first = λ object exists. first_lawful p.objects _ (object_fine p fine object exists).kind;
   outcome = λ object cells event exists lawful.
       outcome_laws (network_meaning p) object cells _
-      (role_keeps p.objects (site_of p object) (object_at p.objects object).role cells event (object_fine p fine object exists).role
+      (kind_keeps p.objects (site_of p object) (object_at p.objects object).kind cells event (object_fine p fine object exists).kind
       (record { object = exists; rank = (object_fine p fine object exists).rank }) lawful);
   start = λ i exists. start_laws p fine i exists;
 }

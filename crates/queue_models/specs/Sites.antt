@@ -1,7 +1,5 @@
 -- Where an event happens, and what objects of several kinds do there.
-use Rattle.std.specs.Prelude.{ℕ, ◌==◌, ◌&&◌, Bool, if◌then◌else◌, List, [], ◌∷◌, length, slice_index}
-use Rattle.delta_exchange.specs.declared.change.Change.{Change}
-use Rattle.delta_exchange.specs.declared.change.Change.TheVariants.{Set}
+use Rattle.std.specs.Prelude.{ℕ, ◌==◌, ◌&&◌, Bool, List, [], ◌∷◌, length, slice_index}
 use Rattle.delta_exchange.specs.Changes.{CellData}
 use Rattle.model_core.specs.declared.event.Send.{Send}
 use Rattle.model_core.specs.declared.note.Part.{Part}
@@ -16,10 +14,6 @@ place_of cells = slice_index cells.words 0
 -- what an object draws by a law from its place on: the value, and the place after the words that are read
 abbrev pub drawn_at : Site → CellData → Law → ℕ × ℕ
 drawn_at site cells law = draw site.seed site.object (place_of cells) law
-
--- word 0 takes the next place where words were read: fewer than 2 ^ 64 are, so that it is then another place
-unfoldable pub place_changes : ℕ → ℕ → List Change
-place_changes place next = if next == place then [] else Set 0 next ∷ []
 
 -- a job on its way to another object, where it arrives after a delay
 abbrev pub job_to : Site → ℕ → ℕ → ℕ → ℕ → Send

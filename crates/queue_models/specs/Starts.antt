@@ -1,21 +1,22 @@
 -- Lemmas on the numbers of the sources, and on the initial events.
-use Rattle.std.proofs.Common.{◌≡◌, ℕ, ◌+◌, ◌-◌, ◌<◌, ◌≤◌, Bool, true, false, cond, List, [], ◌∷◌, ◌++◌, length, get_or, sym, ap, ◌∙◌, map-id, append-nil, arith}
-use Rattle.std.specs.Prelude.{slice_index, nat_lt, if◌then◌else◌, All}
+use Rattle.std.proofs.Common.{◌≡◌, ℕ, ◌+◌, ◌-◌, ◌<◌, ◌≤◌, Bool, true, false, cond, List, [], ◌∷◌, ◌++◌, length, get_or, sym, ap, ◌∙◌, append-nil, arith}
+use Rattle.std.specs.Prelude.{slice_index, nat_lt, if◌then◌else◌}
 use Rattle.std.specs.List.{range_with_len, filter}
 use Rattle.std.proofs.lemmas.Bool.Decides.{nat_tests}
 use Rattle.std.proofs.lemmas.Grind.{get_or_default_zero}
-use Rattle.std.proofs.lemmas.List.Elements.{All-filter, All-from_get_or, at_read, filter-append}
-use Rattle.std.proofs.lemmas.List.FromFn.{length-range_with_len, get_or-range_with_len, map-range_with_len_more}
+use Rattle.std.proofs.lemmas.List.Elements.{All-filter, at_read, filter-append}
+use Rattle.std.proofs.lemmas.List.FromFn.{length-range_with_len}
 use Rattle.std.proofs.lemmas.List.Sums.{length-filter, count_by-le-length}
-use Rattle.queue_models.specs.declared.object.Object.{Object}
+use Rattle.model_core.proofs.Numbers.{numbers_below, numbers-more}
 use Rattle.queue_models.specs.Meaning.{source_start, job_start, start_of}
-use Rattle.queue_models.specs.Objects.{NetworkParts, no_object, object_at, is_source, sources_below, source_numbers}
+use Rattle.queue_models.specs.Kinds.{is_source}
+use Rattle.queue_models.specs.Objects.{Item, NetworkParts, no_object, object_at, sources_below, source_numbers}
 
 -- there are no more sources than objects
-pub length-source_numbers : (objects : List Object) → length (source_numbers objects) ≤ length objects
+pub length-source_numbers : (objects : List Item) → length (source_numbers objects) ≤ length objects
 unfolding sources_below
 length-source_numbers objects =
-    let test = λ (number : ℕ). is_source (object_at objects number).role in
+    let test = λ (number : ℕ). is_source (object_at objects number).kind in
     omega (
       arith,
       length-filter test (range_with_len 0 (length objects)),
@@ -23,43 +24,33 @@ length-source_numbers objects =
       length-range_with_len 0 (length objects),
     )
 
-numbers_below : (n : ℕ) → All (λ number. number < n) (range_with_len 0 n)
-numbers_below n =
-    All-from_get_or (λ number. number < n) (range_with_len 0 n) 0
-    (λ i within. let below : i < n = omega (arith, length-range_with_len 0 n) in omega (arith, get_or-range_with_len 0 n i 0 below))
-
 -- a source is one of the objects
-pub source_numbers-exist : (objects : List Object) (i : ℕ) → i < length (source_numbers objects) → slice_index (source_numbers objects) i < length objects
+pub source_numbers-exist : (objects : List Item) (i : ℕ) → i < length (source_numbers objects) → slice_index (source_numbers objects) i < length objects
 unfolding sources_below
 source_numbers-exist objects i within =
-    All-filter (λ number. is_source (object_at objects number).role) (λ number. number < length objects) (range_with_len 0 (length objects))
+    All-filter (λ number. is_source (object_at objects number).kind) (λ number. number < length objects) (range_with_len 0 (length objects))
     (numbers_below (length objects)) i 0 within
 
-range_more : (n : ℕ) → range_with_len 0 (n + 1) ≡ range_with_len 0 n ++ n ∷ []
-range_more n =
-    sym (map-id (range_with_len 0 (n + 1))) ∙ map-range_with_len_more (λ i. i) 0 n n (omega arith)
-    ∙ ap (λ numbers. numbers ++ n ∷ []) (map-id (range_with_len 0 n))
-
 -- one object more
-below_more : (objects : List Object) (n : ℕ) (test : Bool) → is_source (object_at objects n).role ≡ test
+below_more : (objects : List Item) (n : ℕ) (test : Bool) → is_source (object_at objects n).kind ≡ test
     → sources_below objects (n + 1) ≡ sources_below objects n ++ cond test (n ∷ []) []
 unfolding sources_below
 below_more objects n test at =
-    let passes = λ (number : ℕ). is_source (object_at objects number).role in
-    ap (filter passes) (range_more n) ∙ filter-append passes (range_with_len 0 n) (n ∷ [])
+    let passes = λ (number : ℕ). is_source (object_at objects number).kind in
+    ap (filter passes) (numbers-more 0 n n (omega arith)) ∙ filter-append passes (range_with_len 0 n) (n ∷ [])
     ∙ ap (λ b. filter passes (range_with_len 0 n) ++ cond b (n ∷ []) []) at
 
 -- one source more
-pub sources_below-more_source : (objects : List Object) (n : ℕ) (object : Object) → n < length objects → object ≡ get_or objects n object
-    → is_source object.role ≡ true → sources_below objects (n + 1) ≡ sources_below objects n ++ n ∷ []
+pub sources_below-more_source : (objects : List Item) (n : ℕ) (object : Item) → n < length objects → object ≡ get_or objects n object
+    → is_source object.kind ≡ true → sources_below objects (n + 1) ≡ sources_below objects n ++ n ∷ []
 sources_below-more_source objects n object within read source =
-    below_more objects n true (at_read objects (λ o. is_source o.role ≡ true) n object within read source no_object)
+    below_more objects n true (at_read objects (λ o. is_source o.kind ≡ true) n object within read source no_object)
 
 -- one object more that is no source
-pub sources_below-more_other : (objects : List Object) (n : ℕ) (object : Object) → n < length objects → object ≡ get_or objects n object
-    → is_source object.role ≡ false → sources_below objects (n + 1) ≡ sources_below objects n
+pub sources_below-more_other : (objects : List Item) (n : ℕ) (object : Item) → n < length objects → object ≡ get_or objects n object
+    → is_source object.kind ≡ false → sources_below objects (n + 1) ≡ sources_below objects n
 sources_below-more_other objects n object within read other =
-    below_more objects n false (at_read objects (λ o. is_source o.role ≡ false) n object within read other no_object)
+    below_more objects n false (at_read objects (λ o. is_source o.kind ≡ false) n object within read other no_object)
     ∙ append-nil (sources_below objects n)
 
 -- the initial events of the sources come first

@@ -7,9 +7,19 @@ use Rattle.model_core.specs.declared.effect.Outcome.{Outcome}
 use Rattle.model_core.specs.declared.effect.Outcome.TheVariants.{Goes, Fails}
 use Rattle.model_core.specs.declared.event.Event.{Event}
 use Rattle.model_core.specs.declared.event.Send.{Send}
+use Rattle.model_core.specs.declared.words.TheConstants.{TAKEN_WORD, WAITING_WORD, LOST_WORD, DONE_WORD, LINE_FULL}
+use Rattle.random_streams.specs.declared.law.Law.{Law}
 use Rattle.queue_models.specs.declared.site.Site.{Site}
-use Rattle.queue_models.specs.declared.station.Station.{Station}
-use Rattle.queue_models.specs.Sites.{place_of, drawn_at, place_changes, job_to, told}
+use Rattle.model_core.specs.Places.{place_changes}
+use Rattle.queue_models.specs.Sites.{place_of, drawn_at, job_to, told}
+
+-- the numbers of a station
+pub record Station : Type 0 where
+  pub servers : ℕ
+  pub service : Law
+  pub line : ℕ
+  pub strict : Bool
+  pub next : ℕ
 
 -- word 1 is the number of busy servers; line 0 holds the waiting jobs, and line 1 when each was born
 abbrev pub busy_servers : CellData → ℕ
@@ -18,11 +28,11 @@ busy_servers cells = slice_index cells.words 1
 abbrev pub waiting_jobs : CellData → ℕ
 waiting_jobs cells = length (line_of cells 0)
 
-abbrev pub is_station_cells : Station → CellData → Bool
-is_station_cells station cells =
+abbrev pub is_station_cells : ℕ → ℕ → CellData → Bool
+is_station_cells servers line cells =
     length cells.words == 2 && length cells.lines == 2
     && waiting_jobs cells == length (line_of cells 1)
-    && nat_le (waiting_jobs cells) station.line && nat_le (busy_servers cells) station.servers
+    && nat_le (waiting_jobs cells) line && nat_le (busy_servers cells) servers
 
 abbrev pub first_station_cells : CellData
 first_station_cells = record { words = 0 ∷ 0 ∷ []; lines = [] ∷ [] ∷ [] }
@@ -38,7 +48,7 @@ take_effect site station cells event =
     record {
       changes = place_changes (place_of cells) service.1 ++ Set 1 (busy_servers cells + 1) ∷ [];
       sends = done_after site service.0 event.a event.b ∷ [];
-      note = told 3 event.a (waiting_jobs cells);
+      note = told TAKEN_WORD event.a (waiting_jobs cells);
     }
 
 -- the job goes to the end of the line
@@ -46,19 +56,19 @@ unfoldable pub wait_effect : CellData → Event → Effect
 wait_effect cells event = record {
   changes = Push 0 event.a ∷ Push 1 event.b ∷ [];
   sends = [];
-  note = told 4 event.a (waiting_jobs cells + 1);
+  note = told WAITING_WORD event.a (waiting_jobs cells + 1);
 }
 
 -- the job is turned away
 unfoldable pub lose_effect : CellData → Event → Effect
-lose_effect cells event = record { changes = []; sends = []; note = told 5 event.a (waiting_jobs cells) }
+lose_effect cells event = record { changes = []; sends = []; note = told LOST_WORD event.a (waiting_jobs cells) }
 
 -- a job arrives: where no server is free and the line is full, a strict station fails
 unfoldable pub arrival_outcome : Site → Station → CellData → Event → Outcome
 arrival_outcome site station cells event =
     if nat_lt (busy_servers cells) station.servers then Goes (take_effect site station cells event)
     else if nat_lt (waiting_jobs cells) station.line then Goes (wait_effect cells event)
-    else if station.strict then Fails 2
+    else if station.strict then Fails LINE_FULL
     else Goes (lose_effect cells event)
 
 -- a job is done, and its server goes on with the job that has waited longest
@@ -70,7 +80,7 @@ serve_effect site station cells event =
     record {
       changes = place_changes (place_of cells) service.1 ++ Pop 0 ∷ Pop 1 ∷ [];
       sends = job_to site station.next 0 event.a event.b ∷ done_after site service.0 job birth ∷ [];
-      note = told 6 event.a (waiting_jobs cells - 1);
+      note = told DONE_WORD event.a (waiting_jobs cells - 1);
     }
 
 -- a job is done while nobody waits, and its server is free
@@ -78,7 +88,7 @@ unfoldable pub free_effect : Site → Station → CellData → Event → Effect
 free_effect site station cells event = record {
   changes = if busy_servers cells == 0 then [] else Set 1 (busy_servers cells - 1) ∷ [];
   sends = job_to site station.next 0 event.a event.b ∷ [];
-  note = told 6 event.a 0;
+  note = told DONE_WORD event.a 0;
 }
 
 unfoldable pub done_effect : Site → Station → CellData → Event → Effect

@@ -5,21 +5,18 @@ ghost use Rattle.model_core.specs.Effects.{blank, outcome_by};
 ghost use Rattle.queue_models.specs.Sites.{is_plain_cells};
 ghost use Rattle.queue_models.specs.Delays.{delay_effect};
 
-use crate::site::{Site, keep_place, told};
-use model_core::{Cells, Effect, Ending, Event};
+use crate::site::{Site, told};
+use model_core::{Cells, Effect, Ending, Event, HELD_WORD, keep_place};
 use random_streams::{Law, Stream, draw_by};
 
-/// The word that tells of a job that is held.
-const HELD_WORD: u32 = 7;
-
-/// Sends each job on after a drawn delay.
-#[derive(Debug, Drop)]
-pub struct Delay {
-    pub delay: Law,
+/// What an event uses of a delay.
+#[derive(Drop)]
+pub struct Delay<'a> {
+    pub delay: &'a Law,
     pub next: u32,
 }
 
-impl Delay {
+impl Delay<'_> {
     /// Holds a job.
     #[tactic(auto, unfolding(crate::specs::Delays::delay_effect))]
     pub fn react(
@@ -30,13 +27,13 @@ impl Delay {
         event: &Event,
         sheet: &mut Effect,
     ) -> Ending
-        requires delay { IsTrue (is_drawable self.now.delay) }
+        requires delay { IsTrue (is_drawable self.now.delay.now) }
         requires cells { IsTrue (is_plain_cells cells.now.contents) }
         requires blank { sheet.old ≡ blank }
-        ensures { outcome_by result sheet.new ≡ delay_effect site self.now cells.now.contents event.now }
+        ensures { outcome_by result sheet.new ≡ delay_effect site self.now.delay.now self.now.next cells.now.contents event.now }
     {
         let place = cells.word(0);
-        let (delay, next_place) = draw_by(words, site.seed, site.object, place, &self.delay);
+        let (delay, next_place) = draw_by(words, site.seed, site.object, place, self.delay);
         keep_place(&mut sheet.changes, place, next_place);
         sheet
             .sends

@@ -9,11 +9,14 @@ mod delay;
 mod kind;
 mod network;
 mod object;
+mod rings;
 mod router;
 mod sink;
 mod site;
 mod source;
 mod station;
 
-pub use kind::{Item, Kind};
+pub use kind::{Item, ItemOver, Kind, KindOver};
 pub use network::Network;
+pub use rings::ring;
+pub use station::MOST_WAITING;

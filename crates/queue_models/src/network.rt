@@ -1,12 +1,12 @@
 //! The model of a queueing network.
 ghost use Rattle.std.specs.Prelude.{◌≡◌, ◌<◌, ◌≤◌, IfOk, map, length};
-ghost use Rattle.queue_models.specs.Objects.{object_at, object_of, network_of, network_parts, source_numbers};
+ghost use Rattle.model_core.specs.declared.limits.TheConstants.{MOST_OBJECTS};
+ghost use Rattle.queue_models.specs.Objects.{object_at, network_of, source_numbers};
 ghost use Rattle.queue_models.specs.Parts.{IsNetwork};
 ghost use Rattle.queue_models.specs.PartsProps.{IsNetwork-prop};
 ghost use Rattle.queue_models.specs.Meaning.{network_meaning};
 
-use crate::kind::Item;
-use crate::object::{Object, Role};
+use crate::kind::{Item, Kind};
 use crate::site::{ARRIVE, MAKE, Site};
 use model_core::model::Model as SimulationModel;
 use model_core::{Cells, Effect, Ending, Entry, Event, OutOfMemory, Start};
@@ -17,7 +17,7 @@ use std::alloc::Global;
 #[derive(Debug, Drop)]
 pub struct Network {
     seed: u64,
-    objects: Vec<Object>,
+    objects: Vec<Item>,
     sources: Vec<u32>,
     jobs: Vec<Entry>,
     ghost in_range: { IsNetwork (network_of seed objects.items jobs.items) } by { IsNetwork-prop (network_of seed objects.items jobs.items) },
@@ -25,13 +25,13 @@ pub struct Network {
 }
 
 /// The numbers of the sources among the objects.
-fn source_numbers(alloc: Global, objects: &[Object]) -> Result<Vec<u32>, OutOfMemory>
-    requires { length objects.now ≤ 65536 }
+fn source_numbers(alloc: Global, objects: &[Item]) -> Result<Vec<u32>, OutOfMemory>
+    requires { length objects.now ≤ MOST_OBJECTS }
     ensures { IfOk result (λ numbers. numbers.items ≡ source_numbers objects.now) }
 {
     let mut numbers = Vec::new(alloc);
     for (number, object) in objects.iter().enumerate() {
-        if object.role.is_source() {
+        if object.kind.is_source() {
             numbers.push(number as u32)?;
         }
     }
@@ -48,11 +48,10 @@ impl Network {
         objects: Vec<Item>,
         jobs: Vec<Entry>,
     ) -> Result<Network, OutOfMemory>
-        requires { IsNetwork (network_parts seed objects.items jobs.items) }
+        requires { IsNetwork (network_of seed objects.items jobs.items) }
         ensures { IfOk result (λ network. ⟦<Network as SimulationModel>⟧.meaning network
-            ≡ network_meaning (network_parts seed objects.items jobs.items)) }
+            ≡ network_meaning (network_of seed objects.items jobs.items)) }
     {
-        let objects = objects_of(alloc, objects)?;
         let sources = source_numbers(alloc, &objects)?;
         Ok(Network {
             seed,
@@ -63,28 +62,17 @@ impl Network {
     }
 }
 
-/// The objects that these items stand for.
-fn objects_of(alloc: Global, items: Vec<Item>) -> Result<Vec<Object>, OutOfMemory>
-    ensures { IfOk result (λ objects. objects.items ≡ map object_of items.items) }
-{
-    let objects = items
-        .into_iter()
-        .map(|item| Object::of(item))
-        .collect(alloc)?;
-    Ok(objects)
-}
-
 impl Network {
     ghost use Rattle.queue_models.specs.Meaning.{source_start, job_start, site_of};
     ghost use Rattle.queue_models.specs.Views.{parts_of};
 
     /// What an object does.
-    fn role_of(&self, object: u32) -> &Role
+    fn kind_of(&self, object: u32) -> &Kind
         requires { object < length self.now.objects.items }
-        ensures { result.now ≡ (object_at self.now.objects.items object).role }
+        ensures { result.now ≡ (object_at self.now.objects.items object).kind }
     {
         let object = &self.objects[object as usize];
-        &object.role
+        &object.kind
     }
 
     /// Where an event at an object happens.
@@ -107,7 +95,7 @@ impl Network {
     {
         let object = &self.objects[number as usize];
         Start {
-            time: object.role.first_time(),
+            time: object.kind.first_time(),
             dest: number,
             kind: MAKE,
             a: 0,
@@ -161,13 +149,13 @@ impl SimulationModel for Network {
     }
 
     fn first_cells(&self, alloc: Global, object: u32) -> Result<Cells, OutOfMemory> {
-        let role = self.role_of(object);
-        role.first_cells(alloc)
+        let kind = self.kind_of(object);
+        kind.first_cells(alloc)
     }
 
     fn is_lawful(&self, object: u32, cells: &Cells) -> bool {
-        let role = self.role_of(object);
-        role.is_lawful(cells)
+        let kind = self.kind_of(object);
+        kind.is_lawful(cells)
     }
 
     fn respond(
@@ -179,9 +167,9 @@ impl SimulationModel for Network {
         sheet: &mut Effect,
     ) -> Result<Ending, OutOfMemory> {
         let site = self.site(object);
-        let role = self.role_of(object);
+        let kind = self.kind_of(object);
         sheet.clear();
-        Ok(role.react(words, site, cells, event, sheet))
+        Ok(kind.react(words, site, cells, event, sheet))
     }
 
     fn put_name(&self, _alloc: Global, object: u32, into: &mut Vec<u8>) -> Result<(), OutOfMemory> {

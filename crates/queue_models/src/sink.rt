@@ -5,16 +5,10 @@ ghost use Rattle.queue_models.specs.Sinks.{is_late, sink_effect};
 
 use crate::site::told;
 use event_key::time_of;
-use model_core::{Effect, Ending, Event};
+use model_core::{Effect, Ending, Event, LATE, LEFT_WORD};
 
-/// The word that tells of a job that leaves.
-const LEFT_WORD: u32 = 9;
-
-/// The code of a job that leaves too late.
-const LATE: u32 = 3;
-
-/// Takes each job out, which may have to come by a due age.
-#[derive(Debug, Drop)]
+/// What an event uses of a sink.
+#[derive(Drop)]
 pub struct Sink {
     pub due: Option<u64>,
 }
@@ -24,7 +18,7 @@ impl Sink {
     #[tactic(auto, unfolding(crate::specs::Sinks::sink_effect))]
     pub fn react(&self, event: &Event, sheet: &mut Effect) -> Ending
         requires blank { sheet.old ≡ blank }
-        ensures { outcome_by result sheet.new ≡ sink_effect self.now event.now }
+        ensures { outcome_by result sheet.new ≡ sink_effect self.now.due event.now }
     {
         let age = time_of(event.key.stamp).saturating_sub(event.b);
         if self.is_late(age) {

@@ -1,8 +1,8 @@
 //! Where an event happens, and what objects of several kinds do there.
-ghost use Rattle.std.specs.Prelude.{◌≡◌, ◌≤◌, [], length, IfOk};
-ghost use Rattle.queue_models.specs.Sites.{job_to, told, place_changes, is_plain_cells, plain_cells};
+ghost use Rattle.std.specs.Prelude.{◌≡◌, IfOk};
+ghost use Rattle.queue_models.specs.Sites.{job_to, told, is_plain_cells, plain_cells};
 
-use model_core::{Cells, Change, Few, Note, OutOfMemory, Part, Send};
+use model_core::{Cells, Note, OutOfMemory, Part, Send};
 use std::alloc::Global;
 
 /// The kind of an event at which a source makes a job.
@@ -22,22 +22,22 @@ pub struct Site {
     pub rank: u32,
 }
 
+/// The cells at the start of an object that keeps nothing but its random place.
+pub fn first_cells(alloc: Global) -> Result<Cells, OutOfMemory>
+    ensures { IfOk result (λ cells. cells.contents ≡ plain_cells) }
+{
+    let words = vec![in alloc; 0]?;
+    Cells::new(alloc, words, Vec::new(alloc))
+}
+
+/// Whether the cells are a random place alone.
+pub fn is_lawful(cells: &Cells) -> bool
+    ensures { result ≡ is_plain_cells cells.now.contents }
+{
+    cells.words() == 1 && cells.lines() == 0
+}
+
 impl Site {
-    /// The cells at the start of an object that keeps nothing but its random place.
-    pub fn first_cells(alloc: Global) -> Result<Cells, OutOfMemory>
-        ensures { IfOk result (λ cells. cells.contents ≡ plain_cells) }
-    {
-        let words = vec![in alloc; 0]?;
-        Cells::new(alloc, words, Vec::new(alloc))
-    }
-
-    /// Whether the cells are a random place alone.
-    pub fn is_lawful(cells: &Cells) -> bool
-        ensures { result ≡ is_plain_cells cells.now.contents }
-    {
-        cells.words() == 1 && cells.lines() == 0
-    }
-
     /// A job on its way to another object, where it arrives after a delay.
     pub fn job_to(&self, dest: u32, delay: u64, job: u64, birth: u64) -> Send
         ensures { result ≡ job_to self.now dest delay job birth }
@@ -58,19 +58,4 @@ pub fn told(word: u32, a: u64, b: u64) -> Note
     ensures { result ≡ told word a b }
 {
     Note::of(Part { word, a, b })
-}
-
-/// Keeps an object's random place, where words were read.
-#[tactic(auto, unfolding(crate::specs::Sites::place_changes))]
-pub fn keep_place(changes: &mut Few<Change, 16>, place: u64, next: u64)
-    requires { changes.old ≡ [] }
-    ensures place { changes.new ≡ place_changes place next }
-    ensures few { length changes.new ≤ 1 }
-{
-    if next != place {
-        changes.push(Change::Set {
-            word: 0,
-            value: next,
-        });
-    }
 }

@@ -2,24 +2,16 @@
 ghost use Rattle.std.specs.Prelude.{◌≡◌, ◌<◌, IfOk, IsTrue};
 ghost use Rattle.random_streams.specs.Laws.{is_drawable};
 ghost use Rattle.model_core.specs.Effects.{blank, outcome_by};
+ghost use Rattle.queue_models.specs.Views.{station_of};
 ghost use Rattle.queue_models.specs.Stations.{is_station_cells, first_station_cells, busy_servers, waiting_jobs, done_after, take_effect, wait_effect, lose_effect, arrival_outcome, serve_effect, free_effect, done_effect, station_effect};
 
-use crate::site::{DONE, Site, keep_place, told};
-use model_core::{Cells, Change, Effect, Ending, Event, OutOfMemory, Send};
+use crate::site::{DONE, Site, told};
+use model_core::{
+    Cells, Change, DONE_WORD, Effect, Ending, Event, LINE_FULL, LOST_WORD, OutOfMemory, Send,
+    TAKEN_WORD, WAITING_WORD, keep_place,
+};
 use random_streams::{Law, Stream, draw_by};
 use std::alloc::Global;
-
-/// The words that tell of a job.
-const TAKEN_WORD: u32 = 3;
-
-const WAITING_WORD: u32 = 4;
-
-const LOST_WORD: u32 = 5;
-
-const DONE_WORD: u32 = 6;
-
-/// The code of a job that finds the line of a strict station full.
-const LINE_FULL: u32 = 2;
 
 /// The word that counts the busy servers.
 const BUSY: u32 = 1;
@@ -29,14 +21,39 @@ const JOBS: u32 = 0;
 
 const BIRTHS: u32 = 1;
 
-/// Serves jobs in order of arrival.
-#[derive(Debug, Drop)]
-pub struct Station {
+/// How many jobs wait at a station at most.
+pub const MOST_WAITING: u32 = 65_536;
+
+/// What an event uses of a station.
+#[derive(Drop)]
+pub struct Station<'a> {
     pub servers: u32,
-    pub service: Law,
+    pub service: &'a Law,
     pub line: u32,
     pub strict: bool,
     pub next: u32,
+}
+
+/// The cells at the start: no server is busy, and nobody waits.
+pub fn first_cells(alloc: Global) -> Result<Cells, OutOfMemory>
+    ensures { IfOk result (λ cells. cells.contents ≡ first_station_cells) }
+{
+    let words = vec![in alloc; 0, 0]?;
+    let lines = vec![in alloc; Vec::new(alloc), Vec::new(alloc)]?;
+    Cells::new(alloc, words, lines)
+}
+
+/// Whether no more servers are busy and no more jobs wait than there may be.
+pub fn is_lawful(servers: u32, line: u32, cells: &Cells) -> bool
+    ensures { result ≡ is_station_cells servers line cells.now.contents }
+{
+    if cells.words() != 2 || cells.lines() != 2 {
+        return false;
+    }
+    let waiting = cells.line_len(JOBS);
+    waiting == cells.line_len(BIRTHS)
+        && waiting <= line as usize
+        && cells.word(BUSY) <= u64::from(servers)
 }
 
 /// The end of a job's service, which comes back to its station.
@@ -53,29 +70,7 @@ fn done_after(site: &Site, service: u64, job: u64, birth: u64) -> Send
     }
 }
 
-impl Station {
-    /// The cells at the start: no server is busy, and nobody waits.
-    pub fn first_cells(alloc: Global) -> Result<Cells, OutOfMemory>
-        ensures { IfOk result (λ cells. cells.contents ≡ first_station_cells) }
-    {
-        let words = vec![in alloc; 0, 0]?;
-        let lines = vec![in alloc; Vec::new(alloc), Vec::new(alloc)]?;
-        Cells::new(alloc, words, lines)
-    }
-
-    /// Whether no more servers are busy and no more jobs wait than there may be.
-    pub fn is_lawful(&self, cells: &Cells) -> bool
-        ensures { result ≡ is_station_cells self.now cells.now.contents }
-    {
-        if cells.words() != 2 || cells.lines() != 2 {
-            return false;
-        }
-        let waiting = cells.line_len(JOBS);
-        waiting == cells.line_len(BIRTHS)
-            && waiting <= self.line as usize
-            && cells.word(BUSY) <= u64::from(self.servers)
-    }
-
+impl Station<'_> {
     /// A service is done, or a job arrives, whatever else the kind of the event.
     #[tactic(auto, unfolding(crate::specs::Stations::station_effect))]
     pub fn react(
@@ -86,10 +81,10 @@ impl Station {
         event: &Event,
         sheet: &mut Effect,
     ) -> Ending
-        requires service { IsTrue (is_drawable self.now.service) }
-        requires cells { IsTrue (is_station_cells self.now cells.now.contents) }
+        requires service { IsTrue (is_drawable self.now.service.now) }
+        requires cells { IsTrue (is_station_cells self.now.servers self.now.line cells.now.contents) }
         requires blank { sheet.old ≡ blank }
-        ensures { outcome_by result sheet.new ≡ station_effect site self.now cells.now.contents event.now }
+        ensures { outcome_by result sheet.new ≡ station_effect site (station_of self.now) cells.now.contents event.now }
     {
         match event.kind {
             DONE => {
@@ -110,10 +105,10 @@ impl Station {
         event: &Event,
         sheet: &mut Effect,
     ) -> Ending
-        requires service { IsTrue (is_drawable self.now.service) }
-        requires cells { IsTrue (is_station_cells self.now cells.now.contents) }
+        requires service { IsTrue (is_drawable self.now.service.now) }
+        requires cells { IsTrue (is_station_cells self.now.servers self.now.line cells.now.contents) }
         requires blank { sheet.old ≡ blank }
-        ensures { outcome_by result sheet.new ≡ arrival_outcome site self.now cells.now.contents event.now }
+        ensures { outcome_by result sheet.new ≡ arrival_outcome site (station_of self.now) cells.now.contents event.now }
     {
         if cells.word(BUSY) < u64::from(self.servers) {
             self.take(words, site, cells, event, sheet);
@@ -130,13 +125,13 @@ impl Station {
     /// A free server takes the job.
     #[tactic(auto, unfolding(crate::specs::Stations::take_effect))]
     fn take(&self, words: &mut Stream, site: Site, cells: &Cells, event: &Event, sheet: &mut Effect)
-        requires service { IsTrue (is_drawable self.now.service) }
-        requires cells { IsTrue (is_station_cells self.now cells.now.contents) }
+        requires service { IsTrue (is_drawable self.now.service.now) }
+        requires cells { IsTrue (is_station_cells self.now.servers self.now.line cells.now.contents) }
         requires blank { sheet.old ≡ blank }
-        ensures { sheet.new ≡ take_effect site self.now cells.now.contents event.now }
+        ensures { sheet.new ≡ take_effect site (station_of self.now) cells.now.contents event.now }
     {
         let place = cells.word(0);
-        let (service, next_place) = draw_by(words, site.seed, site.object, place, &self.service);
+        let (service, next_place) = draw_by(words, site.seed, site.object, place, self.service);
         keep_place(&mut sheet.changes, place, next_place);
         sheet.changes.push(Change::Set {
             word: BUSY,
@@ -151,7 +146,7 @@ impl Station {
     /// The job goes to the end of the line.
     #[tactic(auto, unfolding(crate::specs::Stations::wait_effect))]
     fn wait(&self, cells: &Cells, event: &Event, sheet: &mut Effect)
-        requires cells { IsTrue (is_station_cells self.now cells.now.contents) }
+        requires cells { IsTrue (is_station_cells self.now.servers self.now.line cells.now.contents) }
         requires blank { sheet.old ≡ blank }
         ensures { sheet.new ≡ wait_effect cells.now.contents event.now }
     {
@@ -170,7 +165,7 @@ impl Station {
     /// The job is turned away.
     #[tactic(auto, unfolding(crate::specs::Stations::lose_effect))]
     fn lose(&self, cells: &Cells, event: &Event, sheet: &mut Effect)
-        requires cells { IsTrue (is_station_cells self.now cells.now.contents) }
+        requires cells { IsTrue (is_station_cells self.now.servers self.now.line cells.now.contents) }
         requires blank { sheet.old ≡ blank }
         ensures { sheet.new ≡ lose_effect cells.now.contents event.now }
     {
@@ -180,10 +175,10 @@ impl Station {
     /// A job is done: the next one is served, or the server is free.
     #[tactic(auto, unfolding(crate::specs::Stations::done_effect))]
     fn done(&self, words: &mut Stream, site: Site, cells: &Cells, event: &Event, sheet: &mut Effect)
-        requires service { IsTrue (is_drawable self.now.service) }
-        requires cells { IsTrue (is_station_cells self.now cells.now.contents) }
+        requires service { IsTrue (is_drawable self.now.service.now) }
+        requires cells { IsTrue (is_station_cells self.now.servers self.now.line cells.now.contents) }
         requires blank { sheet.old ≡ blank }
-        ensures { sheet.new ≡ done_effect site self.now cells.now.contents event.now }
+        ensures { sheet.new ≡ done_effect site (station_of self.now) cells.now.contents event.now }
     {
         if cells.line_len(JOBS) > 0 {
             self.serve(words, site, cells, event, sheet);
@@ -202,16 +197,16 @@ impl Station {
         event: &Event,
         sheet: &mut Effect,
     )
-        requires service { IsTrue (is_drawable self.now.service) }
-        requires cells { IsTrue (is_station_cells self.now cells.now.contents) }
+        requires service { IsTrue (is_drawable self.now.service.now) }
+        requires cells { IsTrue (is_station_cells self.now.servers self.now.line cells.now.contents) }
         requires waiting { 0 < waiting_jobs cells.now.contents }
         requires blank { sheet.old ≡ blank }
-        ensures { sheet.new ≡ serve_effect site self.now cells.now.contents event.now }
+        ensures { sheet.new ≡ serve_effect site (station_of self.now) cells.now.contents event.now }
     {
         let job = cells.line_at(JOBS, 0);
         let birth = cells.line_at(BIRTHS, 0);
         let place = cells.word(0);
-        let (service, next_place) = draw_by(words, site.seed, site.object, place, &self.service);
+        let (service, next_place) = draw_by(words, site.seed, site.object, place, self.service);
         keep_place(&mut sheet.changes, place, next_place);
         sheet.changes.push(Change::Pop { line: JOBS });
         sheet.changes.push(Change::Pop { line: BIRTHS });
@@ -225,9 +220,9 @@ impl Station {
     /// Nobody waits: the server is free.
     #[tactic(auto, unfolding(crate::specs::Stations::free_effect))]
     fn free(&self, site: Site, cells: &Cells, event: &Event, sheet: &mut Effect)
-        requires cells { IsTrue (is_station_cells self.now cells.now.contents) }
+        requires cells { IsTrue (is_station_cells self.now.servers self.now.line cells.now.contents) }
         requires blank { sheet.old ≡ blank }
-        ensures { sheet.new ≡ free_effect site self.now cells.now.contents event.now }
+        ensures { sheet.new ≡ free_effect site (station_of self.now) cells.now.contents event.now }
     {
         let busy = cells.word(BUSY);
         if busy > 0 {

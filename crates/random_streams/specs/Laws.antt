@@ -3,6 +3,7 @@ use Rattle.std.specs.Prelude.{ℕ, ◌+◌, ◌-◌, ◌%◌, ◌^◌, min, Bool
 use Rattle.std.specs.List.{list_all, position_or_len, range_with_len}
 use Rattle.random_streams.specs.Words.{words_from}
 use Rattle.random_streams.specs.declared.law.Law.{Law}
+use Rattle.random_streams.specs.declared.law.TheConstants.{MOST_TRIALS, MOST_VALUE}
 use Rattle.random_streams.specs.declared.law.Law.TheVariants.{Fixed, Uniform, Geometric, Choice}
 
 -- 1 to 64 weights, each at most 65535, with a sum of at least 1
@@ -13,9 +14,9 @@ is_choice weights =
 
 -- the numbers of the law lie within its bounds
 unfoldable pub is_drawable : Law → Bool
-is_drawable (Fixed value) = nat_le value (2 ^ 40)
-is_drawable (Uniform low high) = nat_le low high && nat_le high (2 ^ 40) && nat_lt (high - low) (2 ^ 32)
-is_drawable (Geometric p cap) = nat_le 1 p && nat_le 1 cap && nat_le cap 65536
+is_drawable (Fixed value) = nat_le value MOST_VALUE
+is_drawable (Uniform low high) = nat_le low high && nat_le high MOST_VALUE && nat_lt (high - low) (2 ^ 32)
+is_drawable (Geometric p cap) = nat_le 1 p && nat_le 1 cap && nat_le cap MOST_TRIALS
 is_drawable (Choice weights) = is_choice weights
 
 -- a law of delays: one that can be drawn, and is no choice

@@ -1,7 +1,7 @@
 -- The random words of an object: those of its ChaCha20 stream under the seed's key.
-use Rattle.std.specs.Prelude.{ℕ, ◌+◌, ◌%◌, ◌^◌, List, ◌++◌, replicate}
+use Rattle.std.specs.Prelude.{◌≡◌, ℕ, ◌+◌, ◌%◌, ◌^◌, ◌<◌, List, ◌++◌, replicate, slice_index}
 use Rattle.std.specs.Int.{w64, to_le_bytes}
-use Rattle.rand_chacha.specs.ChaCha.{ChaCha, word_at, key_of}
+use Rattle.rand_chacha.specs.ChaCha.{word_at, key_of}
 
 -- the seed's eight little-endian bytes, and 24 zero bytes
 abbrev pub seed_bytes : ℕ → List ℕ
@@ -21,6 +21,6 @@ pub record StreamView : Type 0 where
   pub object : ℕ
   pub place : ℕ
 
--- the cipher's generator whose next word is the one at a place
-abbrev pub generator_at : ℕ → ℕ → ℕ → ChaCha
-generator_at seed object place = record { key = key_of (seed_bytes seed); stream = object; word_pos = place }
+-- these are the sixteen words of an object from a place on
+abbrev pub AreWords : ℕ → ℕ → ℕ → List ℕ → Type 0
+AreWords seed object first words = (i : ℕ) → i < 16 → slice_index words i ≡ word_of seed object (first + i)

@@ -5,10 +5,10 @@ ghost use Rattle.random_streams.specs.Laws.{is_drawable, is_delay};
 use crate::weights::{Weights, is_choice};
 
 /// The greatest value of a law in ticks: 2^40.
-const MOST_VALUE: u64 = 1099511627776;
+pub const MOST_VALUE: u64 = 1_099_511_627_776;
 
 /// How many trials a law makes at most.
-const MOST_TRIALS: u32 = 65536;
+pub const MOST_TRIALS: u32 = 65_536;
 
 /// How a value is drawn from random words of 32 bits.
 #[derive(Debug, Drop)]
@@ -19,7 +19,7 @@ pub enum Law {
     /// most 2^32 - 1 above `low`.
     Uniform { low: u64, high: u64 },
     /// The first trial, counted from 1, whose word is below `p`, or `cap` where no trial before the `cap`th has one:
-    /// the whole-number law without memory. `p` is at least 1, and `cap` is from 1 to 65536.
+    /// the whole-number law without memory. `p` is at least 1, and `cap` is from 1 to `MOST_TRIALS`.
     Geometric { p: u32, cap: u32 },
     /// A place of the list, counted from 0, in proportion to its weight. There are 1 to 64 weights, each at most 65535,
     /// and one of them at least is above 0.

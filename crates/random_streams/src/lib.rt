@@ -6,13 +6,14 @@
 //! key is the seed's eight little-endian bytes and 24 zero bytes, and the stream number is the object's.
 #![tactic(auto)]
 
+mod block;
 mod draws;
 mod law;
 mod stream;
 mod weights;
 
-pub use draws::{draw, draw_by};
-pub use law::Law;
+pub use draws::{choose_by, draw, draw_by};
+pub use law::{Law, MOST_TRIALS, MOST_VALUE};
 pub use stream::Stream;
 pub use weights::Weights;
 

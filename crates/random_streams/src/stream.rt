@@ -1,33 +1,40 @@
 //! The random words of one object, from a place on.
 ghost use Rattle.std.specs.Prelude.{◌≡◌, ◌+◌, ◌%◌, ◌^◌};
-ghost use Rattle.random_streams.specs.Words.{word_of, seed_bytes, generator_at};
+ghost use Rattle.random_streams.specs.Words.{word_of};
 
-use rand_chacha::ChaCha20Rng;
-use rand_core::SeedableRng;
-use rand_core::utils::NextWord;
+use crate::block::block;
 use std::marker::Model;
+
+/// How many words a block has.
+const BLOCK_WORDS: u64 = 16;
+
+/// Where no block is kept: no block begins at this place.
+const NO_BLOCK: u64 = 1;
 
 /// A reader of an object's random words under a seed, which stands at a place of them.
 ///
-/// It keeps its generator from the first word on, so that a run of words costs a block of the cipher for every
-/// sixteen, and one that reads no word costs none. Places count modulo 2^64.
+/// It keeps the block of sixteen words that it read last, wherever it moves among an object's words, and makes a
+/// block of the cipher when a word of another is asked for. So a run of words costs a block for every sixteen, and
+/// one that reads no word costs none. Places count modulo 2^64.
 #[derive(Drop)]
 pub struct Stream {
     seed: u64,
     object: u32,
     pub(crate) place: u64,
-    generator: Option<ChaCha20Rng>,
+    // The place of the first word kept.
+    first: u64,
+    words: [u32; 16],
 }
 
 impl Model for Stream {
-    ghost use Rattle.std.specs.Prelude.{◌≡◌, IfSome};
-    ghost use Rattle.random_streams.specs.Words.{StreamView, generator_at};
+    ghost use Rattle.std.specs.Prelude.{◌≡◌, ◌%◌};
+    ghost use Rattle.random_streams.specs.Words.{StreamView, AreWords};
 
     ghost Value = { StreamView };
 
     ghost view = { λ s. record { seed = s.seed; object = s.object; place = s.place } };
 
-    ghost invariant = { λ s. IfSome s.generator (λ g. g ≡ generator_at s.seed s.object s.place) };
+    ghost invariant = { λ s. s.first % 16 ≡ 0 → AreWords s.seed s.object s.first s.words };
 }
 
 impl Stream {
@@ -39,18 +46,21 @@ impl Stream {
             seed,
             object,
             place,
-            generator: None,
+            first: NO_BLOCK,
+            words: [0; 16],
         }
     }
 
-    /// Moves to a place of an object's words under a seed. Where it stands there already, the words that it has made
-    /// stay at hand.
+    /// Moves to a place of an object's words under a seed. The words that it has made of this object stay at hand.
     pub fn move_to(&mut self, seed: u64, object: u32, place: u64)
         ensures { self.new ≡ record { seed = seed; object = object; place = place } }
     {
-        if self.seed != seed || self.object != object || self.place != place {
-            *self = Stream::new(seed, object, place);
+        if self.seed != seed || self.object != object {
+            self.seed = seed;
+            self.object = object;
+            self.first = NO_BLOCK;
         }
+        self.place = place;
     }
 
     /// The place of the next word.
@@ -61,45 +71,17 @@ impl Stream {
     }
 
     /// The word at the place, which moves on by one.
-    #[tactic(auto, unfolding(crate::specs::Words::word_of))]
     pub fn word(&mut self) -> u32
         ensures word { result ≡ word_of self.old.seed self.old.object self.old.place }
         ensures place { self.new ≡ record self.old { place = (self.old.place + 1) % 2 ^ 64 } }
     {
-        let word = match &mut self.generator {
-            Some(generator) => generator.next_word(),
-            None => {
-                let mut generator = generator_at(self.seed, self.object, self.place);
-                let word = generator.next_word();
-                self.generator = Some(generator);
-                word
-            }
-        };
-        self.place = self.place.wrapping_add(1);
-        if self.place == 0 {
-            self.generator = None;
+        let within = self.place % BLOCK_WORDS;
+        let first = self.place - within;
+        if self.first != first {
+            self.words = block(self.seed, self.object, first / BLOCK_WORDS);
+            self.first = first;
         }
-        word
+        self.place = self.place.wrapping_add(1);
+        self.words[within as usize]
     }
-}
-
-/// The generator that gives an object's words from a place on.
-fn generator_at(seed: u64, object: u32, place: u64) -> ChaCha20Rng
-    ensures { result ≡ generator_at seed object place }
-{
-    let mut generator = ChaCha20Rng::from_seed(key_bytes(seed));
-    generator.set_stream(u64::from(object));
-    generator.set_word_pos(u128::from(place));
-    generator
-}
-
-/// The bytes of the key that a seed stands for.
-fn key_bytes(seed: u64) -> [u8; 32]
-    ensures { result ≡ seed_bytes seed }
-{
-    let s = seed.to_le_bytes();
-    [
-        s[0], s[1], s[2], s[3], s[4], s[5], s[6], s[7], 0, 0, 0, 0, 0, 0, 0, 0, 0, 0, 0, 0, 0, 0,
-        0, 0, 0, 0, 0, 0, 0, 0, 0, 0,
-    ]
 }

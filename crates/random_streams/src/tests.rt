@@ -10,10 +10,12 @@ fn the_first_words_under_seed_0(rt: HostRuntime) {
     assert_eq!(rt; words.place(), 5);
 }
 
-/// The key stream of test vector 1 of RFC 8439, appendix A.1: key, nonce and block counter are zero.
+/// The words of test vectors 1 and 2 of RFC 8439, appendix A.1: key and nonce are zero, and the block counter is 0 and 1.
+/// A word at a place is the same however the stream came there: from the start, back within the block, from the next
+/// block, from another object or from another seed.
 #[test]
-fn the_key_stream_of_the_standard(rt: HostRuntime) {
-    let bytes: [[u8; 4]; 16] = [
+fn the_words_of_the_standard_by_every_way(rt: HostRuntime) {
+    let bytes: [[u8; 4]; 18] = [
         [0x76, 0xb8, 0xe0, 0xad],
         [0xa0, 0xf1, 0x3d, 0x90],
         [0x40, 0x5d, 0x6a, 0xe5],
@@ -30,11 +32,28 @@ fn the_key_stream_of_the_standard(rt: HostRuntime) {
         [0x15, 0x18, 0xa1, 0x1c],
         [0xc3, 0x87, 0xb6, 0x69],
         [0xb2, 0xee, 0x65, 0x86],
+        [0x9f, 0x07, 0xe7, 0xbe],
+        [0x55, 0x51, 0x38, 0x7a],
     ];
     let mut words = Stream::new(0, 0, 0);
-    for want in bytes {
-        assert_eq!(rt; words.word().to_le_bytes(), want);
+    for (seed, object, place) in [
+        (0, 0, 0),
+        (0, 0, 3),
+        (0, 0, 16),
+        (0, 0, 15),
+        (0, 1, 5),
+        (1, 0, 5),
+    ] {
+        words.move_to(seed, object, place);
+        words.word();
+        for back in [0, 7, 16] {
+            words.move_to(0, 0, back as u64);
+            for want in bytes.iter().skip(back) {
+                assert_eq!(rt; words.word().to_le_bytes(), *want);
+            }
+        }
     }
+    assert_eq!(rt; words.place(), 18);
 }
 
 #[test]
@@ -54,6 +73,7 @@ fn draws_under_seed_0(rt: HostRuntime) {
 }
 
 #[test]
+#[tactic(auto, unfolding(crate::specs::Laws::is_drawable))]
 fn choices_under_seed_0(rt: HostRuntime) -> Result<(), Fail> {
     let weights = Weights::new(vec![in rt.alloc(); 1, 2, 3]?);
     assert_eq!(rt; weights.as_slice(), [1, 2, 3].as_slice());
@@ -61,6 +81,11 @@ fn choices_under_seed_0(rt: HostRuntime) -> Result<(), Fail> {
     assert!(rt; law.check());
     assert_eq!(rt; draw(0, 0, 0, &law), (0, 1));
     assert_eq!(rt; draw(0, 0, 3, &law), (2, 4));
+    if let Law::Choice { weights } = &law {
+        let mut words = Stream::new(1, 1, 1);
+        assert_eq!(rt; choose_by(&mut words, 0, 0, 3, weights), (2, 4));
+        assert_eq!(rt; choose_by(&mut words, 0, 0, 0, weights), (0, 1));
+    }
     Ok(())
 }
 

@@ -1,3 +1,4 @@
+pub mod Numbers
 pub mod PlainLemmas
 pub mod RingEnds
 pub mod RingLemmas

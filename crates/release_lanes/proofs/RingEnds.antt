@@ -1,19 +1,21 @@
 -- The ends of rings of all nodes: new ones, and what a change of one leaves.
-use Rattle.std.proofs.Common.{◌≡◌, ◌≢◌, inl, inr, ⊎_elim, ℕ, zero, suc, ◌<◌, List, [], ◌∷◌, ◌++◌, map, length, get_or, set, sym, subst, ap, ◌∙◌, refl, arith, append_assoc}
-use Rattle.std.specs.Prelude.{Option, None, Some, All, IfNone, IfSome, slice_index}
+use Rattle.std.proofs.Common.{◌≡◌, ◌≢◌, ⊎_elim, ℕ, zero, suc, ◌<◌, List, [], ◌∷◌, ◌++◌, map, length, get_or, set, sym, subst, ap, ◌∙◌, refl, arith, append_assoc}
+use Rattle.std.specs.Prelude.{Option, None, Some, All, IfNone, Vec}
+use Rattle.std.specs.declared.alloc.Global.{Global}
 use Rattle.std.specs.List.{range_with_len}
 use mathlib.Core.List.{map-map}
 use lib.Seq.{map-set_same}
-use Rattle.std.proofs.lemmas.Bool.{cases_eq, cases_lt}
-use Rattle.std.proofs.lemmas.List.{map-set, map-id, get_or-map, get_or_past, get_or-set_same, get_or-set_other, length-map, length-set, set-set, set-get_or}
+use Rattle.std.proofs.lemmas.Bool.{cases_eq}
+use Rattle.std.proofs.lemmas.List.{append-nil, map-set, map-id, get_or-map, get_or-set_same, get_or-set_other, length-map, set-set, set-get_or}
+use Rattle.std.proofs.lemmas.Option.{slice_get_within, get_or_from_slice_get}
 use Rattle.std.proofs.lemmas.List.FromFn.{fill_by_all}
-use Rattle.std.proofs.lemmas.List.Elements.{All-head, All-tail, All-map, All-weaker, All-set}
-use Rattle.rtrb.specs.Ring.{sent, known_free, received, known_items}
+use Rattle.std.proofs.lemmas.List.Elements.{All-head, All-tail, All-map, All-weaker}
+use Rattle.rtrb.specs.Ring.{sent, received, known_items}
 use Rattle.release_lanes.specs.declared.parcel.Parcel.{Parcel}
 use Rattle.release_lanes.specs.declared.rings.RingEnd.{RingEnd}
-use Rattle.release_lanes.specs.Lanes.{TakesRest, Meets, list_at, lane_at}
+use Rattle.release_lanes.specs.Lanes.{TakesRest, Meets, NothingRests, AllReceived, list_at, lane_at}
 use Rattle.release_lanes.specs.Woven.{Outline, IsWoven}
-use Rattle.release_lanes.specs.Rings.{Ring, ring_out, ring_in, outline, sent_row, received_row, known_row, free_row, next_of, IsNewSender, IsNewReceiver, IsNew, sent_on, received_on, rest_on, TakesKnown, AreBack}
+use Rattle.release_lanes.specs.Rings.{Ring, Sender, ring_out, ring_in, outline, outs_of, sent_row, received_row, known_row, HasSlot, IsNewSender, IsNewReceiver, IsNew, sent_on, received_on, rest_on, TakesKnown, AreConnected, AreBack}
 use Rattle.release_lanes.proofs.Weaving.{bare}
 
 -- ends that are woven
@@ -37,12 +39,6 @@ woven_numbers nodes ends woven =
     ∙ fill_by_all (λ (k : ℕ). k) (map number os) nodes 0 (length-map os number ∙ woven.count)
     (λ k less. get_or-map number os k (bare 0) 0 (omega (arith, woven.count)) ∙ woven.numbers k (bare 0) less)
     ∙ map-id (range_with_len 0 nodes)
-
-pub woven_start : (nodes : ℕ) (ends : List RingEnd) (k : ℕ) → IsWoven nodes nodes (map outline ends) → k < nodes → slice_index (map next_of ends) k ≡ 0
-woven_start nodes ends k woven less =
-    let os = map outline ends in
-    let next : Outline Ring → ℕ = λ o. o.next in
-    ap (λ l. slice_index l k) (sym (map-map next outline ends)) ∙ get_or-map next os k (bare 0) 0 (omega (arith, woven.count)) ∙ woven.starts k (bare 0) less
 
 pub woven_ins : (nodes : ℕ) (ends : List RingEnd) (k : ℕ) (d : RingEnd) → IsWoven nodes nodes (map outline ends) → k < length ends → length (get_or ends k d).ins.items ≡ nodes
 woven_ins nodes ends k d woven within =
@@ -79,12 +75,6 @@ new_received end new from = all_empty (received_row end) (All-map (λ row. row �
 pub new_known : (end : RingEnd) → IsNew end → (from : ℕ) → list_at (known_row end) from ≡ []
 new_known end new from = all_empty (known_row end) (All-map (λ row. row ≡ []) known_items end.ins.items (All-weaker IsNewReceiver (λ s. known_items s ≡ []) (λ s h. h.1) end.ins.items new.1)) from
 
-pub new_free : (end : RingEnd) (to : ℕ) → IsNew end → to < length end.outs.items → 0 < slice_index (free_row end) to
-new_free end to new within =
-    let one : slice_index (free_row end) to ≡ 1 =
-    All-map (λ n. n ≡ 1) known_free end.outs.items (All-weaker IsNewSender (λ s. known_free s ≡ 1) (λ s h. h.1) end.outs.items new.0) to 0 (omega (arith, length-map end.outs.items known_free)) in
-    omega arith
-
 new_lanes : (f : RingEnd → List (List Parcel)) → ((e : RingEnd) → IsNew e → (k : ℕ) → list_at (f e) k ≡ []) → (ends : List RingEnd) → All IsNew ends → (i j : ℕ) → lane_at (map f ends) i j ≡ []
 new_lanes f none [] new i j = refl
 new_lanes f none (e ∷ ends) new zero j = none e (All-head IsNew e ends new) j
@@ -93,30 +83,39 @@ new_lanes f none (e ∷ ends) new (suc i) j = new_lanes f none ends (All-tail Is
 pub new_rest : (ends : List RingEnd) → All IsNew ends → (from to : ℕ) → rest_on ends from to ≡ []
 new_rest ends new from to = new_lanes known_row new_known ends new to from
 
-pub back_new : (nodes : ℕ) (ends : List RingEnd) → IsWoven nodes nodes (map outline ends) → All IsNew ends → AreBack nodes ends
+new_slots : (ends : List RingEnd) → All IsNew ends → All (λ end. All HasSlot end.outs) (map outline ends)
+new_slots ends new =
+    All-map (λ (o : Outline Ring). All HasSlot o.outs) outline ends
+    (All-weaker IsNew (λ e. All HasSlot (map ring_out e.outs.items))
+    (λ e h. All-map HasSlot ring_out e.outs.items (All-weaker IsNewSender (λ s. HasSlot (ring_out s)) (λ s now. now.1) e.outs.items h.0)) ends new)
+
+pub back_new : (nodes : ℕ) (ends : List RingEnd) → IsWoven nodes nodes (map outline ends) → All IsNew ends → AreBack nodes 0 0 ends
 back_new nodes ends woven new = record {
-  count = woven_length nodes nodes ends woven;
-  widths = λ k d within. woven_ins nodes ends k d woven within;
+  connected = record { woven = woven; slots = new_slots ends new };
   meets = λ from to _ _.
       ap (λ l. l ++ rest_on ends from to) (new_lanes received_row new_received ends new to from)
       ∙ new_rest ends new from to ∙ sym (new_lanes sent_row new_sent ends new from to);
-  taken = λ from to _. new_rest ends new from to;
+  taken = λ from _. new_rest ends new from 0;
 }
 
-pub back_met : (nodes : ℕ) (ends : List RingEnd) → IsWoven nodes nodes (map outline ends)
-    → Meets (length ends) (received_on ends) (rest_on ends) (sent_on ends)
-    → AreBack nodes ends
-back_met nodes ends woven met =
-    let long = woven_length nodes nodes ends woven in record {
-      count = long;
-      widths = λ k d within. woven_ins nodes ends k d woven within;
+pub back_met : (nodes served : ℕ) (ends : List RingEnd) → AreConnected nodes (map outline ends) → Meets (length ends) (received_on ends) (rest_on ends) (sent_on ends)
+    → AreBack nodes served 0 ends
+back_met nodes served ends connected met =
+    let long = woven_length nodes nodes ends connected.woven in record {
+      connected = connected;
       meets = λ from to first second. met from to (omega arith) (omega arith);
-      taken = λ from to less.
-          elim (cases_lt to nodes) [
-            | inl within ↦ let start = woven_start nodes ends to woven within in absurd (omega arith)
-            | inr past ↦ ap (λ r. list_at r from) (get_or_past (map known_row ends) to [] (omega (arith, length-map ends known_row)))
-          ];
+      taken = λ from less. absurd (omega arith);
     }
+
+-- where nothing rests, all was received
+pub back_rested : (nodes served next : ℕ) (ends : List RingEnd) → AreBack nodes served next ends → NothingRests nodes (rest_on ends)
+    → (i j : ℕ) → i < nodes → j < nodes → received_on ends i j ≡ sent_on ends i j
+back_rested nodes served next ends back none i j first second =
+    sym (append-nil (received_on ends i j)) ∙ ap (λ l. received_on ends i j ++ l) (sym (none i j first second)) ∙ back.meets i j first second
+
+-- another node is served from the first node on
+pub back_anew : (nodes served next to : ℕ) (ends : List RingEnd) → AreBack nodes served next ends → AreBack nodes to 0 ends
+back_anew nodes served next to ends back = record { connected = back.connected; meets = back.meets; taken = λ from less. absurd (omega arith) }
 
 -- one end changes
 
@@ -138,75 +137,57 @@ module _ {T : Type 0} (f : RingEnd → List (List T)) (ends : List RingEnd) (t :
       (λ (there : j ≡ t → ⊥). other_lane j i new there)
       (cases_eq j t)
 
-row_meets : (r : Option Parcel) (e new : RingEnd) → IfNone r ((received_row new ≡ received_row e) × (known_row new ≡ known_row e)) → IfSome r (TakesKnown e new)
+-- a parcel moves from what is known to what was received
+pub row_meets : (e new : RingEnd) (from : ℕ) (parcel : Parcel) → TakesKnown e new from parcel
     → (i : ℕ) → list_at (received_row new) i ++ list_at (known_row new) i ≡ list_at (received_row e) i ++ list_at (known_row e) i
-row_meets None e new same some i = ap (λ l. list_at l i ++ list_at (known_row new) i) same.0 ∙ ap (λ l. list_at (received_row e) i ++ list_at l i) same.1
-row_meets (Some p) e new none takes i =
-    let from = takes.from in
+row_meets e new from parcel takes i =
     ⊎_elim
     (λ (here : i ≡ from).
     let moved : list_at (received_row new) from ++ list_at (known_row new) from ≡ list_at (received_row e) from ++ list_at (known_row e) from =
-    ap (λ l. l ++ list_at (known_row new) from) takes.last.0 ∙ append_assoc (list_at (received_row e) from) (p ∷ []) (list_at (known_row new) from)
+    ap (λ l. l ++ list_at (known_row new) from) takes.last.0 ∙ append_assoc (list_at (received_row e) from) (parcel ∷ []) (list_at (known_row new) from)
     ∙ ap (λ l. list_at (received_row e) from ++ l) (sym takes.first) in
     rw here moved)
     (λ (there : i ≡ from → ⊥).
     ap (λ l. l ++ list_at (known_row new) i) (takes.last.1 i there) ∙ ap (λ l. list_at (received_row e) i ++ l) (takes.others i there))
     (cases_eq i from)
 
-pub back_after : (nodes : ℕ) (ends : List RingEnd) (to : ℕ) (e new : RingEnd) (r : Option Parcel) → AreBack nodes ends → to < nodes → e ≡ get_or ends to e
+-- the ends after a search for one node up to `next`
+pub back_after : (nodes served first next : ℕ) (ends : List RingEnd) (e new : RingEnd) → AreBack nodes served first ends → served < nodes → e ≡ get_or ends served e
+    → outline new ≡ outline e
     → sent_row new ≡ sent_row e
-    → length new.ins.items ≡ length e.ins.items
-    → ((from : ℕ) → from < new.next → list_at (known_row new) from ≡ [])
-    → IfNone r ((received_row new ≡ received_row e) × (known_row new ≡ known_row e))
-    → IfSome r (TakesKnown e new)
-    → AreBack nodes (set ends to new)
-back_after nodes ends to e new r back less at sents wide next none some =
-    let long = back.count in
-    let within : to < length ends = omega arith in record {
-      count = length-set ends to new ∙ back.count;
-      widths = All-set (λ end. length end.ins.items ≡ nodes) ends to new (wide ∙ ap (λ (x : RingEnd). length x.ins.items) at ∙ back.widths to e within) back.widths;
+    → ((i : ℕ) → list_at (received_row new) i ++ list_at (known_row new) i ≡ list_at (received_row e) i ++ list_at (known_row e) i)
+    → ((i : ℕ) → i < next → list_at (known_row new) i ≡ [])
+    → AreBack nodes served next (set ends served new)
+back_after nodes served first next ends e new back less at same sents moves none =
+    let long = woven_length nodes nodes ends back.connected.woven in
+    let within : served < length ends = omega arith in
+    let C : List (Outline Ring) → Type 0 = λ os. AreConnected nodes os in record {
+      connected = subst C (sym (map-set_same outline ends served new e (same ∙ ap outline at))) back.connected;
       meets = λ i j first second.
-          let sent_same = ap (λ rows. lane_at rows i j) (map-set_same sent_row ends to new e (sents ∙ ap sent_row at)) in
+          let sent_same = ap (λ rows. lane_at rows i j) (map-set_same sent_row ends served new e (sents ∙ ap sent_row at)) in
           ⊎_elim
-          (λ (here : j ≡ to).
-          let now = ap (λ l. l ++ lane_at (map known_row (set ends to new)) to i) (set_lane received_row ends to i new within)
-          ∙ ap (λ l. list_at (received_row new) i ++ l) (set_lane known_row ends to i new within)
-          ∙ row_meets r e new none some i
-          ∙ ap (λ l. l ++ list_at (known_row e) i) (sym (this_lane received_row ends to i e within at))
-          ∙ ap (λ l. lane_at (map received_row ends) to i ++ l) (sym (this_lane known_row ends to i e within at)) in
-          ap (λ k. received_on (set ends to new) i k ++ rest_on (set ends to new) i k) here ∙ now
+          (λ (here : j ≡ served).
+          let now = ap (λ l. l ++ lane_at (map known_row (set ends served new)) served i) (set_lane received_row ends served i new within)
+          ∙ ap (λ l. list_at (received_row new) i ++ l) (set_lane known_row ends served i new within)
+          ∙ moves i
+          ∙ ap (λ l. l ++ list_at (known_row e) i) (sym (this_lane received_row ends served i e within at))
+          ∙ ap (λ l. lane_at (map received_row ends) served i ++ l) (sym (this_lane known_row ends served i e within at)) in
+          ap (λ k. received_on (set ends served new) i k ++ rest_on (set ends served new) i k) here ∙ now
           ∙ ap (λ k. received_on ends i k ++ rest_on ends i k) (sym here) ∙ back.meets i j first second ∙ sym sent_same)
-          (λ (there : j ≡ to → ⊥).
-          ap (λ l. l ++ rest_on (set ends to new) i j) (other_lane received_row ends to j i new there)
-          ∙ ap (λ l. received_on ends i j ++ l) (other_lane known_row ends to j i new there) ∙ back.meets i j first second ∙ sym sent_same)
-          (cases_eq j to);
-      taken = λ i j below.
-          let nexts = map-set next_of ends to new in
-          ⊎_elim
-          (λ (here : j ≡ to).
-          let start : slice_index (map next_of (set ends to new)) to ≡ new.next =
-          ap (λ l. slice_index l to) nexts ∙ get_or-set_same (map next_of ends) to new.next 0 (omega (arith, length-map ends next_of)) in
-          let moved = ap (λ k. slice_index (map next_of (set ends to new)) k) here in
-          ap (λ k. rest_on (set ends to new) i k) here ∙ set_lane known_row ends to i new within ∙ next i (omega arith))
-          (λ (there : j ≡ to → ⊥).
-          let start : slice_index (map next_of (set ends to new)) j ≡ slice_index (map next_of ends) j =
-          ap (λ l. slice_index l j) nexts ∙ get_or-set_other (map next_of ends) to j new.next 0 there in
-          other_lane known_row ends to j i new there ∙ back.taken i j (omega arith))
-          (cases_eq j to);
+          (λ (there : j ≡ served → ⊥).
+          ap (λ l. l ++ rest_on (set ends served new) i j) (other_lane received_row ends served j i new there)
+          ∙ ap (λ l. received_on ends i j ++ l) (other_lane known_row ends served j i new there) ∙ back.meets i j first second ∙ sym sent_same)
+          (cases_eq j served);
+      taken = λ i below. set_lane known_row ends served i new within ∙ none i below;
     }
 
-pub if_none : {X : Type 0} (r : Option X) (P Q : Type 0) → (P → Q) → IfNone r P → IfNone r Q
-if_none None P Q then h = then h
-if_none (Some x) P Q then h = tt
-
 -- what taking a parcel leaves of the lanes
-pub takes_one : (nodes : ℕ) (ends : List RingEnd) (to : ℕ) (e new : RingEnd) (parcel : Parcel) → AreBack nodes ends → to < nodes → e ≡ get_or ends to e → TakesKnown e new parcel
+pub takes_one : (nodes to from : ℕ) (ends : List RingEnd) (e new : RingEnd) (parcel : Parcel) → IsWoven nodes nodes (map outline ends) → to < nodes → e ≡ get_or ends to e → TakesKnown e new from parcel
     → TakesRest nodes (rest_on ends) (rest_on (set ends to new)) (received_on ends) (received_on (set ends to new)) to parcel
-takes_one nodes ends to e new parcel back less at takes =
-    let from = takes.from in
-    let long = back.count in
+takes_one nodes to from ends e new parcel woven less at takes =
+    let long = woven_length nodes nodes ends woven in
     let within : to < length ends = omega arith in
-    let wide : length e.ins.items ≡ nodes = ap (λ (x : RingEnd). length x.ins.items) at ∙ back.widths to e within in
+    let wide : length e.ins.items ≡ nodes = ap (λ (x : RingEnd). length x.ins.items) at ∙ woven_ins nodes ends to e woven within in
     let inside = takes.within in record {
       from = from;
       within = omega arith;
@@ -225,5 +206,26 @@ put_back f xs mid k e out back within at same is =
     map-set f mid k back ∙ ap (λ l. set l k (f back)) (same ∙ map-set f xs k out) ∙ set-set (map f xs) k (f out) (f back)
     ∙ ap (λ b. set (map f xs) k b) (is ∙ ap f at ∙ sym (get_or-map f xs k e (f e) within)) ∙ set-get_or (map f xs) k (f e)
 
-pub woven_like : (nodes : ℕ) (ends later : List RingEnd) → IsWoven nodes nodes (map outline ends) → map outline later ≡ map outline ends → IsWoven nodes nodes (map outline later)
-woven_like nodes ends later woven same = let P : List (Outline Ring) → Type 0 = λ os. IsWoven nodes nodes os in subst P (sym same) woven
+pub connected_like : (nodes : ℕ) (ends later : List RingEnd) → AreConnected nodes (map outline ends) → map outline later ≡ map outline ends → AreConnected nodes (map outline later)
+connected_like nodes ends later connected same = let P : List (Outline Ring) → Type 0 = λ os. AreConnected nodes os in subst P (sym same) connected
+
+-- what the ends' outgoing rings show
+pub outs_show : {B : Type 0} (f : Vec Sender Global → B) (xs ys : List RingEnd) → map outs_of xs ≡ map outs_of ys → map (λ (e : RingEnd). f e.outs) xs ≡ map (λ (e : RingEnd). f e.outs) ys
+outs_show f xs ys same = sym (map-map f outs_of xs) ∙ ap (map f) same ∙ map-map f outs_of ys
+
+-- one node's rings have slots
+pub slots_at : (nodes : ℕ) (ends : List RingEnd) (k : ℕ) (d : RingEnd) → AreConnected nodes (map outline ends) → k < length ends → All HasSlot (map ring_out (get_or ends k d).outs.items)
+slots_at nodes ends k d connected within =
+    let P : Outline Ring → Type 0 = λ o. All HasSlot o.outs in
+    subst P (outline_at ends k d within) (connected.slots k (outline d) (omega (arith, length-map ends outline)))
+
+-- all was received: each end says so of each other
+pub rested_ends : (nodes : ℕ) (ends later : List RingEnd) → length later ≡ nodes → map sent_row later ≡ map sent_row ends → map received_row later ≡ map received_row ends
+    → ((i j : ℕ) → i < nodes → j < nodes → received_on ends i j ≡ sent_on ends i j)
+    → AllReceived (λ end to. list_at (sent_row end) to) (λ end from. list_at (received_row end) from) later
+rested_ends nodes ends later long sents receiveds rested from to sender receiver first second =
+    let inside = slice_get_within later from sender first in
+    let within = slice_get_within later to receiver second in
+    sym (this_lane received_row later to from receiver within (sym (get_or_from_slice_get later to receiver receiver second)))
+    ∙ ap (λ rows. lane_at rows to from) receiveds ∙ rested from to (omega arith) (omega arith) ∙ sym (ap (λ rows. lane_at rows from to) sents)
+    ∙ this_lane sent_row later from to sender inside (sym (get_or_from_slice_get later from sender sender first))

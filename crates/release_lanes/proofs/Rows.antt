@@ -50,11 +50,6 @@ lane_at_other_place (r ∷ rows) x zero to (suc i) j other = refl
 lane_at_other_place (r ∷ rows) x (suc from) to zero j other = refl
 lane_at_other_place (r ∷ rows) x (suc from) to (suc i) j other = lane_at_other_place rows x from to i j other
 
-pub lane_at_place : {T : Type 0} (rows : List (List (List T))) (x : List T) (from to : ℕ) → from < length rows → to < length (get_or rows from [])
-    → lane_at (set rows from (set (get_or rows from []) to x)) from to ≡ x
-lane_at_place rows x from to within place =
-    ap (λ r. list_at r to) (get_or-set_same rows from (set (get_or rows from []) to x) [] within) ∙ get_or-set_same (get_or rows from []) to x [] place
-
 -- a place that has an item is within
 pub within_row : {T : Type 0} (rows : List (List T)) (to : ℕ) (x : T) (xs : List T) → list_at rows to ≡ x ∷ xs → to < length rows
 within_row [] to x xs e = cc

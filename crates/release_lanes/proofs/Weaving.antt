@@ -8,7 +8,7 @@ use Rattle.release_lanes.specs.Woven.{Outline, IsWoven, Grows, connected, with_o
 
 -- an end with no ring
 abbrev pub bare : {R : Type 0} → ℕ → Outline R
-bare number = record { number = number; next = 0; outs = []; ins = [] }
+bare number = record { number = number; outs = []; ins = [] }
 
 module _ {R : Type 0} where
   bare_at : (nodes k : ℕ) (d : Outline R) → k < nodes → get_or (map bare (range_with_len 0 nodes)) k d ≡ bare k
@@ -18,14 +18,10 @@ module _ {R : Type 0} where
   woven_none nodes ends are = record {
     count = ap length are ∙ length-map-range_with_len bare 0 nodes;
     numbers = λ k d less. ap (λ l. (get_or l k d).number) are ∙ ap (λ (o : Outline R). o.number) (bare_at nodes k d less);
-    starts = λ k d less. ap (λ l. (get_or l k d).next) are ∙ ap (λ (o : Outline R). o.next) (bare_at nodes k d less);
     outs = λ k d less. absurd (omega arith);
     ins = λ k d less. ap (λ l. length (get_or l k d).ins) are ∙ ap (λ (o : Outline R). length o.ins) (bare_at nodes k d less);
     pairs = λ i j d r less within. absurd (omega arith);
   }
-
-  pub grows_none : (ends : List (Outline R)) → Grows ends [] ends
-  grows_none ends = record { count = refl; grown = λ k d r less. absurd (omega arith); same = λ k d above. refl }
 
   pub grows_more : (before after : List (Outline R)) (rings : List R) (ring : R) (end : Outline R) → Grows before rings after → length rings < length before
       → end ≡ get_or after (length rings) end → Grows before (rings ++ ring ∷ []) (set after (length rings) (connected end ring))
@@ -77,9 +73,6 @@ module _ {R : Type 0} where
         numbers = λ k d less.
             keeps (λ o. o.number) (λ _ _. refl) mid done end rings k d within at
             ∙ ap (λ (o : Outline R). o.number) (g.grown k d (first_of rings (omega arith)) (omega arith)) ∙ woven.numbers k d less;
-        starts = λ k d less.
-            keeps (λ o. o.next) (λ _ _. refl) mid done end rings k d within at
-            ∙ ap (λ (o : Outline R). o.next) (g.grown k d (first_of rings (omega arith)) (omega arith)) ∙ woven.starts k d less;
         outs = λ k d less.
             ⊎_elim
             (λ (here : k ≡ done).

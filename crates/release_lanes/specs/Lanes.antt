@@ -1,5 +1,5 @@
 -- What changes on lanes: each lane has lists, named by the number of a node or by those of two.
-use Rattle.std.specs.Prelude.{◌≡◌, ◌≢◌, ℕ, ◌<◌, List, [], ◌∷◌, ◌++◌, slice_index_or}
+use Rattle.std.specs.Prelude.{◌≡◌, ◌≢◌, ℕ, ◌<◌, List, [], ◌∷◌, ◌++◌, Some, slice_get, slice_index_or}
 
 module _ {T : Type 0} where
   -- one list has one more item, and the others stay
@@ -23,6 +23,11 @@ module _ {T : Type 0} where
   -- on each lane between so many nodes what was received, followed by what rests, is what was sent
   abbrev pub Meets : ℕ → (ℕ → ℕ → List T) → (ℕ → ℕ → List T) → (ℕ → ℕ → List T) → Type 0
   Meets nodes received rest sent = (from to : ℕ) → from < nodes → to < nodes → received from to ++ rest from to ≡ sent from to
+
+  -- these ends, in the order of the nodes, have received from one another all that they have sent to one another
+  abbrev pub AllReceived : {E : Type 0} → (E → ℕ → List T) → (E → ℕ → List T) → List E → Type 0
+  AllReceived {E} sent received ends =
+      (from to : ℕ) (sender receiver : E) → slice_get ends from ≡ Some sender → slice_get ends to ≡ Some receiver → received receiver from ≡ sent sender to
 
   -- no lane between so many nodes has anything left
   abbrev pub NothingRests : ℕ → (ℕ → ℕ → List T) → Type 0

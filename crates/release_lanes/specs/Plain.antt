@@ -1,19 +1,13 @@
 -- What plain slots hold.
-use Rattle.std.specs.Prelude.{◌≡◌, ◌⊎◌, ℕ, ◌-◌, ◌<◌, ◌≤◌, List, [], ◌∷◌, None, map, length, take, All, replicate, option_to_list, slice_index, slice_index_or, slice_set}
+use Rattle.std.specs.Prelude.{◌≡◌, ◌⊎◌, ℕ, ◌-◌, ◌<◌, ◌≤◌, List, [], ◌∷◌, None, map, length, take, All, option_to_list, slice_index_or, slice_set}
 use Rattle.std.specs.List.{range_with_len}
 use Rattle.release_lanes.specs.declared.parcel.Parcel.{Parcel}
 use Rattle.release_lanes.specs.declared.plain.PlainEnd.{PlainEnd}
 use Rattle.release_lanes.specs.Lanes.{lane_at}
 
--- the number of the node, the node from which it takes next, and how many slots it has
-abbrev pub outline : PlainEnd → ℕ × ℕ × ℕ
-outline end = (end.number, end.next, length end.slots.items)
-
-abbrev pub next_of : PlainEnd → ℕ
-next_of end = end.next
-
-abbrev pub width : PlainEnd → ℕ
-width end = length end.slots.items
+-- the number of the node, and how many slots it has
+abbrev pub outline : PlainEnd → ℕ × ℕ
+outline end = (end.number, length end.slots.items)
 
 -- what is posted, by the node that it goes to
 abbrev pub posted : PlainEnd → List (List Parcel)
@@ -30,9 +24,9 @@ pub record TakesFirst (old new : List PlainEnd) (to first from : ℕ) (parcel : 
   pub none_before : (other : ℕ) → first ≤ other → other < from → standing old other to ≡ []
   pub emptied : map posted new ≡ slice_set (map posted old) from (slice_set (slice_index_or (map posted old) from []) to [])
 
--- one end for each node, in the order of the nodes, which take from the first one on
+-- one end for each node, in the order of the nodes, with a slot for each node
 abbrev pub IsTeam : ℕ → List PlainEnd → Type 0
-IsTeam nodes ends = map outline ends ≡ map (λ number. (number, 0, nodes)) (range_with_len 0 nodes)
+IsTeam nodes ends = map outline ends ≡ map (λ number. (number, nodes)) (range_with_len 0 nodes)
 
 abbrev pub AreEmpty : PlainEnd → Type 0
 AreEmpty end = All (λ slot. slot ≡ None) end.slots.items
@@ -41,8 +35,9 @@ AreEmpty end = All (λ slot. slot ≡ None) end.slots.items
 abbrev pub delivered : List PlainEnd → List PlainEnd → ℕ → ℕ → List Parcel
 delivered sent ends from to = take (length (standing sent from to) - length (standing ends from to)) (standing sent from to)
 
--- the ends were given back, and what they hold now is what they were given back with, or was taken
-pub record AreBack (nodes : ℕ) (sent ends : List PlainEnd) : Type 0 where
-  pub widths : map width ends ≡ replicate nodes nodes
+-- the ends were given back, and what they hold now is what they were given back with, or was taken. Nothing rests for the
+-- node that was served last from the nodes below the next one
+pub record AreBack (nodes served next : ℕ) (sent ends : List PlainEnd) : Type 0 where
+  pub team : IsTeam nodes ends
   pub left : (from to : ℕ) → (standing ends from to ≡ []) ⊎ (standing ends from to ≡ standing sent from to)
-  pub taken : (from to : ℕ) → from < slice_index (map next_of ends) to → standing ends from to ≡ []
+  pub taken : (from : ℕ) → from < next → standing ends from served ≡ []

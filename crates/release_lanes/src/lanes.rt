@@ -1,7 +1,7 @@
 //! What every kind of lanes keeps.
 ghost use Rattle.std.specs.Prelude.{◌≡◌, ℕ, ◌+◌, ◌<◌, ◌↔◌, ◌≢◌, [], List, All, map, IfOk, OnErr, IfSome, IfNone};
 ghost use Rattle.std.specs.List.{AllZip, range_with_len};
-ghost use Rattle.release_lanes.specs.Lanes.{AddsOne, SameLists, SameLanes, Meets, NothingRests, TakesRest};
+ghost use Rattle.release_lanes.specs.Lanes.{AddsOne, SameLists, SameLanes, Meets, NothingRests, TakesRest, AllReceived};
 
 use crate::parcel::Parcel;
 use model_core::OutOfMemory;
@@ -17,10 +17,10 @@ pub trait NodeEnd: Send + Drop {
     /// How many nodes there are.
     ghost nodes: { Self → ℕ };
 
-    /// What this node has sent to a node, oldest first.
+    /// What this node has sent to a node, oldest first. It may begin anew when ends are handed out, since nothing rests then.
     ghost sent: { Self → ℕ → List Parcel };
 
-    /// What this node has received from a node, oldest first.
+    /// What this node has received from a node, oldest first. It begins anew where what was sent does.
     ghost received: { Self → ℕ → List Parcel };
 
     /// The slot of the lane to a node is known to be free.
@@ -87,7 +87,11 @@ pub trait Lanes {
     /// What the first node has sent to the second and the second has not received, oldest first.
     ghost rest: { Self → ℕ → ℕ → List Parcel };
 
-    /// Hands out one end for each node, with new slots. It answers an error only for want of memory.
+    /// Hands out one end for each node, each slot of which is known to be free. Lanes keep their ends from cycle to
+    /// cycle, so no memory is taken once these are made. It answers an error only for want of memory.
+    ///
+    /// Ends that are dropped can't be given back. Nothing is promised of the lanes from then on, and no call of theirs is
+    /// allowed but a drop.
     fn ready(&mut self, alloc: Global) -> Result<Vec<Self::End>, OutOfMemory>
         requires { are_at_rest self.old }
         ensures nodes { nodes self.new ≡ nodes self.old }
@@ -96,8 +100,7 @@ pub trait Lanes {
         ensures numbers { IfOk result (λ ends. map Self.End.number ends.items ≡ range_with_len 0 (nodes self.old)) }
         ensures count { IfOk result (λ ends. All (λ end. Self.End.nodes end ≡ nodes self.old) ends.items) }
         ensures free { IfOk result (λ ends. All (λ end. (to : ℕ) → to < nodes self.old → Self.End.is_free end to) ends.items) }
-        ensures sent { IfOk result (λ ends. All (λ end. (to : ℕ) → Self.End.sent end to ≡ []) ends.items) }
-        ensures received { IfOk result (λ ends. All (λ end. (from : ℕ) → Self.End.received end from ≡ []) ends.items) };
+        ensures received { IfOk result (λ ends. AllReceived Self.End.sent Self.End.received ends.items) };
 
     /// Takes back the ends that were handed out.
     fn give_back(&mut self, ends: Vec<Self::End>)

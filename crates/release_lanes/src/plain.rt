@@ -7,6 +7,7 @@ use crate::lanes::{Lanes, NodeEnd};
 use crate::parcel::Parcel;
 use model_core::OutOfMemory;
 use std::alloc::Global;
+use std::mem;
 use std::snapshot::Snapshot;
 
 /// The end of a node on plain slots. It polls nothing, since it knows of nothing.
@@ -15,8 +16,6 @@ pub struct PlainEnd {
     number: u32,
     /// What is posted to each node.
     slots: Vec<Option<Parcel>>,
-    /// Nothing rests from the nodes below this one.
-    next: usize,
 }
 
 /// Lanes of plain slots: one for each node and each node that it posts to.
@@ -27,23 +26,23 @@ pub struct PlainLanes {
     ends: Vec<PlainEnd>,
     /// The ends as they were given back.
     sent: Snapshot<Vec<PlainEnd>>,
+    /// The node that has received last.
+    served: u32,
+    /// Nothing rests for it from the nodes below this one.
+    next: usize,
 }
 
 impl PlainEnd {
     /// An end with empty slots.
     fn new(alloc: Global, number: u32, nodes: u32) -> Result<PlainEnd, OutOfMemory>
-        ensures outline { IfOk result (λ end. outline end ≡ (number, 0, nodes)) }
+        ensures outline { IfOk result (λ end. outline end ≡ (number, nodes)) }
         ensures empty { IfOk result AreEmpty }
     {
         let mut slots = Vec::with_capacity(alloc, nodes as usize)?;
         for _ in 0..nodes {
             slots.push(None)?;
         }
-        Ok(PlainEnd {
-            number,
-            slots,
-            next: 0,
-        })
+        Ok(PlainEnd { number, slots })
     }
 
     /// Takes what is posted to a node.
@@ -119,7 +118,7 @@ impl NodeEnd for PlainEnd {
 
     ghost same_number = { λ _ _ same. ap (λ o. o.0) same };
 
-    ghost same_nodes = { λ _ _ same. ap (λ o. o.2) same };
+    ghost same_nodes = { λ _ _ same. ap (λ o. o.1) same };
 }
 
 impl PlainLanes {
@@ -130,7 +129,28 @@ impl PlainLanes {
     {
         let ends = new_ends(alloc, nodes)?;
         let sent = Snapshot::of(&ends);
-        Ok(PlainLanes { nodes, ends, sent })
+        Ok(PlainLanes {
+            nodes,
+            ends,
+            sent,
+            served: 0,
+            next: 0,
+        })
+    }
+}
+
+impl PlainLanes {
+    /// Receives for this node from now on.
+    fn serve(&mut self, to: u32)
+        requires { AreBack self.old.nodes self.old.served self.old.next self.old.sent.value.items self.old.ends.items }
+        ensures back { AreBack self.new.nodes to self.new.next self.new.sent.value.items self.new.ends.items }
+        ensures served { self.new.served ≡ to }
+        ensures same { (self.new.nodes ≡ self.old.nodes) × (self.new.ends ≡ self.old.ends) × (self.new.sent ≡ self.old.sent) }
+    {
+        if self.served != to {
+            self.served = to;
+            self.next = 0;
+        }
     }
 }
 
@@ -145,9 +165,9 @@ impl Lanes for PlainLanes {
 
     ghost are_out = { λ lanes ends. IsTeam lanes.nodes ends };
 
-    ghost are_back = { λ lanes. AreBack lanes.nodes lanes.sent.value.items lanes.ends.items };
+    ghost are_back = { λ lanes. AreBack lanes.nodes lanes.served lanes.next lanes.sent.value.items lanes.ends.items };
 
-    ghost are_at_rest = { λ lanes. AreBack lanes.nodes lanes.sent.value.items lanes.ends.items × NothingRests lanes.nodes (standing lanes.ends.items) };
+    ghost are_at_rest = { λ lanes. AreBack lanes.nodes lanes.served lanes.next lanes.sent.value.items lanes.ends.items × NothingRests lanes.nodes (standing lanes.ends.items) };
 
     ghost sent = { λ lanes. standing lanes.sent.value.items };
 
@@ -156,36 +176,35 @@ impl Lanes for PlainLanes {
     ghost rest = { λ lanes. standing lanes.ends.items };
 
     fn ready(&mut self, alloc: Global) -> Result<Vec<PlainEnd>, OutOfMemory> {
-        let ends = new_ends(alloc, self.nodes)?;
-        self.ends = Vec::new(alloc);
-        Ok(ends)
+        Ok(mem::replace(&mut self.ends, Vec::new(alloc)))
     }
 
     fn give_back(&mut self, ends: Vec<PlainEnd>)
         requires { IsTeam self.old.nodes ends.items }
         ensures nodes { self.new.nodes ≡ self.old.nodes }
-        ensures back { AreBack self.new.nodes self.new.sent.value.items self.new.ends.items }
+        ensures back { AreBack self.new.nodes self.new.served self.new.next self.new.sent.value.items self.new.ends.items }
         ensures sent { All (λ end. (to : ℕ) → standing self.new.sent.value.items end.number to ≡ list_at (posted end) to) ends.items }
         ensures received { All (λ end. (from : ℕ) → delivered self.new.sent.value.items self.new.ends.items from end.number ≡ []) ends.items }
     {
         self.sent = Snapshot::of(&ends);
         self.ends = ends;
+        self.next = 0;
     }
 
     fn rest(&mut self, to: u32) -> Option<Parcel> {
-        let to = to as usize;
-        let first = self.ends[to].next;
-        let Some((from, parcel)) = next_parcel(self.ends.as_mut_slice(), to, first) else {
-            self.ends[to].next = self.ends.len();
+        self.serve(to);
+        let Some((from, parcel)) = next_parcel(self.ends.as_mut_slice(), to as usize, self.next)
+        else {
+            self.next = self.ends.len();
             return None;
         };
-        self.ends[to].next = from;
+        self.next = from;
         Some(parcel)
     }
 
     ghost use Rattle.release_lanes.specs.Laws.{plain_lane, plain_stay};
 
-    ghost lane = { λ lanes back from to _ _. plain_lane lanes.nodes lanes.sent.value.items lanes.ends.items from to back };
+    ghost lane = { λ lanes back from to _ _. plain_lane lanes.nodes lanes.served lanes.next lanes.sent.value.items lanes.ends.items from to back };
 
     ghost at_rest = { λ _. (λ now. now, λ now. now) };
 

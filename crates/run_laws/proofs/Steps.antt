@@ -10,7 +10,7 @@ use Rattle.model_core.specs.declared.note.Note.{Note}
 use Rattle.model_core.specs.Meaning.{Meaning}
 use Rattle.sim_spec.specs.declared.terms.Terms.{Terms}
 use Rattle.sim_spec.specs.declared.stop.Stop.TheVariants.{End, Limit}
-use Rattle.sim_spec.specs.Firing.{Firing, firing_of, goes, fails, fire, fired_by, has_chain}
+use Rattle.sim_spec.specs.Firing.{Firing, firing_of, goes, fails, fire, fired_by, has_endless_chain}
 use Rattle.sim_spec.specs.State.{State, object_at}
 use Rattle.sim_spec.specs.Run.{stops, does, next, next_of, next_fired}
 use Rattle.sim_spec.proofs.RunLemmas.{state_after}
@@ -24,7 +24,7 @@ pub record IsStep (m : Meaning) (t : Terms) (s : State) (told : Key × Note) (af
   pub pending : s.pending ≡ event ∷ rest
   pub due : event.key.stamp < end_stamp t.end
   pub outcome : m.effect event.key.dest (object_at s.objects event.key.dest).cells event ≡ Goes effect
-  pub no_chain : has_chain event.key.stamp effect.sends ≡ false
+  pub no_chain : has_endless_chain event.key.stamp effect.sends ≡ false
   pub tells : told ≡ (event.key, effect.note)
   pub leaves : after ≡ state_after s event rest effect
 
@@ -32,16 +32,12 @@ pub record IsStep (m : Meaning) (t : Terms) (s : State) (told : Key × Note) (af
 abbrev pub first_firing : State → Event → Effect → Firing
 first_firing s e x = firing_of e.key.dest (object_at s.objects e.key.dest) e x
 
--- effects that go are the same where their outcomes are
-pub goes_is : (x y : Effect) → Goes x ≡ Goes y → x ≡ y
-goes_is x y h = cc
-
 step_goes : (m : Meaning) (t : Terms) (s : State) (told : Key × Note) (after : State) (e : Event) (rest : List Event) → s.pending ≡ e ∷ rest → e.key.stamp < end_stamp t.end
     → (o : Outcome) → m.effect e.key.dest (object_at s.objects e.key.dest).cells e ≡ o
     → next_fired s e rest (fired_by e.key.dest (object_at s.objects e.key.dest) e o) ≡ does told after → IsStep m t s told after
 unfolding fired_by next_fired
 step_goes m t s told after e rest is_pending due (Fails code) is_outcome is_next = absurd (cc)
-step_goes m t s told after e rest is_pending due (Goes x) is_outcome is_next = by_chain (has_chain e.key.stamp x.sends) refl is_next
+step_goes m t s told after e rest is_pending due (Goes x) is_outcome is_next = by_chain (has_endless_chain e.key.stamp x.sends) refl is_next
   where
     does_told : (a b : Key × Note) (u v : State) → does a u ≡ does b v → b ≡ a
     does_told a b u v h = cc
@@ -49,7 +45,7 @@ step_goes m t s told after e rest is_pending due (Goes x) is_outcome is_next = b
     does_after : (a b : Key × Note) (u v : State) → does a u ≡ does b v → v ≡ u
     does_after a b u v h = cc
 
-    by_chain : (b : Bool) → has_chain e.key.stamp x.sends ≡ b → next_fired s e rest (cond b (fails 1) (goes (first_firing s e x))) ≡ does told after → IsStep m t s told after
+    by_chain : (b : Bool) → has_endless_chain e.key.stamp x.sends ≡ b → next_fired s e rest (cond b (fails 1) (goes (first_firing s e x))) ≡ does told after → IsStep m t s told after
     by_chain true chain is_next = absurd (cc)
     by_chain false chain is_next = record {
       event = e;

@@ -1,3 +1,6 @@
+pub mod BackwardsLemmas
 pub mod CycleTextLemmas
 pub mod TextLemmas
 pub mod TransferLemmas
+pub mod NumberLemmas
+pub mod WordLemmas

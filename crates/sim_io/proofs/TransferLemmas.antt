@@ -3,7 +3,7 @@ use Rattle.std.proofs.Common.{◌≡◌, ℕ, ◌-◌, ◌≤◌, List, ◌++◌
 use Rattle.std.proofs.lemmas.Grind.{common_steps}
 use Rattle.std.proofs.KnownBytes.{Appends-trans, Consumes-trans}
 use Rattle.std.specs.Io.KnownBytes.{Appends, Consumes, IsAtEnd}
-use Rattle.sim_io.specs.Transfers.{TakesUpTo, TakesSome, AppendsFront}
+use Rattle.sim_io.specs.Transfers.{TakesUpTo, TakesSome, AppendsPrefix}
 
 -- as many bytes as were asked for were taken
 pub TakesUpTo-full : (most : ℕ) (old new : Option (List ℕ)) (bytes : List ℕ) → Consumes old new bytes → length bytes ≡ most → TakesUpTo most old new bytes
@@ -23,14 +23,14 @@ pub TakesSome-more : (most n : ℕ) (old mid new : Option (List ℕ)) (bytes : L
 TakesSome-more most n old mid new bytes taken size short more =
     (bytes ++ more.0, omega (arith, size, more.1, length-append bytes more.0), Consumes-trans old mid new bytes more.0 taken more.2)
 
--- a front of the bytes was added
-pub AppendsFront-whole : (old new : Option (List ℕ)) (front back bytes : List ℕ) → Appends old new front → bytes ≡ front ++ back → AppendsFront old new bytes
-AppendsFront-whole old new front back bytes added is = (front, back, is, added)
+-- a prefix of the bytes was added
+pub AppendsPrefix-whole : (old new : Option (List ℕ)) (prefix back bytes : List ℕ) → Appends old new prefix → bytes ≡ prefix ++ back → AppendsPrefix old new bytes
+AppendsPrefix-whole old new prefix back bytes added is = (prefix, back, is, added)
 
--- bytes were added, and then a front of those that come next
-pub AppendsFront-next : (old mid new : Option (List ℕ)) (before next back bytes : List ℕ) → Appends old mid before → AppendsFront mid new next → bytes ≡ before ++ (next ++ back)
-    → AppendsFront old new bytes
-AppendsFront-next old mid new before next back bytes added part is = (
+-- bytes were added, and then a prefix of those that come next
+pub AppendsPrefix-next : (old mid new : Option (List ℕ)) (before next back bytes : List ℕ) → Appends old mid before → AppendsPrefix mid new next → bytes ≡ before ++ (next ++ back)
+    → AppendsPrefix old new bytes
+AppendsPrefix-next old mid new before next back bytes added part is = (
   before ++ part.0,
   part.1 ++ back,
   rw (is, part.2) (simp append_assoc),

@@ -18,9 +18,9 @@ pub record HasCause {T E : Type 0} (before now : ℕ) (result : Result T E) : Ty
 abbrev pub CountsIdle : {E : Type 0} → ℕ → ℕ → List ℕ → Result ℕ E → Type 0
 CountsIdle before now bytes result = IfOk result (λ n. n ≡ 0 → 0 < length bytes → Rose before now)
 
--- the count rises at a read that fails, and at no other
-abbrev pub CountsReads : {E : Type 0} → ℕ → ℕ → Result ℕ E → Type 0
-CountsReads before now result = MatchResult result (λ _. now ≡ before) (λ _. now ≡ next_count before)
+-- the count rises at a call that fails, and at no other
+abbrev pub CountsFailures : {T E : Type 0} → ℕ → ℕ → Result T E → Type 0
+CountsFailures before now result = MatchResult result (λ _. now ≡ before) (λ _. now ≡ next_count before)
 
 -- the count rises at a write that fails or takes nothing, and at no other
 abbrev pub CountsWrites : {E : Type 0} → ℕ → ℕ → Result ℕ E → Type 0

@@ -4,7 +4,7 @@ use Rattle.event_key.specs.declared.key.Key.{Key}
 use Rattle.model_core.specs.Meaning.{Meaning}
 use Rattle.sim_spec.specs.declared.bucket.Bucket.{Bucket}
 use Rattle.sim_spec.specs.declared.terms.Terms.{Terms}
-use Rattle.sim_spec.specs.State.{State, Lawful, initial_state}
+use Rattle.sim_spec.specs.State.{State, Lawful}
 use Rattle.sim_spec.specs.Run.{run}
 use Rattle.sim_spec.specs.Cycles.{Cycles, cycles}
 use Rattle.sim_io.specs.Texts.{stamp_text, record_lines, stop_line, run_text}
@@ -18,7 +18,12 @@ unfoldable pub cycle_line : ℕ → Bucket → List ℕ
 cycle_line number b =
     codes "cycle " ++ (decimal number ++ (codes " horizon " ++ (stamp_text b.horizon ++ (codes " events " ++ (decimal (length b.done) ++ codes "\n")))))
 
--- that line where cycles are told, the bucket met no such fault, and the limit did not cut it
+-- the line of a demo: its number, how many events and whole cycles it had, and the stamp of its last event
+unfoldable pub demo_line : ℕ → ℕ → ℕ → ℕ → List ℕ
+demo_line n count cycles last =
+    codes "demo " ++ (decimal n ++ (codes " events " ++ (decimal count ++ (codes " cycles " ++ (decimal cycles ++ (codes " last " ++ (stamp_text last ++ codes "\n")))))))
+
+-- the line of a cycle where cycles are told, the bucket met no such fault, and the limit did not cut it
 unfoldable pub told_cycle : Bool → ℕ → Bucket → Option (Key × ℕ) → Bool → List ℕ
 told_cycle true number b None false = cycle_line number b
 told_cycle true number b None true = []
@@ -41,10 +46,6 @@ text_of_cycles m t told number c = lines_of_buckets m told number c.buckets ++ s
 -- the whole text of the simulation from a state, with or without its cycles
 unfoldable pub text : Meaning → Terms → Bool → State → List ℕ
 text m t told s = lines_of_buckets m told 1 (cycles m t s).buckets ++ stop_line m t (run m t s).last.count (run m t s).stop
-
--- the whole text of a model's simulation, from its start
-abbrev pub text_from_start : Meaning → Terms → Bool → List ℕ
-text_from_start m t told = text m t told (initial_state m)
 
 -- where no cycles are told, the text is that of the run, event by event
 abbrev pub PlainText : Meaning → Terms → Type 0

@@ -1,5 +1,7 @@
+pub mod Backwards
 pub mod Causes
 pub mod CycleTexts
+pub mod Gathering
 pub mod Memory
 pub mod Texts
 pub mod Transfers

@@ -1,10 +1,11 @@
 -- The text of a simulation: a line for each part of what its events tell, and a line that says why it stopped.
-use Rattle.std.specs.Prelude.{ℕ, ◌<◌, List, [], ◌∷◌, ◌++◌, if◌then◌else◌, ◌==◌, decimal, codes}
+use Rattle.std.specs.Prelude.{ℕ, ◌<◌, List, [], ◌∷◌, ◌++◌, unwrap_or, decimal, codes}
 use Rattle.event_key.specs.declared.key.Key.{Key}
 use Rattle.event_key.specs.Stamps.{time_part, step_part}
 use Rattle.model_core.specs.declared.note.Note.{Note}
 use Rattle.model_core.specs.declared.note.Part.{Part}
 use Rattle.model_core.specs.Meaning.{Meaning}
+use Rattle.model_core.specs.Words.{record_word, fault_word}
 use Rattle.sim_spec.specs.declared.terms.Terms.{Terms}
 use Rattle.sim_spec.specs.declared.stop.Stop.{Stop}
 use Rattle.sim_spec.specs.declared.stop.Stop.TheVariants.{End, Limit, Fault}
@@ -17,25 +18,11 @@ stamp_text stamp = decimal (time_part stamp) ++ (codes "." ++ decimal (step_part
 
 -- the word of a note, or its number where it has no name
 unfoldable pub word_text : ℕ → List ℕ
-word_text code =
-    if code == 1 then codes "hop"
-    else if code == 2 then codes "make"
-    else if code == 3 then codes "take"
-    else if code == 4 then codes "wait"
-    else if code == 5 then codes "lose"
-    else if code == 6 then codes "done"
-    else if code == 7 then codes "hold"
-    else if code == 8 then codes "route"
-    else if code == 9 then codes "leave"
-    else decimal code
+word_text number = unwrap_or (record_word number) (decimal number)
 
--- the word of a fault, or its number where it has no name
+-- the word of a fault, or its code where it has no name
 unfoldable pub fault_text : ℕ → List ℕ
-fault_text code =
-    if code == 1 then codes "chain"
-    else if code == 2 then codes "line-full"
-    else if code == 3 then codes "late"
-    else decimal code
+fault_text code = unwrap_or (fault_word code) (decimal code)
 
 -- a word and its two numbers
 unfoldable pub part_text : Part → List ℕ

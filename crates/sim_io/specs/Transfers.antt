@@ -10,8 +10,16 @@ TakesUpTo most (Some left) (Some rest) bytes = (bytes ≡ take most left) × (re
 
 -- some bytes were taken from the front of what was left, so many at most, and no others
 abbrev pub TakesSome : ℕ → Option (List ℕ) → Option (List ℕ) → Type 0
-TakesSome most old new = (front : List ℕ) × (length front ≤ most) × Consumes old new front
+TakesSome most old new = (prefix : List ℕ) × (length prefix ≤ most) × Consumes old new prefix
 
--- some front of these bytes was added, and no others
-abbrev pub AppendsFront : Option (List ℕ) → Option (List ℕ) → List ℕ → Type 0
-AppendsFront old new bytes = (front back : List ℕ) × (bytes ≡ front ++ back) × Appends old new front
+-- of the bytes that were taken a prefix was handed on, and the rest of them was not
+abbrev pub KeepsBackSome : Option (List ℕ) → Option (List ℕ) → Type 0
+KeepsBackSome told handed = (rest : List ℕ) × Appends handed told rest
+
+-- some prefix of these bytes was added, and no others
+abbrev pub AppendsPrefix : Option (List ℕ) → Option (List ℕ) → List ℕ → Type 0
+AppendsPrefix old new bytes = (prefix back : List ℕ) × (bytes ≡ prefix ++ back) × Appends old new prefix
+
+-- a prefix of these bytes was added, and the rest of them is kept
+abbrev pub AppendsSome : Option (List ℕ) → Option (List ℕ) → List ℕ → List ℕ → Type 0
+AppendsSome old new bytes rest = (prefix : List ℕ) × Appends old new prefix × (bytes ≡ prefix ++ rest)

@@ -1,39 +1,159 @@
 -- The words of the command line: what they set, or what is wrong with them.
-use Rattle.std.specs.Prelude.{ℕ, Bool, true, false, List, [], ◌∷◌, Result, Ok, Err, if◌then◌else◌, codes, bytes_eq, nat_eq, String, string_bytes, map}
-use Rattle.std.specs.List.{starts_with}
+use Rattle.std.specs.Prelude.{◌≤◌, ℕ, Bool, true, false, not, ◌&&◌, ◌||◌, List, [], ◌∷◌, ◌++◌, length, Option, Some, None, is_some, unwrap_or, Result, Ok, Err, if◌then◌else◌, codes, bytes_eq, nat_eq, nat_le, nat_lt, String, string_bytes, map}
+use Rattle.std.specs.Char.{is_ascii_digit}
+use Rattle.std.specs.List.{list_all, starts_with}
+use Rattle.std.specs.Str.Parse.{digits_value}
 use Rattle.std.specs.declared.alloc.Global.{Global}
+use Rattle.sim_io.specs.declared.options.Command.{Command}
+use Rattle.sim_io.specs.declared.options.CommandOption.{CommandOption}
 use Rattle.sim_io.specs.declared.words.Settings.{Settings}
-use Rattle.sim_io.specs.declared.words.Settings.TheVariants.{Run, One}
 use Rattle.sim_io.specs.declared.words.WordFault.{WordFault}
 use Rattle.sim_io.specs.declared.words.WordFault.TheVariants.{NoCommand, UnknownCommand, UnknownOption, RepeatedOption, MissingValue, BadValue, ExtraWord}
+use Rattle.sim_spec.specs.declared.placement.Placement.{Placement}
+
+-- one to seven digits, and no zero before others
+abbrev pub has_zero_first : List ℕ → Bool
+has_zero_first word = nat_lt 1 (length word) && starts_with nat_eq word (codes "0")
+
+abbrev pub is_number : List ℕ → Bool
+is_number word =
+    not (nat_eq (length word) 0) && nat_le (length word) 7 && list_all is_ascii_digit word && not (has_zero_first word)
+
+-- the number that a word writes, where it lies between two
+abbrev pub number_within : ℕ → ℕ → List ℕ → Option ℕ
+number_within least most word =
+    if is_number word && nat_le least (digits_value 10 word) && nat_le (digits_value 10 word) most then Some (digits_value 10 word) else None
+
+abbrev pub placement_named : List ℕ → Option Placement
+placement_named word =
+    if bytes_eq word (codes "round") then Some Placement.Round
+    else if bytes_eq word (codes "block") then Some Placement.Block
+    else None
+
+abbrev pub option_named : List ℕ → Option CommandOption
+option_named word =
+    if bytes_eq word (codes "--nodes") then Some CommandOption.Nodes
+    else if bytes_eq word (codes "--ahead") then Some CommandOption.Ahead
+    else if bytes_eq word (codes "--placement") then Some CommandOption.Placement
+    else if bytes_eq word (codes "--cycles") then Some CommandOption.Cycles
+    else None
+
+-- `one` takes no option that says how nodes are used, and `totals` takes none
+abbrev pub takes : Command → CommandOption → Bool
+takes Command.Run option = true
+takes Command.One CommandOption.Cycles = true
+takes Command.One option = false
+takes Command.Totals option = false
+
+-- the option of a command that a word names
+abbrev pub option_if : Command → Option CommandOption → Option CommandOption
+option_if command None = None
+option_if command (Some option) = if takes command option then Some option else None
+
+abbrev pub option_of : Command → List ℕ → Option CommandOption
+option_of command word = option_if command (option_named word)
+
+-- whether the word after an option is its value
+abbrev pub takes_value : CommandOption → Bool
+takes_value CommandOption.Nodes = true
+takes_value CommandOption.Ahead = true
+takes_value CommandOption.Placement = true
+takes_value CommandOption.Cycles = false
+
+abbrev pub is_value : CommandOption → List ℕ → Bool
+is_value CommandOption.Nodes word = is_some (number_within 1 64 word)
+is_value CommandOption.Ahead word = is_some (number_within 0 1024 word)
+is_value CommandOption.Placement word = is_some (placement_named word)
+is_value CommandOption.Cycles word = false
 
 -- a word that stands for nothing
 abbrev pub stray_word : List ℕ → WordFault
 stray_word word = if starts_with nat_eq word (codes "-") then UnknownOption else ExtraWord
 
--- whether the words after a command ask for the cycles, once it is known whether those before them do
-abbrev pub cycles_asked : Bool → List (List ℕ) → Result Bool WordFault
-cycles_asked asked [] = Ok asked
-cycles_asked asked (word ∷ rest) =
-    if bytes_eq word (codes "--cycles") then (if asked then Err RepeatedOption else cycles_asked true rest)
-    else Err (stray_word word)
+abbrev pub is_among : List (List ℕ) → List ℕ → Bool
+is_among [] word = false
+is_among (other ∷ words) word = bytes_eq other word || is_among words word
 
--- what a command and its options set
-abbrev pub command_with : (Bool → Settings) → Result Bool WordFault → Result Settings WordFault
-command_with command (Ok cycles) = Ok (command cycles)
-command_with command (Err fault) = Err fault
+-- what a word that isn't a value comes to, after the words before it: the option that waits for a value now, if one does
+abbrev pub option_meant : List (List ℕ) → List ℕ → Option CommandOption → Result (Option CommandOption) WordFault
+option_meant before word None = Err (stray_word word)
+option_meant before word (Some option) =
+    if is_among before word then Err RepeatedOption
+    else Ok (if takes_value option then Some option else None)
+
+-- what a word comes to where it is the value of an option that waits for one, or else an option
+abbrev pub word_meant : Command → List (List ℕ) → Option CommandOption → List ℕ → Result (Option CommandOption) WordFault
+word_meant command before (Some waiting) word = if is_value waiting word then Ok None else Err BadValue
+word_meant command before None word = option_meant before word (option_of command word)
+
+abbrev pub and_then : {T U : Type 0} → Result T WordFault → (T → Result U WordFault) → Result U WordFault
+and_then (Ok value) next = next value
+and_then (Err fault) next = Err fault
+
+-- whether the words after a command are options, each with its value and given once: they are judged in turn
+unfoldable pub judged : Command → List (List ℕ) → Option CommandOption → List (List ℕ) → Result (Unit {0}) WordFault
+judged command before None [] = Ok tt
+judged command before (Some waiting) [] = Err MissingValue
+judged command before waiting (word ∷ rest) =
+    and_then (word_meant command before waiting word) (λ next. judged command (before ++ word ∷ []) next rest)
+
+-- the word after an option, where it is given
+abbrev pub first_of : List (List ℕ) → Option (List ℕ)
+first_of [] = None
+first_of (word ∷ rest) = Some word
+
+abbrev pub value_after : List ℕ → List (List ℕ) → Option (List ℕ)
+value_after option [] = None
+value_after option (word ∷ rest) = if bytes_eq word option then first_of rest else value_after option rest
+
+-- what a value says, or what is so where none is given
+abbrev pub value_or : {T : Type 0} → T → (List ℕ → Option T) → Option (List ℕ) → T
+value_or default read None = default
+value_or default read (Some word) = unwrap_or (read word) default
+
+-- what the options of a run set
+abbrev pub run_settings : List (List ℕ) → Settings
+run_settings words = Settings.Run
+    (value_or 4 (number_within 1 64) (value_after (codes "--nodes") words))
+    (value_or 8 (number_within 0 1024) (value_after (codes "--ahead") words))
+    (value_or Placement.Round placement_named (value_after (codes "--placement") words))
+    (is_among words (codes "--cycles"))
+
+abbrev pub one_settings : List (List ℕ) → Settings
+one_settings words = Settings.One (is_among words (codes "--cycles"))
+
+-- the one word after `demo` is a number, which is judged first
+abbrev pub demo_of : Option ℕ → List (List ℕ) → Result Settings WordFault
+demo_of None rest = Err BadValue
+demo_of (Some n) [] = Ok (Settings.Demo n)
+demo_of (Some n) (word ∷ rest) = Err ExtraWord
+
+abbrev pub demo_settings : List (List ℕ) → Result Settings WordFault
+demo_settings [] = Err MissingValue
+demo_settings (word ∷ rest) = demo_of (number_within 1 256 word) rest
+
+-- a run has 1 to 64 nodes, which process at most 1,024 events more than they must, and a demo's number is 1 to 256
+abbrev pub AreInBounds : Settings → Type 0
+AreInBounds (Settings.Run nodes ahead placement cycles) = (1 ≤ nodes) × (nodes ≤ 64) × (ahead ≤ 1024)
+AreInBounds (Settings.One cycles) = Unit {0}
+AreInBounds Settings.Totals = Unit {0}
+AreInBounds (Settings.Demo n) = (1 ≤ n) × (n ≤ 256)
 
 -- whether a line is told for each cycle
 abbrev pub are_cycles_told : Settings → Bool
-are_cycles_told (Run cycles) = cycles
-are_cycles_told (One cycles) = cycles
+are_cycles_told (Settings.Run nodes ahead placement cycles) = cycles
+are_cycles_told (Settings.One cycles) = cycles
+are_cycles_told Settings.Totals = false
+are_cycles_told (Settings.Demo n) = false
 
--- the first word is the command, and the others are its options
+-- the first word is the command, and the others are its options, or the number of a demo
 unfoldable pub settings : List (List ℕ) → Result Settings WordFault
 settings [] = Err NoCommand
 settings (word ∷ rest) =
-    if bytes_eq word (codes "run") then command_with Run (cycles_asked false rest)
-    else if bytes_eq word (codes "one") then command_with One (cycles_asked false rest)
+    if bytes_eq word (codes "run") then and_then (judged Command.Run [] None rest) (λ _. Ok (run_settings rest))
+    else if bytes_eq word (codes "one") then and_then (judged Command.One [] None rest) (λ _. Ok (one_settings rest))
+    else if bytes_eq word (codes "totals") then and_then (judged Command.Totals [] None rest) (λ _. Ok Settings.Totals)
+    else if bytes_eq word (codes "demo") then demo_settings rest
     else Err UnknownCommand
 
 -- the bytes of each word

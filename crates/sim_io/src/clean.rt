@@ -1,7 +1,7 @@
 //! A source and a sink that never fail.
-ghost use Rattle.std.specs.Prelude.{◌≡◌, Option, None, Some, List, ℕ, Ok, length, min};
+ghost use Rattle.std.specs.Prelude.{◌≡◌, Option, None, Some, List, [], ℕ, Ok, OnOk, length, min};
 ghost use Rattle.std.specs.Io.{ReadsAtMost, WritesAtMost};
-ghost use Rattle.std.specs.Io.KnownBytes.{ReadConsumes, WriteAppends};
+ghost use Rattle.std.specs.Io.KnownBytes.{Keeps, ReadConsumes, WriteAppends};
 ghost use Rattle.sim_io.specs.Causes.{CountsIdle, HasCause};
 
 use crate::failed::Failed;
@@ -49,8 +49,8 @@ impl Source for CleanSource {
         let (_, left) = self.bytes.split_at(self.at);
         let count = into.len().min(left.len());
         let (piece, _) = left.split_at(count);
-        let (front, _) = into.split_at_mut(count);
-        front.copy_from_slice(piece);
+        let (prefix, _) = into.split_at_mut(count);
+        prefix.copy_from_slice(piece);
         self.at += count;
         Ok(count)
     }
@@ -68,7 +68,11 @@ impl CleanSink {
 }
 
 impl Sink for CleanSink {
+    ghost use Rattle.std.proofs.KnownBytes.{Appends-nil};
+
     ghost told = { λ _. None };
+
+    ghost handed = { λ _. None };
 
     ghost faults = { λ _. 0 };
 
@@ -81,4 +85,15 @@ impl Sink for CleanSink {
     {
         Ok(bytes.len())
     }
+
+    fn flush(&mut self) -> Result<(), Failed>
+        ensures taken { Keeps None None }
+        ensures all { OnOk result (Keeps None None) }
+        ensures cause { HasCause 0 0 result }
+        ensures done { result ≡ Ok tt }
+    {
+        Ok(())
+    }
+
+    ghost in_order = { λ _. ([], Appends-nil None) };
 }

@@ -1,17 +1,51 @@
 //! The lines of a simulation's text.
-ghost use Rattle.std.specs.Prelude.{◌≡◌, ◌<◌, ◌++◌, OnOk, OnErr, take};
+ghost use Rattle.std.specs.Prelude.{◌≡◌, ◌+◌, ◌<◌, ◌≤◌, ◌++◌, OnOk, OnErr, codes, take, vec_len};
+ghost use Rattle.std.specs.Vec.{vec_capacity};
 ghost use Rattle.std.specs.Io.{StartsWith};
-ghost use Rattle.sim_io.specs.Texts.{part_line, event_lines, stop_line, IsAtObject};
-ghost use Rattle.sim_io.specs.CycleTexts.{IsWhole, cycle_line};
+ghost use Rattle.sim_io.specs.Texts.{part_line, part_text, stamp_text, event_lines, stop_line, IsAtObject};
+ghost use Rattle.sim_io.specs.CycleTexts.{IsWhole, cycle_line, demo_line};
 
-use crate::text_parts::{put_fault, put_number, put_part, put_place, put_stamp};
-use event_key::Key;
+use crate::backwards::{SHORT, append_short, write_byte, write_number, write_word};
+use crate::text_parts::{put_fault, put_number, put_place, put_stamp};
+use event_key::{Key, step_of, time_of};
 use model_core::model::Model;
 use model_core::{Note, OutOfMemory, Part};
 use sim_spec::{Bucket, Stop, Terms};
 use std::alloc::Global;
 
-#[tactic(auto, unfolding(crate::specs::Texts::part_line))]
+/// Appends a stamp and a space.
+#[tactic(auto, unfolding(crate::specs::Texts::stamp_text))]
+fn put_head(stamp: u64, into: &mut Vec<u8>)
+    requires { vec_len into.old + SHORT ≤ vec_capacity into.old }
+    ensures { into.new.items ≡ into.old.items ++ (stamp_text stamp ++ codes " ") }
+{
+    let mut bytes = [0u8; 2 * SHORT];
+    let space = write_byte(b' ', &mut bytes, SHORT);
+    let step = write_number(u64::from(step_of(stamp)), &mut bytes, space);
+    let dot = write_byte(b'.', &mut bytes, step);
+    let time = write_number(time_of(stamp), &mut bytes, dot);
+    append_short(&bytes, time, into);
+}
+
+/// Appends a space, what a part of a note tells, and the end of the line.
+#[tactic(auto, unfolding(crate::specs::Texts::part_text))]
+fn put_tail(part: Part, into: &mut Vec<u8>)
+    requires { vec_len into.old + SHORT ≤ vec_capacity into.old }
+    ensures { into.new.items ≡ into.old.items ++ (codes " " ++ (part_text part ++ codes "\n")) }
+{
+    let mut bytes = [0u8; 2 * SHORT];
+    let line_end = write_byte(b'\n', &mut bytes, SHORT);
+    let b = write_number(part.b, &mut bytes, line_end);
+    let space = write_byte(b' ', &mut bytes, b);
+    let a = write_number(part.a, &mut bytes, space);
+    let space = write_byte(b' ', &mut bytes, a);
+    let word = write_word(part.word, &mut bytes, space);
+    let space = write_byte(b' ', &mut bytes, word);
+    append_short(&bytes, space, into);
+}
+
+/// Appends a line. Its bytes before the name and behind it are at most `SHORT` each.
+#[tactic(auto, unfolding(crate::specs::Texts::part_line, crate::specs::Texts::place_text))]
 fn put_line<M: Model>(
     alloc: Global,
     model: &M,
@@ -21,12 +55,13 @@ fn put_line<M: Model>(
 ) -> Result<(), OutOfMemory>
     requires { key.now.dest < (M.meaning model.now).objects }
     ensures ok { OnOk result (into.new.items ≡ into.old.items ++ part_line (M.meaning model.now) key.now part) }
-    ensures front { StartsWith into.new.items into.old.items }
+    ensures prefix { StartsWith into.new.items into.old.items }
 {
-    put_place(alloc, model, key, into)?;
-    into.push(b' ')?;
-    put_part(part, into)?;
-    into.push(b'\n')?;
+    into.reserve(SHORT)?;
+    put_head(key.stamp, into);
+    model.put_name(alloc, key.dest, into)?;
+    into.reserve(SHORT)?;
+    put_tail(part, into);
     Ok(())
 }
 
@@ -39,7 +74,7 @@ fn put_lines<M: Model>(
 ) -> Result<(), OutOfMemory>
     requires { key.now.dest < (M.meaning model.now).objects }
     ensures ok { OnOk result (into.new.items ≡ into.old.items ++ event_lines (M.meaning model.now) key.now note.now) }
-    ensures front { StartsWith into.new.items into.old.items }
+    ensures prefix { StartsWith into.new.items into.old.items }
 {
     for i in 0..note.len() {
         put_line(alloc, model, key, note.at(i), into)?;
@@ -83,7 +118,7 @@ pub fn put_done<M: Model>(
 #[tactic(auto, unfolding(crate::specs::CycleTexts::cycle_line))]
 fn put_summary(number: u64, bucket: &Bucket, into: &mut Vec<u8>) -> Result<(), OutOfMemory>
     ensures ok { OnOk result (into.new.items ≡ into.old.items ++ cycle_line number bucket.now) }
-    ensures front { StartsWith into.new.items into.old.items }
+    ensures prefix { StartsWith into.new.items into.old.items }
 {
     into.extend_from_slice(b"cycle ")?;
     put_number(number, into)?;
@@ -107,6 +142,27 @@ pub fn put_cycle(number: u64, bucket: &Bucket, into: &mut Vec<u8>) -> Result<(),
     cut_back(outcome, before, into)
 }
 
+/// Appends the line of a demo with this number, which had so many events in so many whole cycles, the last one at this
+/// stamp. A refusal leaves what was there.
+#[tactic(auto, unfolding(crate::specs::CycleTexts::demo_line, crate::specs::Texts::stamp_text))]
+pub fn put_demo(
+    alloc: Global,
+    n: u32,
+    count: u64,
+    cycles: u64,
+    last: u64,
+    into: &mut Vec<u8>,
+) -> Result<(), OutOfMemory>
+    ensures ok { OnOk result (into.new.items ≡ into.old.items ++ demo_line n count cycles last) }
+    ensures err { OnErr result (into.new.items ≡ into.old.items) }
+{
+    let time = time_of(last);
+    let step = step_of(last);
+    let line = format!(in alloc; "demo {n} events {count} cycles {cycles} last {time}.{step}\n")?;
+    into.extend_from_slice(line.as_bytes())?;
+    Ok(())
+}
+
 #[tactic(auto, unfolding(crate::specs::Texts::stop_line))]
 fn put_reason<M: Model>(
     alloc: Global,
@@ -118,7 +174,7 @@ fn put_reason<M: Model>(
 ) -> Result<(), OutOfMemory>
     requires { IsAtObject (M.meaning model.now) stop.now }
     ensures ok { OnOk result (into.new.items ≡ into.old.items ++ stop_line (M.meaning model.now) terms.now count stop.now) }
-    ensures front { StartsWith into.new.items into.old.items }
+    ensures prefix { StartsWith into.new.items into.old.items }
 {
     match *stop {
         Stop::End => {

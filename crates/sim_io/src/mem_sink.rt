@@ -1,7 +1,7 @@
 //! A sink in memory whose faults are chosen by the numbers of its calls.
-ghost use Rattle.std.specs.Prelude.{◌≡◌, ◌≤◌, ◌↔◌, Some, [], length, Contains, IsErr, IfOk};
+ghost use Rattle.std.specs.Prelude.{◌≡◌, ◌≤◌, ◌↔◌, Some, Ok, [], length, Contains, IsErr, IfOk, OnOk};
 ghost use Rattle.std.specs.Io.{WritesAtMost};
-ghost use Rattle.std.specs.Io.KnownBytes.{WriteAppends};
+ghost use Rattle.std.specs.Io.KnownBytes.{Keeps, WriteAppends};
 ghost use Rattle.sim_io.specs.Causes.{CountsIdle, HasCause, next_count};
 ghost use Rattle.sim_io.specs.Memory.{taken_count, faults_after, KeepsSinkRules};
 
@@ -84,7 +84,11 @@ impl MemSink {
 }
 
 impl Sink for MemSink {
+    ghost use Rattle.std.proofs.KnownBytes.{Appends-nil};
+
     ghost told = { λ sink. Some sink.taken };
+
+    ghost handed = { λ sink. Some sink.taken };
 
     ghost faults = { λ sink. sink.faults };
 
@@ -111,8 +115,21 @@ impl Sink for MemSink {
             return Ok(0);
         }
         let count = bytes.len().min(self.most).min(free);
-        let (front, _) = bytes.split_at(count);
-        self.bytes.extend_from_slice(front).unwrap();
+        let (prefix, _) = bytes.split_at(count);
+        self.bytes.extend_from_slice(prefix).unwrap();
         Ok(count)
     }
+
+    /// It keeps nothing back, and this is none of the calls that are counted.
+    fn flush(&mut self) -> Result<(), Failed>
+        ensures taken { Keeps (Some self.old.taken) (Some self.new.taken) }
+        ensures all { OnOk result (Keeps (Some self.new.taken) (Some self.new.taken)) }
+        ensures cause { HasCause self.old.faults self.new.faults result }
+        ensures done { result ≡ Ok tt }
+        ensures same { self.new ≡ self.old }
+    {
+        Ok(())
+    }
+
+    ghost in_order = { λ sink. ([], Appends-nil (Some sink.taken)) };
 }

@@ -2,7 +2,7 @@
 ghost use Rattle.std.specs.Prelude.{◌≡◌, ◌≤◌, ◌<◌, ◌↔◌, Some, length, Contains, IsErr, IfOk};
 ghost use Rattle.std.specs.Io.{ReadsAtMost};
 ghost use Rattle.std.specs.Io.KnownBytes.{ReadConsumes};
-ghost use Rattle.sim_io.specs.Causes.{HasCause, CountsReads, next_count};
+ghost use Rattle.sim_io.specs.Causes.{CountsFailures, HasCause, next_count};
 ghost use Rattle.sim_io.specs.Memory.{moved_count, KeepsSourceRules};
 
 use crate::failed::Failed;
@@ -67,7 +67,7 @@ impl Source for MemSource {
         ensures calls { self.new.calls ≡ next_count self.old.calls }
         ensures fails { IsErr result ↔ Contains self.old.fails self.new.calls }
         ensures count { IfOk result (λ n. n ≡ moved_count self.old (length into.old)) }
-        ensures faults { CountsReads self.old.faults self.new.faults result }
+        ensures faults { CountsFailures self.old.faults self.new.faults result }
         ensures rules { KeepsSourceRules self.old self.new }
     {
         self.calls = self.calls.saturating_add(1);
@@ -78,8 +78,8 @@ impl Source for MemSource {
         let (_, left) = self.bytes.split_at(self.at);
         let count = into.len().min(self.most).min(left.len());
         let (piece, _) = left.split_at(count);
-        let (front, _) = into.split_at_mut(count);
-        front.copy_from_slice(piece);
+        let (prefix, _) = into.split_at_mut(count);
+        prefix.copy_from_slice(piece);
         self.at += count;
         Ok(count)
     }

@@ -7,6 +7,7 @@ ghost use Rattle.sim_io.specs.declared.reading.ReadEnd.TheVariants.{OutOfMemory}
 
 use crate::failed::Failed;
 use crate::source::Source;
+use model_core::MOST_TEXT_BYTES;
 use std::alloc::{AllocError, Global};
 use thiserror::Error;
 
@@ -27,25 +28,25 @@ impl From<AllocError> for ReadEnd {
     }
 }
 
-/// How many bytes are read at most.
-pub const MOST_BYTES: usize = 1_048_577;
+/// How many bytes are read at most: one more than a model text may have, so that a longer one is known.
+pub const ENOUGH_BYTES: usize = MOST_TEXT_BYTES + 1;
 
 /// How many bytes one read asks for at most.
 const PIECE: usize = 8192;
 
 /// Reads one piece to the end of what was read, and answers how long it is.
 fn read_piece<S: Source>(source: &mut S, bytes: &mut Vec<u8>) -> Result<usize, ReadEnd>
-    requires { vec_len bytes.old < MOST_BYTES }
+    requires { vec_len bytes.old < ENOUGH_BYTES }
     ensures appended { IfOk result (λ n. (piece : List ℕ) × (bytes.new.items ≡ bytes.old.items ++ piece) × (length piece ≡ n)
         × Consumes (S.left source.old) (S.left source.new) piece) }
     ensures end { IfOk result (λ n. n ≡ 0 → IsAtEnd (S.left source.new)) }
-    ensures short { OnOk result (vec_len bytes.new ≤ MOST_BYTES) }
-    ensures refused { OnErr result (TakesSome (MOST_BYTES - vec_len bytes.old) (S.left source.old) (S.left source.new)) }
+    ensures short { OnOk result (vec_len bytes.new ≤ ENOUGH_BYTES) }
+    ensures refused { OnErr result (TakesSome (ENOUGH_BYTES - vec_len bytes.old) (S.left source.old) (S.left source.new)) }
     ensures later { S.faults source.old ≤ S.faults source.new }
     ensures failed { IsErrOf result ReadEnd.Failed → Rose (S.faults source.old) (S.faults source.new) }
 {
     let mut piece = [0u8; PIECE];
-    let room = (MOST_BYTES - bytes.len()).min(PIECE);
+    let room = (ENOUGH_BYTES - bytes.len()).min(PIECE);
     let (into, _) = piece.split_at_mut(room);
     match source.read(into) {
         Ok(count) => {
@@ -57,16 +58,16 @@ fn read_piece<S: Source>(source: &mut S, bytes: &mut Vec<u8>) -> Result<usize, R
     }
 }
 
-/// Reads to the end, or until there are 1,048,577 bytes. After a refusal the bytes that were read are lost.
+/// Reads to the end, or until there are `ENOUGH_BYTES`. After a refusal the bytes that were read are lost.
 pub fn read_all<S: Source>(alloc: Global, source: &mut S) -> Result<Vec<u8>, ReadEnd>
-    ensures all { IfOk result (λ bytes. TakesUpTo MOST_BYTES (S.left source.old) (S.left source.new) bytes.items) }
-    ensures short { IfOk result (λ bytes. vec_len bytes ≤ MOST_BYTES) }
-    ensures refused { OnErr result (TakesSome MOST_BYTES (S.left source.old) (S.left source.new)) }
+    ensures all { IfOk result (λ bytes. TakesUpTo ENOUGH_BYTES (S.left source.old) (S.left source.new) bytes.items) }
+    ensures short { IfOk result (λ bytes. vec_len bytes ≤ ENOUGH_BYTES) }
+    ensures refused { OnErr result (TakesSome ENOUGH_BYTES (S.left source.old) (S.left source.new)) }
     ensures later { S.faults source.old ≤ S.faults source.new }
     ensures failed { IsErrOf result ReadEnd.Failed → Rose (S.faults source.old) (S.faults source.new) }
 {
     let mut bytes = Vec::new(alloc);
-    while bytes.len() < MOST_BYTES {
+    while bytes.len() < ENOUGH_BYTES {
         let count = read_piece(source, &mut bytes)?;
         if count == 0 {
             return Ok(bytes);

@@ -1,15 +1,19 @@
 //! Where bytes go.
-ghost use Rattle.std.specs.Prelude.{ℕ, List, Option};
+ghost use Rattle.std.specs.Prelude.{ℕ, List, Option, OnOk};
 ghost use Rattle.std.specs.Io.{WritesAtMost};
-ghost use Rattle.std.specs.Io.KnownBytes.{WriteAppends};
+ghost use Rattle.std.specs.Io.KnownBytes.{Keeps, WriteAppends};
 ghost use Rattle.sim_io.specs.Causes.{CountsIdle, HasCause};
+ghost use Rattle.sim_io.specs.Transfers.{KeepsBackSome};
 
 use crate::failed::Failed;
 
-/// Something that takes bytes.
+/// Something that takes bytes, and hands them on to where they go. It may keep the last ones back for a while.
 pub trait Sink {
     /// The bytes taken so far, where it tells them.
     ghost told: { Self → Option (List ℕ) };
+
+    /// Those of them that it has handed on.
+    ghost handed: { Self → Option (List ℕ) };
 
     /// How often a write failed or took nothing, a count that never falls.
     ghost faults: { Self → ℕ };
@@ -20,4 +24,13 @@ pub trait Sink {
         ensures taken { WriteAppends (told self.old) (told self.new) result bytes.now }
         ensures cause { HasCause (faults self.old) (faults self.new) result }
         ensures idle { CountsIdle (faults self.old) (faults self.new) bytes.now result };
+
+    /// Hands on what it keeps back. Where that fails, it may have handed on some of it, and keeps the rest.
+    fn flush(&mut self) -> Result<(), Failed>
+        ensures taken { Keeps (told self.old) (told self.new) }
+        ensures all { OnOk result (Keeps (told self.new) (handed self.new)) }
+        ensures cause { HasCause (faults self.old) (faults self.new) result };
+
+    /// What it keeps back are the last of the bytes taken.
+    ghost in_order: { (sink : Self) → KeepsBackSome (told sink) (handed sink) };
 }

@@ -1,4 +1,5 @@
 //! What no clause says: worked texts, and that calls succeed where memory is left.
+mod gathering;
 mod lines;
 mod named;
 mod streams;

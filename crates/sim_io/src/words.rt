@@ -1,6 +1,9 @@
 //! The words of the command line.
-ghost use Rattle.std.specs.Prelude.{◌≡◌, false, string_bytes};
+ghost use Rattle.std.specs.Prelude.{◌≡◌, ◌≤◌, IfOk, [], None, codes, slice_get, string_bytes};
+ghost use Rattle.sim_io.specs.Words.{AreInBounds, demo_settings, is_among, judged, number_within, placement_named, run_settings, settings, stray_word, texts_of, value_after, value_or, word_meant};
 
+use crate::options::{Command, CommandOption, number_within, placement_named};
+use sim_spec::Placement;
 use thiserror::Error;
 
 /// What is wrong with the words.
@@ -41,13 +44,34 @@ impl WordFault {
     }
 }
 
+/// How many nodes there are where nothing is asked for.
+pub const DEFAULT_NODES: u32 = 4;
+
+/// How many events a node processes at most past what it must, where nothing is asked for.
+pub const DEFAULT_AHEAD: u32 = 8;
+
 /// What is to be done.
 #[derive(Clone, Copy, Debug, PartialEq, Eq)]
 pub enum Settings {
-    /// A simulation whose text is printed, with a line for each cycle where these are asked for.
-    Run { cycles: bool },
-    /// The same, by the engine for one thread.
-    One { cycles: bool },
+    /// A simulation on nodes that work ahead, whose text is printed, with a line for each cycle where these are asked for.
+    Run {
+        /// How many nodes there are, 1 to 64.
+        nodes: u32,
+        /// How many events a node processes at most past what it must, 0 to 1,024.
+        ahead: u32,
+        placement: Placement,
+        cycles: bool,
+    },
+    /// The same text, by the engine for one thread.
+    One {
+        cycles: bool,
+    },
+    /// Sums over what is told of each object, from a simulation on nodes as by default.
+    Totals,
+    /// A summary of the simulation of a large network that is made from a number, 1 to 256, on nodes as by default.
+    Demo {
+        n: u32,
+    },
 }
 
 impl Settings {
@@ -58,12 +82,11 @@ impl Settings {
         ensures { result ≡ are_cycles_told self }
     {
         match self {
-            Settings::Run { cycles } | Settings::One { cycles } => cycles,
+            Settings::Run { cycles, .. } | Settings::One { cycles } => cycles,
+            Settings::Totals | Settings::Demo { .. } => false,
         }
     }
 }
-
-ghost use Rattle.sim_io.specs.Words.{stray_word, cycles_asked, settings, texts_of};
 
 /// What is wrong with a word that stands for nothing.
 fn stray_word(word: &String) -> WordFault
@@ -76,40 +99,150 @@ fn stray_word(word: &String) -> WordFault
     }
 }
 
-/// Whether the words after a command ask for the cycles. They take no other option, and none twice.
-fn cycles_asked(words: &[String]) -> Result<bool, WordFault>
-    ensures { result ≡ cycles_asked false (texts_of words.now) }
+/// Whether a word is one of these.
+fn is_among(words: &[String], word: &str) -> bool
+    ensures { result ≡ is_among (texts_of words.now) word.now }
 {
-    let mut asked = false;
-    for word in words {
-        if word.as_str() != "--cycles" {
-            return Err(stray_word(word));
+    for other in words {
+        if other.as_str() == word {
+            return true;
         }
-        if asked {
-            return Err(WordFault::RepeatedOption);
-        }
-        asked = true;
     }
-    Ok(asked)
+    false
 }
 
-/// Reads the words that follow the program's name.
+/// What a word comes to after those before it: the option that waits for a value now, if one does.
+fn word_meant(
+    command: Command,
+    before: &[String],
+    waiting: Option<CommandOption>,
+    word: &String,
+) -> Result<Option<CommandOption>, WordFault>
+    ensures { result ≡ word_meant command (texts_of before.now) waiting (string_bytes word.now) }
+{
+    if let Some(option) = waiting {
+        return if option.accepts(word.as_str()) {
+            Ok(None)
+        } else {
+            Err(WordFault::BadValue)
+        };
+    }
+    let Some(option) = command.option(word.as_str()) else {
+        return Err(stray_word(word));
+    };
+    if is_among(before, word.as_str()) {
+        return Err(WordFault::RepeatedOption);
+    }
+    Ok(if option.takes_value() {
+        Some(option)
+    } else {
+        None
+    })
+}
+
+/// Judges the words after a command.
+fn judge(command: Command, words: &[String]) -> Result<(), WordFault>
+    ensures { result ≡ judged command [] None (texts_of words.now) }
+{
+    let mut waiting = None;
+    for i in 0..words.len() {
+        waiting = word_meant(command, &words[..i], waiting, &words[i])?;
+    }
+    match waiting {
+        None => Ok(()),
+        Some(_) => Err(WordFault::MissingValue),
+    }
+}
+
+/// The place after an option, or past the end where it isn't given.
+fn place_after(words: &[String], option: &str) -> usize
+    ensures { slice_get (texts_of words.now) result ≡ value_after option.now (texts_of words.now) }
+{
+    for i in 0..words.len() {
+        if words[i].as_str() == option {
+            return i + 1;
+        }
+    }
+    words.len()
+}
+
+/// The number that is the value of an option, or what is so where it isn't given.
+fn number_given(words: &[String], option: &str, least: u32, most: u32, default: u32) -> u32
+    requires low { least ≤ default }
+    requires high { default ≤ most }
+    ensures value { result ≡ value_or default (number_within least most) (value_after option.now (texts_of words.now)) }
+    ensures low { least ≤ result }
+    ensures high { result ≤ most }
+{
+    match words.get(place_after(words, option)) {
+        Some(value) => number_within(least, most, value.as_str()).unwrap_or(default),
+        None => default,
+    }
+}
+
+/// Where the objects are placed.
+fn placement_given(words: &[String]) -> Placement
+    ensures { result ≡ value_or Placement.Round placement_named (value_after (codes "--placement") (texts_of words.now)) }
+{
+    match words.get(place_after(words, "--placement")) {
+        Some(value) => placement_named(value.as_str()).unwrap_or(Placement::Round),
+        None => Placement::Round,
+    }
+}
+
+/// What the options of a run set.
+fn run_settings(words: &[String]) -> Settings
+    ensures value { result ≡ run_settings (texts_of words.now) }
+    ensures bounds { AreInBounds result }
+{
+    Settings::Run {
+        nodes: number_given(words, "--nodes", 1, 64, DEFAULT_NODES),
+        ahead: number_given(words, "--ahead", 0, 1024, DEFAULT_AHEAD),
+        placement: placement_given(words),
+        cycles: is_among(words, "--cycles"),
+    }
+}
+
+/// Reads the number of a demo.
+fn demo_settings(words: &[String]) -> Result<Settings, WordFault>
+    ensures value { result ≡ demo_settings (texts_of words.now) }
+    ensures bounds { IfOk result AreInBounds }
+{
+    let [number, rest @ ..] = words else {
+        return Err(WordFault::MissingValue);
+    };
+    match number_within(1, 256, number.as_str()) {
+        None => Err(WordFault::BadValue),
+        Some(_) if !rest.is_empty() => Err(WordFault::ExtraWord),
+        Some(n) => Ok(Settings::Demo { n }),
+    }
+}
+
+/// Reads the words that follow the program's name. It takes no memory.
 #[tactic(auto, unfolding(crate::specs::Words::settings))]
 pub fn read_words(words: &Vec<String>) -> Result<Settings, WordFault>
-    ensures { result ≡ settings (texts_of words.now.items) }
+    ensures value { result ≡ settings (texts_of words.now.items) }
+    ensures bounds { IfOk result AreInBounds }
 {
     let [command, options @ ..] = words.as_slice() else {
         return Err(WordFault::NoCommand);
     };
     match command.as_str() {
         "run" => {
-            let cycles = cycles_asked(options)?;
-            Ok(Settings::Run { cycles })
+            judge(Command::Run, options)?;
+            Ok(run_settings(options))
         }
         "one" => {
-            let cycles = cycles_asked(options)?;
-            Ok(Settings::One { cycles })
+            judge(Command::One, options)?;
+            Ok(Settings::One {
+                cycles: is_among(options, "--cycles"),
+            })
         }
+        "totals" => {
+            judge(Command::Totals, options)?;
+            Ok(Settings::Totals)
+        }
+        "demo" => demo_settings(options),
         _ => Err(WordFault::UnknownCommand),
     }
 }

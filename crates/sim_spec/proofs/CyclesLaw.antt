@@ -68,25 +68,6 @@ module _ (m : Meaning) (t : Terms) (laws : MeaningLaws m) where
       on_agree s lawful (cycles_for (t.limit - s.count) m t) (cycles m t)
       (λ later good near. fuel_agree (t.limit - s.count) (suc (t.limit - later.count)) later good near (omega arith)) (next m t s) refl
 
-  -- by what comes next: no bucket where nothing is left to do, and else the bucket of the state with what comes after it
-  pub cycles-end : (s : State) → Lawful m t s → next m t s ≡ stops End → cycles m t s ≡ no_cycles s End
-  unfolding cycles_on
-  cycles-end s lawful is_next = cycles-unfold s lawful ∙ ap (cycles_on s (cut m t s) (after m t s) (cycles m t)) is_next
-
-  pub cycles-limit : (s : State) → Lawful m t s → next m t s ≡ stops Limit → cycles m t s ≡ no_cycles s Limit
-  unfolding cycles_on
-  cycles-limit s lawful is_next = cycles-unfold s lawful ∙ ap (cycles_on s (cut m t s) (after m t s) (cycles m t)) is_next
-
-  pub cycles-bucket : (s : State) → Lawful m t s → next m t s ≢ stops End → next m t s ≢ stops Limit → cycles m t s ≡ cycles_with (cut m t s) (after m t s) (cycles m t)
-  unfolding cycles_on
-  cycles-bucket s lawful not_end not_limit = cycles-unfold s lawful ∙ by_next (next m t s) refl
-    where
-      by_next : (n : Next) → next m t s ≡ n → cycles_on s (cut m t s) (after m t s) (cycles m t) n ≡ cycles_with (cut m t s) (after m t s) (cycles m t)
-      by_next (stops End) is_next = absurd (not_end is_next)
-      by_next (stops Limit) is_next = absurd (not_limit is_next)
-      by_next (stops (Fault key code)) is_next = refl
-      by_next (does told mid) is_next = refl
-
   -- what comes after a bucket is what the run does after it
   behind_same : (s : State) → IsNextOfRun m t s → ((cut m t s).fault ≡ None → run_of (cycles m t (after m t s)) ≡ run m t (after m t s))
       → (fault : Option (Key × ℕ)) → (cut m t s).fault ≡ fault → (limited : Bool) → (cut m t s).limited ≡ limited

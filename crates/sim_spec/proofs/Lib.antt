@@ -8,6 +8,7 @@ pub mod InTurnLemmas
 pub mod InitialLemmas
 pub mod LawfulLemmas
 pub mod MovesLaw
+pub mod NextLemmas
 pub mod ObjectReplay
 pub mod ObjectsLaw
 pub mod PartLemmas

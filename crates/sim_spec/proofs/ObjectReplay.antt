@@ -8,11 +8,11 @@ use Rattle.model_core.specs.Meaning.{Meaning}
 use Rattle.sim_spec.specs.Firing.{ObjectState, Firing, goes, fire}
 use Rattle.sim_spec.specs.State.{State, object_at, no_object}
 use Rattle.sim_spec.specs.Cut.{events_of, objects_after}
-use Rattle.sim_spec.specs.Replay.{Replay, replay_with, replay, events_at, done_at, early_replay}
+use Rattle.sim_spec.specs.Replay.{Replay, replay_with, replay, events_at, done_at, early_replay, replay_after}
 use Rattle.sim_spec.proofs.PartLemmas.{events_at-append, events_at-events_of, length-events_of}
 use Rattle.sim_spec.proofs.BucketInduction.{fire_at, objects_with, replay-goes}
 use Rattle.sim_spec.proofs.BucketFacts.{GoInTurn}
-use Rattle.sim_spec.proofs.ReplayLemmas.{replay_after, replay-append, replay-take}
+use Rattle.sim_spec.proofs.ReplayLemmas.{replay-append, replay-take}
 
 -- the replay of events that all go
 abbrev pub whole_replay : List (Event × Firing) → ObjectState → Replay

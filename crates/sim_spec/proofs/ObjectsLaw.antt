@@ -14,7 +14,7 @@ use Rattle.sim_spec.specs.Firing.{Firing, fire, fails}
 use Rattle.sim_spec.specs.State.{State, Lawful, object_at}
 use Rattle.sim_spec.specs.Horizon.{HorizonBucket, horizon_bucket, reach_with, reach_of}
 use Rattle.sim_spec.specs.Cut.{events_of, objects_after}
-use Rattle.sim_spec.specs.Replay.{Replay, replay, events_at, done_at, early_replay, EmitsFrom}
+use Rattle.sim_spec.specs.Replay.{Replay, replay, events_at, done_at, early_replay, EmitsFrom, replay_after}
 use Rattle.key_order.specs.Stamps.{NoneBelow}
 use Rattle.sim_spec.specs.HorizonLaws.{IsPast, IsBelowHorizon, ObjectsLaw}
 use Rattle.key_order.proofs.EachLemmas.{Each-map, Each-append, Each-take, Each-filter}
@@ -22,7 +22,7 @@ use Rattle.sim_spec.proofs.PartLemmas.{Each-events_at, events_at-append, events_
 use Rattle.sim_spec.proofs.StampLemmas.{EmitsFrom-le}
 use Rattle.sim_spec.proofs.BucketFacts.{bucket-in-turn}
 use Rattle.sim_spec.proofs.HorizonLaw.{horizon_law}
-use Rattle.sim_spec.proofs.ReplayLemmas.{replay_after, replay-fault, replay-emits}
+use Rattle.sim_spec.proofs.ReplayLemmas.{replay-fault, replay-emits}
 use Rattle.sim_spec.proofs.ObjectReplay.{GoFirst, in-turn-replay, events_behind, early-parts, early-split}
 use Rattle.sim_spec.proofs.BucketInduction.{replay-fails}
 

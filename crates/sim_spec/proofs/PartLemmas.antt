@@ -1,7 +1,9 @@
 -- One object's part of a list of events, or of what was done.
-use Rattle.std.proofs.Common.{◌≡◌, ℕ, ◌<◌, Bool, true, false, cond, List, [], ◌∷◌, ◌++◌, length, append_assoc, refl, sym, ap, ◌∙◌, subst, eqb, eqb-true, eq-eqb}
+use Rattle.key_order.proofs.OrderLemmas.{differ-by-parts}
+use Rattle.key_order.specs.Keys.{KeysDiffer}
+use Rattle.std.proofs.Common.{◌≡◌, ◌≢◌, ℕ, ◌<◌, Bool, true, false, cond, List, [], ◌∷◌, ◌++◌, length, append_assoc, refl, sym, ap, ◌∙◌, subst, eqb, eqb-true, eq-eqb}
 use Rattle.std.proofs.lemmas.List.Elements.{filter-append}
-use Rattle.std.proofs.lemmas.List.{length-map, map-append}
+use Rattle.std.proofs.lemmas.List.{append-nil, length-map, map-append}
 use Rattle.std.specs.List.{AllByRecursion as Each}
 use Rattle.model_core.specs.declared.event.Event.{Event}
 use Rattle.model_core.specs.Meaning.{Meaning}
@@ -12,7 +14,8 @@ use Rattle.sim_spec.specs.State.{AllSound}
 use Rattle.sim_spec.specs.Cut.{emissions_of, events_of, records_of}
 use Rattle.sim_spec.specs.Replay.{events_at, done_at}
 use Rattle.key_order.proofs.AscendingLemmas.{Ascends-filter, Ascends-mapped}
-use Rattle.key_order.proofs.EachLemmas.{Each-filter}
+use Rattle.key_order.proofs.EachLemmas.{Each-filter, Each-map}
+use Rattle.key_order.proofs.FilterLemmas.{filter-all}
 use Rattle.key_order.proofs.ShareLemmas.{filter-enqueue_all}
 
 pub Each-events_at : (P : Event → Type 0) (object : ℕ) (es : List Event) → Each P es → Each P (events_at object es)
@@ -35,6 +38,11 @@ pub events_at-enqueue_all : (object : ℕ) (es xs : List Event) → IsAscending 
 unfolding events_at
 events_at-enqueue_all object es xs up = filter-enqueue_all (λ e. eqb e.key.dest object) es xs up
 
+-- keys differ where those of each object do
+pub KeysDiffer-objects : (es : List Event) → ((object : ℕ) → KeysDiffer (events_at object es)) → KeysDiffer es
+unfolding events_at
+KeysDiffer-objects es parts = differ-by-parts key_of es parts
+
 -- each event of the part is at the object
 pub events_at-dest : (object : ℕ) (es : List Event) → Each (λ (e : Event). e.key.dest ≡ object) (events_at object es)
 unfolding events_at
@@ -49,6 +57,22 @@ events_at-dest object (e ∷ es) = by_dest (events_at-dest object es) (eqb e.key
 pub events_at-first : (e : Event) (es : List Event) → events_at e.key.dest (e ∷ es) ≡ e ∷ events_at e.key.dest es
 unfolding events_at
 events_at-first e es = ap (λ b. cond b (e ∷ events_at e.key.dest es) (events_at e.key.dest es)) (eq-eqb e.key.dest e.key.dest refl)
+
+-- an event of another object is none of the part
+pub events_at-other : (object : ℕ) (e : Event) (es : List Event) → object ≢ e.key.dest → events_at object (e ∷ es) ≡ events_at object es
+unfolding events_at
+events_at-other object e es apart = by_dest (eqb e.key.dest object) refl
+  where
+    by_dest : (b : Bool) → eqb e.key.dest object ≡ b → cond b (e ∷ events_at object es) (events_at object es) ≡ events_at object es
+    by_dest false there = refl
+    by_dest true here = absurd (apart (sym (eqb-true e.key.dest object here)))
+
+-- where all events are at the object, the part is the whole
+pub events_at-all : (object : ℕ) (es : List Event) → Each (λ (e : Event). e.key.dest ≡ object) es → events_at object es ≡ es
+unfolding events_at
+events_at-all object es own =
+    filter-all (λ (e : Event). eqb e.key.dest object) es
+    (Each-map (λ (e : Event). e.key.dest ≡ object) (λ (e : Event). eqb e.key.dest object ≡ true) es (λ e is. eq-eqb e.key.dest object is) own)
 
 -- the events of the part are the part of the events
 pub events_at-events_of : (object : ℕ) (ds : List (Event × Firing)) → events_at object (events_of ds) ≡ events_of (done_at object ds)
@@ -69,6 +93,11 @@ pub emissions_of-append : (xs ys : List (Event × Firing)) → emissions_of (xs 
 unfolding emissions_of
 emissions_of-append [] ys = refl
 emissions_of-append (d ∷ ds) ys = ap (λ es. d.1.events ++ es) (emissions_of-append ds ys) ∙ sym (append_assoc d.1.events (emissions_of ds) (emissions_of ys))
+
+-- one event more
+pub emissions_of-more : (ds : List (Event × Firing)) (d : Event × Firing) → emissions_of (ds ++ d ∷ []) ≡ emissions_of ds ++ d.1.events
+unfolding emissions_of
+emissions_of-more ds d = emissions_of-append ds (d ∷ []) ∙ ap (λ es. emissions_of ds ++ es) (append-nil d.1.events)
 
 pub length-events_of : (ds : List (Event × Firing)) → length (events_of ds) ≡ length ds
 length-events_of ds = length-map ds (λ (d : Event × Firing). d.0)

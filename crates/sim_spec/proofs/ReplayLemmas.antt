@@ -7,15 +7,11 @@ use Rattle.model_core.specs.declared.event.Event.{Event}
 use Rattle.model_core.specs.Meaning.{Meaning}
 use Rattle.sim_spec.specs.Firing.{ObjectState, Firing, goes, fire}
 use Rattle.sim_spec.specs.Cut.{events_of}
-use Rattle.sim_spec.specs.Replay.{Replay, replay_with, replay, EmitsFrom}
+use Rattle.sim_spec.specs.Replay.{Replay, replay_after, replay_with, replay, EmitsFrom}
 use Rattle.key_order.specs.Stamps.{NoneBelow}
 use Rattle.key_order.proofs.StampLemmas.{NoneBelow-le}
 use Rattle.sim_spec.proofs.StampLemmas.{fire-later}
 use Rattle.sim_spec.proofs.BucketInduction.{replay-induction, replay-goes, replay-fails}
-
--- a replay with events before its own
-abbrev pub replay_after : List (Event × Firing) → Replay → Replay
-replay_after ds r = record r { done = ds ++ r.done }
 
 -- where the first part doesn't fail, the second is replayed from its state
 pub replay-append : (m : Meaning) (object : ℕ) (state : ObjectState) (xs ys : List Event) → (replay m object state xs).fault ≡ None

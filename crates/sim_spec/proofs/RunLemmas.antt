@@ -13,7 +13,7 @@ use Rattle.model_core.specs.declared.effect.Effect.{Effect}
 use Rattle.model_core.specs.declared.effect.Outcome.TheVariants.{Goes, Fails}
 use Rattle.delta_exchange.specs.Changes.{cells_after_all, inverses_of}
 use Rattle.key_order.specs.Pending.{enqueue_all}
-use Rattle.sim_spec.specs.Firing.{Fired, Firing, goes, fails, fire, fired_by, has_chain, emissions}
+use Rattle.sim_spec.specs.Firing.{Fired, Firing, goes, fails, fire, fired_by, has_endless_chain, emissions}
 use Rattle.sim_spec.specs.State.{State, object_at, Lawful, IsSound, AllSound}
 use Rattle.sim_spec.specs.Run.{Next, stops, does, next, next_of, next_fired, run, run_for, run_on, after_records, Leads}
 
@@ -101,13 +101,6 @@ pub next-fires : (m : Meaning) (t : Terms) (s : State) (e : Event) (rest : List 
     → next m t s ≡ next_fired s e rest (fire m e.key.dest (object_at s.objects e.key.dest) e)
 next-fires m t s e rest is_pending due free = next-due m t s e rest false is_pending due (ne_eqb s.count t.limit free)
 
--- an event that the model refuses, one that has no step left, and one that goes
-pub next-fails : (m : Meaning) (t : Terms) (s : State) (e : Event) (rest : List Event) (code : ℕ) → s.pending ≡ e ∷ rest → e.key.stamp < end_stamp t.end → s.count ≢ t.limit
-    → Fails code ≡ m.effect e.key.dest (object_at s.objects e.key.dest).cells e → next m t s ≡ stops (Fault e.key code)
-unfolding next_fired fire fired_by
-next-fails m t s e rest code is_pending due free is_outcome =
-    next-fires m t s e rest is_pending due free ∙ ap (λ o. next_fired s e rest (fired_by e.key.dest (object_at s.objects e.key.dest) e o)) (sym is_outcome)
-
 -- what an event leaves that changes the cells so and sends so
 abbrev pub state_after : State → Event → List Event → Effect → State
 state_after s e rest x =
@@ -119,13 +112,13 @@ state_after s e rest x =
     }
 
 next-goes : (m : Meaning) (t : Terms) (s : State) (e : Event) (rest : List Event) (x : Effect) (chain : Bool) → s.pending ≡ e ∷ rest → e.key.stamp < end_stamp t.end → s.count ≢ t.limit
-    → Goes x ≡ m.effect e.key.dest (object_at s.objects e.key.dest).cells e → has_chain e.key.stamp x.sends ≡ chain
+    → Goes x ≡ m.effect e.key.dest (object_at s.objects e.key.dest).cells e → has_endless_chain e.key.stamp x.sends ≡ chain
     → next m t s ≡ cond chain (stops (Fault e.key 1)) (does (e.key, x.note) (state_after s e rest x))
 unfolding fire fired_by next_fired
 next-goes m t s e rest x chain is_pending due free is_outcome is_chain =
     next-fires m t s e rest is_pending due free
     ∙ ap (λ o. next_fired s e rest (fired_by e.key.dest (object_at s.objects e.key.dest) e o)) (sym is_outcome)
-    ∙ by_chain (has_chain e.key.stamp x.sends) chain is_chain
+    ∙ by_chain (has_endless_chain e.key.stamp x.sends) chain is_chain
   where
     firing : Firing
     firing = let o = object_at s.objects e.key.dest in record {
@@ -140,14 +133,6 @@ next-goes m t s e rest x chain is_pending due free is_outcome is_chain =
     by_chain false false h = refl
     by_chain true false h = absurd (cc)
     by_chain false true h = absurd (cc)
-
-pub next-chain : (m : Meaning) (t : Terms) (s : State) (e : Event) (rest : List Event) (x : Effect) → s.pending ≡ e ∷ rest → e.key.stamp < end_stamp t.end → s.count ≢ t.limit
-    → Goes x ≡ m.effect e.key.dest (object_at s.objects e.key.dest).cells e → has_chain e.key.stamp x.sends ≡ true → next m t s ≡ stops (Fault e.key 1)
-next-chain m t s e rest x = next-goes m t s e rest x true
-
-pub next-goes_on : (m : Meaning) (t : Terms) (s : State) (e : Event) (rest : List Event) (x : Effect) → s.pending ≡ e ∷ rest → e.key.stamp < end_stamp t.end → s.count ≢ t.limit
-    → Goes x ≡ m.effect e.key.dest (object_at s.objects e.key.dest).cells e → has_chain e.key.stamp x.sends ≡ false → next m t s ≡ does (e.key, x.note) (state_after s e rest x)
-next-goes_on m t s e rest x = next-goes m t s e rest x false
 
 -- what is known of the first event of a lawful state
 pub first_sound : (m : Meaning) (t : Terms) (s : State) (e : Event) (rest : List Event) → Lawful m t s → s.pending ≡ e ∷ rest → IsSound m s.objects e

@@ -5,8 +5,8 @@ use Rattle.std.specs.Prelude.{None}
 use Rattle.model_core.specs.Meaning.{Meaning}
 use Rattle.model_core.specs.declared.event.Event.{Event}
 use Rattle.sim_spec.specs.Firing.{Fired, ObjectState, fails, fire, goes}
-use Rattle.sim_spec.specs.Replay.{Replay, replay, replay_fired, fault_count, taken}
-use Rattle.sim_spec.proofs.ReplayLemmas.{replay-append, replay_after}
+use Rattle.sim_spec.specs.Replay.{Replay, replay, replay_fired, fault_count, taken, replay_after}
+use Rattle.sim_spec.proofs.ReplayLemmas.{replay-append}
 
 taken_on : (m : Meaning) (object : ℕ) (state : ObjectState) (e : Event) (es : List Event) (f : Fired)
     → ((s : ObjectState) → taken (replay m object s es) ≤ length es) → taken (replay_fired state e (λ x. replay m object x.state es) f) ≤ suc (length es)

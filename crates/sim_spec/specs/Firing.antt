@@ -30,8 +30,8 @@ pub data Fired : Type 0 where
   fails : ℕ → Fired
 
 -- something is sent without delay from the last step of a tick
-unfoldable pub has_chain : ℕ → List Send → Bool
-has_chain stamp sends = list_any (λ s. has_no_step stamp s.delay) sends
+unfoldable pub has_endless_chain : ℕ → List Send → Bool
+has_endless_chain stamp sends = list_any (λ s. has_no_step stamp s.delay) sends
 
 -- the event that an object sends, with this serial
 abbrev pub emission : ℕ → ℕ → ℕ → Send → Event
@@ -59,7 +59,7 @@ firing_of object state event x = record {
 -- what comes of an outcome: the model's fault first, then the fault of a chain without end in one tick
 unfoldable pub fired_by : ℕ → ObjectState → Event → Outcome → Fired
 fired_by object state event (Fails code) = fails code
-fired_by object state event (Goes x) = if has_chain event.key.stamp x.sends then fails 1 else goes (firing_of object state event x)
+fired_by object state event (Goes x) = if has_endless_chain event.key.stamp x.sends then fails 1 else goes (firing_of object state event x)
 
 -- an event at an object
 unfoldable pub fire : Meaning → ℕ → ObjectState → Event → Fired

@@ -1,5 +1,5 @@
 -- The events of one object, one after another.
-use Rattle.std.specs.Prelude.{ℕ, ◌+◌, List, [], ◌∷◌, length, filter, take, ◌==◌, Option, Some, None}
+use Rattle.std.specs.Prelude.{ℕ, ◌+◌, List, [], ◌∷◌, ◌++◌, length, filter, take, ◌==◌, Option, Some, None}
 use Rattle.std.specs.List.{AllByRecursion}
 use Rattle.event_key.specs.declared.key.Key.{Key}
 use Rattle.model_core.specs.declared.event.Event.{Event}
@@ -17,6 +17,10 @@ pub record Replay : Type 0 where
 -- a replay with an event before its own
 abbrev pub replay_with : Event × Firing → Replay → Replay
 replay_with d r = record r { done = d ∷ r.done }
+
+-- a replay with events before its own
+abbrev pub replay_after : List (Event × Firing) → Replay → Replay
+replay_after ds r = record r { done = ds ++ r.done }
 
 -- the replay whose first event comes out so
 unfoldable pub replay_fired : ObjectState → Event → (Firing → Replay) → Fired → Replay

@@ -1,7 +1,7 @@
 -- The state of a simulation.
 use Rattle.std.specs.Prelude.{◌≡◌, ◌⊎◌, ℕ, ◌+◌, ◌*◌, ◌^◌, ◌<◌, ◌≤◌, IsTrue, map, List, [], ◌∷◌, length, slice_index_or}
 use Rattle.std.specs.List.{range_with_len}
-use Rattle.event_key.specs.declared.key.TheConstants.{INITIAL}
+use Rattle.event_key.specs.declared.key.TheConstants.{INITIAL, MOST_RANK}
 use Rattle.event_key.specs.Stamps.{stamp_at, time_part}
 use Rattle.model_core.specs.declared.event.Event.{Event}
 use Rattle.model_core.specs.declared.event.Start.{Start}
@@ -28,7 +28,7 @@ object_at objects i = slice_index_or objects i no_object
 pub record IsSound (m : Meaning) (objects : List ObjectState) (e : Event) : Type 0 where
   pub dest : e.key.dest < m.objects
   pub time : time_part e.key.stamp < 2 ^ 47
-  pub rank : e.key.rank ≤ 255
+  pub rank : e.key.rank ≤ MOST_RANK
   pub source : ((e.key.src ≡ INITIAL) × (e.key.serial < m.starts)) ⊎ ((e.key.src < m.objects) × (e.key.serial < (object_at objects e.key.src).sent))
 
 unfoldable pub AllSound : Meaning → List ObjectState → List Event → Type 0

@@ -1,12 +1,13 @@
--- A simulation under way: what was written and gathered so far, and what is still to come.
-use Rattle.std.proofs.Common.{◌≡◌, ℕ, ◌+◌, ◌≤◌, ◌<◌, Bool, List, [], ◌∷◌, ◌++◌, length, Option, Some, None, Ok, refl, sym, ap, ◌∙◌, subst, rules, arith, ◌⊎◌, inl, inr}
+-- A simulation under way: the buckets so far, and those that are still to come.
+use Rattle.std.proofs.Common.{◌≡◌, ℕ, ◌+◌, ◌≤◌, ◌<◌, List, [], ◌∷◌, ◌++◌, length, Option, Some, None, Ok, refl, true, sym, ap, ◌∙◌, subst, append_assoc, length-append, rules, arith, ◌⊎◌, inl, inr}
 use Rattle.std.proofs.lemmas.Bool.{false≢true}
 use Rattle.std.proofs.lemmas.List.{append-nil}
 use Rattle.std.proofs.lemmas.List.Elements.{All-cons}
-use Rattle.std.proofs.KnownBytes.{Appends-nil}
+use Rattle.std.specs.List.{AllPairs}
 use Rattle.std.specs.Prelude.{IsSome, Result}
 use Rattle.delta_exchange.specs.declared.memory.OutOfMemory.{OutOfMemory}
 use Rattle.event_key.specs.declared.key.Key.{Key}
+use Rattle.event_key.specs.Keys.{key_lt}
 use Rattle.model_core.specs.declared.note.Note.{Note}
 use Rattle.model_core.specs.Meaning.{Meaning}
 use Rattle.sim_spec.specs.declared.bucket.Bucket.{Bucket}
@@ -16,19 +17,19 @@ use Rattle.sim_spec.specs.declared.terms.Terms.{Terms}
 use Rattle.sim_spec.specs.State.{State, Lawful, initial_state}
 use Rattle.sim_spec.specs.Run.{Run, run, stops, does, next, Leads}
 use Rattle.sim_spec.specs.Cut.{cut, after}
-use Rattle.sim_spec.specs.Cycles.{cycles}
+use Rattle.sim_spec.specs.Cycles.{cycles, records_of_buckets}
 use Rattle.sim_spec.specs.Laws.{NextLawful}
 use Rattle.sim_spec.specs.HorizonLaws.{BucketLaw, EndsLaw, MovesLaw, CyclesLaw}
 use Rattle.sim_spec.specs.Standing.{Standing, stands, ended, end_or_limit, IsCycle, CycleGives, DoesCycle, IsCountAt}
 use Rattle.sim_spec.proofs.CyclesLaw.{after-count}
 use Rattle.sim_spec.proofs.LawfulLemmas.{next-placed, IsPlaced}
 use Rattle.sim_spec.proofs.RunLemmas.{run-stops}
-use Rattle.sim_io.specs.Texts.{stop_line, IsAtObject}
-use Rattle.sim_io.specs.CycleTexts.{bucket_lines, text, text_of_cycles}
-use Rattle.sim_io.proofs.CycleTextLemmas.{text-of_cycles}
-use Rattle.sim_text.specs.Gathering.{AppendsSome}
+use Rattle.sim_stats.specs.Totals.{IsInTime, last_time}
+use Rattle.sim_stats.proofs.InTime.{in_time-ascending, in_time-behind, in_time-front}
+use Rattle.sim_io.specs.Texts.{IsAtObject}
 use Rattle.sim_text.specs.Rest.{AllAtObjects}
-use Rattle.sim_text.proofs.GatheringLemmas.{gathers_more, writes_more}
+use Rattle.sim_text.proofs.Telling.{EndsSo}
+use Rattle.sim_text.proofs.SummaryLemmas.{records_of_buckets-append, records_of_buckets-first, records_of_buckets-more}
 use Rattle.sim_text.proofs.Rest.{rest, IsNextFault, ended-next, ended-none, goes_on-end, goes_on-limit, rest-stops, rest-bucket}
 
 -- the laws of a model's simulation
@@ -38,18 +39,22 @@ pub record SimulationLaws (m : Meaning) (t : Terms) : Type 0 where
   pub cycles : CyclesLaw m t
   pub moves : MovesLaw m t
   pub ends : EndsLaw m t
+  pub initial : Lawful m t (initial_state m)
+  pub ascend : AllPairs (λ (earlier later : Key × Note). key_lt earlier.0 later.0 ≡ true) (run m t (initial_state m)).records
 
--- where the engine stands, and that its text so far and the rest of it are the whole
-pub record IsUnderWay (m : Meaning) (t : Terms) (told : Bool) (standing : Standing) (number : ℕ) (start now : Option (List ℕ)) (gathered : List ℕ) : Type 0 where
+-- where the engine stands, and that the buckets so far and those to come are all
+pub record IsUnderWay (m : Meaning) (t : Terms) (standing : Standing) (so_far : List Bucket) : Type 0 where
   pub state : State
   pub fault : Option (Key × ℕ)
   pub at_state : standing ≡ stands state fault
   pub lawful : Lawful m t state
   pub failed : IsNextFault m t state fault
-  pub told_so_far : AppendsSome start now (text m t told (initial_state m)) (gathered ++ rest m t told number state fault)
+  pub buckets : (cycles m t (initial_state m)).buckets ≡ so_far ++ rest m t state fault
+  pub last : (run m t (initial_state m)).last ≡ (run m t state).last
   pub stop : (run m t (initial_state m)).stop ≡ (run m t state).stop
-  pub numbered : number ≤ state.count + 2
-  pub numbered_whole : fault ≡ None → number ≤ state.count + 1
+  pub counted : state.count ≡ length (records_of_buckets so_far)
+  pub few : length so_far ≤ state.count + 1
+  pub few_whole : fault ≡ None → length so_far ≤ state.count
 
 -- what happens happens at objects of the model
 leads-at_objects : (m : Meaning) (t : Terms) → NextLawful m t → (s : State) (records : List (Key × Note)) (last : State) → Lawful m t s → Leads m t s records last → AllAtObjects m records
@@ -68,7 +73,7 @@ at_object m (Fault key code) h = h
 stands-injective : (s s' : State) (f f' : Option (Key × ℕ)) → stands s f ≡ stands s' f' → (s ≡ s') × (f ≡ f')
 stands-injective s s' f f' same = (cc, cc)
 
-module _ (m : Meaning) (t : Terms) (laws : SimulationLaws m t) (told : Bool) (standing : Standing) (number : ℕ) (start now : Option (List ℕ)) (gathered : List ℕ) (way : IsUnderWay m t told standing number start now gathered) where
+module _ (m : Meaning) (t : Terms) (laws : SimulationLaws m t) (standing : Standing) (so_far : List Bucket) (way : IsUnderWay m t standing so_far) where
   ended-here : (stop : Option Stop) → ended m t standing ≡ stop → ended m t (stands way.state way.fault) ≡ stop
   ended-here stop is_stop = ap (ended m t) (sym way.at_state) ∙ is_stop
 
@@ -83,13 +88,24 @@ module _ (m : Meaning) (t : Terms) (laws : SimulationLaws m t) (told : Bool) (st
   pub stop-of_run : (stop : Stop) → ended m t standing ≡ Some stop → (run m t (initial_state m)).stop ≡ stop
   stop-of_run stop is_stop = way.stop ∙ ap (λ (r : Run). r.stop) (run-stops m t way.state stop (stops-next stop is_stop))
 
-  -- with the stop line the text is whole
-  pub gathers-stop : (stop : Stop) (count : ℕ) (new : List ℕ) → ended m t standing ≡ Some stop → count ≡ way.state.count → new ≡ gathered ++ stop_line m t count stop
-      → AppendsSome start now (text m t told (initial_state m)) (new ++ [])
-  gathers-stop stop count new is_stop counted is_new =
-      gathers_more start now now _ gathered (stop_line m t way.state.count stop) new (rest m t told number way.state way.fault) [] way.told_so_far
-      (rest-stops m t laws.buckets laws.ends told number way.state way.fault stop way.lawful way.failed (ended-here (Some stop) is_stop) ∙ sym (append-nil _))
-      (is_new ∙ ap (λ n. gathered ++ stop_line m t n stop) counted)
+  -- and its last state
+  pub last-of_run : (stop : Stop) → ended m t standing ≡ Some stop → (run m t (initial_state m)).last ≡ way.state
+  last-of_run stop is_stop = way.last ∙ ap (λ (r : Run). r.last) (run-stops m t way.state stop (stops-next stop is_stop))
+
+  -- and the buckets so far are all
+  pub all-buckets : (stop : Stop) → ended m t standing ≡ Some stop → (cycles m t (initial_state m)).buckets ≡ so_far
+  all-buckets stop is_stop =
+      way.buckets ∙ ap (λ (bs : List Bucket). so_far ++ bs) (rest-stops m t laws.buckets laws.ends way.state way.fault stop way.lawful way.failed (ended-here (Some stop) is_stop))
+      ∙ append-nil so_far
+
+  -- so the run has these buckets, and ends so
+  pub ends_so : (stop : Stop) (count : ℕ) → ended m t standing ≡ Some stop → count ≡ way.state.count → EndsSo m t so_far count stop
+  ends_so stop count is_stop counted = record {
+    buckets = all-buckets stop is_stop;
+    records = ap (λ (r : Run). r.records) (sym (laws.cycles (initial_state m) laws.initial)) ∙ ap records_of_buckets (all-buckets stop is_stop);
+    counted = ap (λ (s : State). s.count) (last-of_run stop is_stop) ∙ sym counted;
+    stops_at = stop-of_run stop is_stop;
+  }
 
   -- a cycle begins where the engine stands, and leaves what the bucket of its state leaves
   record IsCycleHere (bucket : Bucket) (new : Standing) : Type 0 where
@@ -125,33 +141,73 @@ module _ (m : Meaning) (t : Terms) (laws : SimulationLaws m t) (told : Bool) (st
       let P : Bucket → Type 0 = λ b. AllAtObjects m b.done in
       subst P (sym here.bucket_is) (leads-at_objects m t laws.next way.state _ _ way.lawful (laws.buckets way.state way.lawful).leads)
 
-  -- a cycle whose lines are gathered leaves the simulation under way
-  pub goes_on : (bucket : Bucket) (new : Standing) (lines : List ℕ) → ended m t standing ≡ None → IsCycle m t standing bucket new → lines ≡ gathered ++ bucket_lines m told number bucket
-      → IsUnderWay m t told new (number + 1) start now lines
-  goes_on bucket new lines not_ended cycle is_lines =
+  -- a bucket is to come, and then those after it
+  rest-here : (bucket : Bucket) (new : Standing) → IsCycleHere bucket new → rest m t way.state way.fault ≡ bucket ∷ rest m t (after m t way.state) bucket.fault
+  rest-here bucket new here =
+      ap (rest m t way.state) here.no_fault
+      ∙ rest-bucket m t laws.buckets laws.ends way.state way.lawful here.goes
+      ∙ ap (λ (b : Bucket). b ∷ rest m t (after m t way.state) b.fault) (sym here.bucket_is)
+
+  with-bucket : (bucket : Bucket) (new : Standing) → IsCycleHere bucket new
+      → (cycles m t (initial_state m)).buckets ≡ (so_far ++ bucket ∷ []) ++ rest m t (after m t way.state) bucket.fault
+  with-bucket bucket new here =
+      way.buckets ∙ ap (λ (bs : List Bucket). so_far ++ bs) (rest-here bucket new here) ∙ sym (append_assoc so_far (bucket ∷ []) (rest m t (after m t way.state) bucket.fault))
+
+  pub all-with_bucket : (bucket : Bucket) (new : Standing) → ended m t standing ≡ None → IsCycle m t standing bucket new
+      → (more : List Bucket) × ((cycles m t (initial_state m)).buckets ≡ (so_far ++ bucket ∷ []) ++ more)
+  all-with_bucket bucket new not_ended cycle = (rest m t (after m t way.state) bucket.fault, with-bucket bucket new (cycle-here bucket new not_ended cycle))
+
+  count-after : (bucket : Bucket) (new : Standing) → IsCycleHere bucket new → (after m t way.state).count ≡ way.state.count + length bucket.done
+  count-after bucket new here = after-count m t way.state ∙ ap (λ (b : Bucket). way.state.count + length b.done) (sym here.bucket_is)
+
+  -- a cycle leaves the simulation under way, with its bucket
+  pub goes_on : (bucket : Bucket) (new : Standing) → ended m t standing ≡ None → IsCycle m t standing bucket new → IsUnderWay m t new (so_far ++ bucket ∷ [])
+  goes_on bucket new not_ended cycle =
       let here = cycle-here bucket new not_ended cycle in
       let law = laws.buckets way.state way.lawful in
-      let counted = after-count m t way.state in
-      let numbered = way.numbered_whole here.no_fault in
+      let counted = count-after bucket new here in
+      let few = way.few_whole here.no_fault in
+      let many : length (so_far ++ bucket ∷ []) ≡ length so_far + 1 = length-append so_far (bucket ∷ []) in
+      let some : bucket.fault ≡ None → 0 < length bucket.done = λ whole. let P : Bucket → Type 0 = λ b. 0 < length b.done in subst P (sym here.bucket_is) (here.some_record whole) in
       record {
         state = after m t way.state;
         fault = bucket.fault;
         at_state = here.ends;
         lawful = law.lawful;
         failed = λ f is_fault. law.fault f (ap (λ (b : Bucket). b.fault) (sym here.bucket_is) ∙ is_fault);
-        told_so_far = gathers_more start now now _ gathered (bucket_lines m told number bucket) lines _ _ way.told_so_far
-            (ap (rest m t told number way.state) here.no_fault
-            ∙ rest-bucket m t laws.buckets laws.ends told number way.state way.lawful here.goes
-            ∙ ap (λ (b : Bucket). bucket_lines m told number b ++ rest m t told (number + 1) (after m t way.state) b.fault) (sym here.bucket_is))
-            is_lines;
+        buckets = with-bucket bucket new here;
+        last = way.last ∙ ap (λ (r : Run). r.last) law.run;
         stop = way.stop ∙ ap (λ (r : Run). r.stop) law.run;
-        numbered = omega (arith, counted, numbered);
-        numbered_whole = λ whole. omega (arith, counted, numbered, here.some_record whole);
+        counted = counted ∙ ap (λ n. n + length bucket.done) way.counted ∙ sym (ap length (records_of_buckets-more so_far bucket) ∙ length-append (records_of_buckets so_far) bucket.done);
+        few = omega (arith, counted, few, many);
+        few_whole = λ whole. omega (arith, counted, few, many, some whole);
       }
 
+  -- the records of its bucket come in time after those so far
+  pub bucket-in_time : (bucket : Bucket) (new : Standing) → ended m t standing ≡ None → IsCycle m t standing bucket new → IsInTime (last_time 0 (records_of_buckets so_far)) bucket.done
+  bucket-in_time bucket new not_ended cycle =
+      let here = cycle-here bucket new not_ended cycle in
+      let more : List Bucket = rest m t (after m t way.state) bucket.fault in
+      let all : (run m t (initial_state m)).records ≡ records_of_buckets so_far ++ (bucket.done ++ records_of_buckets more) =
+      ap (λ (r : Run). r.records) (sym (laws.cycles (initial_state m) laws.initial))
+      ∙ ap records_of_buckets (way.buckets ∙ ap (λ (bs : List Bucket). so_far ++ bs) (rest-here bucket new here))
+      ∙ records_of_buckets-append so_far (bucket ∷ more)
+      ∙ ap (λ (records : List (Key × Note)). records_of_buckets so_far ++ records) (records_of_buckets-first bucket more) in
+      let whole : IsInTime 0 (run m t (initial_state m)).records = in_time-ascending 0 (run m t (initial_state m)).records (λ told behind is. omega arith) laws.ascend in
+      in_time-front (last_time 0 (records_of_buckets so_far)) bucket.done (records_of_buckets more)
+      (in_time-behind 0 (records_of_buckets so_far) (bucket.done ++ records_of_buckets more) (subst (IsInTime 0) all whole))
+
+  -- and there is room for them
+  pub bucket-has_room : (bucket : Bucket) (new : Standing) → ended m t standing ≡ None → IsCycle m t standing bucket new → length (records_of_buckets so_far) + length bucket.done ≤ 1000000000
+  bucket-has_room bucket new not_ended cycle =
+      let here = cycle-here bucket new not_ended cycle in
+      let counted = count-after bucket new here in
+      let upto : (after m t way.state).count ≤ t.limit = (laws.buckets way.state way.lawful).lawful.count in
+      omega (arith, counted, way.counted, upto, t.limit_in_range)
+
   -- each cycle but the last two has an event, so that the limit bounds their number
-  pub few_cycles : number < t.limit + 3
-  few_cycles = let many = way.lawful.count in let told_already = way.numbered in omega (arith, many, told_already)
+  pub few_cycles : length so_far < t.limit + 2
+  few_cycles = let many = way.lawful.count in let few = way.few in omega (arith, many, few)
 
 -- what an engine says by its own meaning and terms, where these are the model's
 pub ended-same : (m m' : Meaning) (t t' : Terms) (standing : Standing) (r : Option Stop) → m' ≡ m → t' ≡ t → r ≡ ended m' t' standing → ended m t standing ≡ r
@@ -186,40 +242,33 @@ has_done m t meaning terms StandsIn old at answer bucket new same_meaning same_t
     }
 
 -- a simulation begins under way
-pub begins : (m : Meaning) (t : Terms) (told : Bool) (standing : Standing) (start : Option (List ℕ)) (gathered : List ℕ) → SimulationLaws m t → Lawful m t (initial_state m) → standing ≡ stands (initial_state m) None → gathered ≡ []
-    → IsUnderWay m t told standing 1 start start gathered
-unfolding rest
-begins m t told standing start gathered laws lawful is_start empty = record {
+pub begins : (m : Meaning) (t : Terms) (standing : Standing) → Lawful m t (initial_state m) → standing ≡ stands (initial_state m) None → IsUnderWay m t standing []
+unfolding rest records_of_buckets initial_state
+begins m t standing lawful is_start = record {
   state = initial_state m;
   fault = None;
   at_state = is_start;
   lawful = lawful;
   failed = λ f is_fault. cc;
-  told_so_far = ([], Appends-nil start, sym (text-of_cycles m t told (initial_state m) (laws.cycles (initial_state m) lawful)) ∙ ap (λ xs. xs ++ text_of_cycles m t told 1 (cycles m t (initial_state m))) (sym empty));
+  buckets = refl;
+  last = refl;
   stop = refl;
-  numbered = omega arith;
-  numbered_whole = λ whole. omega arith;
+  counted = refl;
+  few = omega arith;
+  few_whole = λ whole. omega arith;
 }
 
--- a piece of the gathered text is written
-pub writes : (m : Meaning) (t : Terms) (told : Bool) (standing : Standing) (number : ℕ) (start now later : Option (List ℕ)) (gathered left : List ℕ) → IsUnderWay m t told standing number start now gathered → AppendsSome now later gathered left
-    → IsUnderWay m t told standing number start later left
-writes m t told standing number start now later gathered left way piece =
-    record {
-      state = way.state;
-      fault = way.fault;
-      at_state = way.at_state;
-      lawful = way.lawful;
-      failed = way.failed;
-      told_so_far = writes_more start now later _ gathered left (rest m t told number way.state way.fault) way.told_so_far piece;
-      stop = way.stop;
-      numbered = way.numbered;
-      numbered_whole = way.numbered_whole;
-    }
-
-pub counted-here : (m : Meaning) (t : Terms) (told : Bool) (standing : Standing) (number : ℕ) (start now : Option (List ℕ)) (gathered : List ℕ) (way : IsUnderWay m t told standing number start now gathered) (count : ℕ) → IsCountAt standing count → count ≡ way.state.count
+pub counted-here : (m : Meaning) (t : Terms) (standing : Standing) (so_far : List Bucket) (way : IsUnderWay m t standing so_far) (count : ℕ) → IsCountAt standing count → count ≡ way.state.count
 unfolding IsCountAt
-counted-here m t told standing number start now gathered way count counted = let P : Standing → Type 0 = λ s. IsCountAt s count in subst P way.at_state counted
+counted-here m t standing so_far way count counted = let P : Standing → Type 0 = λ s. IsCountAt s count in subst P way.at_state counted
+
+-- what a buffer that was empty holds, once lines were put into it
+pub held : (before after slice lines : List ℕ) → before ≡ [] → after ≡ before ++ lines → slice ≡ after → slice ≡ lines
+held before after slice lines empty put is_slice = is_slice ∙ put ∙ ap (λ xs. xs ++ lines) empty
+
+-- and once more
+pub held_both : (before between after slice first second : List ℕ) → before ≡ [] → between ≡ before ++ first → after ≡ between ++ second → slice ≡ after → slice ≡ first ++ second
+held_both before between after slice first second empty put put_more is_slice = is_slice ∙ put_more ∙ ap (λ xs. xs ++ second) (held before between between first empty put refl)
 
 pub none_of : {A : Type 0} (o : Option A) → ((x : A) → o ≡ Some x → ⊥) → o ≡ None
 none_of None h = refl

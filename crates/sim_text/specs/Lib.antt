@@ -1,2 +1,3 @@
-pub mod Gathering
+pub mod Reports
 pub mod Rest
+pub mod WholeTexts

@@ -3,6 +3,7 @@ ghost use Rattle.std.specs.Prelude.{◌≡◌, ◌++◌, OnOk, All, ◌<◌};
 ghost use Rattle.sim_io.specs.Texts.{record_lines};
 ghost use Rattle.sim_io.specs.CycleTexts.{told_cycle, bucket_lines};
 ghost use Rattle.sim_text.specs.Rest.{AllAtObjects};
+ghost use Rattle.sim_text.specs.WholeTexts.{is_whole};
 
 use event_key::Key;
 use model_core::model::Model;
@@ -27,17 +28,24 @@ fn put_records<M: Model>(
     Ok(())
 }
 
-/// Appends the line of a cycle where it is told and whole.
+/// Whether a bucket met neither a fault nor the limit.
+pub fn is_whole(bucket: &Bucket) -> bool
+    ensures { result ≡ is_whole bucket.now }
+{
+    bucket.fault.is_none() && !bucket.limited
+}
+
+/// Appends the line of a cycle where cycles are told and it is whole.
 #[tactic(auto, unfolding(sim_io::specs::CycleTexts::told_cycle))]
 fn put_told_cycle(
-    told: bool,
+    cycles: bool,
     number: u64,
     bucket: &Bucket,
     into: &mut Vec<u8>,
 ) -> Result<(), OutOfMemory>
-    ensures { OnOk result (into.new.items ≡ into.old.items ++ told_cycle told number bucket.now bucket.now.fault bucket.now.limited) }
+    ensures { OnOk result (into.new.items ≡ into.old.items ++ told_cycle cycles number bucket.now bucket.now.fault bucket.now.limited) }
 {
-    if told && bucket.fault.is_none() && !bucket.limited {
+    if cycles && is_whole(bucket) {
         put_cycle(number, bucket, into)?;
     }
     Ok(())
@@ -49,14 +57,14 @@ fn put_told_cycle(
 pub fn put_bucket<M: Model>(
     alloc: Global,
     model: &M,
-    told: bool,
+    cycles: bool,
     number: u64,
     bucket: Bucket,
     into: &mut Vec<u8>,
 ) -> Result<(), OutOfMemory>
     requires { AllAtObjects (M.meaning model.now) bucket.done }
-    ensures { OnOk result (into.new.items ≡ into.old.items ++ bucket_lines (M.meaning model.now) told number bucket) }
+    ensures { OnOk result (into.new.items ≡ into.old.items ++ bucket_lines (M.meaning model.now) cycles number bucket) }
 {
     put_records(alloc, model, bucket.done.as_slice(), into)?;
-    put_told_cycle(told, number, &bucket, into)
+    put_told_cycle(cycles, number, &bucket, into)
 }

@@ -2,8 +2,9 @@
 #![tactic(auto)]
 
 mod bucket_text;
-mod gathering;
+mod report;
 mod simulation;
+mod summary;
 mod unfinished;
 
 pub use simulation::simulate;

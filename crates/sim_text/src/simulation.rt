@@ -5,29 +5,30 @@ ghost use Rattle.sim_spec.specs.State.{initial_state};
 ghost use Rattle.sim_spec.specs.Standing.{Standing, stands, ended, DoesCycles};
 ghost use Rattle.sim_spec.specs.Run.{run};
 ghost use Rattle.sim_io.specs.Causes.{Rose};
-ghost use Rattle.sim_io.specs.Transfers.{AppendsFront};
-ghost use Rattle.sim_io.specs.CycleTexts.{text_from_start};
+ghost use Rattle.sim_io.specs.Transfers.{AppendsPrefix};
+ghost use Rattle.sim_text.specs.WholeTexts.{text_from_start};
 ghost use Rattle.sim_text.specs.declared.unfinished.Unfinished.TheVariants.{WriteFault};
 
-use crate::bucket_text::put_bucket;
-use crate::gathering::write_piece;
+use crate::report::Report;
 use crate::unfinished::Unfinished;
 use model_core::OutOfMemory;
 use model_core::model::Model;
-use sim_io::{Sink, put_stop, write_all};
+use run_laws::laws::{law_order, law_reached};
+use sim_io::{Settings, Sink, put_stop, write_all};
 use sim_spec::laws::{law_bucket, law_initial, law_moves, law_next};
 use sim_spec::{Bucket, Engine, Stop, Terms};
 use std::alloc::Global;
 
-/// Runs an engine from the start of its model until it has ended, and writes the text of the simulation: after each
-/// cycle what its bucket tells, once there is a piece of text, and in the end why it stopped.
+/// Runs an engine from the start of its model until it has ended, and writes the text of the simulation as it is set: after
+/// each cycle what is told of its bucket at once, and in the end what was kept of all, and why it stopped. No bucket is
+/// kept, and the memory for the text of one serves the next one too.
 pub fn simulate<M: Model, E: Engine, F: Fn(&mut E, Global) -> Result<Bucket, OutOfMemory>, K: Sink>(
     alloc: Global,
     model: &M,
     terms: &Terms,
     engine: &mut E,
     cycle: &F,
-    cycles: bool,
+    settings: Settings,
     sink: &mut K,
 ) -> Result<Stop, Unfinished>
     requires meaning { E.meaning engine.old ≡ M.meaning model.now }
@@ -35,9 +36,9 @@ pub fn simulate<M: Model, E: Engine, F: Fn(&mut E, Global) -> Result<Bucket, Out
     requires begins { E.stands_at engine.old (stands (initial_state (M.meaning model.now)) None) }
     requires may { (e : _) (at : Standing) → E.stands_at e.now at → ended (E.meaning e.now) (E.terms e.now) at ≡ None → F.pre cycle.now e alloc }
     requires does { (e : _) (r : _) (f : _) → F.post cycle.now e alloc r f → DoesCycles E.meaning E.terms E.stands_at e.now r f.now }
-    ensures whole { OnOk result (Appends (K.told sink.old) (K.told sink.new) (text_from_start (M.meaning model.now) terms.now cycles)) }
+    ensures whole { OnOk result (Appends (K.told sink.old) (K.told sink.new) (text_from_start (M.meaning model.now) terms.now settings)) }
     ensures stop { IfOk result (λ stop. stop ≡ (run (M.meaning model.now) terms.now (initial_state (M.meaning model.now))).stop) }
-    ensures front { OnErr result (AppendsFront (K.told sink.old) (K.told sink.new) (text_from_start (M.meaning model.now) terms.now cycles)) }
+    ensures prefix { OnErr result (AppendsPrefix (K.told sink.old) (K.told sink.new) (text_from_start (M.meaning model.now) terms.now settings)) }
     ensures fault { IsErrOf result WriteFault → Rose (K.faults sink.old) (K.faults sink.new) }
     ensures later { K.faults sink.old ≤ K.faults sink.new }
 {
@@ -45,17 +46,23 @@ pub fn simulate<M: Model, E: Engine, F: Fn(&mut E, Global) -> Result<Bucket, Out
     law_next(model, terms);
     law_bucket(model, terms);
     law_moves(model, terms);
+    law_reached(model, terms);
+    law_order(model, terms);
+    let mut report = Report::new(alloc, model.objects(), settings)?;
     let mut text = Vec::new(alloc);
     let mut number = 1;
     'cycles: loop {
+        text.clear();
         if let Some(stop) = engine.ended() {
-            put_stop(alloc, model, terms, engine.count(), &stop, &mut text)?;
+            let count = engine.count();
+            report.put(alloc, model, count, &mut text)?;
+            put_stop(alloc, model, terms, count, &stop, &mut text)?;
             write_all(sink, text.as_slice())?;
             return Ok(stop);
         }
         let bucket = cycle(engine, alloc)?;
-        put_bucket(alloc, model, cycles, number, bucket, &mut text)?;
-        write_piece(&mut text, sink)?;
+        report.add(alloc, model, number, bucket, &mut text)?;
+        write_all(sink, text.as_slice())?;
         number += 1;
     }
 }

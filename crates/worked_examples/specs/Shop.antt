@@ -6,8 +6,8 @@ use Rattle.event_key.specs.declared.key.TheConstants.{INITIAL}
 use Rattle.event_key.specs.Stamps.{stamp_at}
 use Rattle.model_core.specs.Meaning.{Meaning}
 use Rattle.random_streams.specs.declared.law.Law.TheVariants.{Fixed}
-use Rattle.queue_models.specs.declared.kind.Kind.TheVariants.{Source, Station, Sink}
-use Rattle.queue_models.specs.Objects.{network_parts}
+use Rattle.queue_models.specs.declared.kind.KindOver.TheVariants.{Source, Station, Sink}
+use Rattle.queue_models.specs.Objects.{network_of}
 use Rattle.queue_models.specs.Meaning.{network_meaning}
 use Rattle.sim_spec.specs.declared.bucket.Bucket.{Bucket}
 use Rattle.sim_spec.specs.declared.terms.Terms.{Terms}
@@ -16,7 +16,7 @@ use Rattle.worked_examples.specs.Summaries.{key_at, told_at, whole_bucket, item_
 
 unfoldable pub shop : Meaning
 shop =
-    network_meaning (network_parts 0 (
+    network_meaning (network_of 0 (
     item_of (codes "source") (Source 1 (Fixed 2) 3 1)
     ∷ item_of (codes "station") (Station 1 (Fixed 3) 10 false 2)
     ∷ item_of (codes "sink") (Sink None)

@@ -8,8 +8,8 @@ use Rattle.model_core.specs.declared.entry.Entry.{Entry}
 use Rattle.model_core.specs.declared.note.Note.{Note}
 use Rattle.model_core.specs.Meaning.{Meaning}
 use Rattle.random_streams.specs.declared.law.Law.TheVariants.{Fixed}
-use Rattle.queue_models.specs.declared.kind.Kind.TheVariants.{Station, Sink}
-use Rattle.queue_models.specs.Objects.{network_parts}
+use Rattle.queue_models.specs.declared.kind.KindOver.TheVariants.{Station, Sink}
+use Rattle.queue_models.specs.Objects.{network_of}
 use Rattle.queue_models.specs.Meaning.{network_meaning}
 use Rattle.sim_spec.specs.declared.bucket.Bucket.{Bucket}
 use Rattle.sim_spec.specs.declared.terms.Terms.{Terms}
@@ -19,7 +19,7 @@ use Rattle.worked_examples.specs.Summaries.{key_at, told_at, whole_bucket, entry
 -- it serves each job for so many ticks, and these jobs arrive
 unfoldable pub strict_station : ℕ → List Entry → Meaning
 strict_station service jobs =
-    network_meaning (network_parts 0 (
+    network_meaning (network_of 0 (
     item_of (codes "station") (Station 1 (Fixed service) 1 true 1)
     ∷ item_of (codes "sink") (Sink None)
     ∷ []) jobs)

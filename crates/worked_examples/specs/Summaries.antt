@@ -13,8 +13,8 @@ use Rattle.sim_spec.specs.Cycles.{Cycles, cycles}
 use Rattle.sim_spec.specs.State.{initial_state}
 use Rattle.sim_spec.specs.Cut.{records_of}
 use Rattle.sim_spec.specs.Replay.{Replay}
-use Rattle.queue_models.specs.declared.kind.Item.{Item}
-use Rattle.queue_models.specs.declared.kind.Kind.{Kind}
+use Rattle.queue_models.specs.declared.kind.KindOver.{KindOver}
+use Rattle.queue_models.specs.Objects.{Item}
 
 abbrev pub summary_of : Cycles → List Bucket × Stop × ℕ
 summary_of c = (c.buckets, c.stop, c.last.count)
@@ -44,5 +44,5 @@ abbrev pub entry_at : ℕ → ℕ → Entry
 entry_at time object = record { time = time; at = object; rank = 0 }
 
 -- an object of a network, by its name and kind
-abbrev pub item_of : List ℕ → Kind → Item
+abbrev pub item_of : List ℕ → KindOver ℕ → Item
 item_of name kind = record { name = name; kind = kind; rank = 0 }

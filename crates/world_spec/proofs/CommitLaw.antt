@@ -1,25 +1,22 @@
 -- A commit leaves a node that stands for the share without what was due.
 use Rattle.std.proofs.Common.{Bool, List, [], ap, arith, cond, drop, eqb, false, length, length-take, min, not, refl, subst, suc, sym, take, take-append-drop, true, zero, ℕ, ◌++◌, ◌+◌, ◌-◌, ◌<◌, ◌∙◌, ◌∷◌, ◌≡◌, ◌≤◌}
 use Rattle.std.proofs.Math.Seq.{drop-append_seam}
-use Rattle.std.proofs.lemmas.Bool.{false_from_ne_true}
 use Rattle.std.proofs.lemmas.List.{append-nil, drop-drop, length-append}
 use Rattle.std.proofs.lemmas.List.Elements.{filter-append}
 use Rattle.std.specs.List.{AllByRecursion as Each}
 use Rattle.std.specs.Prelude.{None, Option, Some, filter}
-use Rattle.event_key.specs.Keys.{key_lt}
 use Rattle.event_key.specs.Stamps.{end_stamp}
 use Rattle.event_key.specs.declared.key.Key.{Key}
 use Rattle.model_core.specs.Meaning.{Meaning, MeaningLaws}
 use Rattle.model_core.specs.declared.event.Event.{Event}
-use Rattle.sim_spec.specs.Cut.{after}
 use Rattle.sim_spec.specs.Firing.{ObjectState}
 use Rattle.key_order.specs.Ascending.{IsAscending, key_of, Ascends}
-use Rattle.sim_spec.specs.Replay.{Replay, events_at, replay, taken}
+use Rattle.sim_spec.specs.Replay.{Replay, events_at, replay, taken, replay_after}
 use Rattle.sim_spec.specs.declared.terms.Terms.{Terms}
 use Rattle.key_order.proofs.AscendingLemmas.{Ascends-filter}
 use Rattle.key_order.proofs.EachLemmas.{Each-back, Each-filter, Each-map}
 use Rattle.sim_spec.proofs.PartLemmas.{Each-events_at, IsAscending-events_at}
-use Rattle.sim_spec.proofs.ReplayLemmas.{replay-append, replay-fault, replay-faulted, replay_after}
+use Rattle.sim_spec.proofs.ReplayLemmas.{replay-append, replay-fault, replay-faulted}
 use Rattle.key_order.specs.Due.{is_due}
 use Rattle.world_spec.specs.Moves.{IsCommit, IsDueDone, committed, committed_ahead, due_count, without_first}
 use Rattle.world_spec.specs.NodeLaws.{CommitLaw}
@@ -27,7 +24,7 @@ use Rattle.world_spec.specs.Share.{IsAtHome, IsHome, NodeData, Share, StandsFor,
 use Rattle.key_order.proofs.FilterLemmas.{filter-all, filter-none, filter-passes, filter-swap, length-filter_le}
 use Rattle.world_spec.proofs.ReplayLawful.{replay-lawful}
 use Rattle.sim_spec.proofs.TakenLemmas.{taken-le, taken-rest}
-use Rattle.key_order.proofs.DueLemmas.{due-down}
+use Rattle.key_order.proofs.DueLemmas.{none-due}
 
 -- the first events, and those behind them
 abbrev no_events : List Event
@@ -49,9 +46,6 @@ module _ (bound : ℕ) (cut : Option Key) where
   abbrev stays : Event → Bool
   stays e = not (is_due bound cut e.key)
 
-  none_due : (e : Event) (es : List Event) → due e ≡ false → Each (λ x. key_lt e.key x.key ≡ true) es → Each (λ x. due x ≡ false) es
-  none_due e es not after = Each-map (λ x. key_lt e.key x.key ≡ true) (λ x. due x ≡ false) es (λ x lt. false_from_ne_true (due x) (λ yes. let h = due-down bound cut e.key x.key lt yes in cc)) after
-
   -- in a list in order, what is due stands at the front
   pub due-front : (es : List Event) → IsAscending es → (filter due es ≡ take (length (filter due es)) es) × (filter stays es ≡ drop (length (filter due es)) es)
   unfolding Ascends
@@ -63,7 +57,7 @@ module _ (bound : ℕ) (cut : Option Key) where
           × (cond (not b) (e ∷ filter stays es) (filter stays es) ≡ drop (length (cond b (e ∷ filter due es) (filter due es))) (e ∷ es))
       by_test true h more = (ap (λ xs. e ∷ xs) more.0, more.1)
       by_test false h more =
-          let no = none_due e es h up.0 in
+          let no = none-due key_of bound cut e.key es h up.0 in
           let nothing : filter due es ≡ [] = filter-none due es no in
           let all : filter stays es ≡ es = filter-all stays es (Each-map (λ x. due x ≡ false) (λ x. stays x ≡ true) es (λ x n. ap not n) no) in
           (nothing ∙ sym (ap (λ xs. take (length xs) (e ∷ es)) nothing), ap (λ xs. e ∷ xs) all ∙ sym (ap (λ xs. drop (length xs) (e ∷ es)) nothing))

@@ -11,14 +11,14 @@ use Rattle.model_core.specs.declared.event.Event.{Event}
 use Rattle.sim_spec.specs.Cut.{after, committed_events, emissions_of, events_of, objects_after, state_with_done}
 use Rattle.sim_spec.specs.Firing.{Firing}
 use Rattle.key_order.specs.Ascending.{IsAscending, key_of}
-use Rattle.sim_spec.specs.Replay.{Replay, done_at, events_at, replay}
+use Rattle.sim_spec.specs.Replay.{Replay, done_at, events_at, replay, replay_after}
 use Rattle.sim_spec.specs.State.{Lawful, State, object_at}
 use Rattle.sim_spec.specs.declared.terms.Terms.{Terms}
 use Rattle.key_order.proofs.AscendingLemmas.{Ascends-filter, Ascends-prefix}
 use Rattle.sim_spec.proofs.BucketLaw.{bucket_law}
 use Rattle.key_order.proofs.EachLemmas.{Each-both, Each-drop, Each-filter, Each-front, Each-take}
 use Rattle.sim_spec.proofs.PartLemmas.{AllSound-dest, Each-events_at, events_at-append, events_at-events_of, length-events_of}
-use Rattle.sim_spec.proofs.ReplayLemmas.{replay-fault, replay_after}
+use Rattle.sim_spec.proofs.ReplayLemmas.{replay-fault}
 use Rattle.world_spec.specs.Closed.{cut_key}
 use Rattle.world_spec.specs.Early.{IsClosed, RunsAhead, kept}
 use Rattle.key_order.specs.Due.{is_due}
@@ -44,6 +44,23 @@ pub share-homed : (m : Meaning) (t : Terms) (s : State) (home : ℕ → ℕ) (no
 share-homed m t s home node lawful =
     Each-both (λ (e : Event). e.key.dest < m.objects) (λ (e : Event). home e.key.dest ≡ node) (IsAtHome m home node) (filter (is_at home node) s.pending) (λ e low at. (low, at))
     (Each-filter (λ (e : Event). e.key.dest < m.objects) (is_at home node) s.pending (AllSound-dest m s.objects s.pending lawful.sound)) (filter-at home node s.pending)
+
+-- the events of a bucket are at objects of the model, each of them at a node, and in order
+module _ (m : Meaning) (t : Terms) (s : State) (lawful : Lawful m t s) where
+  pub bucket-dests : Each (λ (e : Event). e.key.dest < m.objects) (events_of (committed_events m t s))
+  bucket-dests =
+      let P : List Event → Type 0 = Each (λ (e : Event). e.key.dest < m.objects) in
+      Each-front (λ (e : Event). e.key.dest < m.objects) (events_of (committed_events m t s)) (left_of m t s) (subst P (pending_is m t s lawful) (AllSound-dest m s.objects s.pending lawful.sound))
+
+  pub bucket-ordered : IsAscending (events_of (committed_events m t s))
+  bucket-ordered = let U : List Event → Type 0 = IsAscending in Ascends-prefix key_of (events_of (committed_events m t s)) (left_of m t s) (subst U (pending_is m t s lawful) lawful.ordered)
+
+  pub bucket-placed : (home : ℕ → ℕ) (nodes : ℕ) → ((object : ℕ) → object < m.objects → home object < nodes) → Each (λ (x : Event × Firing). home x.0.key.dest < nodes) (committed_events m t s)
+  bucket-placed home nodes homes = each_placed (committed_events m t s) bucket-dests
+    where
+      each_placed : (ds : List (Event × Firing)) → Each (λ (e : Event). e.key.dest < m.objects) (events_of ds) → Each (λ (x : Event × Firing). home x.0.key.dest < nodes) ds
+      each_placed [] all = tt
+      each_placed (x ∷ xs) all = (homes x.0.key.dest all.0, each_placed xs all.1)
 
 module _ (m : Meaning) (t : Terms) (laws : MeaningLaws m) (home : ℕ → ℕ) (nodes : ℕ) (s : State) (shares : ℕ → Share) (ahead : ℕ → ℕ) (world : WorldData)
     (stands : WorldStands m t home nodes s shares ahead world) (bound : ℕ)
@@ -99,25 +116,13 @@ module _ (m : Meaning) (t : Terms) (laws : MeaningLaws m) (home : ℕ → ℕ) (
             fault (ap (λ (r : Replay). r.fault) (sym log) ∙ is_fault);
       }
 
-  dests : Each (λ (e : Event). e.key.dest < m.objects) (events_of happened)
-  dests =
-      let P : List Event → Type 0 = Each (λ (e : Event). e.key.dest < m.objects) in
-      Each-front (λ (e : Event). e.key.dest < m.objects) (events_of happened) rest (subst P (pending_is m t s stands.lawful) (AllSound-dest m s.objects s.pending stands.lawful.sound))
-
   placed : Each (λ (x : Event × Firing). home x.0.key.dest < nodes) happened
-  placed = each_placed happened dests
-    where
-      each_placed : (ds : List (Event × Firing)) → Each (λ (e : Event). e.key.dest < m.objects) (events_of ds) → Each (λ (x : Event × Firing). home x.0.key.dest < nodes) ds
-      each_placed [] all = tt
-      each_placed (x ∷ xs) all = (stands.homes x.0.key.dest all.0, each_placed xs all.1)
-
-  ordered : IsAscending (events_of happened)
-  ordered = let U : List Event → Type 0 = IsAscending in Ascends-prefix key_of (events_of happened) rest (subst U (pending_is m t s stands.lawful) stands.lawful.ordered)
+  placed = bucket-placed m t s stands.lawful home nodes stands.homes
 
   -- what a node hands out is its part of the bucket
   handed : (node : ℕ) → node < nodes → (done : List (Event × Firing)) → IsHandedOut m home node bound cut (world.node node) done → done ≡ done_of home node happened
   handed node inside done out =
-      handed-is m home node bound cut (world.node node) done happened out ordered dests (λ object at.
+      handed-is m home node bound cut (world.node node) done happened out (bucket-ordered m t s stands.lawful) (bucket-dests m t s stands.lawful) (λ object at.
       ap (λ (r : Replay). filter (λ x. is_due bound cut x.0.key) r.done) ((stands.stands node inside).logs object at ∙ share-log m home s node (shares node) (stands.shares_of node inside) object (ahead object) at)
       ∙ (cycle_law m t laws s ahead bound stands.lawful runs idle).committed object at.0)
 
@@ -172,7 +177,7 @@ module _ (m : Meaning) (t : Terms) (laws : MeaningLaws m) (home : ℕ → ℕ) (
     bucket = cycle_law m t laws s ahead bound stands.lawful runs idle;
     due = due_done;
     handed = handed;
-    records = λ merged moves sorted. merged-is home nodes happened merged placed ordered moves sorted;
+    records = λ merged moves sorted. merged-is home nodes happened merged placed (bucket-ordered m t s stands.lawful) moves sorted;
     next = next_world;
   }
 

@@ -11,14 +11,13 @@ use Rattle.sim_spec.specs.Cut.{emissions_of, events_of, objects_after, state_wit
 use Rattle.sim_spec.specs.Firing.{Firing, ObjectState}
 use Rattle.key_order.specs.Ascending.{IsAscending}
 use Rattle.key_order.specs.Pending.{enqueue_all}
-use Rattle.sim_spec.specs.Replay.{Replay, done_at, early_replay, events_at, replay, taken}
+use Rattle.sim_spec.specs.Replay.{Replay, done_at, early_replay, events_at, replay, taken, replay_after}
 use Rattle.sim_spec.specs.State.{State, object_at}
 use Rattle.sim_spec.specs.declared.terms.Terms.{Terms}
 use Rattle.key_order.proofs.EachLemmas.{Each-back, Each-take}
 use Rattle.sim_spec.proofs.InTurnLemmas.{drop-front}
 use Rattle.sim_spec.proofs.ObjectReplay.{GoFirst, early-events, early-split, in-turn-replay, whole_replay}
 use Rattle.sim_spec.proofs.PartLemmas.{events_at-enqueue_all, events_at-events_of, length-events_of}
-use Rattle.sim_spec.proofs.ReplayLemmas.{replay_after}
 use Rattle.world_spec.specs.Early.{IsEarly, early_events, is_before_all, kept, leading}
 use Rattle.world_spec.proofs.FrontLemmas.{front-enqueue_all, leading-le, leading-pass}
 use Rattle.sim_spec.proofs.TakenLemmas.{taken-le, taken-rest, taken-take}

@@ -12,13 +12,13 @@ use Rattle.model_core.specs.Meaning.{Meaning}
 use Rattle.model_core.specs.declared.event.Event.{Event}
 use Rattle.sim_spec.specs.Firing.{ObjectState, fails, fire, goes}
 use Rattle.key_order.specs.Ascending.{IsAscending, key_of, Ascends}
-use Rattle.sim_spec.specs.Replay.{Replay, events_at, replay, replay_fired, taken}
+use Rattle.sim_spec.specs.Replay.{Replay, events_at, replay, replay_fired, taken, replay_after}
 use Rattle.sim_spec.specs.Run.{next}
 use Rattle.sim_spec.specs.declared.terms.Terms.{Terms}
 use Rattle.key_order.proofs.AscendingLemmas.{Ascends-before}
 use Rattle.key_order.proofs.EachLemmas.{Each-append}
-use Rattle.sim_spec.proofs.PartLemmas.{IsAscending-events_at, events_at-first}
-use Rattle.sim_spec.proofs.ReplayLemmas.{replay-append, replay-fault, replay_after}
+use Rattle.sim_spec.proofs.PartLemmas.{IsAscending-events_at, events_at-first, events_at-other}
+use Rattle.sim_spec.proofs.ReplayLemmas.{replay-append, replay-fault}
 use Rattle.world_spec.specs.Moves.{IsStep, Steps, one_more, raised}
 use Rattle.world_spec.specs.NodeLaws.{AdvanceLaw, StepsLaw}
 use Rattle.world_spec.specs.Share.{IsAhead, IsAtHome, IsHome, NodeData, Share, StandsFor, log_of}
@@ -58,10 +58,6 @@ ahead-more m t share object n e ys ahead next none below =
         below = subst P (sym longer) (Each-append (λ (e : Event). e.key.stamp < end_stamp t.end) (take n evs) (e ∷ []) ahead.below (below, tt));
       },
     )
-
-at_other : (object : ℕ) (e : Event) (es : List Event) → object ≢ e.key.dest → events_at object (e ∷ es) ≡ events_at object es
-unfolding events_at
-at_other object e es apart = ap (λ b. cond b (e ∷ events_at object es) (events_at object es)) (ne_eqb e.key.dest object (λ same. apart (sym same)))
 
 module _ (m : Meaning) (t : Terms) (home : ℕ → ℕ) (node bound : ℕ) (share : Share) (ahead : ℕ → ℕ) (old new : NodeData) where
   abbrev same_share : Type 0
@@ -143,7 +139,7 @@ module _ (m : Meaning) (t : Terms) (home : ℕ → ℕ) (node bound : ℕ) (shar
         waiting = at_each (λ object. W object (raised ahead dest object)) dest
             (subst (λ n. W dest n) (raised_here dest) (λ home. sym (next-of (ahead dest) (events_at dest share.pending) e (events_at dest new.unprocessed) (next_here stands step)).1))
             (λ object apart. subst (λ n. W object n) (raised_there dest object apart)
-            (λ home. sym (at_other object e new.unprocessed apart) ∙ ap (events_at object) (sym step.waits) ∙ stands.waiting object home));
+            (λ home. sym (events_at-other object e new.unprocessed apart) ∙ ap (events_at object) (sym step.waits) ∙ stands.waiting object home));
       }
 
 -- so do any number of steps, and no object falls back

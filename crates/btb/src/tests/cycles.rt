@@ -3,7 +3,7 @@ use super::networks::SHOP_OBJECTS;
 use super::{TIE, told_by};
 use std::test::Fail;
 
-const SHOP_CYCLES: &str = "1.0 in make 1 2
+pub(super) const SHOP_CYCLES: &str = "1.0 in make 1 2
 cycle 1 horizon 1.1 events 1
 1.1 s take 1 0
 3.0 in make 2 1

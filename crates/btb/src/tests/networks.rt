@@ -28,7 +28,7 @@ name = \"out\"
 kind = \"sink\"
 ";
 
-const SHOP_TEXT: &str = "1.0 in make 1 2
+pub(super) const SHOP_TEXT: &str = "1.0 in make 1 2
 1.1 s take 1 0
 3.0 in make 2 1
 3.1 s wait 2 1
@@ -44,7 +44,12 @@ end 20 events 12
 ";
 
 /// A station with these fields, with jobs that arrive at these times.
-fn station(alloc: Global, end: u64, fields: &str, times: &[u64]) -> Result<String, Fail> {
+pub(super) fn station(
+    alloc: Global,
+    end: u64,
+    fields: &str,
+    times: &[u64],
+) -> Result<String, Fail> {
     let mut model = format!(in alloc;
         "format = 1\nmodel = \"network\"\nend = {end}\n
 [[object]]\nname = \"s\"\nkind = \"station\"\n{fields}next = \"out\"\n
@@ -255,8 +260,11 @@ name = \"out\"
 kind = \"sink\"
 ";
 
-/// The whole text that a command writes of the bank.
-fn bank_by<R: AllocGlobal + Threads + Sync>(rt: &R, command: &str) -> Result<Ended, Fail> {
+/// The whole text that these words write of the bank.
+pub(super) fn bank_by<R: AllocGlobal + Threads + Sync>(
+    rt: &R,
+    words: &[&str],
+) -> Result<Ended, Fail> {
     let alloc = rt.alloc();
     let source = MemSource::new(BANK.as_bytes().to_vec(alloc)?, Vec::new(alloc), 65536);
     let out = MemSink::new(
@@ -266,13 +274,13 @@ fn bank_by<R: AllocGlobal + Threads + Sync>(rt: &R, command: &str) -> Result<End
         Vec::new(alloc),
         2_000_000,
     )?;
-    answer_of(rt, &[command], source, out)
+    answer_of(rt, words, source, out)
 }
 
 #[test]
 fn both_commands_write_the_same_text_of_a_bank(rt: HostRuntime) -> Result<(), Fail> {
-    let run = bank_by(&rt, "run")?;
-    let one = bank_by(&rt, "one")?;
+    let run = bank_by(&rt, &["run"])?;
+    let one = bank_by(&rt, &["one"])?;
     assert_eq!(rt; run.status, 0);
     assert_eq!(rt; one.status, 0);
     assert!(rt; run.text.as_str() == one.text.as_str());

@@ -1,8 +1,7 @@
 //! Texts of networks, and what they are refused for.
-use super::refusal_of;
+use super::{refusal_of, replaced};
 use crate::read_model;
 use model_core::model::Model;
-use std::alloc::Global;
 use std::test::Fail;
 
 const SHOP: &str = "format = 1
@@ -160,12 +159,6 @@ const NOTHING: &str = "format = 1
 model = \"network\"
 end = 20
 ";
-
-/// The text with the first place of `old` replaced.
-fn replaced(alloc: Global, text: &str, old: &str, new: &str) -> Result<String, Fail> {
-    let (front, back) = text.split_once(old).ok_or("no such place")?;
-    Ok(format!(in alloc; "{front}{new}{back}")?)
-}
 
 #[test]
 fn networks_have_their_objects_and_starts(rt: HostRuntime) {

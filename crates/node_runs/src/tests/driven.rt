@@ -2,7 +2,7 @@
 ghost use Rattle.std.specs.Prelude.{◌≡◌, IfOk};
 ghost use Rattle.std.specs.List.{list_any};
 ghost use Rattle.event_key.specs.Stamps.{end_stamp};
-ghost use Rattle.node_core.specs.Marks.{same_key};
+ghost use Rattle.event_key.specs.Keys.{same_key};
 ghost use Rattle.node_core.specs.Steps.{HasStepped};
 ghost use Rattle.node_runs.specs.Drives.{fault_is_due};
 
@@ -42,7 +42,7 @@ impl<M: SimulationModel> Model for Driven<M> {
 }
 
 /// Whether two keys are the same.
-#[tactic(auto, unfolding(node_core::specs::Marks::same_key, event_key::specs::Keys::key_cmp))]
+#[tactic(auto, unfolding(event_key::specs::Keys::same_key, event_key::specs::Keys::key_cmp))]
 fn is_same(one: &Key, other: &Key) -> bool
     ensures { result ≡ same_key one.now other.now }
 {
@@ -172,7 +172,8 @@ impl<M: SimulationModel> Driven<M> {
         assert!(rt; self.sent < 1000000);
         self.node.tells_sent();
         self.node.tells_keys();
-        let committed = self.node.commit(alloc, horizon, cut)?;
+        let mut committed = Committed::new(alloc, self.homes.nodes())?;
+        self.node.commit(horizon, cut, &mut committed)?;
         self.sent += 800;
         Ok(committed)
     }

@@ -1,7 +1,7 @@
 ghost use Rattle.std.specs.Prelude.{◌≡◌, ◌<◌, ◌≤◌, ◌^◌};
 
 use super::named::Named;
-use crate::{put_cycle, put_done, put_stop};
+use crate::{put_cycle, put_demo, put_done, put_stop};
 use event_key::{INITIAL, Key, stamp_of};
 use model_core::{Note, Part, Sequence};
 use sim_spec::{Bucket, Stop, Terms};
@@ -50,7 +50,9 @@ fn each_word_of_a_note(rt: HostRuntime) -> Result<(), Fail> {
         (7, "hold"),
         (8, "route"),
         (9, "leave"),
-        (10, "10"),
+        (10, "load"),
+        (11, "level"),
+        (12, "12"),
         (4294967295, "4294967295"),
     ] {
         let mut text = Vec::new(alloc);
@@ -87,6 +89,37 @@ fn a_line_for_each_part(rt: HostRuntime) -> Result<(), Fail> {
     )?;
     let wanted =
         "70368744177663.65535 p8 wait 2 1\n70368744177663.65535 p8 take 18446744073709551615 0\n";
+    assert_eq!(rt; text.as_slice(), wanted.as_bytes());
+    Ok(())
+}
+
+#[test]
+fn the_counts_of_a_demo(rt: HostRuntime) -> Result<(), Fail> {
+    let alloc = rt.alloc();
+    let mut text = Vec::new(alloc);
+    put_demo(alloc, 1, 1501, 1500, stamp_of(1000, 2), &mut text)?;
+    let wanted = "demo 1 events 1501 cycles 1500 last 1000.2\n";
+    assert_eq!(rt; text.as_slice(), wanted.as_bytes());
+    Ok(())
+}
+
+#[test]
+fn the_longest_line(rt: HostRuntime) -> Result<(), Fail> {
+    let alloc = rt.alloc();
+    let mut text = Vec::new(alloc);
+    let note = Note::of(Part {
+        word: u32::MAX,
+        a: u64::MAX,
+        b: u64::MAX,
+    });
+    put_done(
+        alloc,
+        &Named,
+        &key(140737488355327, 65535, 8),
+        &note,
+        &mut text,
+    )?;
+    let wanted = "140737488355327.65535 p8 4294967295 18446744073709551615 18446744073709551615\n";
     assert_eq!(rt; text.as_slice(), wanted.as_bytes());
     Ok(())
 }

@@ -1,4 +1,5 @@
 use crate::{Settings, WordFault, read_words};
+use sim_spec::Placement;
 use std::alloc::Global;
 use std::test::Fail;
 
@@ -10,20 +11,45 @@ fn list_of(alloc: Global, words: &[&str]) -> Result<Vec<String>, Fail> {
     Ok(list)
 }
 
+/// A run in round placement without lines of cycles.
+fn run(nodes: u32, ahead: u32) -> Settings {
+    Settings::Run {
+        nodes,
+        ahead,
+        placement: Placement::Round,
+        cycles: false,
+    }
+}
+
 #[test]
-fn a_command_and_its_option(rt: HostRuntime) -> Result<(), Fail> {
+fn a_command_and_its_options(rt: HostRuntime) -> Result<(), Fail> {
     let alloc = rt.alloc();
     for (words, settings) in [
-        (["run"].as_slice(), Settings::Run { cycles: false }),
+        (["run"].as_slice(), run(4, 8)),
+        (["run", "--nodes", "1"].as_slice(), run(1, 8)),
+        (["run", "--ahead", "0"].as_slice(), run(4, 0)),
         (
-            ["run", "--cycles"].as_slice(),
-            Settings::Run { cycles: true },
+            ["run", "--ahead", "1024", "--nodes", "64"].as_slice(),
+            run(64, 1024),
+        ),
+        (["run", "--placement", "round"].as_slice(), run(4, 8)),
+        (
+            ["run", "--cycles", "--placement", "block", "--ahead", "7"].as_slice(),
+            Settings::Run {
+                nodes: 4,
+                ahead: 7,
+                placement: Placement::Block,
+                cycles: true,
+            },
         ),
         (["one"].as_slice(), Settings::One { cycles: false }),
         (
             ["one", "--cycles"].as_slice(),
             Settings::One { cycles: true },
         ),
+        (["totals"].as_slice(), Settings::Totals),
+        (["demo", "1"].as_slice(), Settings::Demo { n: 1 }),
+        (["demo", "256"].as_slice(), Settings::Demo { n: 256 }),
     ] {
         assert_eq!(rt; read_words(&list_of(alloc, words)?), Ok(settings));
     }
@@ -47,6 +73,47 @@ fn the_first_faulty_word_is_judged(rt: HostRuntime) -> Result<(), Fail> {
         ),
         (["one", "--cycles", "x"].as_slice(), WordFault::ExtraWord),
         (["one", "--cycles=1"].as_slice(), WordFault::UnknownOption),
+        (["one", "--nodes", "4"].as_slice(), WordFault::UnknownOption),
+        (["run", "--nodes"].as_slice(), WordFault::MissingValue),
+        (
+            ["run", "--cycles", "--ahead"].as_slice(),
+            WordFault::MissingValue,
+        ),
+        (["run", "--nodes", "0"].as_slice(), WordFault::BadValue),
+        (["run", "--nodes", "65"].as_slice(), WordFault::BadValue),
+        (["run", "--nodes", "04"].as_slice(), WordFault::BadValue),
+        (["run", "--nodes", "+4"].as_slice(), WordFault::BadValue),
+        (["run", "--nodes", ""].as_slice(), WordFault::BadValue),
+        (
+            ["run", "--nodes", "--ahead"].as_slice(),
+            WordFault::BadValue,
+        ),
+        (["run", "--ahead", "1025"].as_slice(), WordFault::BadValue),
+        (
+            ["run", "--ahead", "00000001"].as_slice(),
+            WordFault::BadValue,
+        ),
+        (
+            ["run", "--placement", "Round"].as_slice(),
+            WordFault::BadValue,
+        ),
+        (
+            ["run", "--nodes", "2", "--nodes", "0"].as_slice(),
+            WordFault::RepeatedOption,
+        ),
+        (
+            ["run", "--nodes", "2", "3"].as_slice(),
+            WordFault::ExtraWord,
+        ),
+        (["totals", "--cycles"].as_slice(), WordFault::UnknownOption),
+        (["totals", "totals"].as_slice(), WordFault::ExtraWord),
+        (["demo"].as_slice(), WordFault::MissingValue),
+        (["demo", "0"].as_slice(), WordFault::BadValue),
+        (["demo", "257"].as_slice(), WordFault::BadValue),
+        (["demo", "-1"].as_slice(), WordFault::BadValue),
+        (["demo", "01", "2"].as_slice(), WordFault::BadValue),
+        (["demo", "1", "2"].as_slice(), WordFault::ExtraWord),
+        (["demo", "1", "--cycles"].as_slice(), WordFault::ExtraWord),
     ] {
         assert_eq!(rt; read_words(&list_of(alloc, words)?), Err(fault));
     }

@@ -1,7 +1,7 @@
 use Rattle.std.proofs.Common.{◌<◌, length, sym, ap, subst, refl, ◌∙◌, arith}
 use Rattle.std.proofs.lemmas.List.{get_or-set_other, get_or_default}
 use Rattle.std.proofs.lemmas.List.Elements.{length_all_zip}
-use Rattle.lanes_speed.proofs.Lists.{AllZip-first, AllZip-set, numbered_length, numbered_at}
+use Rattle.release_lanes.proofs.Numbers.{AllZip-first, AllZip-set, numbered_length, numbered_at}
 use Rattle.lanes_speed.proofs.cycle.post_all.Goals as goal
 
 pub loop-from-init : goal.loop-from-init

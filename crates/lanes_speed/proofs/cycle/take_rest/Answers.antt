@@ -1,5 +1,5 @@
 use Rattle.std.proofs.Common.{◌∙◌, arith}
-use Rattle.lanes_speed.proofs.Lists.{rest_kept}
+use Rattle.release_lanes.proofs.Numbers.{rest_kept}
 use Rattle.lanes_speed.proofs.cycle.take_rest.Goals as goal
 
 pub returns-in_default-clause-others : goal.returns-in_default-clause-others

@@ -1,8 +1,7 @@
-use Rattle.std.proofs.Common.{◌≡◌, ◌+◌, drop, length, map}
-use Rattle.queue_models.specs.Objects.{object_of}
+use Rattle.std.proofs.Common.{◌≡◌, ◌+◌, drop, length}
 use Rattle.model_text.specs.Directories.{finder}
 use Rattle.model_text.specs.Fields.{each_of}
-use Rattle.model_text.specs.Links.{linked_object, linked_from}
+use Rattle.model_text.specs.Links.{linked_item, linked_from}
 use Rattle.model_text.proofs.Each.{with_front}
 use Rattle.model_text.proofs.links.linked_items.Given as goal
 
@@ -10,6 +9,6 @@ abbrev pub invariant-loop-object : goal.invariant-loop-object
 invariant-loop-object l =
     record {
       count : length l.items.items ≡ length l.yielded;
-      so_far : with_front (map object_of l.items.items) (each_of (linked_object (finder l.directory)) (length l.yielded + 1) (drop (length l.yielded) l.fn.objects.items))
+      so_far : with_front (l.items.items) (each_of (linked_item (finder l.directory)) (length l.yielded + 1) (drop (length l.yielded) l.fn.objects.items))
           ≡ linked_from (finder l.directory) 1 l.fn.objects.items;
     }

@@ -1,10 +1,9 @@
 use Rattle.std.proofs.Common.{◌≡◌, ◌≢◌, drop, length}
 use Rattle.std.specs.Prelude.{All, AllPairs}
 use Rattle.toml.specs.View.{items_view}
-use Rattle.model_text.specs.declared.named.NamedItem.{NamedItem}
 use Rattle.model_text.specs.Directories.{finder}
 use Rattle.model_text.specs.NamedItems.{IsNamedItem}
-use Rattle.model_text.specs.Names.{place_in}
+use Rattle.model_text.specs.Names.{NamedItem, place_in}
 use Rattle.model_text.specs.Objects.{objects_after, objects}
 use Rattle.model_text.proofs.objects.objects.Given as goal
 

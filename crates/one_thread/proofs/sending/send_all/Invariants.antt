@@ -1,13 +1,13 @@
 use Rattle.std.proofs.Common.{◌≡◌, ◌+◌, ◌≤◌, ◌++◌, false, drop, length}
 use Rattle.model_core.specs.Meaning.{SendsInRange}
-use Rattle.sim_spec.specs.Firing.{has_chain, emissions}
+use Rattle.sim_spec.specs.Firing.{has_endless_chain, emissions}
 use Rattle.key_order.specs.Serials.{SerialsBelow}
 use Rattle.one_thread.proofs.sending.send_all.Given as goal
 
 abbrev pub invariant-loop-send : goal.invariant-loop-send
 invariant-loop-send l = record {
   ranged : SendsInRange l.fn.objects (drop l.send-index l.sends);
-  stepping : has_chain l.cause.stamp (drop l.send-index l.sends) ≡ false;
+  stepping : has_endless_chain l.cause.stamp (drop l.send-index l.sends) ≡ false;
   count : l.next_serial ≡ l.fn.serial + l.send-index;
   primary_is : l.queue.primary ≡ l.fn.queue.primary;
   fresh_is : l.queue.fresh ++ emissions l.cause.stamp l.cause.dest l.next_serial (drop l.send-index l.sends) ≡ l.fn.queue.fresh ++ emissions l.cause.stamp l.cause.dest l.fn.serial l.sends;

@@ -9,7 +9,7 @@ use Rattle.release_lanes.proofs.plain.next_parcel.Goals as goal
 pub take-requires : goal.take-requires
 take-requires c =
     let same = same_at outline c.loop-from.ends c.args.ends.now c.loop-from.from c.index-ends-from.result c.loop-from.invariant.outlines in
-    let slots = ap (λ (o : ℕ × ℕ × ℕ). o.2) same in
+    let slots = ap (λ (o : ℕ × ℕ). o.1) same in
     let long = same_length outline c.loop-from.ends c.args.ends.now c.loop-from.invariant.outlines in
     let enough = c.requires c.loop-from.from c.index-ends-from.result (omega arith) in
     omega arith

@@ -1,16 +1,17 @@
-use Rattle.std.proofs.Common.{◌≡◌, ◌≢◌, ℕ, ◌<◌, ◌++◌, map}
-use Rattle.rtrb.specs.Ring.{sent}
+use Rattle.std.proofs.Common.{◌≡◌, ◌≢◌, ℕ, ◌<◌, ◌++◌, map, slice_index}
+use Rattle.rtrb.specs.Ring.{sent, known_free}
 use Rattle.release_lanes.specs.Lanes.{list_at}
-use Rattle.release_lanes.specs.Rings.{ring_out, outline, sent_row, received_row, received_on, rest_on}
+use Rattle.release_lanes.specs.Rings.{ring_out, outline, outs_of, received_row, received_on, rest_on}
 use Rattle.release_lanes.proofs.rings.look_all.Given as goal
 
 abbrev pub invariant-loop-to : goal.invariant-loop-to
 invariant-loop-to l = record {
   outlines : map outline l.ends ≡ map outline l.initial.ends;
-  sent_same : map sent_row l.ends ≡ map sent_row l.initial.ends;
+  outs_same : map outs_of l.ends ≡ map outs_of l.initial.ends;
   received_same : map received_row l.ends ≡ map received_row l.initial.ends;
   rings : map ring_out l.senders ≡ map ring_out l.initial.senders;
   senders_sent : map sent l.senders ≡ map sent l.initial.senders;
   known : (i to : ℕ) → i ≢ l.from → rest_on l.ends i to ≡ rest_on l.initial.ends i to;
   met : (to : ℕ) → to < l.to → received_on l.ends l.from to ++ rest_on l.ends l.from to ≡ list_at (map sent l.initial.senders) to;
+  free : (to : ℕ) → to < l.to → received_on l.initial.ends l.from to ≡ list_at (map sent l.initial.senders) to → 0 < slice_index (map known_free l.senders) to;
 }

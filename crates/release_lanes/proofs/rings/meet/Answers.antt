@@ -1,15 +1,15 @@
-use Rattle.std.proofs.Common.{◌≡◌, ◌<◌, ◌++◌, length, map, get_or, set, sym, ap, refl, ◌∙◌, arith}
+use Rattle.std.proofs.Common.{◌≡◌, ◌<◌, ◌++◌, length, map, get_or, slice_index, set, sym, ap, subst, refl, All, [], List, ◌∙◌, arith}
 use lib.Seq.{map-set_same}
-use Rattle.std.proofs.lemmas.List.{get_or_default, get_or-set_same, length-set, with_items_is}
+use Rattle.std.proofs.lemmas.List.{map-set, length-map, get_or_default, get_or-set_same, get_or-set_other, length-set, with_items_is}
 use Rattle.std.specs.Vec.{with_items}
 use Rattle.std.proofs.lemmas.List.Elements.{All-set}
-use Rattle.rtrb.specs.Ring.{sent}
+use Rattle.rtrb.specs.Ring.{sent, known_free}
 use Rattle.release_lanes.specs.declared.rings.RingEnd.{RingEnd}
 use Rattle.release_lanes.specs.Lanes.{list_at, lane_at}
 use Rattle.release_lanes.specs.Woven.{Outline, with_outs}
-use Rattle.release_lanes.specs.Rings.{Ring, ring_out, ring_in, outline, sent_row, received_row, known_row, received_on, rest_on}
+use Rattle.release_lanes.specs.Rings.{Ring, Sender, HasSlot, free_row, ring_out, ring_in, outline, sent_row, received_row, known_row, received_on, rest_on}
 use Rattle.release_lanes.proofs.Rows.{same_at, same_length}
-use Rattle.release_lanes.proofs.RingEnds.{woven_ins, woven_outs, woven_pairs, put_back, this_lane}
+use Rattle.release_lanes.proofs.RingEnds.{woven_ins, woven_outs, woven_pairs, outs_show, slots_at, put_back, this_lane}
 use Rattle.release_lanes.proofs.rings.meet.Goals as goal
 use Rattle.release_lanes.proofs.rings.meet.Goals.{After-drop-ends}
 
@@ -19,7 +19,7 @@ look_all-requires-clause-count c =
     let from = c.args.from in
     let senders = ap (λ v. length v.items) c.replace-senders.ensures.value in
     let slice = ap length c.as_mut_slice.ensures.value in
-    let wide = woven_outs (length ends) ends from c.index-ends-from.result c.requires.woven c.requires.within in
+    let wide = woven_outs (length ends) ends from c.index-ends-from.result c.requires.connected.woven c.requires.within in
     omega (arith, length-set {A = RingEnd})
 
 pub look_all-requires-clause-within : goal.look_all-requires-clause-within
@@ -29,20 +29,26 @@ look_all-requires-clause-within c =
     let inside = c.requires.within in
     let P : RingEnd → Type 0 = λ end. from < length end.ins.items in
     All-set P ends from _
-    (let wide = woven_ins (length ends) ends from c.index-ends-from.result c.requires.woven inside in omega arith)
-    (λ k d within. let wide = woven_ins (length ends) ends k d c.requires.woven within in omega arith)
+    (let wide = woven_ins (length ends) ends from c.index-ends-from.result c.requires.connected.woven inside in omega arith)
+    (λ k d within. let wide = woven_ins (length ends) ends k d c.requires.connected.woven within in omega arith)
 
 pub look_all-requires-clause-pairs : goal.look_all-requires-clause-pairs
 look_all-requires-clause-pairs c = λ to d r less.
     let ends = c.args.ends.now in
     let from = c.args.from in
     let e = get_or ends from c.index-ends-from.result in
-    let out : RingEnd = record { number = e.number; outs = c.replace-senders.new.dest; ins = e.ins; next = e.next } in
+    let out : RingEnd = record { number = e.number; outs = c.replace-senders.new.dest; ins = e.ins } in
     let inside : to < length ends = omega (arith, length-set {A = RingEnd}) in
     ap (λ l. get_or (map ring_out l) to r) (c.as_mut_slice.ensures.value ∙ ap (λ v. v.items) c.replace-senders.ensures.value)
-    ∙ woven_pairs (length ends) ends from to c.index-ends-from.result d r c.requires.woven c.requires.within inside
+    ∙ woven_pairs (length ends) ends from to c.index-ends-from.result d r c.requires.connected.woven c.requires.within inside
     ∙ sym (ap (λ v. get_or (map ring_in v.items) from r)
     (same_at (λ (x : RingEnd). x.ins) (set ends from out) ends to d (map-set_same (λ (x : RingEnd). x.ins) ends from out c.index-ends-from.result refl)))
+
+pub look_all-requires-clause-slots : goal.look_all-requires-clause-slots
+look_all-requires-clause-slots c =
+    let P : List Sender → Type 0 = λ senders. All HasSlot (map ring_out senders) in
+    subst P (sym (c.as_mut_slice.ensures.value ∙ ap (λ v. v.items) c.replace-senders.ensures.value))
+    (slots_at (length c.args.ends.now) c.args.ends.now c.args.from c.index-ends-from.result c.requires.connected c.requires.within)
 
 -- the senders as they were taken out
 taken_out : (c : After-drop-ends) → c.as_mut_slice.result.now ≡ (get_or c.args.ends.now c.args.from c.index-ends-from.result).outs.items
@@ -63,9 +69,9 @@ returns-clause-outlines c =
     let from = c.args.from in
     let e = get_or ends from c.index-ends-from.result in
     let e1 = get_or mid from c.index-ends-from-2.result in
-    let out : RingEnd = record { number = e.number; outs = c.replace-senders.new.dest; ins = e.ins; next = e.next } in
+    let out : RingEnd = record { number = e.number; outs = c.replace-senders.new.dest; ins = e.ins } in
     let senders = with_items c.replace-senders.result c.look_all.new.senders in
-    let back : RingEnd = record { number = e1.number; outs = senders; ins = e1.ins; next = e1.next } in
+    let back : RingEnd = record { number = e1.number; outs = senders; ins = e1.ins } in
     let at : e ≡ get_or ends from e = get_or_default ends from c.index-ends-from.result e c.requires.within in
     let rings = ap (map ring_out) (are_whole c) ∙ c.look_all.ensures.senders.0 ∙ ap (map ring_out) (taken_out c) in
     let same = same_at outline mid (set ends from out) from c.index-ends-from-2.result c.look_all.ensures.outlines
@@ -80,10 +86,10 @@ sent_back c =
     let from = c.args.from in
     let e = get_or ends from c.index-ends-from.result in
     let e1 = get_or mid from c.index-ends-from-2.result in
-    let out : RingEnd = record { number = e.number; outs = c.replace-senders.new.dest; ins = e.ins; next = e.next } in
-    let back : RingEnd = record { number = e1.number; outs = with_items c.replace-senders.result c.look_all.new.senders; ins = e1.ins; next = e1.next } in
+    let out : RingEnd = record { number = e.number; outs = c.replace-senders.new.dest; ins = e.ins } in
+    let back : RingEnd = record { number = e1.number; outs = with_items c.replace-senders.result c.look_all.new.senders; ins = e1.ins } in
     let at : e ≡ get_or ends from e = get_or_default ends from c.index-ends-from.result e c.requires.within in
-    put_back sent_row ends mid from e out back c.requires.within at c.look_all.ensures.sent
+    put_back sent_row ends mid from e out back c.requires.within at (outs_show (λ v. map sent v.items) mid (set ends from out) c.look_all.ensures.outs)
     (ap (map sent) (are_whole c) ∙ c.look_all.ensures.senders.1 ∙ ap (map sent) (taken_out c))
 
 pub returns-clause-sent : goal.returns-clause-sent
@@ -108,7 +114,7 @@ returns-clause-met c = λ to less.
     let from = c.args.from in
     let e = get_or ends from c.index-ends-from.result in
     let e1 = get_or mid from c.index-ends-from-2.result in
-    let back : RingEnd = record { number = e1.number; outs = with_items c.replace-senders.result c.look_all.new.senders; ins = e1.ins; next = e1.next } in
+    let back : RingEnd = record { number = e1.number; outs = with_items c.replace-senders.result c.look_all.new.senders; ins = e1.ins } in
     let at : e ≡ get_or ends from e = get_or_default ends from c.index-ends-from.result e c.requires.within in
     ap (λ rows. lane_at rows to from ++ rest_on (set mid from back) from to) (map-set_same received_row mid from back c.index-ends-from-2.result refl)
     ∙ ap (λ rows. received_on mid from to ++ lane_at rows to from) (map-set_same known_row mid from back c.index-ends-from-2.result refl)
@@ -116,3 +122,38 @@ returns-clause-met c = λ to less.
     ∙ ap (λ l. list_at (map sent l) to) (taken_out c)
     ∙ sym (this_lane sent_row ends from to e c.requires.within at)
     ∙ sym (ap (λ rows. lane_at rows from to) (sent_back c))
+
+pub returns-clause-others : goal.returns-clause-others
+returns-clause-others c = λ i to ne.
+    let ends = c.args.ends.now in
+    let mid = c.look_all.new.ends in
+    let from = c.args.from in
+    let e = get_or ends from c.index-ends-from.result in
+    let e1 = get_or mid from c.index-ends-from-2.result in
+    let out : RingEnd = record { number = e.number; outs = c.replace-senders.new.dest; ins = e.ins } in
+    let back : RingEnd = record { number = e1.number; outs = with_items c.replace-senders.result c.look_all.new.senders; ins = e1.ins } in
+    ap (λ r. slice_index r to)
+    (ap (λ rows. get_or rows i []) (map-set free_row mid from back) ∙ get_or-set_other (map free_row mid) from i (free_row back) [] ne
+    ∙ ap (λ rows. get_or rows i []) (outs_show (λ v. map known_free v.items) mid (set ends from out) c.look_all.ensures.outs)
+    ∙ ap (λ rows. get_or rows i []) (map-set free_row ends from out) ∙ get_or-set_other (map free_row ends) from i (free_row out) [] ne)
+
+pub returns-clause-free : goal.returns-clause-free
+returns-clause-free c = λ to less rested.
+    let ends = c.args.ends.now in
+    let mid = c.look_all.new.ends in
+    let from = c.args.from in
+    let e = get_or ends from c.index-ends-from.result in
+    let e1 = get_or mid from c.index-ends-from-2.result in
+    let back : RingEnd = record { number = e1.number; outs = with_items c.replace-senders.result c.look_all.new.senders; ins = e1.ins } in
+    let at : e ≡ get_or ends from e = get_or_default ends from c.index-ends-from.result e c.requires.within in
+    let out : RingEnd = record { number = e.number; outs = c.replace-senders.new.dest; ins = e.ins } in
+    let rests : received_on (set ends from out) from to ≡ list_at (map sent c.as_mut_slice.result.now) to =
+    ap (λ rows. lane_at rows to from) (map-set_same received_row ends from out c.index-ends-from.result refl)
+    ∙ rested ∙ this_lane sent_row ends from to e c.requires.within at ∙ ap (λ l. list_at (map sent l) to) (sym (taken_out c)) in
+    let free = c.look_all.ensures.free to (omega (arith, length-set {A = RingEnd})) rests in
+    let long = same_length outline mid (set ends from out) c.look_all.ensures.outlines in
+    let inside = c.requires.within in
+    let within : from < length (map free_row mid) = omega (arith, length-map mid free_row, length-set {A = RingEnd}) in
+    let row = ap (λ rows. get_or rows from []) (map-set free_row mid from back) ∙ get_or-set_same (map free_row mid) from (free_row back) [] within ∙ ap (map known_free) (are_whole c) in
+    let now = ap (λ r. slice_index r to) row in
+    omega arith

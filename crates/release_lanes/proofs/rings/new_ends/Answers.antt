@@ -26,7 +26,7 @@ loop-from-preserved c =
     let ok = c.loop-from.ends.ok.0 in
     let whole : take c.loop-from.ends.len (mid ++ drop (length mid) ends) ≡ mid = take_at mid (drop (length mid) ends) c.loop-from.ends.len (omega arith) in
     let at = c.index_mut.ensures.value ∙ ap (λ l. get_or l from end) whole in
-    let new : RingEnd = record { number = end.number; outs = outs; ins = end.ins; next = end.next } in
+    let new : RingEnd = record { number = end.number; outs = outs; ins = end.ins } in
     let within : from < length mid = omega arith in
     let P : List RingEnd → Type 0 = λ l. IsWoven c.args.nodes (from + 1) (map outline (set l from new)) in
     let N : List RingEnd → Type 0 = λ l. All IsNew (set l from new) in

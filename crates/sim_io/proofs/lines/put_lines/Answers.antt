@@ -9,7 +9,7 @@ loop-i-preserved g c =
     let m = g.M.Model.meaning c.args.model.now in
     record {
       lines = rw (c.in_ok-put_line.ensures.ok, append_assoc, ← event_lines-drop m c.args.key.now c.args.note.now c.loop-i.i c.at.result c.at.ensures) c.loop-i.invariant.lines;
-      front = starts_with_trans _ _ _ c.in_ok-put_line.ensures.front c.loop-i.invariant.front;
+      prefix = starts_with_trans _ _ _ c.in_ok-put_line.ensures.prefix c.loop-i.invariant.prefix;
     }
 
 pub returns-clause-ok : goal.returns-clause-ok

@@ -8,5 +8,5 @@ invariant-loop-i g l =
     let m = g.M.Model.meaning l.model in
     record {
       lines : l.into.items ++ event_lines m l.key (drop l.i l.note) ≡ l.initial.into.items ++ event_lines m l.key l.note;
-      front : StartsWith l.into.items l.initial.into.items;
+      prefix : StartsWith l.into.items l.initial.into.items;
     }

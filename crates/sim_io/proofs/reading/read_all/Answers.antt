@@ -4,6 +4,7 @@ use Rattle.std.proofs.KnownBytes.{Consumes-trans}
 use Rattle.std.proofs.lemmas.Result.{err_from_is_err_and}
 use Rattle.sim_io.proofs.TransferLemmas.{TakesSome-more, TakesUpTo-full, TakesUpTo-end}
 use Rattle.sim_io.proofs.reading.read_all.Goals as goal
+use Rattle.sim_io.specs.declared.reading.TheConstants.{ENOUGH_BYTES}
 
 pub returns-in_err-count-clause-refused : goal.returns-in_err-count-clause-refused
 returns-in_err-count-clause-refused g c =
@@ -13,9 +14,9 @@ returns-in_err-count-clause-refused g c =
 pub returns-then-count-eq0-clause-all : goal.returns-then-count-eq0-clause-all
 returns-then-count-eq0-clause-all g c =
     let piece = c.in_ok-count.ensures.appended in
-    TakesUpTo-end 1048577 (g.S.Source.left c.args.source.now) (g.S.Source.left c.read_piece.new.source) c.read_piece.new.bytes.items
+    TakesUpTo-end ENOUGH_BYTES (g.S.Source.left c.args.source.now) (g.S.Source.left c.read_piece.new.source) c.read_piece.new.bytes.items
     (rw piece.1 (Consumes-trans _ _ _ _ _ c.loop-source.invariant.taken piece.3)) (omega (arith, c.in_ok-count.ensures.short)) (c.in_ok-count.ensures.end (omega arith))
 
 pub returns-clause-all : goal.returns-clause-all
 returns-clause-all g c =
-    TakesUpTo-full 1048577 (g.S.Source.left c.args.source.now) (g.S.Source.left c.loop-source.source) c.loop-source.bytes.items c.loop-source.invariant.taken (omega arith)
+    TakesUpTo-full ENOUGH_BYTES (g.S.Source.left c.args.source.now) (g.S.Source.left c.loop-source.source) c.loop-source.bytes.items c.loop-source.invariant.taken (omega arith)

@@ -1,14 +1,15 @@
 use Rattle.std.proofs.Common.{◌≤◌, ◌-◌, vec_len}
 use Rattle.std.specs.Io.KnownBytes.{Consumes}
 use Rattle.sim_io.proofs.reading.read_all.Given as goal
+use Rattle.sim_io.specs.declared.reading.TheConstants.{ENOUGH_BYTES}
 
 abbrev pub invariant-loop-source : goal.invariant-loop-source
 invariant-loop-source g l =
     record {
       taken : Consumes (g.S.Source.left l.initial.source) (g.S.Source.left l.source) l.bytes.items;
-      short : vec_len l.bytes ≤ 1048577;
+      short : vec_len l.bytes ≤ ENOUGH_BYTES;
       later : g.S.Source.faults l.initial.source ≤ g.S.Source.faults l.source;
     }
 
 abbrev pub decreases-loop-source : goal.decreases-loop-source
-decreases-loop-source g l = 1048577 - vec_len l.bytes
+decreases-loop-source g l = ENOUGH_BYTES - vec_len l.bytes

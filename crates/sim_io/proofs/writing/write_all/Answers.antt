@@ -1,13 +1,13 @@
--- A write goes on from where the last one stopped.
-use Rattle.std.proofs.Common.{rules, arith}
-use Rattle.std.proofs.Math.Seq.{take-add}
-use Rattle.std.proofs.KnownBytes.{Appends-trans}
+-- The bytes that were taken are a prefix.
+use Rattle.std.proofs.Common.{sym, take, drop, take-append-drop}
+use Rattle.sim_io.specs.Transfers.{AppendsPrefix}
+use Rattle.model_core.proofs.Results.{on_err}
 use Rattle.sim_io.proofs.writing.write_all.Goals as goal
 
-pub loop-at-preserved : goal.loop-at-preserved
-loop-at-preserved g c =
-    record {
-      within = search rules;
-      taken = rw take-add (Appends-trans _ _ _ _ _ c.loop-at.invariant.taken (rw c.split_at.ensures.back at c.in_ok-count.ensures.taken));
-      later = omega (arith, c.loop-at.invariant.later, c.in_ok-count.ensures.cause.later);
-    }
+pub returns-clause-prefix : goal.returns-clause-prefix
+returns-clause-prefix g c =
+    let count = c.write_prefix-outcome.result.0 in
+    let bytes = c.args.bytes.now in
+    let taken : AppendsPrefix (g.K.Sink.told c.args.sink.now) (g.K.Sink.told c.write_prefix-outcome.new.sink) bytes =
+    (take count bytes, drop count bytes, sym (take-append-drop count bytes), c.write_prefix-outcome.ensures.taken) in
+    on_err _ taken

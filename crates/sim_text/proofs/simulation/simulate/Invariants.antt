@@ -1,5 +1,9 @@
-use Rattle.std.proofs.Common.{◌≡◌, ◌≤◌, ◌+◌, ◌-◌}
+use Rattle.std.proofs.Common.{◌≡◌, ◌≤◌, ◌+◌, ◌-◌, List, length}
+use Rattle.std.specs.Io.KnownBytes.{Appends}
+use Rattle.sim_spec.specs.declared.bucket.Bucket.{Bucket}
 use Rattle.sim_spec.specs.Standing.{Standing}
+use Rattle.sim_text.specs.Reports.{report_of}
+use Rattle.sim_text.proofs.Telling.{lines_so_far}
 use Rattle.sim_text.proofs.UnderWay.{SimulationLaws, IsUnderWay}
 use Rattle.sim_text.proofs.simulation.simulate.Given as goal
 
@@ -12,7 +16,11 @@ invariant-cycles g l =
       terms : g.E.Engine.terms l.engine ≡ l.terms;
       at : Standing;
       stands : g.E.Engine.stands_at l.engine at;
-      way : IsUnderWay m l.terms l.cycles at l.number (g.K.Sink.told l.fn.sink) (g.K.Sink.told l.sink) l.text.items;
+      so_far : List Bucket;
+      way : IsUnderWay m l.terms at so_far;
+      numbered : l.number ≡ length so_far + 1;
+      kept : l.report ≡ report_of m.objects l.fn.settings so_far;
+      told : Appends (g.K.Sink.told l.fn.sink) (g.K.Sink.told l.sink) (lines_so_far m l.fn.settings so_far);
       later : g.K.Sink.faults l.fn.sink ≤ g.K.Sink.faults l.sink;
     }
 

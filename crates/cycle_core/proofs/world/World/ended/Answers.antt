@@ -1,11 +1,12 @@
 use Rattle.std.proofs.Common.{◌≡◌, ◌∙◌, ap, sym, subst, arith, length}
+use Rattle.sim_spec.proofs.NextLemmas.{goes-on, stops-full, stops-late, stops-none}
 use Rattle.std.specs.Prelude.{Some, None}
 use Rattle.event_key.specs.Stamps.{end_stamp}
 use Rattle.sim_spec.specs.declared.stop.Stop.TheVariants.{End, Limit}
 use Rattle.cycle_core.specs.Gathered.{HasKeyOf, MayKeyOf, itself}
 use Rattle.cycle_core.specs.Inside.{nodes_in}
 use Rattle.cycle_core.specs.Leasts.{IsLeastUpto}
-use Rattle.cycle_core.proofs.StandingLemmas.{fault-ended, goes-on, next-told, spent-ended, stops-full, stops-late, stops-none, taken-ended}
+use Rattle.cycle_core.proofs.StandingLemmas.{fault-ended, next-told, spent-ended, taken-ended}
 use Rattle.cycle_core.proofs.world.World.ended.Goals as goal
 
 pub returns-then-self : goal.returns-then-self

@@ -1,8 +1,9 @@
 -- What is due is committed.
-use Rattle.std.proofs.Common.{◌+◌, ◌*◌, ◌<◌, ◌%◌, ◌^◌, length, subst, sym, ◌∙◌, refl}
+use Rattle.std.proofs.Common.{◌+◌, ◌*◌, ◌<◌, ◌%◌, ◌^◌, length, subst, sym, ap, ◌∙◌, refl}
 use Rattle.std.specs.Arc.{arc_value}
 use Rattle.model_core.specs.Meaning.{MeaningLaws}
 use Rattle.world_spec.specs.Moves.{IsDueDone}
+use Rattle.node_core.specs.Blank.{IsBlank}
 use Rattle.node_core.specs.Calls.{HasCommitted}
 use Rattle.node_core.specs.Handed.{CanCommit, HasHandedOut}
 use Rattle.node_core.specs.Homes.{HomesView}
@@ -11,8 +12,8 @@ use Rattle.node_core.proofs.CommitNode.{can-commit, committed-whole, node-commit
 use Rattle.node_core.proofs.NodeViews.{node_of, counts_of}
 use Rattle.node_core.proofs.node.Node.commit.Goals as goal
 
-pub commit-requires : goal.commit-requires
-commit-requires g c =
+pub commit-requires-clause-can : goal.commit-requires-clause-can
+commit-requires-clause-can g c =
     let i = c.self.inside in
     let m = g.M.Model.meaning (arc_value i.model) in
     let L : g.row.M.Denot → Type 0 = λ x. MeaningLaws (g.M.Model.meaning x) in
@@ -24,35 +25,37 @@ commit-requires g c =
     (can-commit m i.terms i.number (arc_value i.homes) i.store counts (record { laws = subst L c.deref.ensures c.keeps_laws.ensures; node = c.self.invariant; store = c.tells.ensures })
     c.args.horizon c.args.cut (subst P (sym c.self.view_is) c.requires.done) (subst F (sym c.self.view_is) c.requires.few))
 
+pub commit-requires-clause-blank : goal.commit-requires-clause-blank
+commit-requires-clause-blank g c =
+    let B : HomesView → Type 0 = λ h. IsBlank h.nodes c.args.into.now in
+    subst B (sym (c.deref-2.ensures ∙ ap (λ n. n.homes) c.self.view_is)) c.requires.blank
+
 pub invariant_of-self-2 : goal.invariant_of-self-2
 invariant_of-self-2 g c =
     let i = c.self.inside in
     let m = g.M.Model.meaning (arc_value i.model) in
     let L : g.row.M.Denot → Type 0 = λ x. MeaningLaws (g.M.Model.meaning x) in
     let counts = counts_of i.processed i.undone i.committed in
-    let told = c.in_ok-committed.committed.done.items in
-    let out = c.in_ok-committed.committed.out.items in
+    let told = c.commit.new.into.done.items in
+    let out = c.commit.new.into.out.items in
     let H : HomesView → Type 0 = λ h. HasHandedOut h c.args.horizon c.args.cut i.store c.commit.new.self told out in
     node-committed m i.terms i.number (arc_value i.homes) i.store c.commit.new.self counts (record { laws = subst L c.deref.ensures c.keeps_laws.ensures; node = c.self.invariant; store = c.tells.ensures })
-    c.args.horizon c.args.cut told out (subst H c.deref-2.ensures c.in_ok-committed.ensures.ok)
-    c.len.result (c.len.ensures ∙ c.in_ok-committed.committed.done.ok.0) _ refl
+    c.args.horizon c.args.cut told out (subst H c.deref-2.ensures c.in_ok-commit.ensures.ok)
+    c.len.result (c.len.ensures ∙ c.commit.new.into.done.ok.0) _ refl
 
-pub returns : goal.returns
-returns g c =
+pub returns-clause-ok : goal.returns-clause-ok
+returns-clause-ok g c =
     let i = c.self.inside in
     let m = g.M.Model.meaning (arc_value i.model) in
     let L : g.row.M.Denot → Type 0 = λ x. MeaningLaws (g.M.Model.meaning x) in
     let counts = counts_of i.processed i.undone i.committed in
-    let told = c.in_ok-committed.committed.done.items in
-    let out = c.in_ok-committed.committed.out.items in
+    let told = c.commit.new.into.done.items in
+    let out = c.commit.new.into.out.items in
     let H : HomesView → Type 0 = λ h. HasHandedOut h c.args.horizon c.args.cut i.store c.commit.new.self told out in
     let D : NodeView g.row.M.Denot → Type 0 = λ n. IsDueDone (g.M.Model.meaning n.model) (home n) n.number c.args.horizon c.args.cut (data_of n) in
     let new = node_of (arc_value i.model) i.terms i.number (arc_value i.homes) c.commit.new.self i.work i.met (record counts { committed = (i.committed + c.len.result) % 2 ^ 64 }) in
     let P : NodeView g.row.M.Denot → Type 0 = λ n. HasCommitted (g.M.Model.meaning n.model) c.args.horizon c.args.cut n new told out in
-    record {
-      ok = subst P c.self.view_is
-          (committed-whole m i.terms i.number (arc_value i.homes) i.store c.commit.new.self counts (record { laws = subst L c.deref.ensures c.keeps_laws.ensures; node = c.self.invariant; store = c.tells.ensures })
-          c.args.horizon c.args.cut told out (subst H c.deref-2.ensures c.in_ok-committed.ensures.ok) c.tells-2.ensures (subst D (sym c.self.view_is) c.requires.done)
-          (arc_value i.model) i.work i.met c.len.result (c.len.ensures ∙ c.in_ok-committed.committed.done.ok.0));
-      err = tt;
-    }
+    subst P c.self.view_is
+    (committed-whole m i.terms i.number (arc_value i.homes) i.store c.commit.new.self counts (record { laws = subst L c.deref.ensures c.keeps_laws.ensures; node = c.self.invariant; store = c.tells.ensures })
+    c.args.horizon c.args.cut told out (subst H c.deref-2.ensures c.in_ok-commit.ensures.ok) c.tells-2.ensures (subst D (sym c.self.view_is) c.requires.done)
+    (arc_value i.model) i.work i.met c.len.result (c.len.ensures ∙ c.commit.new.into.done.ok.0))

@@ -4,7 +4,7 @@ use Rattle.node_core.proofs.CommitLoop.{IsHandingOut}
 use Rattle.node_core.proofs.store.Store.commit.Given as goal
 
 abbrev pub invariant-steps : goal.invariant-steps
-invariant-steps l = IsHandingOut l.homes l.horizon l.cut l.fn.self l.self l.committed.done.items l.committed.out.items l.committed.done.cap
+invariant-steps l = IsHandingOut l.homes l.horizon l.cut l.fn.self l.self l.into.done.items l.into.out.items l.into.done.cap
 
 abbrev pub decreases-steps : goal.decreases-steps
 decreases-steps l = length l.self.marks

@@ -1,7 +1,7 @@
 -- None of the keys so far is the one.
 use Rattle.std.proofs.Common.{◌≡◌, false, take}
 use Rattle.std.specs.List.{list_any}
-use Rattle.node_core.specs.Marks.{same_key}
+use Rattle.event_key.specs.Keys.{same_key}
 use Rattle.node_runs.proofs.tests.driven.is_known.Given as goal
 
 abbrev pub invariant-loop-known : goal.invariant-loop-known

@@ -1,14 +1,16 @@
 -- The event that is due is fired as the definition fires it.
+use Rattle.key_order.specs.Ascending.{key_of}
+use Rattle.key_order.proofs.AscendingLemmas.{Ascends-one}
 use Rattle.std.proofs.Common.{◌+◌, ◌++◌, ◌∷◌, [], List, length, ap, ◌∙◌, subst, arith}
 use Rattle.std.specs.Prelude.{slice_set}
 use Rattle.model_core.specs.declared.event.Event.{Event}
-use Rattle.sim_spec.specs.Firing.{ObjectState, has_chain}
+use Rattle.sim_spec.specs.Firing.{ObjectState, has_endless_chain}
 use Rattle.model_core.specs.declared.effect.Ending.{Ending}
 use Rattle.model_core.specs.declared.effect.Ending.TheVariants.{Goes, Fails}
 use Rattle.event_firing.specs.Reactions.{IsReaction}
 use Rattle.one_thread.specs.Engines.{Course}
 use Rattle.one_thread.specs.Turns.{IsDone, IsFailed}
-use Rattle.one_thread.proofs.FireLemmas.{course_of, taken_in, object_read, lawful_read, serials_read, one_ascending, back_in_place, put_back, done, failed, ranged_as}
+use Rattle.one_thread.proofs.FireLemmas.{course_of, taken_in, object_read, lawful_read, serials_read, back_in_place, put_back, done, failed, ranged_as}
 use Rattle.one_thread.proofs.course.Course.fire.Goals as goal
 
 pub overflow_cast-key : goal.overflow_cast-key
@@ -59,7 +61,7 @@ pub send_all-requires-clause-stepping : goal.send_all-requires-clause-stepping
 send_all-requires-clause-stepping g c =
     let P : Ending → Type 0 = λ ending. IsReaction (g.M.Model.meaning c.args.model.now) c.index_mut-object.result.now c.get-event.result.now c.fire.new.sheet ending c.fire.new.self in
     let goes : P Goes = subst P c.in-Goes.is c.in_ok-fire.ensures.ok in
-    ap (has_chain c.get-event.result.now.key.stamp) c.as_slice.ensures ∙ goes.stepping
+    ap (has_endless_chain c.get-event.result.now.key.stamp) c.as_slice.ensures ∙ goes.stepping
 
 pub send_all-requires-clause-ranged : goal.send_all-requires-clause-ranged
 send_all-requires-clause-ranged g c =
@@ -126,7 +128,7 @@ returns-in_ok-send_all-in-Goes g c =
 
 pub give_back-requires-clause-ascending : goal.give_back-requires-clause-ascending
 give_back-requires-clause-ascending g c =
-    one_ascending _ c.in-Some.cell (c.push_back.ensures ∙ ap (λ (es : List Event). es ++ c.in-Some.cell ∷ []) c.new-taken.ensures)
+    Ascends-one key_of _ c.in-Some.cell (c.push_back.ensures ∙ ap (λ (es : List Event). es ++ c.in-Some.cell ∷ []) c.new-taken.ensures)
 
 pub give_back-requires-clause-room : goal.give_back-requires-clause-room
 give_back-requires-clause-room g c =

@@ -1,15 +1,17 @@
-use Rattle.std.proofs.Common.{◌≡◌, ◌<◌, [], ◌∷◌, ap, sym, length, ◌∙◌, arith, below_more}
+use Rattle.std.proofs.Common.{◌≡◌, ◌<◌, List, [], ◌∷◌, map, ap, sym, length, ◌∙◌, arith, below_more}
 use Rattle.std.proofs.lemmas.List.{nil_from_length}
 use Rattle.rtrb.specs.Ring.{received, known_items}
 use Rattle.release_lanes.specs.Lanes.{list_at}
-use Rattle.release_lanes.specs.Rings.{received_row, known_row}
-use Rattle.release_lanes.proofs.RingLemmas.{one_pushed, other_row, this_row, set_row}
+use Rattle.release_lanes.specs.Rings.{Ring, ring_out, outline, received_row, known_row}
+use Rattle.release_lanes.proofs.RingLemmas.{with_ins, one_pushed, other_row, this_row, set_row}
 use Rattle.release_lanes.proofs.rings.RingEnd.next_parcel.Goals as goal
 
-pub returns-then-cached_slots-gt0-clause-next : goal.returns-then-cached_slots-gt0-clause-next
-returns-then-cached_slots-gt0-clause-next c = λ k less.
-    other_row known_items c.loop-from.self.ins.items c.loop-from.from k c.pop_known.new.self (λ e. absurd (omega arith))
-    ∙ ap (λ e. list_at (known_row e) k) c.loop-from.invariant.0 ∙ c.loop-from.invariant.1 k less
+pub returns-then-cached_slots-gt0-clause-outline : goal.returns-then-cached_slots-gt0-clause-outline
+returns-then-cached_slots-gt0-clause-outline c =
+    let end = c.loop-from.self in
+    ap (λ (l : List Ring). record { number = end.number; outs = map ring_out end.outs.items; ins = l })
+    (with_ins end c.loop-from.from c.pop_known.new.self c.index_mut.result.now c.pop_known.ensures.ring c.index_mut.ensures.value)
+    ∙ ap outline c.loop-from.invariant.0
 
 pub returns-then-cached_slots-gt0-clause-some : goal.returns-then-cached_slots-gt0-clause-some
 returns-then-cached_slots-gt0-clause-some c =
@@ -23,8 +25,8 @@ returns-then-cached_slots-gt0-clause-some c =
     let count = c.len-from-end.ensures in
     let ok = c.args.self.now.ins.ok.0 in
     let within : from < length end.ins.items = omega arith in record {
-      from = from;
       within = omega arith;
+      none_before = c.loop-from.invariant.1;
       first = ap (λ e. list_at (known_row e) from) (sym same) ∙ this_row known_items end.ins.items from old within at ∙ c.pop_known.ensures.received.1
           ∙ ap (λ l. c.pop_known.result ∷ l) (sym (set_row known_items end.ins.items from new within));
       last = one_pushed received end.ins.items (received_row c.args.self.now) from new old c.pop_known.result (ap received_row same) within at c.pop_known.ensures.received.0;

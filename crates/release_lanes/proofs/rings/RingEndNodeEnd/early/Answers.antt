@@ -10,7 +10,7 @@ use Rattle.release_lanes.proofs.rings.RingEndNodeEnd.early.Goals as goal
 pub returns-in-Ok-clause-end : goal.returns-in-Ok-clause-end
 returns-in-Ok-clause-end c =
     let end = c.loop-from.self in
-    ap (λ (l : List Ring). record { number = end.number; next = end.next; outs = map ring_out end.outs.items; ins = l })
+    ap (λ (l : List Ring). record { number = end.number; outs = map ring_out end.outs.items; ins = l })
     (with_ins end c.loop-from.from c.pop.new.self c.index_mut.result.now c.in-Ok.ensures.ring c.index_mut.ensures.value)
     ∙ c.loop-from.invariant.same
 
@@ -38,7 +38,7 @@ loop-from-preserved c =
     let count = c.len-from-end.ensures in
     let ok = c.args.self.now.ins.ok.0 in
     let within : from < length end.ins.items = omega arith in record {
-      same = ap (λ (l : List Ring). record { number = end.number; next = end.next; outs = map ring_out end.outs.items; ins = l })
+      same = ap (λ (l : List Ring). record { number = end.number; outs = map ring_out end.outs.items; ins = l })
           (with_ins end from new old c.in_default.ensures.ring c.index_mut.ensures.value) ∙ inv.same;
       received_same = map-set_same received end.ins.items from new old (c.in_default.ensures.empty.0 ∙ ap received c.index_mut.ensures.value) ∙ inv.received_same;
       outs_same = inv.outs_same;

@@ -11,7 +11,7 @@ returns-clause-end c =
     let end = c.args.self.now in
     let old = c.index_mut.result.now in
     let new = c.push_reserved.new.self in
-    ap (λ (l : List Ring). record { number = end.number; next = end.next; outs = l; ins = map ring_in end.ins.items })
+    ap (λ (l : List Ring). record { number = end.number; outs = l; ins = map ring_in end.ins.items })
     (map-set_same ring_out end.outs.items c.args.to new old (out_stays old new c.push_reserved.ensures.ring ∙ ap ring_out c.index_mut.ensures.value))
 
 pub returns-clause-sent : goal.returns-clause-sent

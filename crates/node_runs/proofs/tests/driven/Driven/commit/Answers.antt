@@ -15,6 +15,6 @@ commit-requires-clause-done g c lifetimes within =
 
 pub invariant_of-self-2 : goal.invariant_of-self-2
 invariant_of-self-2 g c =
-    let done = c.in_ok-committed.committed in
+    let done = c.commit.new.into in
     keeps-committed g.M.Model.meaning c.self.inside.node c.commit.new.self (arc_value c.self.inside.homes) c.self.inside.keys.items c.self.inside.sent c.self.invariant c.args.horizon c.args.cut done.done.items done.out.items
-    c.in_ok-committed.ensures.ok c.tells_sent.ensures c.tells_keys.ensures (omega arith)
+    c.in_ok-commit.ensures.ok c.tells_sent.ensures c.tells_keys.ensures (omega arith)

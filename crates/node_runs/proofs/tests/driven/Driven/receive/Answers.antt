@@ -3,7 +3,7 @@ use Rattle.std.proofs.Common.{List, ap, sym, ◌∙◌, subst}
 use Rattle.std.specs.Arc.{arc_value}
 use Rattle.std.specs.List.{list_any}
 use Rattle.event_key.specs.declared.key.Key.{Key}
-use Rattle.node_core.specs.Marks.{same_key}
+use Rattle.event_key.specs.Keys.{same_key}
 use Rattle.node_runs.specs.Drives.{IsDriven}
 use Rattle.node_runs.proofs.DriveFacts.{keeps-received, keeps-same, may-come, only-event}
 use Rattle.node_runs.proofs.tests.driven.Driven.receive.Goals as goal

@@ -1,0 +1,252 @@
+//! What the threads of a run do, as gates are told.
+ghost use Rattle.std.specs.Prelude.{◌<◌};
+
+use super::networks::SHOP_TEXT;
+use super::nodes::{FALSE_FAULT_TEXT, false_fault, shop};
+use super::{Ended, answer_at, sink_of, source_of};
+use event_key::Key;
+use node_team::Gate;
+use std::alloc::{AllocGlobal, Global};
+use std::hint;
+use std::sync::atomic::{AtomicBool, AtomicU64, Ordering};
+use std::test::Fail;
+use std::thread::Threads;
+
+/// How often a gate asks before it gives up.
+const TURNS: u64 = 200_000_000;
+
+/// Whether a flag is raised before a gate gives up.
+fn is_raised(flag: &AtomicBool) -> bool {
+    for _ in 0..TURNS {
+        if flag.load(Ordering::SeqCst) {
+            return true;
+        }
+        hint::spin_loop();
+    }
+    false
+}
+
+fn told_at<R: AllocGlobal + Threads + Sync, G: Gate>(
+    rt: &R,
+    words: &[&str],
+    model: &str,
+    gate: &G,
+) -> Result<Ended, Fail> {
+    let alloc = rt.alloc();
+    let source = source_of(alloc, model, &[])?;
+    let out = sink_of(alloc, &[], &[])?;
+    answer_at(rt, words, source, out, gate)
+}
+
+/// Holds the first entry of each of two nodes until the other has entered.
+#[derive(Drop)]
+struct Meet {
+    zero_came: AtomicBool,
+    one_came: AtomicBool,
+    zero_met: AtomicBool,
+    one_met: AtomicBool,
+    told: AtomicU64,
+    astray: AtomicU64,
+    /// The object whose events belong to node 1.
+    object: u32,
+}
+
+impl Meet {
+    fn new(object: u32) -> Meet {
+        Meet {
+            zero_came: AtomicBool::new(false),
+            one_came: AtomicBool::new(false),
+            zero_met: AtomicBool::new(false),
+            one_met: AtomicBool::new(false),
+            told: AtomicU64::new(0),
+            astray: AtomicU64::new(0),
+            object,
+        }
+    }
+}
+
+impl Gate for Meet {
+    fn enter(&self, node: u32) {
+        if node == 0 && !self.zero_came.swap(true, Ordering::SeqCst) {
+            self.zero_met
+                .store(is_raised(&self.one_came), Ordering::SeqCst);
+        }
+        if node == 1 && !self.one_came.swap(true, Ordering::SeqCst) {
+            self.one_met
+                .store(is_raised(&self.zero_came), Ordering::SeqCst);
+        }
+    }
+
+    fn did(&self, node: u32, key: &Key) {
+        self.told.fetch_add(1, Ordering::SeqCst);
+        let home = if key.dest == self.object { 1 } else { 0 };
+        if node != home {
+            self.astray.fetch_add(1, Ordering::SeqCst);
+        }
+    }
+}
+
+#[test]
+fn two_nodes_run_at_once_each_with_its_own_objects(rt: HostRuntime) -> Result<(), Fail> {
+    let shop = shop(rt.alloc())?;
+    // round puts the station on node 1, block the sink
+    for (placement, object) in [("round", 1), ("block", 2)] {
+        let gate = Meet::new(object);
+        let words = ["run", "--nodes", "2", "--placement", placement];
+        let run = told_at(&rt, words.as_slice(), shop.as_str(), &gate)?;
+        assert_eq!(rt; run.text.as_str(), SHOP_TEXT);
+        assert!(rt; gate.zero_met.load(Ordering::SeqCst));
+        assert!(rt; gate.one_met.load(Ordering::SeqCst));
+        assert!(rt; gate.told.load(Ordering::SeqCst) >= 12);
+        assert_eq!(rt; gate.astray.load(Ordering::SeqCst), 0);
+    }
+    Ok(())
+}
+
+/// Keeps the stamps of the events that one node processes.
+#[derive(Drop)]
+struct Trace {
+    node: u32,
+    next: AtomicU64,
+    stamps: Vec<AtomicU64>,
+}
+
+impl Trace {
+    fn new(alloc: Global, node: u32) -> Result<Trace, Fail> {
+        let mut stamps = Vec::new(alloc);
+        for _ in 0..32 {
+            stamps.push(AtomicU64::new(0))?;
+        }
+        Ok(Trace {
+            node,
+            next: AtomicU64::new(0),
+            stamps,
+        })
+    }
+
+    fn told(&self, alloc: Global) -> Result<Vec<u64>, Fail> {
+        let count = self.next.load(Ordering::SeqCst) as usize;
+        let mut told = Vec::new(alloc);
+        for stamp in self.stamps.iter().take(count) {
+            told.push(stamp.load(Ordering::SeqCst))?;
+        }
+        Ok(told)
+    }
+}
+
+impl Gate for Trace {
+    fn enter(&self, _node: u32) {}
+
+    fn did(&self, node: u32, key: &Key) {
+        if node == self.node {
+            let place = self.next.fetch_add(1, Ordering::SeqCst) as usize;
+            if let Some(stamp) = self.stamps.get(place) {
+                stamp.store(key.stamp, Ordering::SeqCst);
+            }
+        }
+    }
+}
+
+/// The stamp of a tick and a step.
+fn at(tick: u64, step: u64) -> u64
+    requires tick { tick < 100 }
+    requires step { step < 65536 }
+{
+    tick * 65536 + step
+}
+
+#[test]
+fn a_node_processes_again_what_a_straggler_undid(rt: HostRuntime) -> Result<(), Fail> {
+    let alloc = rt.alloc();
+    let model = false_fault(alloc)?;
+    let plain = [
+        at(5, 0),
+        at(9, 0),
+        at(9, 1),
+        at(10, 0),
+        at(11, 0),
+        at(14, 0),
+        at(14, 1),
+        at(18, 0),
+        at(18, 1),
+    ];
+    let ahead = [
+        at(5, 0),
+        at(10, 0),
+        at(11, 0),
+        at(9, 0),
+        at(10, 0),
+        at(11, 0),
+        at(9, 1),
+        at(14, 0),
+        at(14, 1),
+        at(18, 0),
+        at(18, 1),
+    ];
+    for (depth, stamps) in [("0", plain.as_slice()), ("8", ahead.as_slice())] {
+        let gate = Trace::new(alloc, 0)?;
+        let words = ["run", "--nodes", "1", "--ahead", depth];
+        let run = told_at(&rt, words.as_slice(), model.as_str(), &gate)?;
+        assert_eq!(rt; run.text.as_str(), FALSE_FAULT_TEXT);
+        assert_eq!(rt; gate.told(alloc)?.as_slice(), stamps);
+    }
+    Ok(())
+}
+
+/// Holds the first entry of node 1 until node 0 has processed an event, and keeps the stamps of node 1.
+#[derive(Drop)]
+struct Behind {
+    came: AtomicBool,
+    ahead: AtomicBool,
+    zero: Trace,
+    one: Trace,
+}
+
+impl Gate for Behind {
+    fn enter(&self, node: u32) {
+        if node == 1 && !self.came.swap(true, Ordering::SeqCst) {
+            let _seen = is_raised(&self.ahead);
+        }
+    }
+
+    fn did(&self, node: u32, key: &Key) {
+        self.zero.did(node, key);
+        self.one.did(node, key);
+        if node == 0 {
+            self.ahead.store(true, Ordering::SeqCst);
+        }
+    }
+}
+
+#[test]
+fn a_node_stops_where_the_other_offers_less(rt: HostRuntime) -> Result<(), Fail> {
+    let alloc = rt.alloc();
+    let model = "format = 1
+model = \"phold\"
+end = 6
+
+[phold]
+objects = 2
+delay = { law = \"fixed\", value = 5 }
+to = \"next\"
+start = [ { time = 0, at = 0 }, { time = 2, at = 1 }, { time = 6, at = 1 } ]
+";
+    let gate = Behind {
+        came: AtomicBool::new(false),
+        ahead: AtomicBool::new(false),
+        zero: Trace::new(alloc, 0)?,
+        one: Trace::new(alloc, 1)?,
+    };
+    let words = ["run", "--nodes", "2", "--ahead", "0"];
+    let run = told_at(&rt, words.as_slice(), model, &gate)?;
+    assert_eq!(rt;
+        run.text.as_str(),
+        "0.0 p0 hop 5 1\n2.0 p1 hop 5 0\n5.0 p1 hop 5 0\n6.0 p1 hop 5 0\nend 6 events 4\n"
+    );
+    assert_eq!(rt; gate.zero.told(alloc)?.as_slice(), [at(0, 0)].as_slice());
+    assert_eq!(rt;
+        gate.one.told(alloc)?.as_slice(),
+        [at(2, 0), at(5, 0), at(6, 0)].as_slice()
+    );
+    Ok(())
+}

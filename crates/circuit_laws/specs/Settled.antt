@@ -1,0 +1,36 @@
+-- Circuits that have settled.
+use Rattle.std.specs.Prelude.{◌≡◌, ℕ, ◌<◌, [], length, slice_index}
+use Rattle.delta_exchange.specs.Changes.{CellData}
+use Rattle.sim_spec.specs.declared.terms.Terms.{Terms}
+use Rattle.sim_spec.specs.State.{State, object_at}
+use Rattle.circuit_model.specs.declared.gate.LogicGate.{LogicGate}
+use Rattle.circuit_model.specs.Events.{output_of, levels_of}
+use Rattle.circuit_model.specs.Gates.{gate_at, value_of}
+use Rattle.circuit_model.specs.Meaning.{circuit_meaning}
+use Rattle.circuit_model.specs.Parts.{IsCircuit}
+use Rattle.circuit_model.specs.Wiring.{pin, feeder}
+use Rattle.run_laws.specs.Reached.{Reaches}
+use Rattle.std.specs.Prelude.{List}
+
+abbrev pub cells_at : State → ℕ → CellData
+cells_at s number = (object_at s.objects number).cells
+
+-- what a gate puts out in a state
+abbrev pub output_at : State → ℕ → ℕ
+output_at s number = output_of (cells_at s number)
+
+-- what a pin of a gate is in a state
+abbrev pub level_at : State → ℕ → ℕ → ℕ
+level_at s number place = slice_index (levels_of (cells_at s number)) place
+
+-- a gate puts out the value of its pins: an input and a flip-flop, which hold their output, always do
+abbrev pub IsComputed : List LogicGate → State → ℕ → Type 0
+IsComputed gates s number = output_at s number ≡ value_of (gate_at gates number).kind (levels_of (cells_at s number)) (output_at s number)
+
+-- each pin is what the gate that feeds it puts out, and each gate puts out the value of its pins
+pub record IsSettled (gates : List LogicGate) (s : State) : Type 0 where
+  pub pins : (number place : ℕ) → number < length gates → place < length (gate_at gates number).from → level_at s number place ≡ output_at s (feeder gates (pin number place))
+  pub values : (number : ℕ) → number < length gates → IsComputed gates s number
+
+abbrev pub SettledLaw : Type 0
+SettledLaw = (gates : List LogicGate) (t : Terms) (s : State) → IsCircuit gates → Reaches (circuit_meaning gates) t s → s.pending ≡ [] → IsSettled gates s

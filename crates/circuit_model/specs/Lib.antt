@@ -1,0 +1,13 @@
+pub mod Events
+pub mod Gates
+pub mod LawfulCells
+pub mod Meaning
+pub mod ModelLaws
+pub mod Ones
+pub mod Parts
+pub mod PartsProps
+pub mod StartLists
+pub mod Starts
+pub mod Views
+pub mod Wired
+pub mod Wiring

@@ -1,0 +1,45 @@
+//! Lists that are kept from one cycle to the next.
+ghost use Rattle.std.specs.Prelude.{IfOk};
+ghost use Rattle.cycle_core.specs.Blank.{AreBlank, AreBlankLists};
+
+use crate::parcels::no_parcels;
+use event_chain::Chain;
+use event_key::Key;
+use model_core::{Event, Note, OutOfMemory};
+use node_core::Committed;
+use std::alloc::Global;
+
+/// Lists that a cycle fills and leaves blank, with their room.
+#[derive(Drop)]
+pub struct Lists {
+    /// What each node commits.
+    pub committed: Vec<Committed>,
+    /// What arrives at each node.
+    pub parcels: Vec<Chain<Event>>,
+    /// Where records are merged.
+    pub spare: Vec<(Key, Note)>,
+}
+
+/// Lists for the commits of so many nodes.
+fn blank_commits(alloc: Global, nodes: u32) -> Result<Vec<Committed>, OutOfMemory>
+    ensures { IfOk result (λ committed. AreBlank nodes committed.items) }
+{
+    let mut all = Vec::with_capacity(alloc, nodes as usize)?;
+    for _ in 0..nodes {
+        all.push(Committed::new(alloc, nodes)?)?;
+    }
+    Ok(all)
+}
+
+impl Lists {
+    /// Lists for a cycle of so many nodes.
+    pub fn new(alloc: Global, nodes: u32) -> Result<Lists, OutOfMemory>
+        ensures { IfOk result (AreBlankLists nodes) }
+    {
+        Ok(Lists {
+            committed: blank_commits(alloc, nodes)?,
+            parcels: no_parcels(alloc, nodes as usize)?,
+            spare: Vec::new(alloc),
+        })
+    }
+}

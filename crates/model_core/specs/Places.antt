@@ -1,0 +1,8 @@
+-- The random place of an object: where its next random word stands.
+use Rattle.std.specs.Prelude.{ℕ, ◌==◌, if◌then◌else◌, List, [], ◌∷◌}
+use Rattle.delta_exchange.specs.declared.change.Change.{Change}
+use Rattle.delta_exchange.specs.declared.change.Change.TheVariants.{Set}
+
+-- where words were drawn, word 0 takes the place after them; an event draws fewer than 2 ^ 64, so that it is another place then
+unfoldable pub place_changes : ℕ → ℕ → List Change
+place_changes place next = if next == place then [] else Set 0 next ∷ []

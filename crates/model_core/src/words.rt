@@ -1,0 +1,77 @@
+//! The words of records and those of faults: the number by which a model tells each, and its text.
+ghost use Rattle.std.specs.Prelude.{◌≡◌, option_map};
+ghost use Rattle.model_core.specs.Words.{record_word, fault_word};
+
+/// An event hops on to another object.
+pub const HOP_WORD: u32 = 1;
+
+/// A source makes a job.
+pub const MADE_WORD: u32 = 2;
+
+/// A server takes a job that arrives.
+pub const TAKEN_WORD: u32 = 3;
+
+/// A job that arrives waits.
+pub const WAITING_WORD: u32 = 4;
+
+/// A job that arrives is turned away.
+pub const LOST_WORD: u32 = 5;
+
+/// A job's service is done.
+pub const DONE_WORD: u32 = 6;
+
+/// A job is held for a while.
+pub const HELD_WORD: u32 = 7;
+
+/// A job is sent one of several ways.
+pub const ROUTED_WORD: u32 = 8;
+
+/// A job leaves the network.
+pub const LEFT_WORD: u32 = 9;
+
+/// How many of a station's servers are busy, and how many jobs wait there.
+pub const LOAD_WORD: u32 = 10;
+
+/// The output of a gate.
+pub const LEVEL_WORD: u32 = 11;
+
+/// The fault of an event that sends without delay at the last step of a tick. It is the simulation's, and no model's.
+pub const ENDLESS_CHAIN: u32 = 1;
+
+/// The fault of a job that finds the line of a strict station full.
+pub const LINE_FULL: u32 = 2;
+
+/// The fault of a job that leaves after its due age.
+pub const LATE: u32 = 3;
+
+/// The text of a word of records, where there is one with this number.
+pub fn record_word(number: u32) -> Option<&'static str>
+    ensures { option_map (λ text. text.now) result ≡ record_word number }
+{
+    match number {
+        HOP_WORD => Some("hop"),
+        MADE_WORD => Some("make"),
+        TAKEN_WORD => Some("take"),
+        WAITING_WORD => Some("wait"),
+        LOST_WORD => Some("lose"),
+        DONE_WORD => Some("done"),
+        HELD_WORD => Some("hold"),
+        ROUTED_WORD => Some("route"),
+        LEFT_WORD => Some("leave"),
+        LOAD_WORD => Some("load"),
+        LEVEL_WORD => Some("level"),
+        _ => None,
+    }
+}
+
+/// The text of a fault, where there is one with this code.
+pub fn fault_word(code: u32) -> Option<&'static str>
+    ensures { option_map (λ text. text.now) result ≡ fault_word code }
+{
+    match code {
+        ENDLESS_CHAIN => Some("chain"),
+        LINE_FULL => Some("line-full"),
+        LATE => Some("late"),
+        _ => None,
+    }
+}

@@ -1,0 +1,151 @@
+//! The kinds of gates, each with its fields.
+ghost use Rattle.std.specs.Prelude.{◌≡◌, ◌+◌, ◌<◌, ◌≤◌, ◌^◌, [], false, length, All, IfOk};
+ghost use Rattle.toml.specs.View.{view, items_view, table_view};
+ghost use Rattle.circuit_model.specs.Gates.{HasPins, is_input};
+ghost use Rattle.circuit_model.specs.declared.limits.TheConstants.{MOST_FLIPS};
+ghost use Rattle.model_text.specs.Checks.{Gives};
+ghost use Rattle.model_text.specs.Fields.{number, each};
+ghost use Rattle.model_text.specs.GateFields.{logic_kind, takes, flips, feeders, input, fed_gate};
+ghost use Rattle.model_text.specs.NamedGates.{IsNamedGate};
+
+use crate::fields::{array_of, entries_of, item_count, number, only, optional, required, truth};
+use crate::label::Label;
+use crate::named_gate::NamedGate;
+use crate::refusal::{Cause, Refusal};
+use crate::routers::labels;
+use circuit_model::{LogicKind, MOST_DELAY, MOST_FLIPS};
+use event_key::LAST_TICK;
+use model_core::Sequence;
+use std::alloc::Global;
+use toml::{Table, Value};
+
+/// The kind with this word.
+pub(crate) fn logic_kind(word: &str, item: u32) -> Result<LogicKind, Refusal>
+    ensures { Gives (λ kind. kind) result (logic_kind item word.now) }
+{
+    match word {
+        "input" => Ok(LogicKind::Input),
+        "buf" => Ok(LogicKind::Buf),
+        "not" => Ok(LogicKind::Not),
+        "and" => Ok(LogicKind::And),
+        "or" => Ok(LogicKind::Or),
+        "xor" => Ok(LogicKind::Xor),
+        "nand" => Ok(LogicKind::Nand),
+        "nor" => Ok(LogicKind::Nor),
+        "dff" => Ok(LogicKind::Dff),
+        _ => Err(Cause::BadValue.at(item)),
+    }
+}
+
+/// The times of an array.
+fn times(alloc: Global, values: &[Value], item: u32) -> Result<Vec<u64>, Refusal>
+    ensures read { Gives (λ times. times.items) result (each (number item 0 LAST_TICK) (items_view values.now)) }
+    ensures count { IfOk result (λ times. length times.items ≡ length values.now) }
+    ensures in_time { IfOk result (λ times. All (λ time. time < 2 ^ 46) times.items) }
+{
+    let mut times = Vec::new(alloc);
+    for value in values {
+        times.push(number(value, item, 0, LAST_TICK)?)?;
+    }
+    Ok(times)
+}
+
+/// When an input turns, where those before it turn so often.
+#[tactic(auto, unfolding(crate::specs::GateFields::flips))]
+fn flips(alloc: Global, table: &Table, before: usize, item: u32) -> Result<Sequence<u64>, Refusal>
+    requires { before ≤ MOST_FLIPS }
+    ensures read { Gives (λ flips. flips) result (flips before item (table_view table.now)) }
+    ensures few { IfOk result (λ flips. before + length flips ≤ MOST_FLIPS) }
+    ensures in_time { IfOk result (λ flips. All (λ time. time < 2 ^ 46) flips) }
+{
+    let none = Value::Array(Vec::new(alloc));
+    let values = array_of(optional(table, "flips", &none), item, MOST_FLIPS - before)?;
+    Ok(Sequence::new(times(alloc, values, item)?))
+}
+
+/// Whether a gate of this kind may have so many pins.
+fn takes(kind: LogicKind, pins: usize) -> bool
+    ensures { result ≡ takes kind pins }
+{
+    kind.takes(pins)
+}
+
+/// The names of the gates that feed the pins of one of this kind.
+#[tactic(auto, unfolding(crate::specs::GateFields::feeders))]
+fn feeders(
+    alloc: Global,
+    value: &Value,
+    kind: LogicKind,
+    item: u32,
+) -> Result<Sequence<Label>, Refusal>
+    ensures read { Gives (λ names. names) result (feeders kind item (view value.now)) }
+    ensures fit { IfOk result (λ names. HasPins kind (length names)) }
+{
+    let values = entries_of(value, item)?;
+    if !takes(kind, item_count(values)) {
+        return Err(Cause::BadValue.at(item));
+    }
+    Ok(Sequence::new(labels(alloc, values, item)?))
+}
+
+/// An input, where those before it turn so often.
+#[tactic(auto, unfolding(crate::specs::GateFields::input))]
+pub(crate) fn input(
+    alloc: Global,
+    table: &Table,
+    name: Label,
+    before: usize,
+    item: u32,
+) -> Result<NamedGate, Refusal>
+    requires { before ≤ MOST_FLIPS }
+    ensures read { Gives (λ gate. gate) result (input before item name (table_view table.now)) }
+    ensures in_range { IfOk result IsNamedGate }
+    ensures name { IfOk result (λ gate. gate.name ≡ name) }
+    ensures few { IfOk result (λ gate. before + length gate.flips ≤ MOST_FLIPS) }
+{
+    let flips = flips(alloc, table, before, item)?;
+    let probe = truth(optional(table, "probe", &Value::Boolean(true)), item)?;
+    only(table, &["name", "kind", "flips", "probe"], item)?;
+    Ok(NamedGate {
+        name,
+        kind: LogicKind::Input,
+        delay: 0,
+        from: Sequence::new(Vec::new(alloc)),
+        flips,
+        probe,
+    })
+}
+
+/// A gate whose pins are fed.
+#[tactic(auto, unfolding(crate::specs::GateFields::fed_gate))]
+pub(crate) fn fed_gate(
+    alloc: Global,
+    table: &Table,
+    name: Label,
+    kind: LogicKind,
+    item: u32,
+) -> Result<NamedGate, Refusal>
+    requires { is_input kind ≡ false }
+    ensures read { Gives (λ gate. gate) result (fed_gate kind item name (table_view table.now)) }
+    ensures in_range { IfOk result IsNamedGate }
+    ensures name { IfOk result (λ gate. gate.name ≡ name) }
+    ensures no_flips { IfOk result (λ gate. gate.flips ≡ []) }
+{
+    let delay = number(
+        optional(table, "delay", &Value::Integer(1)),
+        item,
+        0,
+        MOST_DELAY,
+    )?;
+    let from = feeders(alloc, required(table, "from", item)?, kind, item)?;
+    let probe = truth(optional(table, "probe", &Value::Boolean(true)), item)?;
+    only(table, &["name", "kind", "delay", "from", "probe"], item)?;
+    Ok(NamedGate {
+        name,
+        kind,
+        delay,
+        from,
+        flips: Sequence::new(Vec::new(alloc)),
+        probe,
+    })
+}

@@ -1,0 +1,9 @@
+-- What a commit fills, before it does.
+use Rattle.std.specs.Prelude.{◌≡◌, ℕ, [], length, slice_index_or}
+use Rattle.node_core.specs.declared.committed.Committed.{Committed}
+
+-- nothing is told, and there is an empty chain for each node
+pub record IsBlank (nodes : ℕ) (c : Committed) : Type 0 where
+  pub told : c.done.items ≡ []
+  pub long : length c.out.items ≡ nodes
+  pub empty : (to : ℕ) → slice_index_or c.out.items to [] ≡ []

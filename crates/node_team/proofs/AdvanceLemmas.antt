@@ -1,0 +1,127 @@
+-- An advance, turn by turn.
+use Rattle.std.proofs.Common.{◌≡◌, ◌≢◌, ◌⊎◌, ℕ, suc, ◌+◌, ◌<◌, ◌≤◌, ◌^◌, min, List, [], ◌∷◌, length, refl, sym, ap, ◌∙◌, subst, inl, inr, arith}
+use Rattle.std.specs.Prelude.{Option, Some, None}
+use Rattle.std.specs.List.{AllByRecursion as Each}
+use Rattle.event_key.specs.declared.key.Key.{Key}
+use Rattle.event_key.specs.declared.stamp.TheConstants.{NO_STAMP}
+use Rattle.event_key.specs.Stamps.{end_stamp}
+use Rattle.model_core.specs.Meaning.{Meaning}
+use Rattle.model_core.specs.declared.event.Event.{Event}
+use Rattle.sim_spec.specs.declared.terms.Terms.{Terms}
+use Rattle.world_spec.specs.Moves.{IsIdle}
+use Rattle.horizon_word.specs.Views.{SeatView}
+use Rattle.node_core.specs.Homes.{HomesView, home_of}
+use Rattle.node_core.specs.Nodes.{NodeView, home, data_of, IsAsBefore}
+use Rattle.node_core.specs.Steps.{HoldsMessageAt, IsHeldLeast, HasProcessed, IsLeftIdle}
+use Rattle.cycle_core.specs.Known.{IsKnown}
+use Rattle.cycle_core.specs.Works.{IsSmall, WorksOn}
+use Rattle.cycle_core.proofs.WorkLemmas.{as_before, works-none, works-more, works-then, small-stays}
+use Rattle.node_team.specs.Advances.{HasOffered, AreFrom, CanAdvance, HasTurned, IsIdleBelow, IsDeep, IsAdvanced}
+use Rattle.node_team.proofs.FloorLemmas.{one-later, floor-waits, floor-held}
+use Rattle.world_spec.proofs.IdleLemmas.{idle-on}
+
+-- a node on its way
+pub record IsAdvancing {M : Type 0} (m : Meaning) (first : NodeView M) (seat : SeatView) (n : NodeView M) (now : SeatView) : Type 0 where
+  pub works : WorksOn m first n
+  pub held : ℕ
+  pub held_is : IsHeldLeast m n held
+  pub least : now.least ≡ min seat.least held
+  pub taken : seat.taken + length n.processed ≤ now.taken + length first.processed
+  pub word : now.word ≡ seat.word
+  pub floor : now.floor ≡ seat.floor
+  pub seen : now.seen ≤ seat.seen
+  pub waits : AreFrom now.floor n.waiting
+
+-- an event that goes offers nothing below the floor
+pub did-floor : {M : Type 0} (m : Meaning) (bound floor : ℕ) (old new : NodeView M) (key : Key) (least : ℕ) → HasProcessed m bound old new key least → bound ≤ NO_STAMP → AreFrom floor old.waiting → floor ≤ least
+did-floor m bound floor old new key least did far from =
+    let P : List Event → Type 0 = AreFrom floor in
+    let all : P (did.step.event ∷ new.waiting) = subst P did.step.waits from in
+    let low = did.step.below in
+    let later = one-later m _ _ did.step.event least did.log (omega arith) in
+    let first = all.0 in
+    omega arith
+
+module _ {M : Type 0} (meaning_of : M → Meaning) (first : NodeView M) (seat : SeatView) where
+  abbrev m : Meaning
+  m = meaning_of first.model
+
+  pub advancing-first : (held : ℕ) (now : SeatView) → CanAdvance m first seat → IsKnown m first → IsHeldLeast m first held → HasOffered seat held now → IsAdvancing m first seat first now
+  advancing-first held now can known is offered = record {
+    works = works-none m first first (as_before m first);
+    held = held;
+    held_is = is;
+    least = offered.least;
+    taken = (let t = offered.taken in omega arith);
+    word = offered.word;
+    floor = offered.floor;
+    seen = offered.seen;
+    waits = let P : ℕ → Type 0 = λ f. AreFrom f first.waiting in subst P (sym offered.floor) (floor-waits m first seat.floor known.stands can.floor);
+  }
+
+  -- the least stamp that is held may be offered
+  pub held-floor : (held : ℕ) → CanAdvance m first seat → IsKnown m first → IsHeldLeast m first held → held ≢ NO_STAMP → seat.floor ≤ held
+  held-floor held can known is some = elim is.reached [
+    | inl none ↦ absurd (some none)
+    | inr h ↦ floor-held m first seat.floor known.stands can.floor held h
+  ]
+
+  module _ (n : NodeView M) (now : SeatView) (advancing : IsAdvancing m first seat n now) where
+    pub model-is : n.model ≡ first.model
+    model-is = advancing.works.same.model
+
+    pub small-is : IsSmall m first → IsSmall (meaning_of n.model) n
+    small-is small = let P : M → Type 0 = λ v. IsSmall (meaning_of v) n in subst P (sym model-is) (small-stays m first n advancing.works small)
+
+    pub end-is : (bound : ℕ) → bound ≤ end_stamp first.terms.end → bound ≤ end_stamp n.terms.end
+    end-is bound le = let P : Terms → Type 0 = λ t. bound ≤ end_stamp t.end in subst P (sym advancing.works.same.terms) le
+
+    pub advancing-refused : (new : NodeView M) → IsAsBefore n new → WorksOn m first new
+    advancing-refused new un = works-then m first n new advancing.works (works-none m n new un)
+
+    module _ (bound answer : ℕ) (new : NodeView M) (later : SeatView) (gone : HasTurned (meaning_of n.model) bound n now answer new later) where
+      did_here : HasProcessed m bound n new gone.key gone.least
+      did_here = let P : M → Type 0 = λ v. HasProcessed (meaning_of v) bound n new gone.key gone.least in subst P model-is gone.did
+
+      pub advancing-more : bound ≤ end_stamp first.terms.end → IsAdvancing m first seat new later
+      advancing-more within =
+          let did = did_here in
+          let least = advancing.least in
+          record {
+            works = works-more m first n new bound gone.key gone.least advancing.works did within;
+            held = min advancing.held gone.least;
+            held_is = did.held advancing.held advancing.held_is;
+            least = (let l = gone.offered.least in let e : later.least ≡ min seat.least (min advancing.held gone.least) = omega arith in e);
+            taken = (let t = gone.offered.taken in let p = did.processed in let b = advancing.taken in omega arith);
+            word = gone.offered.word ∙ advancing.word;
+            floor = gone.offered.floor ∙ advancing.floor;
+            seen = (let a = gone.offered.seen in let b = advancing.seen in omega arith);
+            waits =
+                (let P : List Event → Type 0 = AreFrom now.floor in
+                let Q : ℕ → Type 0 = λ f. AreFrom f new.waiting in
+                let all : P (did.step.event ∷ new.waiting) = subst P did.step.waits advancing.waits in
+                subst Q (sym gone.offered.floor) all.1);
+          }
+
+      -- idle below what was seen, and below what is seen now
+      pub idle-later : IsKnown (meaning_of n.model) n → IsIdle m (home n) n.number now.seen (data_of n) → IsIdle m (home new) new.number later.seen (data_of new)
+      idle-later known idle =
+          let did = did_here in
+          let K : M → Type 0 = λ v. IsKnown (meaning_of v) n in
+          let here : IsKnown m n = subst K model-is known in
+          let on = idle-on m n.terms (home n) n.number bound _ _ (data_of n) (data_of new) here.stands.stands did.step later.seen now.seen gone.offered.seen idle in
+          let P : NodeView M → Type 0 = λ v. IsIdle m (home v) n.number later.seen (data_of new) in
+          let H : HomesView → ℕ → Type 0 = λ h k. IsIdle m (home_of h) k later.seen (data_of new) in
+          subst (λ k. H new.homes k) (sym did.same.number) (subst (λ h. H h n.number) (sym did.same.homes) on)
+
+    -- an idle node has advanced
+    pub advanced : (ahead : ℕ) → IsIdleBelow m now.seen n → (ahead + length first.processed ≤ length n.processed) ⊎ IsIdleBelow m (end_stamp first.terms.end) n → IsAdvanced m ahead first seat n now
+    advanced ahead idle deep = record {
+      idle = idle;
+      offered = record { held = advancing.held; held_is = advancing.held_is; least = advancing.least };
+      taken = advancing.taken;
+      deep = elim deep [
+        | inl far ↦ inl far
+        | inr all ↦ inr (let E : Terms → Type 0 = λ t. IsIdleBelow m (end_stamp t.end) n in subst E (sym advancing.works.same.terms) all)
+      ];
+    }

@@ -1,0 +1,10 @@
+pub mod EndingLemmas
+pub mod AdvanceLemmas
+pub mod CycleLemmas
+pub mod DeskLemmas
+pub mod FloorLemmas
+pub mod ForkLemmas
+pub mod RiseLemmas
+pub mod SeatingLemmas
+pub mod RunningLemmas
+pub mod ReleaseLemmas

@@ -1,0 +1,24 @@
+use Rattle.std.proofs.Common.{◌≡◌, ◌≤◌, ◌+◌, length}
+use Rattle.event_key.specs.Stamps.{end_stamp}
+use Rattle.node_team.specs.Advances.{IsIdleBelow}
+use Rattle.node_team.proofs.AdvanceLemmas.{IsAdvancing}
+use Rattle.node_team.proofs.advancing.advance.Given as goal
+
+abbrev pub invariant-near : goal.invariant-near
+invariant-near g l =
+    IsAdvancing (g.M.Model.meaning l.fn.node.model) l.fn.node l.fn.seat l.node l.seat
+    × (l.below ≡ l.seat.seen)
+    × (l.seat.least ≤ l.offered)
+    × (l.offered ≤ l.end)
+    × (l.fn.ahead + length l.fn.node.processed ≤ l.left + length l.node.processed)
+
+abbrev pub decreases-near : goal.decreases-near
+decreases-near g l = length l.node.waiting
+
+abbrev pub invariant-far : goal.invariant-far
+invariant-far g l =
+    IsAdvancing (g.M.Model.meaning l.fn.node.model) l.fn.node l.fn.seat l.node l.seat
+    × IsIdleBelow (g.M.Model.meaning l.fn.node.model) l.seat.seen l.node
+    × (l.seat.least ≤ l.offered)
+    × (l.offered ≤ l.end)
+    × (l.fn.ahead + length l.fn.node.processed + l.counter ≤ l.left + length l.node.processed)

@@ -1,0 +1,40 @@
+use Rattle.std.proofs.Common.{◌≡◌, ap, sym, ◌∙◌, subst}
+use Rattle.event_key.specs.Stamps.{end_stamp}
+use Rattle.horizon_word.specs.Views.{new_seat}
+use Rattle.cycle_core.specs.Known.{AreKnown}
+use Rattle.cycle_core.specs.Places.{AtEach}
+use Rattle.cycle_core.specs.Worlds.{WorldView, StandsAt, AreNodesOf}
+use Rattle.node_team.specs.Forks.{CanAllRun, AllHaveRun}
+use Rattle.node_team.specs.Teams.{IsFloorOf}
+use Rattle.node_team.proofs.RunningLemmas.{can-run, run-nodes, run-stands}
+use Rattle.node_team.proofs.running.advance_world.Goals as goal
+
+pub advance_nodes-requires-clause-can : goal.advance_nodes-requires-clause-can
+advance_nodes-requires-clause-can g c lifetimes outlives =
+    let w = c.args.world.now in
+    let nodes : c.deref.result.now ≡ w.nodes = c.deref.ensures.value ∙ c.take_nodes-nodes.ensures.nodes in
+    let nodes_2 : c.deref-2.result.now ≡ w.nodes = c.deref-2.ensures.value ∙ c.take_nodes-nodes.ensures.nodes in
+    let known = subst (AreKnown (g.M.Model.meaning)) nodes (λ place x at. c.know_all.ensures place x at) in
+    let floors = subst (λ ns. AtEach (λ number n. IsFloorOf (g.M.Model.meaning n.model) c.floor_of-floor.result n) ns) nodes_2 (λ place x at object home. c.floor_of-floor.ensures.floor place x at object home) in
+    let end : c.end_bound-end.result ≡ end_stamp w.terms.end = c.end_bound-end.ensures ∙ ap (λ t. end_stamp t.end) c.terms-terms.ensures in
+    subst (λ ns. CanAllRun (g.M.Model.meaning) c.in_ok-word.word ns c.in_ok-word.seats.items) (sym c.take_nodes-nodes.ensures.nodes)
+    (record {
+      seat = new_seat c.in_ok-word.word c.floor_of-floor.result c.end_bound-end.result;
+      alike = c.in_ok-word.ensures.new;
+      can = can-run (g.M.Model.meaning) w c.requires.0 c.requires.1 c.in_ok-word.word c.end_bound-end.result c.floor_of-floor.result end known floors;
+    })
+
+pub put_nodes-requires-clause-nodes : goal.put_nodes-requires-clause-nodes
+put_nodes-requires-clause-nodes g c lifetimes outlives =
+    let w = c.args.world.now in
+    let run = subst (λ ns. AllHaveRun (g.M.Model.meaning) c.args.ahead ns c.in_ok-nodes.nodes.items) c.take_nodes-nodes.ensures.nodes c.in_ok-nodes.ensures in
+    subst (λ v. AreNodesOf v.model v.terms v.homes c.in_ok-nodes.nodes.items) (sym c.take_nodes-nodes.ensures.world) (run-nodes (g.M.Model.meaning) w c.args.ahead c.in_ok-nodes.nodes.items run c.requires.0 c.requires.1)
+
+pub returns-clause-stands : goal.returns-clause-stands
+returns-clause-stands g c s stands =
+    let w = c.args.world.now in
+    let run = subst (λ ns. AllHaveRun (g.M.Model.meaning) c.args.ahead ns c.in_ok-nodes.nodes.items) c.take_nodes-nodes.ensures.nodes c.in_ok-nodes.ensures in
+    let with_nodes : WorldView _ → WorldView _ = λ v. record v { nodes = c.in_ok-nodes.nodes.items } in
+    let world : c.put_nodes.new.self ≡ record w { nodes = c.in_ok-nodes.nodes.items } = c.put_nodes.ensures.world ∙ ap with_nodes c.take_nodes-nodes.ensures.world in
+    let law = rw c.terms-terms.ensures at (rw c.model.ensures at c.law_world.ensures.steps) in
+    subst (λ v. StandsAt (g.M.Model.meaning w.model) v s) (sym world) (run-stands (g.M.Model.meaning) w c.args.ahead c.in_ok-nodes.nodes.items run law s stands)

@@ -1,0 +1,99 @@
+//! A cycle in threads.
+ghost use Rattle.std.specs.Prelude.{◌≡◌, true, false, IfOk, OnOk, OnErr};
+ghost use Rattle.sim_spec.specs.Cut.{after, committed_events, cut};
+ghost use Rattle.sim_spec.specs.State.{State};
+ghost use Rattle.cycle_core.specs.Carries.{AllCarry};
+ghost use Rattle.cycle_core.specs.Standings.{HasCycled};
+ghost use Rattle.cycle_core.specs.Worlds.{StandsAt, CanCycle, IsSameWorld};
+ghost use Rattle.node_team.specs.Releases.{AreClear};
+ghost use Rattle.node_team.specs.Rises.{AllRise};
+
+use crate::ending::end_world;
+use crate::gate::Gate;
+use crate::kept::Kept;
+use crate::running::advance_world;
+use cycle_core::{World, bucket_of};
+use model_core::OutOfMemory;
+use model_core::model::Model as SimulationModel;
+use release_lanes::Lanes;
+use sim_spec::Bucket;
+use std::alloc::Global;
+use std::thread::Threads;
+
+/// One cycle, up to the state after it.
+fn run_cycle<R: Threads + Sync, M: SimulationModel, L: Lanes, G: Gate>(
+    rt: &R,
+    alloc: Global,
+    world: &mut World<M>,
+    lanes: &mut L,
+    kept: &mut Kept,
+    ahead: u32,
+    gate: &G,
+) -> Result<Bucket, OutOfMemory>
+    requires stands { (s : State) × StandsAt (M.meaning world.old.model) world.old s }
+    requires lanes { L.nodes lanes.old ≡ world.old.homes.nodes }
+    requires rest { L.are_at_rest lanes.old }
+    requires clear { AreClear world.old.homes.nodes kept.old.inboxes.items }
+    ensures bucket { IfOk result (λ bucket. (s : State) → StandsAt (M.meaning world.old.model) world.old s
+        → bucket ≡ cut (M.meaning world.old.model) world.old.terms s) }
+    ensures stands { OnOk result ((s : State) → StandsAt (M.meaning world.old.model) world.old s
+        → StandsAt (M.meaning world.old.model) world.new (after (M.meaning world.old.model) world.old.terms s)) }
+    ensures carried { OnOk result ((s : State) → StandsAt (M.meaning world.old.model) world.old s
+        → AllCarry M.meaning s (committed_events (M.meaning world.old.model) world.old.terms s) world.old.nodes world.new.nodes) }
+    ensures work { OnOk result (AllRise M.meaning ahead world.old.nodes world.new.nodes) }
+    ensures made { IsSameWorld world.old world.new }
+    ensures fault { IfOk result (λ bucket. world.new.fault ≡ bucket.fault) }
+    ensures lanes { L.nodes lanes.new ≡ L.nodes lanes.old }
+    ensures rest { OnOk result (L.are_at_rest lanes.new) }
+    ensures clear { OnOk result (AreClear world.old.homes.nodes kept.new.inboxes.items) }
+{
+    let ends = lanes.ready(alloc)?;
+    advance_world(rt, alloc, world, ahead, kept.load.advance_threads(), gate)?;
+    let bound = world.close_cycle(alloc)?;
+    let cut = world.commit_cut(alloc, bound)?;
+    let records = end_world(rt, alloc, world, lanes, ends, kept, bound, &cut)?;
+    world.finish(&cut, records.len() as u64);
+    Ok(bucket_of(bound, &cut, records))
+}
+
+/// One cycle: the nodes advance in threads, below one shared word, and what is committed goes through lanes. After a
+/// refusal the world is spent.
+pub fn cycle<R: Threads + Sync, M: SimulationModel, L: Lanes, G: Gate>(
+    rt: &R,
+    alloc: Global,
+    world: &mut World<M>,
+    lanes: &mut L,
+    kept: &mut Kept,
+    ahead: u32,
+    gate: &G,
+) -> Result<Bucket, OutOfMemory>
+    requires can { CanCycle (M.meaning world.old.model) world.old }
+    requires lanes { L.nodes lanes.old ≡ world.old.homes.nodes }
+    requires rest { world.old.is_spent ≡ false → L.are_at_rest lanes.old }
+    requires clear { world.old.is_spent ≡ false → AreClear world.old.homes.nodes kept.old.inboxes.items }
+    ensures bucket { IfOk result (λ bucket. (s : State) → StandsAt (M.meaning world.old.model) world.old s
+        → bucket ≡ cut (M.meaning world.old.model) world.old.terms s) }
+    ensures stands { OnOk result ((s : State) → StandsAt (M.meaning world.old.model) world.old s
+        → StandsAt (M.meaning world.old.model) world.new (after (M.meaning world.old.model) world.old.terms s)) }
+    ensures carried { OnOk result ((s : State) → StandsAt (M.meaning world.old.model) world.old s
+        → AllCarry M.meaning s (committed_events (M.meaning world.old.model) world.old.terms s) world.old.nodes world.new.nodes) }
+    ensures work { OnOk result (AllRise M.meaning ahead world.old.nodes world.new.nodes) }
+    ensures made { IsSameWorld world.old world.new }
+    ensures fault { IfOk result (λ bucket. world.new.fault ≡ bucket.fault) }
+    ensures lanes { L.nodes lanes.new ≡ L.nodes lanes.old }
+    ensures rest { OnOk result (L.are_at_rest lanes.new) }
+    ensures clear { OnOk result (AreClear world.old.homes.nodes kept.new.inboxes.items) }
+    ensures spent { OnErr result (world.new.is_spent ≡ true) }
+    ensures cycled { HasCycled M.meaning world.old result world.new }
+{
+    if world.is_spent() {
+        return Err(OutOfMemory);
+    }
+    match run_cycle(rt, alloc, world, lanes, kept, ahead, gate) {
+        Ok(bucket) => Ok(bucket),
+        Err(refused) => {
+            world.spend();
+            Err(refused)
+        }
+    }
+}

@@ -1,0 +1,94 @@
+//! The advance of all nodes of a world.
+ghost use Rattle.std.specs.Prelude.{◌≡◌, ◌≤◌, length, IfOk, OnOk};
+ghost use Rattle.sim_spec.specs.State.{State};
+ghost use Rattle.cycle_core.specs.Worlds.{StandsAt, IsSameWorld};
+ghost use Rattle.node_team.specs.Forks.{AllHaveRun, CanAllRun};
+
+use crate::advancing::advance;
+use crate::gate::Gate;
+use crate::seating::{advance_all, floor_of, seat_all, unseat_all};
+use cycle_core::{World, know_all};
+use event_key::end_bound;
+use horizon_word::{HorizonWord, WordSeat};
+use model_core::OutOfMemory;
+use model_core::model::Model as SimulationModel;
+use node_core::Node;
+use std::alloc::Global;
+use std::thread::Threads;
+use world_spec::laws::law_world;
+
+/// Advances nodes one after another, where they are: each is a large value.
+fn advance_in_turn<M: SimulationModel, G: Gate>(
+    alloc: Global,
+    word: &HorizonWord,
+    gate: &G,
+    ahead: u32,
+    nodes: &mut [Node<M>],
+    seats: Vec<WordSeat>,
+) -> Result<(), OutOfMemory>
+    requires many { length nodes.old ≤ length seats.items }
+    requires can { CanAllRun M.meaning word.now nodes.old seats.items }
+    ensures { OnOk result (AllHaveRun M.meaning ahead nodes.old nodes.new) }
+{
+    let mut seats = seats;
+    for node in nodes.iter_mut() {
+        let Some(mut seat) = seats.pop() else {
+            unreachable!()
+        };
+        advance(alloc, node, word, &mut seat, ahead, gate)?;
+    }
+    Ok(())
+}
+
+/// Advances nodes, in so many threads at most. For a fork they move to their seats, so that each thread owns its own.
+fn advance_nodes<R: Threads + Sync, M: SimulationModel, G: Gate>(
+    rt: &R,
+    alloc: Global,
+    word: &HorizonWord,
+    gate: &G,
+    ahead: u32,
+    threads: usize,
+    nodes: Vec<Node<M>>,
+    seats: Vec<WordSeat>,
+) -> Result<Vec<Node<M>>, OutOfMemory>
+    requires many { length nodes.items ≤ length seats.items }
+    requires can { CanAllRun M.meaning word.now nodes.items seats.items }
+    ensures { IfOk result (λ now. AllHaveRun M.meaning ahead nodes.items now.items) }
+{
+    if threads < 2 {
+        let mut nodes = nodes;
+        advance_in_turn(alloc, word, gate, ahead, nodes.as_mut_slice(), seats)?;
+        return Ok(nodes);
+    }
+    let mut all = seat_all(alloc, nodes, seats)?;
+    advance_all(rt, alloc, word, ahead, gate, threads, all.as_mut_slice());
+    unseat_all(alloc, all)
+}
+
+/// Advances each node of a world below one word, in so many threads at most. After a refusal the world may have lost its
+/// nodes.
+pub fn advance_world<R: Threads + Sync, M: SimulationModel, G: Gate>(
+    rt: &R,
+    alloc: Global,
+    world: &mut World<M>,
+    ahead: u32,
+    threads: usize,
+    gate: &G,
+) -> Result<(), OutOfMemory>
+    requires { (s : State) × StandsAt (M.meaning world.old.model) world.old s }
+    ensures run { OnOk result (AllHaveRun M.meaning ahead world.old.nodes world.new.nodes) }
+    ensures made { IsSameWorld world.old world.new }
+    ensures world { OnOk result (world.new ≡ record world.old { nodes = world.new.nodes }) }
+    ensures stands { OnOk result ((s : State) → StandsAt (M.meaning world.old.model) world.old s → StandsAt (M.meaning world.old.model) world.new s) }
+{
+    let terms = world.terms();
+    law_world(world.model(), &terms);
+    let end = end_bound(terms.end);
+    let nodes = world.take_nodes();
+    know_all(&nodes);
+    let floor = floor_of(&nodes, end);
+    let (word, seats) = HorizonWord::begin(alloc, floor, end, nodes.len())?;
+    let nodes = advance_nodes(rt, alloc, &word, gate, ahead, threads, nodes, seats)?;
+    world.put_nodes(nodes);
+    Ok(())
+}

@@ -1,0 +1,103 @@
+use Rattle.std.proofs.Common.{◌≡◌, ◌^◌, List, [], ◌++◌, length, sym, ap, subst, ◌∙◌, arith}
+use Rattle.std.specs.Prelude.{IsPermutation}
+use Rattle.std.proofs.lemmas.List.{append-nil}
+use Rattle.model_core.specs.declared.event.Event.{Event}
+use Rattle.release_lanes.proofs.Numbers.{rest_kept}
+use Rattle.parcel_exchange.specs.Mail.{events_in, from_each}
+use Rattle.parcel_exchange.proofs.Gathering.{from_each-same, from_each-none}
+use Rattle.parcel_exchange.proofs.Fetching.{fetched, arrives, few_arrive}
+use Rattle.parcel_exchange.proofs.inbox.Inbox.fetch.Goals as goal
+
+pub append-requires : goal.append-requires
+append-requires g c =
+    let old = c.loop-parcel.lanes in
+    let new = c.rest.new.self in
+    let inv = c.loop-parcel.invariant in
+    let nodes = g.L.Lanes.nodes c.args.lanes.now in
+    let now = c.in-Some.ensures.nodes in
+    let one = fetched nodes (g.L.Lanes.nodes old) c.args.to (g.L.Lanes.received old) (g.L.Lanes.rest old) (g.L.Lanes.sent old) (g.L.Lanes.received new) (g.L.Lanes.rest new) (g.L.Lanes.sent new)
+    c.in-Some.parcel inv.nodes c.requires.node
+    (λ i j first second. let many = inv.nodes in g.met.L.Lanes.lane old inv.back i j (omega arith) (omega arith))
+    (λ i j first second. let many = inv.nodes in g.met.L.Lanes.lane new c.in-Some.ensures.back i j (omega arith) (omega arith))
+    c.in-Some.ensures.sent c.in-Some.ensures.some in
+    few_arrive (c.args.self.now.arrived ++ from_each nodes (λ from. events_in (g.L.Lanes.rest c.args.lanes.now from c.args.to))) c.loop-parcel.self.arrived
+    (from_each nodes (λ from. events_in (g.L.Lanes.rest old from c.args.to))) (from_each nodes (λ from. events_in (g.L.Lanes.rest new from c.args.to))) c.in-Some.parcel.events (2 ^ 60)
+    inv.moved one.events c.requires.few
+
+pub loop-parcel-smaller : goal.loop-parcel-smaller
+loop-parcel-smaller g c =
+    let old = c.loop-parcel.lanes in
+    let new = c.rest.new.self in
+    let inv = c.loop-parcel.invariant in
+    let nodes = g.L.Lanes.nodes c.args.lanes.now in
+    let now = c.in-Some.ensures.nodes in
+    let one = fetched nodes (g.L.Lanes.nodes old) c.args.to (g.L.Lanes.received old) (g.L.Lanes.rest old) (g.L.Lanes.sent old) (g.L.Lanes.received new) (g.L.Lanes.rest new) (g.L.Lanes.sent new)
+    c.in-Some.parcel inv.nodes c.requires.node
+    (λ i j first second. let many = inv.nodes in g.met.L.Lanes.lane old inv.back i j (omega arith) (omega arith))
+    (λ i j first second. let many = inv.nodes in g.met.L.Lanes.lane new c.in-Some.ensures.back i j (omega arith) (omega arith))
+    c.in-Some.ensures.sent c.in-Some.ensures.some in
+    let fewer = one.fewer in
+    let same_old = ap (λ n. length (from_each n (λ k. g.L.Lanes.rest old k c.args.to))) inv.nodes in
+    let same_new = ap (λ n. length (from_each n (λ k. g.L.Lanes.rest new k c.args.to))) (now ∙ inv.nodes) in
+    omega arith
+
+pub loop-parcel-preserved : goal.loop-parcel-preserved
+loop-parcel-preserved g c =
+    let old = c.loop-parcel.lanes in
+    let new = c.rest.new.self in
+    let inv = c.loop-parcel.invariant in
+    let nodes = g.L.Lanes.nodes c.args.lanes.now in
+    let now = c.in-Some.ensures.nodes in
+    let one = fetched nodes (g.L.Lanes.nodes old) c.args.to (g.L.Lanes.received old) (g.L.Lanes.rest old) (g.L.Lanes.sent old) (g.L.Lanes.received new) (g.L.Lanes.rest new) (g.L.Lanes.sent new)
+    c.in-Some.parcel inv.nodes c.requires.node
+    (λ i j first second. let many = inv.nodes in g.met.L.Lanes.lane old inv.back i j (omega arith) (omega arith))
+    (λ i j first second. let many = inv.nodes in g.met.L.Lanes.lane new c.in-Some.ensures.back i j (omega arith) (omega arith))
+    c.in-Some.ensures.sent c.in-Some.ensures.some in
+    let first = c.args.self.now.arrived ++ from_each nodes (λ from. events_in (g.L.Lanes.rest c.args.lanes.now from c.args.to)) in
+    let rests = from_each nodes (λ from. events_in (g.L.Lanes.rest new from c.args.to)) in
+    let P : List Event → Type 0 = λ l. IsPermutation first (l ++ rests) in record {
+      back = c.in-Some.ensures.back;
+      nodes = now ∙ inv.nodes;
+      others = λ i j low high ne. one.others i j low high ne ∙ inv.others i j low high ne;
+      moved = subst P (sym c.append.ensures)
+          (arrives first c.loop-parcel.self.arrived (from_each nodes (λ from. events_in (g.L.Lanes.rest old from c.args.to))) rests c.in-Some.parcel.events inv.moved one.events);
+      early = inv.early;
+    }
+
+pub returns-clause-others : goal.returns-clause-others
+returns-clause-others g c = λ i j first second ne.
+    let old = c.loop-parcel.lanes in
+    let new = c.rest.new.self in
+    let inv = c.loop-parcel.invariant in
+    let many = inv.nodes in
+    let now = c.in_default.ensures.nodes in
+    rest_kept (g.L.Lanes.received old i j) (g.L.Lanes.sent old i j) (g.L.Lanes.rest old i j) (g.L.Lanes.received new i j) (g.L.Lanes.sent new i j) (g.L.Lanes.rest new i j)
+    (c.in_default.ensures.same i j) (c.in_default.ensures.sent i j)
+    (g.met.L.Lanes.lane old inv.back i j (omega arith) (omega arith)) (g.met.L.Lanes.lane new c.in_default.ensures.back i j (omega arith) (omega arith))
+    ∙ inv.others i j first second ne
+
+pub returns-clause-rest : goal.returns-clause-rest
+returns-clause-rest g c = λ i first.
+    let old = c.loop-parcel.lanes in
+    let new = c.rest.new.self in
+    let inv = c.loop-parcel.invariant in
+    let many = inv.nodes in
+    let now = c.in_default.ensures.nodes in
+    let j = c.args.to in
+    let second = c.requires.node in
+    rest_kept (g.L.Lanes.received old i j) (g.L.Lanes.sent old i j) (g.L.Lanes.rest old i j) (g.L.Lanes.received new i j) (g.L.Lanes.sent new i j) (g.L.Lanes.rest new i j)
+    (c.in_default.ensures.same i j) (c.in_default.ensures.sent i j)
+    (g.met.L.Lanes.lane old inv.back i j (omega arith) (omega arith)) (g.met.L.Lanes.lane new c.in_default.ensures.back i j (omega arith) (omega arith))
+    ∙ c.in_default.ensures.none i (omega arith)
+
+pub returns-clause-arrived : goal.returns-clause-arrived
+returns-clause-arrived g c =
+    let old = c.loop-parcel.lanes in
+    let inv = c.loop-parcel.invariant in
+    let many = inv.nodes in
+    let nodes = g.L.Lanes.nodes c.args.lanes.now in
+    let first = c.args.self.now.arrived ++ from_each nodes (λ from. events_in (g.L.Lanes.rest c.args.lanes.now from c.args.to)) in
+    let none : from_each nodes (λ from. events_in (g.L.Lanes.rest old from c.args.to)) ≡ [] =
+    from_each-same nodes (λ from. events_in (g.L.Lanes.rest old from c.args.to)) (λ _. []) (λ k less. ap events_in (c.in_default.ensures.none k (omega arith))) ∙ from_each-none nodes in
+    let P : List Event → Type 0 = λ l. IsPermutation first l in
+    subst P (ap (λ l. c.loop-parcel.self.arrived ++ l) none ∙ append-nil c.loop-parcel.self.arrived) inv.moved

@@ -1,0 +1,4 @@
+pub mod Exchange
+pub mod Inboxes
+pub mod Mail
+pub mod Team

@@ -1,0 +1,3 @@
+pub mod InTime
+pub mod SumsLemmas
+pub mod TotalsLemmas

@@ -1,0 +1,4 @@
+pub mod Occupancies
+pub mod Sums
+pub mod Totals
+pub mod Words

@@ -1,0 +1,12 @@
+//! Totals of a simulation: for each object how much came, how much was served and how much was lost, and how much time
+//! servers were busy and jobs waited, as sums over what is told of it.
+#![tactic(auto)]
+
+mod occupancy;
+mod sums;
+mod totals;
+
+pub use totals::Totals;
+
+#[cfg(test)]
+mod tests;

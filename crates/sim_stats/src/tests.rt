@@ -1,0 +1,170 @@
+ghost use Rattle.std.specs.Prelude.{◌≡◌, ◌<◌, ◌≤◌, ◌^◌, IfOk, length};
+ghost use Rattle.event_key.specs.Stamps.{time_part};
+
+use super::*;
+use event_key::{INITIAL, Key, stamp_of};
+use model_core::model::Model as SimulationModel;
+use model_core::{
+    DONE_WORD, HELD_WORD, HOP_WORD, LEFT_WORD, LOST_WORD, MADE_WORD, Note, OutOfMemory, Part,
+    ROUTED_WORD, TAKEN_WORD, WAITING_WORD,
+};
+use phold_model::Phold;
+use random_streams::Law;
+use std::alloc::Global;
+use std::process::Abort;
+use std::test::Fail;
+
+fn key(time: u64, dest: u32) -> Key
+    requires { time < 2 ^ 47 }
+    ensures time { time_part result.stamp ≡ time }
+    ensures dest { result.dest ≡ dest }
+{
+    Key {
+        stamp: stamp_of(time, 0),
+        rank: 0,
+        dest,
+        src: INITIAL,
+        serial: 0,
+    }
+}
+
+fn part(word: u32) -> Part {
+    Part { word, a: 0, b: 0 }
+}
+
+/// The totals of records of a time, an object and a note each, for two objects.
+fn sum_up(
+    rt: &impl Abort,
+    alloc: Global,
+    records: &[(u64, u32, Note)],
+) -> Result<Totals, OutOfMemory>
+    requires { length records.now ≤ 1000 }
+    ensures { IfOk result (λ totals. length totals.objects ≡ 2) }
+{
+    let mut totals = Totals::new(alloc, 2)?;
+    let mut last = 0;
+    for (time, dest, note) in records {
+        assert!(rt; last <= *time && *time < 1000 && *dest < 2);
+        totals.add(&key(*time, *dest), note);
+        last = *time;
+    }
+    Ok(totals)
+}
+
+/// The lines of totals of two objects, `p0` and `p1`.
+fn lines_of(rt: &impl Abort, alloc: Global, totals: &Totals) -> Result<Vec<u8>, OutOfMemory>
+    requires { length totals.now.objects ≡ 2 }
+{
+    let delay = Law::Fixed { value: 1 };
+    assert!(rt; delay.is_delay());
+    let model = Phold::make(0, 2, delay, false, 0, Vec::new(alloc), 0)?;
+    let mut text = Vec::new(alloc);
+    assert!(rt; model.objects() == 2);
+    totals.text(alloc, &model, &mut text)?;
+    Ok(text)
+}
+
+#[test]
+fn a_station_and_a_sink(rt: HostRuntime) -> Result<(), Fail> {
+    let alloc = rt.alloc();
+    let records = [
+        (1, 0, Note::of(part(TAKEN_WORD))),
+        (3, 0, Note::of(part(WAITING_WORD))),
+        (4, 0, Note::of(part(DONE_WORD))),
+        (4, 1, Note::of(part(LEFT_WORD))),
+        (5, 0, Note::of(part(WAITING_WORD))),
+        (7, 0, Note::of(part(DONE_WORD))),
+        (7, 1, Note::of(part(LEFT_WORD))),
+        (10, 0, Note::of(part(DONE_WORD))),
+        (10, 1, Note::of(part(LEFT_WORD))),
+    ];
+    let totals = sum_up(&rt, alloc, &records)?;
+    let wanted = "p0 arrivals 3 served 3 lost 0 busy 9 waiting 3\n\
+                  p1 arrivals 3 served 3 lost 0 busy 0 waiting 0\n";
+    assert_eq!(rt;
+        lines_of(&rt, alloc, &totals)?.as_slice(),
+        wanted.as_bytes()
+    );
+    Ok(())
+}
+
+#[test]
+fn each_word_counts_for_what_it_tells(rt: HostRuntime) -> Result<(), Fail> {
+    let alloc = rt.alloc();
+    for (word, wanted) in [
+        (HOP_WORD, "p0 arrivals 1 served 1 lost 0"),
+        (MADE_WORD, "p0 arrivals 0 served 1 lost 0"),
+        (TAKEN_WORD, "p0 arrivals 1 served 0 lost 0"),
+        (WAITING_WORD, "p0 arrivals 1 served 0 lost 0"),
+        (LOST_WORD, "p0 arrivals 1 served 0 lost 1"),
+        (DONE_WORD, "p0 arrivals 0 served 1 lost 0"),
+        (HELD_WORD, "p0 arrivals 1 served 1 lost 0"),
+        (ROUTED_WORD, "p0 arrivals 1 served 1 lost 0"),
+        (LEFT_WORD, "p0 arrivals 1 served 1 lost 0"),
+        (10, "p0 arrivals 0 served 0 lost 0"),
+    ] {
+        let totals = sum_up(&rt, alloc, &[(9, 0, Note::of(part(word)))])?;
+        let text = lines_of(&rt, alloc, &totals)?;
+        let others = " busy 0 waiting 0\np1 arrivals 0 served 0 lost 0 busy 0 waiting 0\n";
+        let wanted = format!(in alloc; "{wanted}{others}")?;
+        assert_eq!(rt; text.as_slice(), wanted.as_bytes());
+    }
+    Ok(())
+}
+
+#[test]
+fn all_parts_of_a_record_are_told_at_its_time(rt: HostRuntime) -> Result<(), Fail> {
+    let alloc = rt.alloc();
+    let mut comes = Note::of(part(TAKEN_WORD));
+    comes.add(part(WAITING_WORD));
+    comes.add(part(WAITING_WORD));
+    let mut goes = Note::of(part(DONE_WORD));
+    goes.add(part(DONE_WORD));
+    let records = [
+        (2, 1, Note::none()),
+        (2, 1, comes),
+        (5, 1, Note::none()),
+        (6, 1, goes),
+        (9, 1, goes),
+        (11, 1, goes),
+    ];
+    // one is served and two wait from 2 to 6, one is served from then to 9
+    let totals = sum_up(&rt, alloc, &records)?;
+    let wanted = "p0 arrivals 0 served 0 lost 0 busy 0 waiting 0\n\
+                  p1 arrivals 3 served 6 lost 0 busy 7 waiting 8\n";
+    assert_eq!(rt;
+        lines_of(&rt, alloc, &totals)?.as_slice(),
+        wanted.as_bytes()
+    );
+    Ok(())
+}
+
+/// Totals of 262,144 jobs that come to the first object at time 0.
+fn crowded(alloc: Global) -> Result<Totals, OutOfMemory>
+    ensures { IfOk result (λ totals. (length totals.objects ≡ 2) × (totals.records ≤ 65536) × (totals.last ≡ 0)) }
+{
+    let mut four = Note::of(part(TAKEN_WORD));
+    four.add(part(TAKEN_WORD));
+    four.add(part(TAKEN_WORD));
+    four.add(part(TAKEN_WORD));
+    let mut totals = Totals::new(alloc, 2)?;
+    for _ in 0..65536u64 {
+        totals.add(&key(0, 0), &four);
+    }
+    Ok(totals)
+}
+
+#[test]
+fn sums_of_more_than_64_bits(rt: HostRuntime) -> Result<(), Fail> {
+    let alloc = rt.alloc();
+    let mut totals = crowded(alloc)?;
+    totals.add(&key(140_737_488_355_327, 0), &Note::of(part(DONE_WORD)));
+    // 2^18 servers for 2^47 - 1 ticks: 2^65 - 2^18
+    let wanted = "p0 arrivals 262144 served 1 lost 0 busy 36893488147418841088 waiting 0\n\
+                  p1 arrivals 0 served 0 lost 0 busy 0 waiting 0\n";
+    assert_eq!(rt;
+        lines_of(&rt, alloc, &totals)?.as_slice(),
+        wanted.as_bytes()
+    );
+    Ok(())
+}

@@ -1,0 +1,107 @@
+//! The totals of a simulation.
+ghost use Rattle.std.specs.Prelude.{◌≡◌, ◌<◌, ◌≤◌, ◌+◌, ◌++◌, ◌∷◌, [], ℕ, List, length, All, IfOk, OnOk, OnErr};
+ghost use Rattle.event_key.specs.declared.key.Key.{Key};
+ghost use Rattle.event_key.specs.Stamps.{time_part};
+ghost use Rattle.model_core.specs.declared.note.Note.{Note};
+
+use crate::sums::Sums;
+use event_key::{Key, time_of};
+use model_core::model::Model as SimulationModel;
+use model_core::{Note, OutOfMemory};
+use std::alloc::Global;
+use std::marker::Model;
+
+/// How many records are added to totals at most.
+pub const MOST_RECORDS: u64 = 1_000_000_000;
+
+/// The sums of each object of a model over the records of a simulation, kept as the records come.
+#[derive(Debug, Drop)]
+pub struct Totals {
+    objects: Vec<Sums>,
+    records: u64,
+    last: u64,
+}
+
+impl Model for Totals {
+    ghost use Rattle.std.specs.Prelude.{◌*◌, ◌≤◌, All};
+    ghost use Rattle.sim_stats.specs.declared.sums.Sums.{Sums};
+    ghost use Rattle.sim_stats.specs.Sums.{IsWithin};
+    ghost use Rattle.sim_stats.specs.Totals.{Summed};
+
+    ghost Value = { Summed };
+
+    ghost view = { λ totals. record { objects = totals.objects.items; records = totals.records; last = totals.last } };
+
+    ghost invariant = { λ totals. All (λ (sums : Sums). IsWithin (4 * totals.records) sums × (sums.last ≤ totals.last)) totals.objects.items };
+}
+
+impl Totals {
+    ghost use Rattle.sim_stats.specs.Totals.{IsInTime, totals_of, lines_of_sums};
+    ghost use Rattle.sim_stats.specs.declared.totals.TheConstants.{MOST_RECORDS};
+
+    /// The totals of no record, for a model with so many objects.
+    pub fn new(alloc: Global, objects: u32) -> Result<Totals, OutOfMemory>
+        ensures totals { IfOk result (λ totals. totals ≡ totals_of objects []) }
+        ensures objects { IfOk result (λ totals. length totals.objects ≡ objects) }
+        ensures records { IfOk result (λ totals. totals.records ≡ 0) }
+        ensures last { IfOk result (λ totals. totals.last ≡ 0) }
+    {
+        Ok(Totals {
+            objects: vec![in alloc; Sums::none(); objects as usize]?,
+            records: 0,
+            last: 0,
+        })
+    }
+
+    /// One record more, at an object that there is, and not before the record that was added last. It takes no memory,
+    /// and time for its own parts alone.
+    pub fn add(&mut self, key: &Key, note: &Note)
+        requires object { key.now.dest < length self.old.objects }
+        requires time { self.old.last ≤ time_part key.now.stamp }
+        requires room { self.old.records < MOST_RECORDS }
+        ensures totals { (objects : ℕ) (records : List (Key × Note)) → self.old ≡ totals_of objects records
+            → self.new ≡ totals_of objects (records ++ (key.now, note.now) ∷ []) }
+        ensures objects { length self.new.objects ≡ length self.old.objects }
+        ensures records { self.new.records ≡ self.old.records + 1 }
+        ensures last { self.new.last ≡ time_part key.now.stamp }
+    {
+        let time = time_of(key.stamp);
+        let sums = &mut self.objects[key.dest as usize];
+        sums.add(time, note);
+        self.records += 1;
+        self.last = time;
+    }
+
+    /// All these records, in order, as `add` takes each.
+    pub fn add_all(&mut self, records: &[(Key, Note)])
+        requires objects { All (λ (told : Key × Note). told.0.dest < length self.old.objects) records.now }
+        requires time { IsInTime self.old.last records.now }
+        requires room { self.old.records + length records.now ≤ MOST_RECORDS }
+        ensures { (objects : ℕ) (before : List (Key × Note)) → self.old ≡ totals_of objects before
+            → self.new ≡ totals_of objects (before ++ records.now) }
+    {
+        for (key, note) in records {
+            self.add(key, note);
+        }
+    }
+
+    /// Appends a line for each object, in order. A refusal leaves what was there.
+    pub fn text<M: SimulationModel>(
+        &self,
+        alloc: Global,
+        model: &M,
+        into: &mut Vec<u8>,
+    ) -> Result<(), OutOfMemory>
+        requires { length self.now.objects ≡ (M.meaning model.now).objects }
+        ensures ok { OnOk result (into.new.items ≡ into.old.items ++ lines_of_sums (M.meaning model.now) 0 self.now.objects) }
+        ensures err { OnErr result (into.new.items ≡ into.old.items) }
+    {
+        let mut lines = Vec::new(alloc);
+        for object in 0..model.objects() {
+            model.put_name(alloc, object, &mut lines)?;
+            self.objects[object as usize].put(alloc, &mut lines)?;
+        }
+        into.extend_from_slice(lines.as_slice())?;
+        Ok(())
+    }
+}

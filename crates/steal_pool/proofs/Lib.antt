@@ -1,0 +1,10 @@
+mod RuleLemmas
+mod DoesLemmas
+mod PlaceLemmas
+mod WorkerLemmas
+mod DealLemmas
+mod OrderLemmas
+mod GatherLemmas
+mod TogetherLemmas
+mod RunLemmas
+pub mod HalfLemmas

@@ -1,0 +1,6 @@
+use Rattle.std.proofs.Common.{◌≡◌, ◌++◌, map}
+use Rattle.std.specs.Prelude.{Some}
+use Rattle.steal_pool.proofs.ordering.filled.Given as goal
+
+abbrev pub invariant-loop-place : goal.invariant-loop-place
+invariant-loop-place g l = (map Some l.turns.items ≡ l.yielded) × (l.yielded ++ l.place-iterator.rest.items ≡ l.fn.places.items)

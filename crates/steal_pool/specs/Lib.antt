@@ -1,0 +1,5 @@
+pub mod Tallies
+pub mod Counts
+pub mod Ends
+pub mod Turns
+pub mod Workers

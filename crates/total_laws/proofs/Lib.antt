@@ -1,0 +1,2 @@
+mod SmallTotals
+pub mod TotalsLaw
