@@ -2,7 +2,7 @@
 -- serves each for five ticks, and one may wait; a source makes two jobs, at 1 and at 3; a sink takes jobs out.
 use Rattle.std.proofs.Common.{lit<, lit≤, ◌≡◌, ℕ, false, refl, [], ◌∷◌}
 use Rattle.std.specs.Prelude.{None}
-use Rattle.event_key.specs.Keys.{key_lt, key_cmp}
+use Rattle.event_key.specs.Keys.{key_lt, key_cmp, same_key}
 use Rattle.event_key.specs.Stamps.{next_stamp, has_no_step}
 use Rattle.delta_exchange.specs.Changes.{cells_after_all, inverses_of}
 use Rattle.random_streams.specs.declared.law.Law.TheVariants.{Fixed}
@@ -46,15 +46,15 @@ made number = record { origin = made_by 0; number = number }
 
 -- after three events the job of the list is served, and the source's first one, of the same number, waits
 after_three : whereabouts crowd to_fifty 3 ≡ (from_list, at_event (key_at 5 0 1 1 0)) ∷ (made 1, in_line 1 0) ∷ []
-unfolding crowd to_fifty from_list made whereabouts sent_next draw drawn_value words_read start_of sources_below place_changes idle_effect last_effect make_effect source_effect sink_effect take_effect wait_effect lose_effect arrival_outcome serve_effect free_effect done_effect station_effect network_meaning key_lt key_cmp next_stamp has_no_step cells_after_all inverses_of enqueue enqueue_all has_endless_chain emissions fired_by fire initial_state next next_of next_fired left_by after_events
+unfolding crowd to_fifty from_list made whereabouts sent_next draw drawn_value words_read start_of sources_below place_changes idle_effect last_effect make_effect source_effect sink_effect take_effect wait_effect lose_effect arrival_outcome serve_effect free_effect done_effect station_effect network_meaning key_lt key_cmp same_key next_stamp has_no_step cells_after_all inverses_of enqueue enqueue_all has_endless_chain emissions fired_by fire initial_state next next_of next_fired left_by after_events
 after_three = refl
 
 -- after seven the first has left, the second is served, and the source's second job was lost: it found the line full
 after_seven : whereabouts crowd to_fifty 7 ≡ (from_list, has_left) ∷ (made 1, at_event (key_at 10 0 1 1 2)) ∷ (made 2, was_lost) ∷ []
-unfolding crowd to_fifty from_list made whereabouts sent_next draw drawn_value words_read start_of sources_below place_changes idle_effect last_effect make_effect source_effect sink_effect take_effect wait_effect lose_effect arrival_outcome serve_effect free_effect done_effect station_effect network_meaning key_lt key_cmp next_stamp has_no_step cells_after_all inverses_of enqueue enqueue_all has_endless_chain emissions fired_by fire initial_state next next_of next_fired left_by after_events
+unfolding crowd to_fifty from_list made whereabouts sent_next draw drawn_value words_read start_of sources_below place_changes idle_effect last_effect make_effect source_effect sink_effect take_effect wait_effect lose_effect arrival_outcome serve_effect free_effect done_effect station_effect network_meaning key_lt key_cmp same_key next_stamp has_no_step cells_after_all inverses_of enqueue enqueue_all has_endless_chain emissions fired_by fire initial_state next next_of next_fired left_by after_events
 after_seven = refl
 
 -- one place is left in the system
 one_place : in_the_system crowd (after_events 7 (network_meaning crowd) to_fifty) ≡ (1, at_event (key_at 10 0 1 1 2)) ∷ []
-unfolding crowd to_fifty in_the_system draw drawn_value words_read start_of sources_below place_changes idle_effect last_effect make_effect source_effect sink_effect take_effect wait_effect lose_effect arrival_outcome serve_effect free_effect done_effect station_effect network_meaning key_lt key_cmp next_stamp has_no_step cells_after_all inverses_of enqueue enqueue_all has_endless_chain emissions fired_by fire initial_state next next_of next_fired left_by after_events
+unfolding crowd to_fifty in_the_system draw drawn_value words_read start_of sources_below place_changes idle_effect last_effect make_effect source_effect sink_effect take_effect wait_effect lose_effect arrival_outcome serve_effect free_effect done_effect station_effect network_meaning key_lt key_cmp same_key next_stamp has_no_step cells_after_all inverses_of enqueue enqueue_all has_endless_chain emissions fired_by fire initial_state next next_of next_fired left_by after_events
 one_place = refl
