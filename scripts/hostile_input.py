@@ -120,22 +120,22 @@ def hostile_models():
         b'format=1\nmodel="phold"\nend=5\nlimit=10000\n[phold]\nobjects=65536\nto="next"\neach=1\ndelay={law="fixed",value=0}\n')
     # (as many routers as a mebibyte has room for)
     ring = [f'[[object]]\nname="{i}"\nkind="router"\nnext=["{(i + 1) % 19_000}"]' for i in range(19_000)]
-    yield "a ring of routers without delay", network(*ring, '[[job]]\ntime=0\nat="0"', limit=100_000)
+    yield "a ring of routers without delay", network(*ring, '[[job]]\ntime=0\nat="0"', limit=30_000)
     source = object_of("s", "source", "first=0", "every=" + fixed(0), "count=1000000", 'next="z"')
-    yield "a source of 1,000,000 jobs in one tick", network(source, sink, limit=100_000)
-    yield "a source of 1,000,000 jobs", network(source.replace("value=0", "value=1"), sink, limit=100_000)
+    yield "a source of 1,000,000 jobs in one tick", network(source, sink, limit=30_000)
+    yield "a source of 1,000,000 jobs", network(source.replace("value=0", "value=1"), sink, limit=30_000)
     ways = ",".join(['"z"'] * 64)
     weights = ",".join(["65535"] * 64)
     router = object_of("r", "router", f"next=[{ways}]", f"weights=[{weights}]")
     many = object_of("s", "source", "first=0", "every=" + fixed(1), "count=1000000", 'next="r"')
-    yield "a router of 64 ways", network(many, router, sink, limit=100_000)
+    yield "a router of 64 ways", network(many, router, sink, limit=30_000)
     station = object_of("q", "station", "servers=1024", "line=65536", "service=" + fixed(2**40), 'next="z"')
     flood = object_of("s", "source", "first=0", "every=" + fixed(0), "count=65535", 'next="q"')
-    yield "a line of 65,536 places", network(flood, station, sink, limit=100_000)
+    yield "a line of 65,536 places", network(flood, station, sink, limit=30_000)
     slow = object_of("d", "delay", "delay=" + fixed(2**40), 'next="d"')
-    yield "delays of 2^40 to an end of 2^46 - 1", network(slow, '[[job]]\ntime=0\nat="d"', limit=100_000)
+    yield "delays of 2^40 to an end of 2^46 - 1", network(slow, '[[job]]\ntime=0\nat="d"', limit=30_000)
     jobs = [f'[[job]]\ntime={i}\nat="z"' for i in range(40_000)]
-    yield "40,000 jobs", network(sink, *jobs, limit=100_000)
+    yield "40,000 jobs", network(sink, *jobs, limit=30_000)
 
 
 # ---- streams
