@@ -136,7 +136,7 @@ linked-lawful all find links_are k (o ∷ named) objects fine gives =
       name = name-lawful o.name here.named;
       kind = kind-lawful all find links_are k o.kind kind.0 here.in_range kind.1;
       rank = here.rank;
-      traced = subst (λ station. IsTrue (not o.trace || station)) (sym (kind-station find at o.kind kind.0 kind.1)) here.traced;
+      traced = subst (λ station. IsTrue (not o.trace || station)) (sym (kind-station find k o.kind kind.0 kind.1)) here.traced;
     }) in
     subst (All (IsObject all)) others.2
     (All-cons (IsObject all) first.0 others.0 lawful (linked-lawful all find links_are (k + 1) named others.0 (All-tail IsNamedItem o named fine) others.1))

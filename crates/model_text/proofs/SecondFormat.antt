@@ -1,9 +1,9 @@
 -- What the walk accepts in the first format it accepts in the second, with the same result.
-use Rattle.std.proofs.Common.{◌≡◌, ℕ, ◌+◌, ◌-◌, Bool, true, false, not, List, [], ◌∷◌, ◌++◌, length, Option, Some, None, Ok, refl, sym, ap, subst, ◌∙◌}
+use Rattle.std.proofs.Common.{◌≡◌, ℕ, Ordering, Less, Equal, Greater, nat_cmp, is_eq, ◌+◌, ◌-◌, Bool, true, false, not, List, [], ◌∷◌, ◌++◌, length, Option, Some, None, Ok, refl, sym, ap, subst, ◌∙◌}
 use Rattle.std.specs.Prelude.{pos, ◌||◌, ◌&&◌, codes, if◌then◌else◌}
 use Rattle.std.specs.List.{list_any}
 use Rattle.std.specs.Str.{bytes_eq}
-use Rattle.std.specs.Ordering.{nat_cmp, match_ordering, Ordering, Less, Equal, Greater, is_eq}
+use Rattle.std.specs.Ordering.{match_ordering}
 use Rattle.std.specs.Cmp.Lexicographic.{slice_cmp, bytes_decides}
 use Rattle.std.proofs.lemmas.List.Folds.{list_any-append}
 use Rattle.std.proofs.lemmas.Map.Text.{is_eq-slice_cmp}
@@ -39,7 +39,7 @@ use Rattle.model_text.proofs.Lawful.{bound}
 
 -- two checks in a row, each of which gives something
 joined : {A B : Type 0} (check : Checked A) (next : A → Checked B) (a : A) (b : B) → check ≡ Ok a → next a ≡ Ok b → check >>= next ≡ Ok b
-joined check next a b first second = ap (λ (c : Checked A). c >>= next) first ∙ second
+joined check next a b first second = ap (λ c. c >>= next) first ∙ second
 
 passes : (test : Bool) (cause : Cause) (at : ℕ) (u : Unit {0}) → refusal_where (not test) cause at ≡ Ok u → test ≡ true
 passes true cause at u gives = refl
@@ -57,21 +57,18 @@ both false b is = cc
 -- a key that a table may not have isn't there
 no_key : (known : List (List ℕ)) (key : List ℕ) (ms : Members) → list_any (λ name. bytes_eq name key) known ≡ false → has_only known ms ≡ true → get_member key ms ≡ None
 no_key known key no_members unknown all = refl
-no_key known key (member l d ms) unknown all = by (slice_cmp nat_cmp key l) refl
+no_key known key (member l d ms) unknown all =
+    let fits = both (list_any (λ name. bytes_eq name l) known) (has_only known ms) all in
+    by fits.0 (no_key known key ms unknown fits.1) (slice_cmp nat_cmp key l) refl
   where
-    fits : (list_any (λ name. bytes_eq name l) known ≡ true) × (has_only known ms ≡ true)
-    fits = both _ _ all
-
-    rest : get_member key ms ≡ None
-    rest = no_key known key ms unknown fits.1
-
-    by : (o : Ordering) → slice_cmp nat_cmp key l ≡ o → match_ordering o (get_member key ms) (Some d) (get_member key ms) ≡ None
-    by Less is = rest
-    by Equal is =
+    by : list_any (λ name. bytes_eq name l) known ≡ true → get_member key ms ≡ None
+        → (o : Ordering) → slice_cmp nat_cmp key l ≡ o → match_ordering o (get_member key ms) (Some d) (get_member key ms) ≡ None
+    by fits rest Less is = rest
+    by fits rest Equal is =
         let same : key ≡ l = (bytes_decides key l).0 (sym (is_eq-slice_cmp key l) ∙ ap is_eq is) in
-        let known_here : list_any (λ name. bytes_eq name key) known ≡ true = subst (λ k. list_any (λ name. bytes_eq name k) known ≡ true) (sym same) fits.0 in
+        let known_here : list_any (λ name. bytes_eq name key) known ≡ true = subst (λ k. list_any (λ name. bytes_eq name k) known ≡ true) (sym same) fits in
         absurd (cc)
-    by Greater is = rest
+    by fits rest Greater is = rest
 
 -- a table that has only some keys has only these and others
 or_more : (a b : Bool) → a ≡ true → (a || b) ≡ true
@@ -236,46 +233,44 @@ phold_grows seed d x gives =
 
 -- a document with another format is the same beside it
 is_not : {X : Type 0} (b : Bool) (x y : X) → b ≡ false → (if b then x else y) ≡ y
-is_not true x y no = cc
-is_not false x y no = refl
+is_not true x y is = cc
+is_not false x y is = refl
 
 other_key : (n : ℕ) (key : List ℕ) (ms : Members) → bytes_eq key (codes "format") ≡ false → get_member key (with_format n ms) ≡ get_member key ms
 other_key n key no_members other = refl
-other_key n key (member l d ms) other = by (slice_cmp nat_cmp key l) refl
+other_key n key (member l d ms) other = by (other_key n key ms other) (slice_cmp nat_cmp key l) refl
   where
     now : Data
     now = if bytes_eq l (codes "format") then integer (pos n) else d
 
-    rest : get_member key (with_format n ms) ≡ get_member key ms
-    rest = other_key n key ms other
-
-    by : (o : Ordering) → slice_cmp nat_cmp key l ≡ o
+    by : get_member key (with_format n ms) ≡ get_member key ms → (o : Ordering) → slice_cmp nat_cmp key l ≡ o
         → match_ordering o (get_member key (with_format n ms)) (Some now) (get_member key (with_format n ms)) ≡ match_ordering o (get_member key ms) (Some d) (get_member key ms)
-    by Less is = rest
-    by Equal is =
+    by rest Less is = rest
+    by rest Equal is =
         let same : key ≡ l = (bytes_decides key l).0 (sym (is_eq-slice_cmp key l) ∙ ap is_eq is) in
         ap (λ (d : Data). Some d) (is_not (bytes_eq l (codes "format")) (integer (pos n)) d (ap (λ k. bytes_eq k (codes "format")) (sym same) ∙ other))
-    by Greater is = rest
+    by rest Greater is = rest
 
 is_so : {X : Type 0} (b : Bool) (x y : X) → b ≡ true → (if b then x else y) ≡ x
-is_so true x y yes = refl
-is_so false x y yes = cc
+is_so true x y is = refl
+is_so false x y is = cc
 
 new_format : (n : ℕ) (ms : Members) (old : Data) → get_member (codes "format") ms ≡ Some old → get_member (codes "format") (with_format n ms) ≡ Some (integer (pos n))
 new_format n no_members old has = cc
-new_format n (member l d ms) old has = by (slice_cmp nat_cmp (codes "format") l) refl has
+new_format n (member l d ms) old has = by (new_format n ms old) (slice_cmp nat_cmp (codes "format") l) refl has
   where
     now : Data
     now = if bytes_eq l (codes "format") then integer (pos n) else d
 
-    by : (o : Ordering) → slice_cmp nat_cmp (codes "format") l ≡ o
+    by : (get_member (codes "format") ms ≡ Some old → get_member (codes "format") (with_format n ms) ≡ Some (integer (pos n)))
+        → (o : Ordering) → slice_cmp nat_cmp (codes "format") l ≡ o
         → match_ordering o (get_member (codes "format") ms) (Some d) (get_member (codes "format") ms) ≡ Some old
         → match_ordering o (get_member (codes "format") (with_format n ms)) (Some now) (get_member (codes "format") (with_format n ms)) ≡ Some (integer (pos n))
-    by Less is has = new_format n ms old has
-    by Equal is has =
+    by rest Less is has = rest has
+    by rest Equal is has =
         let same : codes "format" ≡ l = (bytes_decides (codes "format") l).0 (sym (is_eq-slice_cmp (codes "format") l) ∙ ap is_eq is) in
         ap (λ (d : Data). Some d) (is_so (bytes_eq l (codes "format")) (integer (pos n)) d ((bytes_decides l (codes "format")).1 (sym same)))
-    by Greater is has = new_format n ms old has
+    by rest Greater is has = rest has
 
 same_keys : (n : ℕ) (known : List (List ℕ)) (ms : Members) → has_only known (with_format n ms) ≡ has_only known ms
 same_keys n known no_members = refl
