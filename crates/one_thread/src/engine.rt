@@ -122,7 +122,14 @@ impl<M: SimulationModel> OneThread<M> {
         let Some(course) = &mut self.course else {
             return Err(OutOfMemory);
         };
-        match fire_bucket(course, alloc, &*self.model, &self.terms, &mut self.sheet, self.room) {
+        match fire_bucket(
+            course,
+            alloc,
+            &*self.model,
+            &self.terms,
+            &mut self.sheet,
+            self.room,
+        ) {
             Ok(bucket) => {
                 self.room = next_room(bucket.done.as_slice().len());
                 self.fault = bucket.fault;
