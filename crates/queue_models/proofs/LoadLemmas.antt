@@ -1,12 +1,11 @@
 -- The load of a station is counted change by change.
-use Rattle.std.proofs.Common.{◌≡◌, ◌≢◌, ℕ, ◌+◌, ◌-◌, ◌<◌, ◌≤◌, Bool, true, false, List, [], ◌∷◌, ◌++◌, length, take, drop, refl, sym, ap, ◌∙◌, subst, arith, eqb-true, eq-eqb, get_or, get_or-set_same, get_or-set_other, length-append}
+use Rattle.std.proofs.Common.{◌≡◌, ◌≢◌, ℕ, ◌+◌, ◌-◌, ◌<◌, ◌≤◌, Bool, true, false, List, [], ◌∷◌, ◌++◌, length, take, drop, refl, sym, ap, ◌∙◌, arith, eqb-true, eq-eqb, get_or, get_or-set_same, get_or-set_other, length-append}
 use Rattle.std.specs.Prelude.{◌==◌, if◌then◌else◌, slice_set, slice_index}
 use Rattle.std.proofs.lemmas.List.{length-drop, length-take-le, drop_more, drop_all}
 use Rattle.std.proofs.Math.ListN.{length-set}
-use Rattle.std.proofs.lemmas.Grind.{get_or_default_zero}
 use Rattle.delta_exchange.specs.declared.change.Change.{Change}
 use Rattle.delta_exchange.specs.declared.change.Change.TheVariants.{Set, Push, Pop, Unpush, Unpop}
-use Rattle.delta_exchange.specs.Changes.{CellData, line_of, with_line, Fits, AllFit, cells_after, cells_after_all}
+use Rattle.delta_exchange.specs.Changes.{CellData, line_of, with_line, cells_after, cells_after_all}
 use Rattle.queue_models.specs.Loads.{busy_after, waiting_after, load_after_all}
 use Rattle.queue_models.specs.Stations.{busy_servers, waiting_jobs}
 

@@ -5,7 +5,7 @@ use Rattle.std.proofs.lemmas.Bool.Decides.{nat_tests}
 use Rattle.delta_exchange.specs.Changes.{CellData}
 use Rattle.model_core.specs.declared.effect.Effect.{Effect}
 use Rattle.model_core.specs.declared.effect.Outcome.{Outcome}
-use Rattle.model_core.specs.declared.effect.Outcome.TheVariants.{Goes, Fails}
+use Rattle.model_core.specs.declared.effect.Outcome.TheVariants.{Goes}
 use Rattle.model_core.specs.declared.event.Event.{Event}
 use Rattle.queue_models.specs.declared.kind.KindOver.{KindOver}
 use Rattle.queue_models.specs.declared.kind.KindOver.TheVariants.{Source, Station, Delay, Router, Sink}

@@ -1,4 +1,4 @@
-use Rattle.std.proofs.Common.{◌≡◌, ℕ, ◌+◌, ◌<◌, ◌≤◌, subst, sym, ap, ◌∙◌, arith, get_or, length}
+use Rattle.std.proofs.Common.{ℕ, ◌+◌, ◌<◌, ◌≤◌, subst, sym, ap, ◌∙◌, arith, get_or, length}
 use Rattle.delta_exchange.specs.declared.change.Change.TheVariants.{Set}
 use Rattle.queue_models.specs.Sites.{told}
 use Rattle.queue_models.proofs.LoadLemmas.{load_is, load_next, load_end, waiting_after-le}
