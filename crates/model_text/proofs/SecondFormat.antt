@@ -19,7 +19,7 @@ use Rattle.model_text.specs.declared.refusal.Cause.{Cause}
 use Rattle.model_text.specs.declared.refusal.Cause.TheVariants.{Unknown, BadValue}
 use Rattle.model_text.specs.declared.top.ModelKind.{ModelKind}
 use Rattle.model_text.specs.declared.top.ModelKind.TheVariants.{Phold, Network, Circuit}
-use Rattle.model_text.specs.Additions.{added, rank, flag, trace, entry_keys}
+use Rattle.model_text.specs.Additions.{rank, flag, trace, entry_keys}
 use Rattle.model_text.specs.Checks.{Checked, refusal, refusal_where, ◌>>=◌}
 use Rattle.model_text.specs.Circuits.{circuit, gates, linked_circuit}
 use Rattle.model_text.specs.Fields.{number, text, truth, table_of, array_of, present, required, or_default, optional, has_only, only, each_from}
@@ -28,13 +28,12 @@ use Rattle.model_text.specs.Formats.{format_of}
 use Rattle.model_text.specs.Jobs.{job, jobs_from}
 use Rattle.model_text.specs.LawTexts.{law}
 use Rattle.model_text.specs.Links.{linked_from}
-use Rattle.model_text.specs.ModelTexts.{ModelOf, kind_of, top_keys, body, top}
+use Rattle.model_text.specs.ModelTexts.{kind_of, top_keys, body, top}
 use Rattle.model_text.specs.Names.{Finder, NamedItem, NamedKind, place_in, new_name}
 use Rattle.model_text.specs.Networks.{linked_network, network}
-use Rattle.model_text.specs.Objects.{named_kind, added_keys, known_keys, object, objects_after, objects}
+use Rattle.model_text.specs.Objects.{named_kind, known_keys, object, objects_after, objects}
 use Rattle.model_text.specs.Phold.{destination, phold_keys, phold}
 use Rattle.model_text.specs.Starts.{start_entry, start_entries}
-use Rattle.model_text.specs.TermsOf.{terms_of}
 use Rattle.model_text.proofs.Lawful.{bound}
 
 -- two checks in a row, each of which gives something

@@ -1,5 +1,5 @@
 -- Fields that came with the second format: a text of the first format has none of them, and they are as if absent.
-use Rattle.std.specs.Prelude.{ℕ, pos, Bool, false, List, [], ◌∷◌, ◌++◌, Ok, codes, if◌then◌else◌}
+use Rattle.std.specs.Prelude.{ℕ, pos, Bool, false, List, [], ◌∷◌, Ok, codes, if◌then◌else◌}
 use Rattle.event_key.specs.declared.key.TheConstants.{MOST_RANK}
 use Rattle.toml.specs.Data.{integer, boolean, Members}
 use Rattle.queue_models.specs.Kinds.{is_station}
