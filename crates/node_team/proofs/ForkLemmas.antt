@@ -1,5 +1,6 @@
 -- What is said of each place of two lists.
 use Rattle.std.proofs.Common.{◌≡◌, ℕ, suc, ◌<◌, List, [], ◌∷◌, length, get_or, arith}
+use Rattle.std.specs.Prelude.{Result, Ok, Err, IfOk}
 use Rattle.std.specs.List.{AllZip}
 
 pub each-zip : {A : Type 0} (R : A → A → Type 0) (xs ys : List A) → length ys ≡ length xs → ((i : ℕ) (d : A) → i < length xs → R (get_or xs i d) (get_or ys i d)) → AllZip R xs ys
@@ -7,3 +8,14 @@ each-zip R [] [] many each = tt
 each-zip R [] (y ∷ ys) many each = absurd (omega arith)
 each-zip R (x ∷ xs) [] many each = absurd (omega arith)
 each-zip R (x ∷ xs) (y ∷ ys) many each = (each 0 x (omega arith), each-zip R xs ys (omega arith) (λ i d below. each (suc i) d (omega arith)))
+
+-- what relates two lists place by place follows from what relates them so
+pub zip-into : {A : Type 0} (Q R : A → A → Type 0) → ((x y : A) → Q x y → R x y) → (xs ys : List A) → AllZip Q xs ys → AllZip R xs ys
+zip-into Q R into [] [] all = tt
+zip-into Q R into [] (y ∷ ys) all = absurd all
+zip-into Q R into (x ∷ xs) [] all = absurd all
+zip-into Q R into (x ∷ xs) (y ∷ ys) all = (into x y all.0, zip-into Q R into xs ys all.1)
+
+pub if-ok : {A E : Type 0} {P Q : A → Type 0} (r : Result A E) → ((x : A) → P x → Q x) → IfOk r P → IfOk r Q
+if-ok (Ok x) into is = into x is
+if-ok (Err e) into is = tt

@@ -1,6 +1,7 @@
 pub mod Advances
 pub mod Desks
 pub mod Forks
+pub mod Handings
 pub mod Releases
 pub mod Rises
 pub mod Teams

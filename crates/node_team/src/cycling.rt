@@ -4,11 +4,13 @@ ghost use Rattle.sim_spec.specs.State.{State};
 ghost use Rattle.cycle_core.specs.Cycled.{CarriesOn, IsBucketOf, StandsAfter};
 ghost use Rattle.cycle_core.specs.Standings.{HasCycled};
 ghost use Rattle.cycle_core.specs.Worlds.{StandsAt, CanCycle, IsSameWorld};
+ghost use Rattle.node_team.specs.Handings.{AreWorkers};
 ghost use Rattle.node_team.specs.Releases.{AreClear};
 ghost use Rattle.node_team.specs.Rises.{AllRise};
 
 use crate::ending::end_world;
 use crate::gate::Gate;
+use crate::handing::Handing;
 use crate::kept::Kept;
 use crate::running::advance_world;
 use cycle_core::{World, bucket_of};
@@ -27,8 +29,10 @@ fn run_cycle<R: Threads + Sync, M: SimulationModel, L: Lanes, G: Gate>(
     lanes: &mut L,
     kept: &mut Kept,
     ahead: u32,
+    workers: Option<u32>,
     gate: &G,
 ) -> Result<Bucket, OutOfMemory>
+    requires workers { AreWorkers workers }
     requires stands { (s : State) × StandsAt (M.meaning world.old.model) world.old s }
     requires lanes { L.nodes lanes.old ≡ world.old.homes.nodes }
     requires rest { L.are_at_rest lanes.old }
@@ -44,7 +48,8 @@ fn run_cycle<R: Threads + Sync, M: SimulationModel, L: Lanes, G: Gate>(
     ensures clear { OnOk result (AreClear world.old.homes.nodes kept.new.inboxes.items) }
 {
     let ends = lanes.ready(alloc)?;
-    advance_world(rt, alloc, world, ahead, kept.load.advance_threads(), gate)?;
+    let handing = Handing::of(kept.load.advance_threads(), workers);
+    advance_world(rt, alloc, world, ahead, handing, gate)?;
     let bound = world.close_cycle(alloc)?;
     let cut = world.commit_cut(alloc, bound)?;
     let records = end_world(rt, alloc, world, lanes, ends, kept, bound, &cut)?;
@@ -52,8 +57,8 @@ fn run_cycle<R: Threads + Sync, M: SimulationModel, L: Lanes, G: Gate>(
     Ok(bucket_of(bound, &cut, records))
 }
 
-/// One cycle: the nodes advance in threads, below one shared word, and what is committed goes through lanes. After a
-/// refusal the world is spent.
+/// One cycle: the nodes advance in threads, below one shared word, and what is committed goes through lanes. Where there are
+/// workers, they take the nodes' turns of the advance and steal them from each other. After a refusal the world is spent.
 pub fn cycle<R: Threads + Sync, M: SimulationModel, L: Lanes, G: Gate>(
     rt: &R,
     alloc: Global,
@@ -61,8 +66,10 @@ pub fn cycle<R: Threads + Sync, M: SimulationModel, L: Lanes, G: Gate>(
     lanes: &mut L,
     kept: &mut Kept,
     ahead: u32,
+    workers: Option<u32>,
     gate: &G,
 ) -> Result<Bucket, OutOfMemory>
+    requires workers { AreWorkers workers }
     requires can { CanCycle (M.meaning world.old.model) world.old }
     requires lanes { L.nodes lanes.old ≡ world.old.homes.nodes }
     requires rest { world.old.is_spent ≡ false → L.are_at_rest lanes.old }
@@ -82,7 +89,7 @@ pub fn cycle<R: Threads + Sync, M: SimulationModel, L: Lanes, G: Gate>(
     if world.is_spent() {
         return Err(OutOfMemory);
     }
-    match run_cycle(rt, alloc, world, lanes, kept, ahead, gate) {
+    match run_cycle(rt, alloc, world, lanes, kept, ahead, workers, gate) {
         Ok(bucket) => Ok(bucket),
         Err(refused) => {
             world.spend();

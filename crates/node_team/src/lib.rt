@@ -7,6 +7,7 @@ mod cycling;
 mod desks;
 mod ending;
 mod gate;
+mod handing;
 mod kept;
 mod parts;
 mod paying;
@@ -14,6 +15,7 @@ mod posting;
 mod releasing;
 mod running;
 mod seating;
+mod stealing;
 mod team;
 
 pub use advancing::advance;

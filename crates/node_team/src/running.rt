@@ -3,10 +3,13 @@ ghost use Rattle.std.specs.Prelude.{◌≡◌, ◌≤◌, length, IfOk, OnOk};
 ghost use Rattle.sim_spec.specs.State.{State};
 ghost use Rattle.cycle_core.specs.Worlds.{StandsAt, IsSameWorld};
 ghost use Rattle.node_team.specs.Forks.{AllHaveRun, CanAllRun};
+ghost use Rattle.node_team.specs.Handings.{IsHanding};
 
 use crate::advancing::advance;
 use crate::gate::Gate;
+use crate::handing::Handing;
 use crate::seating::{advance_all, floor_of, seat_all, unseat_all};
+use crate::stealing::advance_by;
 use cycle_core::{World, know_all};
 use event_key::end_bound;
 use horizon_word::{HorizonWord, WordSeat};
@@ -40,42 +43,53 @@ fn advance_in_turn<M: SimulationModel, G: Gate>(
     Ok(())
 }
 
-/// Advances nodes, in so many threads at most. For a fork they move to their seats, so that each thread owns its own.
+/// Advances nodes as they are handed out. For a fork they move to their seats, so that each thread owns its own.
 fn advance_nodes<R: Threads + Sync, M: SimulationModel, G: Gate>(
     rt: &R,
     alloc: Global,
     word: &HorizonWord,
     gate: &G,
     ahead: u32,
-    threads: usize,
+    handing: Handing,
     nodes: Vec<Node<M>>,
     seats: Vec<WordSeat>,
 ) -> Result<Vec<Node<M>>, OutOfMemory>
+    requires handing { IsHanding handing }
     requires many { length nodes.items ≤ length seats.items }
     requires can { CanAllRun M.meaning word.now nodes.items seats.items }
     ensures { IfOk result (λ now. AllHaveRun M.meaning ahead nodes.items now.items) }
 {
-    if threads < 2 {
-        let mut nodes = nodes;
-        advance_in_turn(alloc, word, gate, ahead, nodes.as_mut_slice(), seats)?;
-        return Ok(nodes);
+    match handing {
+        Handing::InTurn => {
+            let mut nodes = nodes;
+            advance_in_turn(alloc, word, gate, ahead, nodes.as_mut_slice(), seats)?;
+            Ok(nodes)
+        }
+        Handing::InParts(threads) => {
+            let mut all = seat_all(alloc, nodes, seats)?;
+            advance_all(rt, alloc, word, ahead, gate, threads, all.as_mut_slice());
+            unseat_all(alloc, all)
+        }
+        Handing::Stolen(workers) => {
+            let all = seat_all(alloc, nodes, seats)?;
+            let all = advance_by(rt, alloc, word, ahead, gate, workers, all)?;
+            unseat_all(alloc, all)
+        }
     }
-    let mut all = seat_all(alloc, nodes, seats)?;
-    advance_all(rt, alloc, word, ahead, gate, threads, all.as_mut_slice());
-    unseat_all(alloc, all)
 }
 
-/// Advances each node of a world below one word, in so many threads at most. After a refusal the world may have lost its
+/// Advances each node of a world below one word, as they are handed out. After a refusal the world may have lost its
 /// nodes.
 pub fn advance_world<R: Threads + Sync, M: SimulationModel, G: Gate>(
     rt: &R,
     alloc: Global,
     world: &mut World<M>,
     ahead: u32,
-    threads: usize,
+    handing: Handing,
     gate: &G,
 ) -> Result<(), OutOfMemory>
-    requires { (s : State) × StandsAt (M.meaning world.old.model) world.old s }
+    requires handing { IsHanding handing }
+    requires stands { (s : State) × StandsAt (M.meaning world.old.model) world.old s }
     ensures run { OnOk result (AllHaveRun M.meaning ahead world.old.nodes world.new.nodes) }
     ensures made { IsSameWorld world.old world.new }
     ensures world { OnOk result (world.new ≡ record world.old { nodes = world.new.nodes }) }
@@ -88,7 +102,7 @@ pub fn advance_world<R: Threads + Sync, M: SimulationModel, G: Gate>(
     know_all(&nodes);
     let floor = floor_of(&nodes, end);
     let (word, seats) = HorizonWord::begin(alloc, floor, end, nodes.len())?;
-    let nodes = advance_nodes(rt, alloc, &word, gate, ahead, threads, nodes, seats)?;
+    let nodes = advance_nodes(rt, alloc, &word, gate, ahead, handing, nodes, seats)?;
     world.put_nodes(nodes);
     Ok(())
 }

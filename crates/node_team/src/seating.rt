@@ -25,7 +25,7 @@ pub struct Seated<M: SimulationModel> {
 }
 
 /// Advances the node of one seat.
-fn go<M: SimulationModel, G: Gate>(
+pub fn go<M: SimulationModel, G: Gate>(
     alloc: Global,
     word: &HorizonWord,
     ahead: u32,

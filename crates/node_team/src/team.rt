@@ -1,5 +1,5 @@
 //! The team.
-ghost use Rattle.std.specs.Prelude.{◌≡◌, true, false, None, IfOk, OnOk, OnErr};
+ghost use Rattle.std.specs.Prelude.{◌≡◌, ◌≤◌, true, false, None, IfOk, OnOk, OnErr};
 ghost use Rattle.sim_spec.specs.Standing.{Standing, ended, IsCountAt};
 ghost use Rattle.cycle_core.specs.Cycled.{CarriesOn, IsBucketOf, StandsAfter};
 ghost use Rattle.cycle_core.specs.Standings.{WorldStandsAt, HasCycled};
@@ -116,6 +116,40 @@ impl<M: SimulationModel, L: Lanes + Drop> Team<M, L> {
             &mut self.lanes,
             &mut self.kept,
             self.ahead,
+            None,
+            gate,
+        )
+    }
+
+    /// One cycle, in which so many workers, 1 to 64, take the nodes' turns of the advance and steal them from each other,
+    /// where an advance in threads pays. All else is as in `cycle`.
+    pub fn cycle_by<R: Threads + Sync, G: Gate>(
+        &mut self,
+        rt: &R,
+        alloc: Global,
+        workers: u32,
+        gate: &G,
+    ) -> Result<Bucket, OutOfMemory>
+        requires workers { (1 ≤ workers) × (workers ≤ 64) }
+        requires can { CanCycle (M.meaning self.old.world.model) self.old.world }
+        ensures bucket { IfOk result (IsBucketOf M.meaning self.old.world) }
+        ensures stands { OnOk result (StandsAfter M.meaning self.old.world self.new.world) }
+        ensures carried { OnOk result (CarriesOn M.meaning self.old.world self.new.world) }
+        ensures work { OnOk result (AllRise M.meaning self.old.ahead self.old.world.nodes self.new.world.nodes) }
+        ensures made { IsSameWorld self.old.world self.new.world }
+        ensures ahead { self.new.ahead ≡ self.old.ahead }
+        ensures fault { IfOk result (λ bucket. self.new.world.fault ≡ bucket.fault) }
+        ensures spent { OnErr result (self.new.world.is_spent ≡ true) }
+        ensures cycled { HasCycled M.meaning self.old.world result self.new.world }
+    {
+        cycle(
+            rt,
+            alloc,
+            &mut self.world,
+            &mut self.lanes,
+            &mut self.kept,
+            self.ahead,
+            Some(workers),
             gate,
         )
     }

@@ -1,5 +1,5 @@
 //! In how many threads the cycles of a team run.
-ghost use Rattle.std.specs.Prelude.{◌≡◌, IfOk};
+ghost use Rattle.std.specs.Prelude.{◌≡◌, ◌≤◌, IfOk};
 ghost use Rattle.sim_spec.specs.Standing.{Standing};
 ghost use Rattle.cycle_core.specs.Standings.{WorldStandsAt};
 
@@ -15,7 +15,7 @@ use sim_spec::{Placement, Terms};
 use std::alloc::Global;
 use std::hint;
 use std::sync::Arc;
-use std::sync::atomic::{AtomicU64, Ordering};
+use std::sync::atomic::{AtomicBool, AtomicU64, Ordering};
 use std::test::Fail;
 use std::thread::Threads;
 
@@ -120,6 +120,76 @@ fn a_narrow_cycle_runs_in_one_thread_but_for_the_first(rt: HostRuntime) -> Resul
     run_cycles(&rt, rt.alloc(), &mut team, 3, &gate)?;
     assert_eq!(rt; team.count(), 3 * 64);
     assert_eq!(rt; gate.met(), NODES + 2);
+    Ok(())
+}
+
+/// Holds the first entry of node 0 until node 2 has entered, for so many turns at most, and keeps whether it saw that.
+#[derive(Drop)]
+struct Stick {
+    held: AtomicBool,
+    came: AtomicBool,
+    seen: AtomicBool,
+}
+
+impl Stick {
+    fn new() -> Stick {
+        Stick {
+            held: AtomicBool::new(false),
+            came: AtomicBool::new(false),
+            seen: AtomicBool::new(false),
+        }
+    }
+
+    fn hold(&self) {
+        for _ in 0..200_000_000u64 {
+            if self.came.load(Ordering::SeqCst) {
+                self.seen.store(true, Ordering::SeqCst);
+                return;
+            }
+            hint::spin_loop();
+        }
+    }
+}
+
+impl Gate for Stick {
+    fn enter(&self, node: u32) {
+        if node == 2 {
+            self.came.store(true, Ordering::SeqCst);
+        }
+        if node == 0 && !self.held.swap(true, Ordering::SeqCst) {
+            self.hold();
+        }
+    }
+
+    fn did(&self, _node: u32, _key: &Key) {}
+}
+
+/// One cycle of a team by so many workers.
+fn cycle_by<R: Threads + Sync, M: SimulationModel, G: Gate>(
+    rt: &R,
+    alloc: Global,
+    team: &mut Team<M, RingLanes>,
+    workers: u32,
+    gate: &G,
+) -> Result<(), Fail>
+    requires stands { (at : Standing) × WorldStandsAt M.meaning team.old.world at }
+    requires workers { (1 ≤ workers) × (workers ≤ 64) }
+{
+    let None = team.ended() else {
+        return Err(Fail::from("the team has ended"));
+    };
+    team.cycle_by(rt, alloc, workers, gate)?;
+    Ok(())
+}
+
+// The turns of nodes 0 and 2 begin in one deque, so node 0 sees node 2 enter only where another worker steals its turn.
+#[test]
+fn a_turn_that_waits_behind_another_is_stolen(rt: HostRuntime) -> Result<(), Fail> {
+    let gate = Stick::new();
+    let mut team = hops(rt.alloc(), 64)?;
+    cycle_by(&rt, rt.alloc(), &mut team, 2, &gate)?;
+    assert_eq!(rt; team.count(), 64);
+    assert!(rt; gate.seen.load(Ordering::SeqCst));
     Ok(())
 }
 

@@ -1,5 +1,6 @@
 mod RuleLemmas
 mod DoesLemmas
+mod EachLemmas
 mod PlaceLemmas
 mod WorkerLemmas
 mod DealLemmas

@@ -3,3 +3,4 @@ pub mod Counts
 pub mod Ends
 pub mod Turns
 pub mod Workers
+pub mod Works

@@ -3,6 +3,7 @@
 
 mod dealing;
 mod deque;
+mod each;
 mod forking;
 mod gathering;
 mod hiring;
@@ -14,6 +15,7 @@ mod turn;
 mod worker;
 
 pub use delta_exchange::OutOfMemory;
+pub use each::run_each;
 pub use running::run_turns;
 pub use turn::Turn;
 

@@ -21,14 +21,14 @@ advance_nodes-requires-clause-can g c lifetimes outlives =
     (record {
       seat = new_seat c.in_ok-word.word c.floor_of-floor.result c.end_bound-end.result;
       alike = c.in_ok-word.ensures.new;
-      can = can-run (g.M.Model.meaning) w c.requires.0 c.requires.1 c.in_ok-word.word c.end_bound-end.result c.floor_of-floor.result end known floors;
+      can = can-run (g.M.Model.meaning) w c.requires.stands.0 c.requires.stands.1 c.in_ok-word.word c.end_bound-end.result c.floor_of-floor.result end known floors;
     })
 
 pub put_nodes-requires-clause-nodes : goal.put_nodes-requires-clause-nodes
 put_nodes-requires-clause-nodes g c lifetimes outlives =
     let w = c.args.world.now in
     let run = subst (λ ns. AllHaveRun (g.M.Model.meaning) c.args.ahead ns c.in_ok-nodes.nodes.items) c.take_nodes-nodes.ensures.nodes c.in_ok-nodes.ensures in
-    subst (λ v. AreNodesOf v.model v.terms v.homes c.in_ok-nodes.nodes.items) (sym c.take_nodes-nodes.ensures.world) (run-nodes (g.M.Model.meaning) w c.args.ahead c.in_ok-nodes.nodes.items run c.requires.0 c.requires.1)
+    subst (λ v. AreNodesOf v.model v.terms v.homes c.in_ok-nodes.nodes.items) (sym c.take_nodes-nodes.ensures.world) (run-nodes (g.M.Model.meaning) w c.args.ahead c.in_ok-nodes.nodes.items run c.requires.stands.0 c.requires.stands.1)
 
 pub returns-clause-stands : goal.returns-clause-stands
 returns-clause-stands g c s stands =

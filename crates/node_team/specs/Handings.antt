@@ -1,0 +1,13 @@
+-- How the nodes of an advance are handed out to threads.
+use Rattle.std.specs.Prelude.{◌<◌, ◌≤◌, ℕ, Option, IfSome}
+use Rattle.node_team.specs.declared.handing.Handing.{Handing}
+
+-- where turns are stolen, 1 to 64 workers do so
+abbrev pub AreWorkers : Option ℕ → Type 0
+AreWorkers workers = IfSome workers (λ many. (1 ≤ many) × (many ≤ 64))
+
+-- a number of threads or workers that there can be
+abbrev pub IsHanding : Handing → Type 0
+IsHanding Handing.InTurn = Unit {0}
+IsHanding (Handing.InParts threads) = 0 < threads
+IsHanding (Handing.Stolen workers) = (1 ≤ workers) × (workers ≤ 64)
