@@ -18,5 +18,5 @@ pub record IsFirstComeFirstServed (p : NetworkParts) (t : Terms) (i : ℕ) (stat
 
 abbrev pub FirstComeFirstServed : Type 0
 FirstComeFirstServed =
-    (p : NetworkParts) (t : Terms) (i : ℕ) (station : Station) (n : ℕ) → IsNetwork p → IsStationAt p i station 
+    (p : NetworkParts) (t : Terms) (i : ℕ) (station : Station) (n : ℕ) → IsNetwork p → IsStationAt p i station
     → IsFirstComeFirstServed p t i station n (after_events n (network_meaning p) t)
