@@ -100,7 +100,7 @@ completes OutOfMemory status target rf wf is h r w = inr (inr (inr is))
 
 -- what is no demo reads a model
 pub not_demo : (s : Settings) → ((n : ℕ) → s ≡ Settings.Demo n → ⊥) → reads_model s ≡ true
-not_demo (Settings.Run nodes ahead placement cycles) other = refl
+not_demo (Settings.Run nodes ahead placement cycles workers) other = refl
 not_demo (Settings.One cycles) other = refl
 not_demo Settings.Totals other = refl
 not_demo (Settings.Demo n) other = absurd (other n refl)
@@ -115,7 +115,7 @@ module _ (ws : List (List ℕ)) where
   runs s h bytes = ap (λ r. answer_to_settings r bytes) h
 
   asks_for_input : (s : Settings) → reads_model s ≡ true → (bytes : List ℕ) → model_asked s bytes ≡ model_of bytes
-  asks_for_input (Settings.Run nodes ahead placement cycles) reads bytes = refl
+  asks_for_input (Settings.Run nodes ahead placement cycles workers) reads bytes = refl
   asks_for_input (Settings.One cycles) reads bytes = refl
   asks_for_input Settings.Totals reads bytes = refl
   asks_for_input (Settings.Demo n) reads bytes = cc

@@ -5,6 +5,7 @@ mod gates;
 mod networks;
 mod nodes;
 mod refusals;
+mod workers;
 mod writes;
 
 use crate::top::btb;
@@ -215,6 +216,12 @@ fn refused_words_read_nothing(rt: HostRuntime) -> Result<(), Fail> {
         (["run", "x"].as_slice(), "words: extra word\n"),
         (
             ["one", "--cycles", "--cycles"].as_slice(),
+            "words: repeated option\n",
+        ),
+        (["run", "--workers", "0"].as_slice(), "words: bad value\n"),
+        (["run", "--workers", "65"].as_slice(), "words: bad value\n"),
+        (
+            ["run", "--workers", "2", "--workers", "2"].as_slice(),
             "words: repeated option\n",
         ),
     ] {

@@ -45,6 +45,7 @@ const NODES: Settings = Settings::Run {
     ahead: 8,
     placement: Placement::Round,
     cycles: false,
+    workers: None,
 };
 
 /// The text of a model's simulation.
