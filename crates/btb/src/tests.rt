@@ -5,6 +5,7 @@ mod gates;
 mod networks;
 mod nodes;
 mod refusals;
+mod totals;
 mod workers;
 mod writes;
 
@@ -31,6 +32,19 @@ const TIE_TEXT: &str = "0.0 p1 hop 5 2
 5.0 p0 hop 5 1
 5.0 p2 hop 5 0
 end 9 events 3
+";
+
+/// One object that draws its delays.
+const DRAWN: &str = "format = 1
+model = \"phold\"
+end = 8
+seed = 0
+
+[phold]
+objects = 1
+delay = { law = \"uniform\", low = 1, high = 10 }
+to = \"uniform\"
+start = [ { time = 0, at = 0 } ]
 ";
 
 /// How a run ended, what it wrote and what it noted.
@@ -151,20 +165,7 @@ start = [ { time = 0, at = 1 }, { time = 5, at = 0 } ]
 
 #[test]
 fn drawn_delays_and_an_event_at_the_end(rt: HostRuntime) -> Result<(), Fail> {
-    let run = run_of(
-        &rt,
-        "format = 1
-model = \"phold\"
-end = 8
-seed = 0
-
-[phold]
-objects = 1
-delay = { law = \"uniform\", low = 1, high = 10 }
-to = \"uniform\"
-start = [ { time = 0, at = 0 } ]
-",
-    )?;
+    let run = run_of(&rt, DRAWN)?;
     assert_eq!(rt; run.status, 0);
     assert_eq!(rt;
         run.text.as_str(),
@@ -213,7 +214,11 @@ fn refused_words_read_nothing(rt: HostRuntime) -> Result<(), Fail> {
         ([].as_slice(), "words: no command\n"),
         (["go"].as_slice(), "words: unknown command\n"),
         (["run", "--nodes=2"].as_slice(), "words: unknown option\n"),
-        (["run", "x"].as_slice(), "words: extra word\n"),
+        (["totals", "--cycles"].as_slice(), "words: unknown option\n"),
+        (
+            ["run", "--ahead", "1", "--ahead", "2"].as_slice(),
+            "words: repeated option\n",
+        ),
         (
             ["one", "--cycles", "--cycles"].as_slice(),
             "words: repeated option\n",
@@ -224,6 +229,15 @@ fn refused_words_read_nothing(rt: HostRuntime) -> Result<(), Fail> {
             ["run", "--workers", "2", "--workers", "2"].as_slice(),
             "words: repeated option\n",
         ),
+        (["run", "--nodes"].as_slice(), "words: missing value\n"),
+        (["demo"].as_slice(), "words: missing value\n"),
+        (["run", "--nodes", "0"].as_slice(), "words: bad value\n"),
+        (["run", "--nodes", "65"].as_slice(), "words: bad value\n"),
+        (["run", "--nodes", "02"].as_slice(), "words: bad value\n"),
+        (["demo", "257"].as_slice(), "words: bad value\n"),
+        (["run", "x"].as_slice(), "words: extra word\n"),
+        (["one", "x"].as_slice(), "words: extra word\n"),
+        (["demo", "1", "2"].as_slice(), "words: extra word\n"),
     ] {
         let source = source_of(alloc, TIE, &[1])?;
         let run = answer_of(&rt, words, source, sink_of(alloc, &[], &[])?)?;

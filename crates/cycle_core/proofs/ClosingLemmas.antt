@@ -10,7 +10,7 @@ use Rattle.world_spec.specs.Moves.{IsIdle}
 use Rattle.node_core.specs.Nodes.{NodeView, home, data_of}
 use Rattle.node_core.specs.Steps.{HoldsMessageAt, IsHeldLeast}
 use Rattle.cycle_core.specs.Works.{WorksOn, IsHeldFrom, IsSettled, IsOpened}
-use Rattle.cycle_core.proofs.PlaceLemmas.{IsUpto, at-set, at-other, same-some, upto-none, upto-more}
+use Rattle.cycle_core.proofs.PlaceLemmas.{IsUpto, at-set, at-other, same-some, upto-more}
 use Rattle.cycle_core.proofs.WorkLemmas.{idle-lower}
 
 module _ {M : Type 0} (meaning_of : M → Meaning) where

@@ -1,16 +1,16 @@
 -- Where processed events are cut, from the keys and the faults of the nodes.
-use Rattle.std.proofs.Common.{◌≡◌, ◌≢◌, ℕ, zero, suc, ◌+◌, ◌<◌, ◌≤◌, Bool, true, false, cond, List, [], ◌∷◌, ◌++◌, length, drop, refl, sym, ap, ◌∙◌, subst, inl, inr, arith, eqb, ltb, ltb-true, ltb-false, lt-ltb, nat_lt, ◌==◌, ◌&&◌, ◌||◌, append-nil, map, le-ltb}
-use Rattle.std.proofs.lemmas.Bool.{eqb-false, and_right}
+use Rattle.std.proofs.Common.{◌≡◌, ◌≢◌, ℕ, zero, suc, ◌+◌, ◌<◌, ◌≤◌, Bool, true, false, cond, List, [], ◌∷◌, ◌++◌, length, drop, refl, sym, ap, ◌∙◌, subst, arith, ltb, ltb-true, ltb-false, lt-ltb, nat_lt, ◌==◌, ◌&&◌, ◌||◌, append-nil, map, le-ltb}
+use Rattle.std.proofs.lemmas.Bool.{and_right}
 use Rattle.std.proofs.lemmas.List.{length-append, drop_all, append_assoc}
 use Rattle.std.proofs.lemmas.List.Elements.{filter-append}
 use Rattle.std.proofs.lemmas.List.Sums.{sum_by-cons}
 use Rattle.std.proofs.lemmas.List.Sorted.{Contains-permutation, IsPermutation-sym, IsPermutation-map}
 use Rattle.std.proofs.lemmas.Option.{slice_get_within}
-use Rattle.std.specs.Prelude.{slice_get, Option, Some, None, Contains, IsPermutation, filter, is_some, if◌then◌else◌}
+use Rattle.std.specs.Prelude.{slice_get, Option, Some, None, IsPermutation, filter, is_some, if◌then◌else◌}
 use Rattle.std.specs.List.{AllByRecursion as Each}
 use Rattle.event_key.specs.declared.key.Key.{Key}
 use Rattle.event_key.specs.Keys.{key_lt}
-use Rattle.event_key.proofs.Order.{key_lt-stamp, key_lt-trans}
+use Rattle.event_key.proofs.Order.{key_lt-stamp}
 use Rattle.model_core.specs.Meaning.{Meaning}
 use Rattle.model_core.specs.declared.event.Event.{Event}
 use Rattle.sim_spec.specs.declared.terms.Terms.{Terms}
@@ -21,8 +21,8 @@ use Rattle.key_order.specs.Pending.{in_order}
 use Rattle.key_order.proofs.AscendingLemmas.{Ascends-filter, Ascends-map, key_lt-turned}
 use Rattle.key_order.proofs.FilterLemmas.{filter-all, filter-passes, filter-swap, length-filter_le}
 use Rattle.key_order.proofs.InOrder.{in_order-permutation, in_order-ascending}
-use Rattle.key_order.proofs.KeyLemmas.{Ascends-differ, at_key-other, key_lt-other, same_or_other, key_lt-none-trans}
-use Rattle.key_order.proofs.MemberLemmas.{each-contains, filter-contains, first-or-later, is-first, is-later, contains-filter}
+use Rattle.key_order.proofs.KeyLemmas.{Ascends-differ, key_lt-none-trans}
+use Rattle.key_order.proofs.MemberLemmas.{each-contains, filter-contains, contains-filter}
 use Rattle.key_order.proofs.OrderLemmas.{by-members, differ-by-parts}
 use Rattle.object_log.specs.declared.done.Done.{Done}
 use Rattle.object_log.specs.Logs.{keys_of}

@@ -16,12 +16,8 @@ use Rattle.cycle_core.specs.Places.{AtEach}
 use Rattle.cycle_core.specs.Records.{AreInOrder, HaveGiven, HaveMerged, IsOnlyTold, RecordsDiffer, TellsNothing, record_key}
 use Rattle.cycle_core.specs.Sendings.{SendsTo, HaveSent}
 use Rattle.cycle_core.proofs.CyclingLemmas.{permutes-same}
-use Rattle.cycle_core.proofs.PlaceLemmas.{at-some, each-more, same-some}
+use Rattle.cycle_core.proofs.PlaceLemmas.{at-some, each-more, each-of, same-some}
 use Rattle.cycle_core.proofs.SentLemmas.{told_by-append, told_by-one}
-
-each-of : {A : Type 0} (P : A → Type 0) (xs : List A) → ((k : ℕ) (x : A) → slice_get xs k ≡ Some x → P x) → Each P xs
-each-of P [] all = tt
-each-of P (x ∷ xs) all = (all 0 x refl, each-of P xs (λ k y at. all (suc k) y at))
 
 each-get : {A : Type 0} (P : A → Type 0) (xs : List A) → Each P xs → (k : ℕ) (x : A) → slice_get xs k ≡ Some x → P x
 each-get P [] all k x at = absurd (cc)

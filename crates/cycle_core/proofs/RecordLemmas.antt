@@ -1,8 +1,8 @@
 -- The records of a cycle: those of each node are in order, and the keys of all differ.
 use Rattle.world_spec.proofs.NextWorld.{bucket-ordered, bucket-placed}
-use Rattle.std.proofs.Common.{◌≡◌, ℕ, suc, ◌<◌, List, [], ◌∷◌, length, refl, sym, subst, arith}
+use Rattle.std.proofs.Common.{ℕ, ◌<◌, List, length, sym, subst, arith}
 use Rattle.std.proofs.lemmas.Option.{slice_get_within}
-use Rattle.std.specs.Prelude.{slice_get, Option, Some}
+use Rattle.std.specs.Prelude.{Option}
 use Rattle.std.specs.List.{AllByRecursion as Each}
 use Rattle.event_key.specs.declared.key.Key.{Key}
 use Rattle.model_core.specs.Meaning.{Meaning}
@@ -11,32 +11,26 @@ use Rattle.sim_spec.specs.Cut.{committed_events, events_of, records_of}
 use Rattle.sim_spec.specs.Firing.{Firing}
 use Rattle.sim_spec.specs.State.{State, Lawful}
 use Rattle.sim_spec.specs.declared.terms.Terms.{Terms}
-use Rattle.sim_spec.proofs.PartLemmas.{AllSound-dest, Ascends-done}
-use Rattle.key_order.specs.Ascending.{IsAscending, key_of}
-use Rattle.key_order.proofs.AscendingLemmas.{Ascends-map, Ascends-prefix}
-use Rattle.key_order.proofs.EachLemmas.{Each-front}
+use Rattle.sim_spec.proofs.PartLemmas.{Ascends-done}
+use Rattle.key_order.specs.Ascending.{IsAscending}
+use Rattle.key_order.proofs.AscendingLemmas.{Ascends-map}
 use Rattle.key_order.proofs.KeyLemmas.{Ascends-differ, Differ-permutation}
-use Rattle.world_spec.proofs.ClosedLaw.{pending_is}
 use Rattle.world_spec.proofs.ParcelLemmas.{records-permutation}
 use Rattle.world_spec.specs.Parcels.{records_by_node}
 use Rattle.node_core.specs.declared.committed.Committed.{Committed}
 use Rattle.node_core.specs.Nodes.{NodeView}
 use Rattle.cycle_core.specs.Ends.{CommitUpto}
 use Rattle.cycle_core.specs.Records.{AreInOrder, RecordsDiffer, record_key}
-use Rattle.cycle_core.proofs.PlaceLemmas.{at-some}
+use Rattle.cycle_core.proofs.PlaceLemmas.{at-some, each-of}
 
 in-order : (ds : List (Event × Firing)) → IsAscending (events_of ds) → AreInOrder (records_of ds)
 in-order ds up = Ascends-map record_key (λ (d : Event × Firing). (d.0.key, d.1.note)) ds (Ascends-done ds up)
-
-each-at : {A : Type 0} (P : A → Type 0) (xs : List A) → ((k : ℕ) (x : A) → slice_get xs k ≡ Some x → P x) → Each P xs
-each-at P [] all = tt
-each-at P (x ∷ xs) all = (all 0 x refl, each-at P xs (λ k y at. all (suc k) y at))
 
 -- what each node tells is in order
 pub parts-ordered : {M : Type 0} (meaning_of : M → Meaning) (bound : ℕ) (cut : Option Key) (old new : List (NodeView M)) (all : List Committed) → CommitUpto meaning_of bound cut (length old) old new all
     → Each (λ (c : Committed). AreInOrder c.done.items) all
 parts-ordered meaning_of bound cut old new all upto =
-    each-at (λ (c : Committed). AreInOrder c.done.items) all
+    each-of (λ (c : Committed). AreInOrder c.done.items) all
     (λ k c at.
     let below = slice_get_within all k c at in
     let count = upto.count in

@@ -1,24 +1,21 @@
 -- Where a world stands in a simulation, by the least key of its nodes.
-use Rattle.std.proofs.Common.{◌≡◌, ◌≢◌, ℕ, ◌<◌, ◌≤◌, true, false, List, [], ◌∷◌, ◌++◌, length, refl, sym, ap, ◌∙◌, subst, inl, inr, arith, eq-eqb}
+use Rattle.std.proofs.Common.{◌≡◌, ℕ, ◌<◌, true, false, List, [], ◌∷◌, ◌++◌, length, refl, sym, ap, ◌∙◌, subst, inl, inr, arith, eq-eqb}
 use Rattle.std.specs.Prelude.{slice_get, Option, Some, None, Contains, filter, ◌==◌, Ok, Err}
 use Rattle.std.proofs.lemmas.Option.{slice_get_within}
 use Rattle.event_key.specs.declared.key.Key.{Key}
 use Rattle.event_key.specs.Keys.{key_lt}
-use Rattle.event_key.specs.Stamps.{end_stamp}
 use Rattle.model_core.specs.Meaning.{Meaning}
 use Rattle.model_core.specs.declared.event.Event.{Event}
 use Rattle.delta_exchange.specs.declared.memory.OutOfMemory.{OutOfMemory}
 use Rattle.sim_spec.specs.declared.bucket.Bucket.{Bucket}
 use Rattle.sim_spec.specs.Cut.{after, cut}
 use Rattle.sim_spec.specs.declared.stop.Stop.{Stop}
-use Rattle.sim_spec.specs.declared.stop.Stop.TheVariants.{End, Limit, Fault}
-use Rattle.sim_spec.specs.declared.terms.Terms.{Terms}
-use Rattle.sim_spec.specs.Firing.{Fired, ObjectState, goes, fails, fire}
+use Rattle.sim_spec.specs.declared.stop.Stop.TheVariants.{Fault}
+use Rattle.sim_spec.specs.Firing.{ObjectState}
 use Rattle.sim_spec.specs.Replay.{events_at}
-use Rattle.sim_spec.specs.Run.{next, next_fired}
+use Rattle.sim_spec.specs.Run.{next}
 use Rattle.sim_spec.specs.Standing.{Standing, stands, spent, ended, end_or_limit, CycleGives, IsCountAt}
-use Rattle.sim_spec.specs.State.{State, AllSound, object_at}
-use Rattle.sim_spec.proofs.RunLemmas.{next-none, next-late, next-full, next-fires}
+use Rattle.sim_spec.specs.State.{State, AllSound}
 use Rattle.key_order.specs.Ascending.{Ascends, key_of}
 use Rattle.key_order.specs.Keys.{first_key}
 use Rattle.key_order.proofs.MemberLemmas.{each-contains, filter-contains, first-or-later, is-first, none-in, contains-filter}

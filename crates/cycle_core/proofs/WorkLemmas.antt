@@ -12,7 +12,7 @@ use Rattle.model_core.specs.Meaning.{Meaning}
 use Rattle.model_core.specs.declared.event.Event.{Event}
 use Rattle.sim_spec.specs.declared.terms.Terms.{Terms}
 use Rattle.sim_spec.specs.Cut.{emissions_of}
-use Rattle.sim_spec.specs.Firing.{ObjectState, Firing}
+use Rattle.sim_spec.specs.Firing.{ObjectState}
 use Rattle.sim_spec.specs.Replay.{Replay, replay}
 use Rattle.key_order.proofs.EachLemmas.{Each-append, Each-map}
 use Rattle.object_log.specs.declared.done.Done.{Done}

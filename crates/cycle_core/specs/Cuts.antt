@@ -1,5 +1,6 @@
 -- Where a cycle is cut, and what comes of it.
-use Rattle.std.specs.Prelude.{◌≡◌, ℕ, ◌-◌, ◌*◌, ◌^◌, ◌<◌, ◌≤◌, false, List, [], length, filter, ◌==◌, nat_lt, slice_get, slice_index_or, Option, Some, None, IsPermutation}
+use Rattle.std.specs.Prelude.{◌≡◌, ℕ, ◌-◌, ◌*◌, ◌^◌, ◌<◌, ◌≤◌, false, List, [], length, filter, ◌==◌, nat_lt}
+use Rattle.std.specs.Prelude.{slice_get, slice_index_or, Option, Some, None, IsPermutation}
 use Rattle.event_key.specs.declared.key.Key.{Key}
 use Rattle.event_key.specs.Keys.{key_lt}
 use Rattle.model_core.specs.declared.event.Event.{Event}
@@ -39,16 +40,23 @@ module _ {M : Type 0} (meaning_of : M → Meaning) where
     pub ordered : Ascends (λ (k : Key). k) keys
     pub parts : (number : ℕ) (n : NodeView M) → slice_get nodes number ≡ Some n → (object : ℕ) → HomeOf n object
         → filter (λ (k : Key). k.dest == object) keys ≡ filter (λ (k : Key). nat_lt k.stamp bound) (keys_of (log_at n.logs object).done)
-    pub others : (object : ℕ) → ((number : ℕ) (n : NodeView M) → slice_get nodes number ≡ Some n → HomeOf n object → ⊥) → filter (λ (k : Key). k.dest == object) keys ≡ []
+    pub others : (object : ℕ) → ((number : ℕ) (n : NodeView M) → slice_get nodes number ≡ Some n → HomeOf n object → ⊥)
+        → filter (λ (k : Key). k.dest == object) keys ≡ []
+
+  -- so it is of each fault that an object of these nodes met
+  abbrev pub EachFault : List (NodeView M) → (Key × ℕ → Type 0) → Type 0
+  EachFault nodes P =
+      (number : ℕ) (n : NodeView M) → slice_get nodes number ≡ Some n → (object : ℕ) → HomeOf n object → (met : Key × ℕ)
+      → ((data_of n).log object).fault ≡ Some met → P met
 
   -- the least fault below a bound, or none
   abbrev pub IsLeastFaultIn : ℕ → List (NodeView M) → Option (Key × ℕ) → Type 0
-  IsLeastFaultIn bound nodes None =
-      (number : ℕ) (n : NodeView M) → slice_get nodes number ≡ Some n → (object : ℕ) → HomeOf n object → (met : Key × ℕ) → ((data_of n).log object).fault ≡ Some met → bound ≤ met.0.stamp
+  IsLeastFaultIn bound nodes None = EachFault nodes (λ met. bound ≤ met.0.stamp)
   IsLeastFaultIn bound nodes (Some fault) =
-      ((number : ℕ) × (n : NodeView M) × (slice_get nodes number ≡ Some n) × HomeOf n fault.0.dest × (((data_of n).log fault.0.dest).fault ≡ Some fault))
+      ((number : ℕ) × (n : NodeView M) × (slice_get nodes number ≡ Some n)
+      × HomeOf n fault.0.dest × (((data_of n).log fault.0.dest).fault ≡ Some fault))
       × (fault.0.stamp < bound)
-      × ((number : ℕ) (n : NodeView M) → slice_get nodes number ≡ Some n → (object : ℕ) → HomeOf n object → (met : Key × ℕ) → ((data_of n).log object).fault ≡ Some met → key_lt met.0 fault.0 ≡ false)
+      × EachFault nodes (λ met. key_lt met.0 fault.0 ≡ false)
 
   -- the cut of the processed events below a bound, when so many events are left: at the least fault, and at the limit
   pub record IsCutAt (left : ℕ) (nodes : List (NodeView M)) (bound : ℕ) (c : Cut) : Type 0 where
@@ -66,10 +74,14 @@ module _ {M : Type 0} (meaning_of : M → Meaning) where
     pub due : AreDueDone meaning_of bound cut nodes
     pub few : AtEach (λ number n. 8 * length n.processed < 2 ^ 60) nodes
     pub wide : AtEach (λ number n. n.homes.nodes ≡ length nodes) nodes
-    pub sent : (mids : List (NodeView M)) (all : List Committed) → CommitUpto meaning_of bound cut (length nodes) nodes mids all → (to : ℕ) → to < length nodes → length (sent_to to all) < 2 ^ 60
-    pub told : (mids : List (NodeView M)) (all : List Committed) → CommitUpto meaning_of bound cut (length nodes) nodes mids all → RecordsDiffer (told_by all)
-    pub arrives : (mids : List (NodeView M)) (all : List Committed) (parcels : List (List Event)) → CommitUpto meaning_of bound cut (length nodes) nodes mids all → length parcels ≡ length nodes
-        → ((to : ℕ) → to < length nodes → IsPermutation (sent_to to all) (slice_index_or parcels to [])) → AreKnown meaning_of mids → AllCanReceive meaning_of parcels mids
+    pub sent : (mids : List (NodeView M)) (all : List Committed) → CommitUpto meaning_of bound cut (length nodes) nodes mids all
+        → (to : ℕ) → to < length nodes → length (sent_to to all) < 2 ^ 60
+    pub told : (mids : List (NodeView M)) (all : List Committed) → CommitUpto meaning_of bound cut (length nodes) nodes mids all
+        → RecordsDiffer (told_by all)
+    pub arrives : (mids : List (NodeView M)) (all : List Committed) (parcels : List (List Event))
+        → CommitUpto meaning_of bound cut (length nodes) nodes mids all → length parcels ≡ length nodes
+        → ((to : ℕ) → to < length nodes → IsPermutation (sent_to to all) (slice_index_or parcels to []))
+        → AreKnown meaning_of mids → AllCanReceive meaning_of parcels mids
 
   -- the nodes have committed and received, and these are the records in order
   pub record HaveEnded (bound : ℕ) (cut : Option Key) (old new : List (NodeView M)) (records : List (Key × Note)) : Type 0 where

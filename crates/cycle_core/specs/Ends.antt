@@ -30,7 +30,8 @@ module _ {M : Type 0} where
   -- so does each node
   pub record AllEnd (meaning_of : M → Meaning) (bound : ℕ) (cut : Option Key) (es : ℕ → List Event) (old new : List (NodeView M)) : Type 0 where
     pub many : length new ≡ length old
-    pub each : (number : ℕ) (x y : NodeView M) → slice_get old number ≡ Some x → slice_get new number ≡ Some y → NodeEnds (meaning_of x.model) bound cut (es number) x y
+    pub each : (number : ℕ) (x y : NodeView M) → slice_get old number ≡ Some x → slice_get new number ≡ Some y
+        → NodeEnds (meaning_of x.model) bound cut (es number) x y
 
 module _ {M : Type 0} (meaning_of : M → Meaning) where
   -- what is due at these nodes is done
@@ -41,14 +42,16 @@ module _ {M : Type 0} (meaning_of : M → Meaning) where
   pub record CommitUpto (bound : ℕ) (cut : Option Key) (place : ℕ) (old new : List (NodeView M)) (all : List Committed) : Type 0 where
     pub many : length new ≡ length old
     pub count : length all ≡ length old
-    pub each : (number : ℕ) (x y : NodeView M) (c : Committed) → number < place → slice_get old number ≡ Some x → slice_get new number ≡ Some y → slice_get all number ≡ Some c
+    pub each : (number : ℕ) (x y : NodeView M) (c : Committed) → number < place
+        → slice_get old number ≡ Some x → slice_get new number ≡ Some y → slice_get all number ≡ Some c
         → HasCommitted (meaning_of x.model) bound cut x y c.done.items c.out.items
     pub rest : (number : ℕ) → place ≤ number → slice_get new number ≡ slice_get old number
 
   -- a node can receive these events
   pub record CanReceive (es : List Event) (n : NodeView M) : Type 0 where
     pub homed : AllByRecursion (IsAtHome (meaning_of n.model) (home n) n.number) es
-    pub keys : (object : ℕ) → IsHome (meaning_of n.model) (home n) n.number object → IsAscending (enqueue_all (events_at object es) (pending_at n.logs n.waiting object))
+    pub keys : (object : ℕ) → IsHome (meaning_of n.model) (home n) n.number object
+        → IsAscending (enqueue_all (events_at object es) (pending_at n.logs n.waiting object))
     pub few : length es + length n.processed + length n.waiting < 2 ^ 60
 
   -- it has received them
@@ -60,12 +63,15 @@ module _ {M : Type 0} (meaning_of : M → Meaning) where
 
   -- each of these nodes can receive its events
   abbrev pub AllCanReceive : List (List Event) → List (NodeView M) → Type 0
-  AllCanReceive parcels nodes = (number : ℕ) (n : NodeView M) (es : List Event) → slice_get nodes number ≡ Some n → slice_get parcels number ≡ Some es → CanReceive es n
+  AllCanReceive parcels nodes =
+      (number : ℕ) (n : NodeView M) (es : List Event) → slice_get nodes number ≡ Some n → slice_get parcels number ≡ Some es
+      → CanReceive es n
 
   -- the first so many have received them
   pub record ReceiveUpto (place : ℕ) (parcels : List (List Event)) (old new : List (NodeView M)) : Type 0 where
     pub many : length new ≡ length old
-    pub each : (number : ℕ) (x y : NodeView M) (es : List Event) → number < place → slice_get old number ≡ Some x → slice_get new number ≡ Some y → slice_get parcels number ≡ Some es → Receives es x y
+    pub each : (number : ℕ) (x y : NodeView M) (es : List Event) → number < place
+        → slice_get old number ≡ Some x → slice_get new number ≡ Some y → slice_get parcels number ≡ Some es → Receives es x y
     pub rest : (number : ℕ) → place ≤ number → slice_get new number ≡ slice_get old number
 
 -- what these hand out to a node, one after another

@@ -41,4 +41,6 @@ module _ {M : Type 0} (meaning_of : M → Meaning) where
 
   -- an event of one of its objects has it
   abbrev pub MayKeyOf : NodeView M → Key → Type 0
-  MayKeyOf n key = (object : ℕ) × IsHome (meaning_of n.model) (home n) n.number object × (e : Event) × Contains (pending_at n.logs n.waiting object) e × (e.key ≡ key)
+  MayKeyOf n key =
+      (object : ℕ) × IsHome (meaning_of n.model) (home n) n.number object
+      × (e : Event) × Contains (pending_at n.logs n.waiting object) e × (e.key ≡ key)

@@ -63,11 +63,10 @@ first_sends m s [] = []
 first_sends m s (e ∷ rest) = sends_of (m.effect e.key.dest (state_at s.objects e.key.dest).cells e)
 
 -- what the next event draws at an object
-abbrev pub draws_next : NetworkParts → ℕ → State → Next → List ℕ
-draws_next p i s (stops stop) = []
-draws_next p i s (does told after) =
-    if told.0.dest == i then shown_by (object_at p.objects i).kind (first_sends (network_meaning p) s s.pending) else []
+abbrev pub draws_next : Meaning → KindOver ℕ → ℕ → State → Next → List ℕ
+draws_next m kind i s (stops stop) = []
+draws_next m kind i s (does told after) = if told.0.dest == i then shown_by kind (first_sends m s s.pending) else []
 
 -- what an object draws within the first n events, in order
 abbrev pub drawn_by : NetworkParts → Terms → ℕ → ℕ → List ℕ
-drawn_by p t i n = gathered (draws_next p i) n (network_meaning p) t
+drawn_by p t i n = gathered (draws_next (network_meaning p) (object_at p.objects i).kind i) n (network_meaning p) t

@@ -20,7 +20,7 @@ use std::thread::Threads;
 use std::{fs, io};
 
 /// The examples by name. Each is a model and its text in `data`, which the folder `examples` at the top stands for.
-const EXAMPLES: [&str; 10] = [
+const EXAMPLES: [&str; 13] = [
     "adder",
     "bank",
     "clinic",
@@ -31,6 +31,9 @@ const EXAMPLES: [&str; 10] = [
     "phold",
     "switch",
     "tandem",
+    "traced",
+    "unranked",
+    "urgent",
 ];
 
 /// More bytes than any of the texts has.

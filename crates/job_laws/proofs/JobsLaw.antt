@@ -9,7 +9,7 @@ use Rattle.sim_spec.specs.declared.terms.Terms.{Terms}
 use Rattle.sim_spec.specs.State.{State}
 use Rattle.sim_spec.specs.Run.{Next, stops, does, next}
 use Rattle.queue_models.specs.Kinds.{is_source}
-use Rattle.queue_models.specs.Meaning.{network_meaning}
+use Rattle.queue_models.specs.Meaning.{plain_meaning, network_meaning}
 use Rattle.queue_models.specs.Objects.{NetworkParts, object_at}
 use Rattle.queue_models.specs.Parts.{IsNetwork}
 use Rattle.queue_models.specs.Sources.{made_of}
@@ -18,19 +18,20 @@ use Rattle.run_laws.proofs.Induction.{after_events-does, after_events-stops, eac
 use Rattle.queue_laws.specs.Stations.{cells_at}
 use Rattle.queue_laws.proofs.NetworkSteps.{IsNetworkStep, network_step}
 use Rattle.job_laws.specs.Places.{Place, at_event, in_line, has_left, was_lost}
-use Rattle.job_laws.specs.JobLaws.{numbers_from, is_left, is_lost, NoneLostOrDoubled}
+use Rattle.job_laws.specs.JobLaws.{numbers_from, is_left, is_lost, AreAllThere, NoneLostOrDoubled}
 use Rattle.job_laws.specs.Jobs.{Job, listed, made_by, is_in_system, places_after, whereabouts, held, in_the_system}
 use Rattle.job_laws.proofs.NamesLaw.{listed_on, made_on, listed_first, made_first}
 use Rattle.job_laws.proofs.Permuted.{same_counts}
 use Rattle.job_laws.proofs.PlacesLaw.{Agree, agree_on, agree_first}
 use Rattle.job_laws.proofs.SamePlace.{same_at, same_at-true, same_at-same}
 use Rattle.job_laws.proofs.Weights.{inside, job_weight, sum-held}
+use Rattle.queue_laws.proofs.PlainRuns.{same_after}
 
 -- one event more
-whereabouts-next : (p : NetworkParts) (t : Terms) (n : ℕ) (x : Next) → next (network_meaning p) t (after_events n (network_meaning p) t) ≡ x
-    → whereabouts p t (suc n) ≡ places_after p (after_events n (network_meaning p) t) (whereabouts p t n) x
+whereabouts-next : (p : NetworkParts) (t : Terms) (n : ℕ) (x : Next) → next (plain_meaning p) t (after_events n (plain_meaning p) t) ≡ x
+    → whereabouts p t (suc n) ≡ places_after p (after_events n (plain_meaning p) t) (whereabouts p t n) x
 unfolding whereabouts
-whereabouts-next p t n x is_next = ap (places_after p (after_events n (network_meaning p) t) (whereabouts p t n)) is_next
+whereabouts-next p t n x is_next = ap (places_after p (after_events n (plain_meaning p) t) (whereabouts p t n)) is_next
 
 -- the jobs have their names, and hold the places of the state
 record AreThere (p : NetworkParts) (s : State) (jobs : List (Job × Place)) : Type 0 where
@@ -46,10 +47,10 @@ there_on p t s told after jobs fine n before = record {
   agree = agree_on p t s told after jobs fine n before.agree;
 }
 
-there : (p : NetworkParts) (t : Terms) → IsNetwork p → (n : ℕ) → AreThere p (after_events n (network_meaning p) t) (whereabouts p t n)
+there : (p : NetworkParts) (t : Terms) → IsNetwork p → (n : ℕ) → AreThere p (after_events n (plain_meaning p) t) (whereabouts p t n)
 unfolding whereabouts after_events
 there p t fine =
-    let m = network_meaning p in
+    let m = plain_meaning p in
     each_number m t (λ n. AreThere p (after_events n m t) (whereabouts p t n))
     (record { put_in = listed_first p; made = made_first p; agree = agree_first p fine })
     (λ n stop is_next before.
@@ -89,9 +90,10 @@ sum-ones : {X : Type 0} (xs : List X) → sum_by (λ x. 1) xs ≡ length xs
 sum-ones [] = refl
 sum-ones (x ∷ xs) = omega (arith, sum_by-cons (λ x. 1) x xs, sum-ones xs)
 
-pub jobs_law : NoneLostOrDoubled
-jobs_law p t n fine =
-    let s : State = after_events n (network_meaning p) t in
+-- the law over the plain meaning
+plain_jobs : (p : NetworkParts) (t : Terms) (n : ℕ) → IsNetwork p → AreAllThere p t n (after_events n (plain_meaning p) t)
+plain_jobs p t n fine =
+    let s : State = after_events n (plain_meaning p) t in
     let jobs : List (Job × Place) = whereabouts p t n in
     let are : AreThere p s jobs = there p t fine n in
     let one : ℕ × Place → ℕ = λ at. 1 in
@@ -103,3 +105,6 @@ jobs_law p t n fine =
       places = same_counts same_at same_at-true same_at-same (held jobs) (in_the_system p s) (λ x. are.agree (λ y. cond (same_at x y) 1 0));
       count = all_somewhere jobs ∙ ap (λ k. count_by (λ (job : Job × Place). is_left job.1) jobs + count_by (λ (job : Job × Place). is_lost job.1) jobs + k) in_it;
     }
+
+pub jobs_law : NoneLostOrDoubled
+jobs_law p t n fine = subst (AreAllThere p t n) (sym (same_after p t n)) (plain_jobs p t n fine)

@@ -19,7 +19,7 @@ use Rattle.queue_models.specs.declared.kind.KindOver.{KindOver}
 use Rattle.queue_models.specs.declared.kind.KindOver.TheVariants.{Source, Station, Delay, Router, Sink}
 use Rattle.queue_models.specs.declared.site.Site.{Site}
 use Rattle.queue_models.specs.Kinds.{is_lawful, is_source, first_cells_of}
-use Rattle.queue_models.specs.Meaning.{network_meaning, site_of}
+use Rattle.queue_models.specs.Meaning.{plain_meaning, network_meaning, site_of}
 use Rattle.queue_models.specs.Objects.{NetworkParts, object_at, source_numbers}
 use Rattle.queue_models.specs.Sources.{made_of, left_of, idle_effect, last_effect, make_effect}
 use Rattle.queue_models.specs.Sites.{place_of}
@@ -159,7 +159,7 @@ made_on p t s told after jobs n i is so_far =
 
 -- at the start all jobs are the list's
 first_listed : (p : NetworkParts) (a n : ℕ)
-    → numbers_from listed (map (λ i. (record { origin = listed; number = i + 1 }, at_event (start_event (network_meaning p) (length (source_numbers p.objects) + i)).key)) (range_with_len a n)) ≡ range_with_len (a + 1) n
+    → numbers_from listed (map (λ i. (record { origin = listed; number = i + 1 }, at_event (start_event (plain_meaning p) (length (source_numbers p.objects) + i)).key)) (range_with_len a n)) ≡ range_with_len (a + 1) n
 first_listed p a zero = refl
 first_listed p a (suc n) = ap (λ ns. (a + 1) ∷ ns) (first_listed p (a + 1) n)
 
@@ -167,7 +167,7 @@ pub listed_first : (p : NetworkParts) → numbers_from listed (first_places p) �
 listed_first p = first_listed p 0 (length p.jobs)
 
 first_made : (p : NetworkParts) (j a n : ℕ)
-    → numbers_from (made_by j) (map (λ i. (record { origin = listed; number = i + 1 }, at_event (start_event (network_meaning p) (length (source_numbers p.objects) + i)).key)) (range_with_len a n)) ≡ []
+    → numbers_from (made_by j) (map (λ i. (record { origin = listed; number = i + 1 }, at_event (start_event (plain_meaning p) (length (source_numbers p.objects) + i)).key)) (range_with_len a n)) ≡ []
 first_made p j a zero = refl
 first_made p j a (suc n) = first_made p j (a + 1) n
 
@@ -179,7 +179,7 @@ none_made (Router next weights) is = cc
 none_made (Sink due) is = cc
 
 pub made_first : (p : NetworkParts) (i : ℕ) → is_source (object_at p.objects i).kind ≡ true
-    → numbers_from (made_by i) (first_places p) ≡ range_with_len 1 (made_of (cells_at (initial_state (network_meaning p)) i))
+    → numbers_from (made_by i) (first_places p) ≡ range_with_len 1 (made_of (cells_at (initial_state (plain_meaning p)) i))
 made_first p i is =
     first_made p i 0 (length p.jobs)
     ∙ sym (ap (λ (c : CellData). range_with_len 1 (made_of c)) (cells_at_start p i (source_exists p i is)) ∙ ap (range_with_len 1) (none_made (object_at p.objects i).kind is))

@@ -20,7 +20,7 @@ use Rattle.key_order.proofs.EachLemmas.{Each-map}
 use Rattle.queue_models.specs.declared.kind.KindOver.{KindOver}
 use Rattle.queue_models.specs.declared.kind.KindOver.TheVariants.{Source, Station, Delay, Router, Sink}
 use Rattle.queue_models.specs.Kinds.{first_cells_of, is_source}
-use Rattle.queue_models.specs.Meaning.{network_meaning, source_start, job_start}
+use Rattle.queue_models.specs.Meaning.{plain_meaning, network_meaning, source_start, job_start}
 use Rattle.queue_models.specs.ModelLaws.{object_fine}
 use Rattle.queue_models.specs.Objects.{NetworkParts, object_at, source_numbers, sources_below}
 use Rattle.queue_models.specs.Parts.{IsNetwork}
@@ -48,9 +48,9 @@ pub places_after-step : (p : NetworkParts) (t : Terms) (s : State) (told : Key �
     → places_after p s jobs (does told after)
     ≡ moved_jobs n.step.event.key n.step.effect.note (length (waiting_at s n.step.event.key.dest)) (first_firing s n.step.event n.step.effect).events jobs
 places_after-step p t s told after n jobs =
-    ap (λ (r : Key × Note). moved_jobs r.0 r.1 (length (waiting_at s r.0.dest)) (sent_next (network_meaning p) s) jobs) n.step.tells
+    ap (λ (r : Key × Note). moved_jobs r.0 r.1 (length (waiting_at s r.0.dest)) (sent_next (plain_meaning p) s) jobs) n.step.tells
     ∙ ap (λ (sent : List Event). moved_jobs n.step.event.key n.step.effect.note (length (waiting_at s n.step.event.key.dest)) sent jobs)
-    (sent_next-step (network_meaning p) t s told after n.step)
+    (sent_next-step (plain_meaning p) t s told after n.step)
 
 -- who is out stays out
 inside_moved : (v : ℕ × Place → ℕ) (key : Key) (word waiting : ℕ) (sent : List Event) → Live v → (number : ℕ) (place : Place)
@@ -146,7 +146,7 @@ source_number : (p : NetworkParts) (k : ℕ) → k < length (source_numbers p.ob
 unfolding sources_below
 source_number p k within = filter_passes (λ number. is_source (object_at p.objects number).kind) (range_with_len 0 (length p.objects)) k 0 within
 
-source_weight : (p : NetworkParts) (w : ℕ × Place → ℕ) (k : ℕ) → k < length (source_numbers p.objects) → event_weight p w (start_event (network_meaning p) k) ≡ 0
+source_weight : (p : NetworkParts) (w : ℕ × Place → ℕ) (k : ℕ) → k < length (source_numbers p.objects) → event_weight p w (start_event (plain_meaning p) k) ≡ 0
 source_weight p w k early =
     start_cases (λ e. event_weight p w e ≡ 0) p k
     (λ within. no_job p w (event_of_start k (source_start p (slice_index (source_numbers p.objects) k))) (source_number p k within))
@@ -154,7 +154,7 @@ source_weight p w k early =
 
 listed_weight : (p : NetworkParts) (w : ℕ × Place → ℕ) (i : ℕ) → IsNetwork p → i < length p.jobs
     → (let k : ℕ = length (source_numbers p.objects) + i in
-    event_weight p w (start_event (network_meaning p) k) ≡ w (i + 1, at_event (start_event (network_meaning p) k).key))
+    event_weight p w (start_event (plain_meaning p) k) ≡ w (i + 1, at_event (start_event (plain_meaning p) k).key))
 listed_weight p w i fine within =
     let S : ℕ = length (source_numbers p.objects) in
     start_cases (λ e. event_weight p w e ≡ w (i + 1, at_event e.key)) p (S + i)
@@ -199,17 +199,17 @@ first_line (Router next weights) = refl
 first_line (Sink due) = refl
 
 no_lines : (p : NetworkParts) (w : ℕ × Place → ℕ) (a n : ℕ) → a + n ≤ length p.objects
-    → sum_by (λ i. line_weight w i (waiting_at (initial_state (network_meaning p)) i)) (range_with_len a n) ≡ 0
+    → sum_by (λ i. line_weight w i (waiting_at (initial_state (plain_meaning p)) i)) (range_with_len a n) ≡ 0
 no_lines p w a zero room = refl
 no_lines p w a (suc n) room =
-    let f : ℕ → ℕ = λ i. line_weight w i (waiting_at (initial_state (network_meaning p)) i) in
+    let f : ℕ → ℕ = λ i. line_weight w i (waiting_at (initial_state (plain_meaning p)) i) in
     let none : f a ≡ 0 = ap (line_weight w a) (ap (λ (c : CellData). line_of c 0) (cells_at_start p a (omega arith)) ∙ first_line (object_at p.objects a).kind) in
     omega (arith, sum_by-cons f a (range_with_len (a + 1) n), no_lines p w (a + 1) n (omega arith))
 
-pub agree_first : (p : NetworkParts) → IsNetwork p → Agree p (initial_state (network_meaning p)) (first_places p)
-unfolding network_meaning
+pub agree_first : (p : NetworkParts) → IsNetwork p → Agree p (initial_state (plain_meaning p)) (first_places p)
+unfolding plain_meaning network_meaning
 agree_first p fine w =
-    let m = network_meaning p in
+    let m = plain_meaning p in
     let S : ℕ = length (source_numbers p.objects) in
     let J : ℕ = length p.jobs in
     let F : ℕ → ℕ = λ k. event_weight p w (start_event m k) in

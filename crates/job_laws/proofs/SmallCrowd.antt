@@ -14,7 +14,7 @@ use Rattle.sim_spec.specs.State.{initial_state}
 use Rattle.sim_spec.specs.Run.{next, next_of, next_fired}
 use Rattle.queue_laws.proofs.SmallShop.{key_at}
 use Rattle.queue_models.specs.declared.kind.KindOver.TheVariants.{Source, Station, Sink}
-use Rattle.queue_models.specs.Meaning.{network_meaning, start_of}
+use Rattle.queue_models.specs.Meaning.{plain_meaning, network_meaning, start_of}
 use Rattle.queue_models.specs.Objects.{NetworkParts, sources_below}
 use Rattle.queue_models.specs.Sinks.{sink_effect}
 use Rattle.model_core.specs.Places.{place_changes}
@@ -28,9 +28,9 @@ use Rattle.job_laws.specs.Jobs.{Job, listed, made_by, whereabouts, in_the_system
 crowd : NetworkParts
 crowd = record {
   seed = 7;
-  objects = record { name = 112 ∷ []; kind = Source 1 (Fixed 2) 2 1; rank = 0 }
-      ∷ record { name = 113 ∷ []; kind = Station 1 (Fixed 5) 1 false 2; rank = 0 }
-      ∷ record { name = 114 ∷ []; kind = Sink None; rank = 0 }
+  objects = record { name = 112 ∷ []; kind = Source 1 (Fixed 2) 2 1; rank = 0; quiet = false; trace = false }
+      ∷ record { name = 113 ∷ []; kind = Station 1 (Fixed 5) 1 false 2; rank = 0; quiet = false; trace = false }
+      ∷ record { name = 114 ∷ []; kind = Sink None; rank = 0; quiet = false; trace = false }
       ∷ [];
   jobs = record { time = 0; at = 1; rank = 0 } ∷ [];
 }
@@ -46,15 +46,15 @@ made number = record { origin = made_by 0; number = number }
 
 -- after three events the job of the list is served, and the source's first one, of the same number, waits
 after_three : whereabouts crowd to_fifty 3 ≡ (from_list, at_event (key_at 5 0 1 1 0)) ∷ (made 1, in_line 1 0) ∷ []
-unfolding crowd to_fifty from_list made whereabouts sent_next draw drawn_value words_read start_of sources_below place_changes idle_effect last_effect make_effect source_effect sink_effect take_effect wait_effect lose_effect arrival_outcome serve_effect free_effect done_effect station_effect network_meaning key_lt key_cmp same_key next_stamp has_no_step cells_after_all inverses_of enqueue enqueue_all has_endless_chain emissions fired_by fire initial_state next next_of next_fired left_by after_events
+unfolding crowd to_fifty from_list made whereabouts sent_next draw drawn_value words_read start_of sources_below place_changes idle_effect last_effect make_effect source_effect sink_effect take_effect wait_effect lose_effect arrival_outcome serve_effect free_effect done_effect station_effect plain_meaning network_meaning key_lt key_cmp same_key next_stamp has_no_step cells_after_all inverses_of enqueue enqueue_all has_endless_chain emissions fired_by fire initial_state next next_of next_fired left_by after_events
 after_three = refl
 
 -- after seven the first has left, the second is served, and the source's second job was lost: it found the line full
 after_seven : whereabouts crowd to_fifty 7 ≡ (from_list, has_left) ∷ (made 1, at_event (key_at 10 0 1 1 2)) ∷ (made 2, was_lost) ∷ []
-unfolding crowd to_fifty from_list made whereabouts sent_next draw drawn_value words_read start_of sources_below place_changes idle_effect last_effect make_effect source_effect sink_effect take_effect wait_effect lose_effect arrival_outcome serve_effect free_effect done_effect station_effect network_meaning key_lt key_cmp same_key next_stamp has_no_step cells_after_all inverses_of enqueue enqueue_all has_endless_chain emissions fired_by fire initial_state next next_of next_fired left_by after_events
+unfolding crowd to_fifty from_list made whereabouts sent_next draw drawn_value words_read start_of sources_below place_changes idle_effect last_effect make_effect source_effect sink_effect take_effect wait_effect lose_effect arrival_outcome serve_effect free_effect done_effect station_effect plain_meaning network_meaning key_lt key_cmp same_key next_stamp has_no_step cells_after_all inverses_of enqueue enqueue_all has_endless_chain emissions fired_by fire initial_state next next_of next_fired left_by after_events
 after_seven = refl
 
 -- one place is left in the system
 one_place : in_the_system crowd (after_events 7 (network_meaning crowd) to_fifty) ≡ (1, at_event (key_at 10 0 1 1 2)) ∷ []
-unfolding crowd to_fifty in_the_system draw drawn_value words_read start_of sources_below place_changes idle_effect last_effect make_effect source_effect sink_effect take_effect wait_effect lose_effect arrival_outcome serve_effect free_effect done_effect station_effect network_meaning key_lt key_cmp same_key next_stamp has_no_step cells_after_all inverses_of enqueue enqueue_all has_endless_chain emissions fired_by fire initial_state next next_of next_fired left_by after_events
+unfolding crowd to_fifty in_the_system draw drawn_value words_read start_of sources_below place_changes idle_effect last_effect make_effect source_effect sink_effect take_effect wait_effect lose_effect arrival_outcome serve_effect free_effect done_effect station_effect plain_meaning network_meaning key_lt key_cmp same_key next_stamp has_no_step cells_after_all inverses_of enqueue enqueue_all has_endless_chain emissions fired_by fire initial_state next next_of next_fired left_by after_events
 one_place = refl

@@ -2,6 +2,7 @@
 use Rattle.std.specs.Prelude.{◌≡◌, ℕ, ◌+◌, Bool, true, false, ◌==◌, List, length, map, filter, count_by, IsPermutation}
 use Rattle.std.specs.List.{range_with_len}
 use Rattle.sim_spec.specs.declared.terms.Terms.{Terms}
+use Rattle.sim_spec.specs.State.{State}
 use Rattle.queue_models.specs.Kinds.{is_source}
 use Rattle.queue_models.specs.Meaning.{network_meaning}
 use Rattle.queue_models.specs.Objects.{NetworkParts, object_at}
@@ -34,16 +35,16 @@ is_lost (in_line i k) = false
 is_lost has_left = false
 is_lost was_lost = true
 
--- the jobs after n events: each has its name alone; those in the system hold its places, one each; and all are those that
+-- the jobs after n events, in the state then: each has its name alone; those in the system hold its places, one each; and all are those that
 -- have left, those that were lost, and those in the system
-pub record AreAllThere (p : NetworkParts) (t : Terms) (n : ℕ) : Type 0 where
+pub record AreAllThere (p : NetworkParts) (t : Terms) (n : ℕ) (s : State) : Type 0 where
   pub put_in : numbers_from listed (whereabouts p t n) ≡ range_with_len 1 (length p.jobs)
   pub made : (i : ℕ) → is_source (object_at p.objects i).kind ≡ true
-      → numbers_from (made_by i) (whereabouts p t n) ≡ range_with_len 1 (made_of (cells_at (after_events n (network_meaning p) t) i))
-  pub places : IsPermutation (held (whereabouts p t n)) (in_the_system p (after_events n (network_meaning p) t))
+      → numbers_from (made_by i) (whereabouts p t n) ≡ range_with_len 1 (made_of (cells_at s i))
+  pub places : IsPermutation (held (whereabouts p t n)) (in_the_system p s)
   pub count : length (whereabouts p t n)
       ≡ count_by (λ (job : Job × Place). is_left job.1) (whereabouts p t n) + count_by (λ (job : Job × Place). is_lost job.1) (whereabouts p t n)
-      + length (in_the_system p (after_events n (network_meaning p) t))
+      + length (in_the_system p s)
 
 abbrev pub NoneLostOrDoubled : Type 0
-NoneLostOrDoubled = (p : NetworkParts) (t : Terms) (n : ℕ) → IsNetwork p → AreAllThere p t n
+NoneLostOrDoubled = (p : NetworkParts) (t : Terms) (n : ℕ) → IsNetwork p → AreAllThere p t n (after_events n (network_meaning p) t)

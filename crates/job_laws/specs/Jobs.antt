@@ -1,11 +1,12 @@
--- The jobs of a network by name, followed from event to event, and the places of a state.
+-- The jobs of a network by name, followed from event to event, and the places of a state. An event tells of its job by its
+-- note, so the run is that of the plain meaning: what would be told if no object were quiet.
 use Rattle.std.specs.Prelude.{ℕ, zero, suc, ◌+◌, Bool, true, false, not, ◌==◌, if◌then◌else◌, List, [], ◌∷◌, ◌++◌, length, map, filter, flat_map}
 use Rattle.std.specs.List.{range_with_len}
 use Rattle.model_core.specs.declared.event.Event.{Event}
 use Rattle.sim_spec.specs.declared.terms.Terms.{Terms}
 use Rattle.sim_spec.specs.State.{State, start_event}
 use Rattle.sim_spec.specs.Run.{Next, stops, does, next}
-use Rattle.queue_models.specs.Meaning.{network_meaning}
+use Rattle.queue_models.specs.Meaning.{plain_meaning}
 use Rattle.queue_models.specs.Kinds.{is_source}
 use Rattle.queue_models.specs.Objects.{NetworkParts, object_at, source_numbers}
 use Rattle.run_laws.specs.Reached.{after_events}
@@ -26,7 +27,7 @@ pub record Job : Type 0 where
 -- at the start each job of the list stands at its arrival: these events come behind those of the sources
 abbrev pub first_places : NetworkParts → List (Job × Place)
 first_places p =
-    map (λ i. (record { origin = listed; number = i + 1 }, at_event (start_event (network_meaning p) (length (source_numbers p.objects) + i)).key))
+    map (λ i. (record { origin = listed; number = i + 1 }, at_event (start_event (plain_meaning p) (length (source_numbers p.objects) + i)).key))
     (range_with_len 0 (length p.jobs))
 
 -- a job that a source makes stands at the first event that is sent then
@@ -38,7 +39,7 @@ newly_made word source number (e ∷ rest) = if word == 2 then (record { origin 
 abbrev pub places_after : NetworkParts → State → List (Job × Place) → Next → List (Job × Place)
 places_after p s jobs (stops stop) = jobs
 places_after p s jobs (does told after) =
-    let sent = sent_next (network_meaning p) s in
+    let sent = sent_next (plain_meaning p) s in
     let word = word_told told.1 in
     map (λ job. (job.0, place_after told.0 word (length (waiting_at s told.0.dest)) sent job.1)) jobs
     ++ newly_made word told.0.dest (job_told told.1) sent
@@ -47,7 +48,7 @@ places_after p s jobs (does told after) =
 unfoldable pub whereabouts : NetworkParts → Terms → ℕ → List (Job × Place)
 whereabouts p t zero = first_places p
 whereabouts p t (suc n) =
-    places_after p (after_events n (network_meaning p) t) (whereabouts p t n) (next (network_meaning p) t (after_events n (network_meaning p) t))
+    places_after p (after_events n (plain_meaning p) t) (whereabouts p t n) (next (plain_meaning p) t (after_events n (plain_meaning p) t))
 
 abbrev pub is_in_system : Place → Bool
 is_in_system (at_event k) = true

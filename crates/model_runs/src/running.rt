@@ -10,7 +10,7 @@ ghost use Rattle.sim_io.specs.Causes.{Rose};
 ghost use Rattle.sim_io.specs.Transfers.{AppendsPrefix};
 ghost use Rattle.sim_io.specs.Words.{AreInBounds};
 ghost use Rattle.sim_text.specs.WholeTexts.{text_from_start};
-ghost use Rattle.sim_text.specs.declared.unfinished.Unfinished.TheVariants.{WriteFault};
+ghost use Rattle.sim_text.specs.declared.unfinished.Unfinished.TheVariants.{WriteFault, OutOfMemory as NoMemory};
 ghost use Rattle.cycle_core.specs.Standings.{WorldStandsAt, GoesOn, HasCycled};
 ghost use Rattle.node_team.specs.Handings.{AreWorkers};
 ghost use Rattle.model_text.specs.Meanings.{meaning_of};
@@ -75,6 +75,8 @@ fn run_one_thread<K: Sink>(
     ensures prefix { OnErr result (AppendsPrefix (K.told out.old) (K.told out.new) (text_from_start (meaning_of model) terms settings)) }
     ensures fault { IsErrOf result WriteFault → Rose (K.faults out.old) (K.faults out.new) }
     ensures later { K.faults out.old ≤ K.faults out.new }
+    ensures quiet { OnOk result (K.faults out.new ≡ K.faults out.old) }
+    ensures no_memory { IsErrOf result NoMemory → K.faults out.new ≡ K.faults out.old }
 {
     let (model, mut run) = one_thread(alloc, model, terms)?;
     let cycle = |run: &mut OneThreadRun, alloc: Global| run.engine.bucket(alloc);
@@ -100,6 +102,8 @@ fn run_on_nodes<R: Threads + Sync, G: Gate, K: Sink>(
     ensures prefix { OnErr result (AppendsPrefix (K.told out.old) (K.told out.new) (text_from_start (meaning_of model) terms settings)) }
     ensures fault { IsErrOf result WriteFault → Rose (K.faults out.old) (K.faults out.new) }
     ensures later { K.faults out.old ≤ K.faults out.new }
+    ensures quiet { OnOk result (K.faults out.new ≡ K.faults out.old) }
+    ensures no_memory { IsErrOf result NoMemory → K.faults out.new ≡ K.faults out.old }
 {
     let (model, mut run) = on_nodes(alloc, model, terms, spread)?;
     let workers = spread.workers;
@@ -126,6 +130,8 @@ fn run_as_set<R: Threads + Sync, G: Gate, K: Sink>(
     ensures prefix { OnErr result (AppendsPrefix (K.told out.old) (K.told out.new) (text_from_start (meaning_of model) terms settings)) }
     ensures fault { IsErrOf result WriteFault → Rose (K.faults out.old) (K.faults out.new) }
     ensures later { K.faults out.old ≤ K.faults out.new }
+    ensures quiet { OnOk result (K.faults out.new ≡ K.faults out.old) }
+    ensures no_memory { IsErrOf result NoMemory → K.faults out.new ≡ K.faults out.old }
 {
     match settings {
         Settings::Run {
@@ -168,6 +174,8 @@ pub fn run_model<R: Threads + Sync, G: Gate, K: Sink>(
     ensures prefix { OnErr result (AppendsPrefix (K.told out.old) (K.told out.new) (text_from_start (meaning_of model) terms settings)) }
     ensures fault { IsErrOf result WriteFault → Rose (K.faults out.old) (K.faults out.new) }
     ensures later { K.faults out.old ≤ K.faults out.new }
+    ensures quiet { OnOk result (K.faults out.new ≡ K.faults out.old) }
+    ensures no_memory { IsErrOf result NoMemory → K.faults out.new ≡ K.faults out.old }
 {
     let outcome = run_as_set(rt, alloc, gate, model, terms, settings, out);
     out.flush()?;

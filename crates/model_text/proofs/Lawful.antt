@@ -1,6 +1,6 @@
 -- The parts that the three passes give are those of a network.
 use Rattle.std.proofs.Common.{◌≡◌, ◌≢◌, ℕ, suc, ◌+◌, ◌<◌, ◌≤◌, ◌^◌, Bool, true, false, cond, not, List, [], ◌∷◌, length, map, get_or, Option, Some, None, Ok, Err, refl, sym, ap, subst, ◌∙◌, arith}
-use Rattle.std.specs.Prelude.{IsTrue, All, AllPairs}
+use Rattle.std.specs.Prelude.{IsTrue, ◌||◌, All, AllPairs}
 use Rattle.std.specs.Str.{bytes_eq}
 use Rattle.std.proofs.lemmas.Bool.Decides.{nat_tests}
 use Rattle.std.proofs.lemmas.List.{length-map, get_or-map}
@@ -8,7 +8,7 @@ use Rattle.std.proofs.lemmas.List.Elements.{All-nil, All-cons, All-head, All-tai
 use Rattle.model_core.specs.declared.entry.Entry.{Entry}
 use Rattle.queue_models.specs.declared.kind.KindOver.{KindOver}
 use Rattle.queue_models.specs.declared.kind.KindOver.TheVariants.{Source, Station, Delay, Router, Sink}
-use Rattle.queue_models.specs.Kinds.{is_source}
+use Rattle.queue_models.specs.Kinds.{is_source, is_station}
 use Rattle.queue_models.specs.Objects.{Item, network_of, no_object}
 use Rattle.queue_models.specs.Parts.{IsName, IsLink, IsKind, IsObject, IsJob, IsNetwork}
 use Rattle.model_text.specs.declared.directory.Place.{Place}
@@ -68,6 +68,13 @@ kind-source find at (Station servers service line strict next) kind gives = let 
 kind-source find at (Delay delay next) kind gives = let one = seen (link find at next) _ kind gives in sym (ap is_source one.2)
 kind-source find at (Router next weights) kind gives = let one = seen (links find at next) _ kind gives in sym (ap is_source one.2)
 kind-source find at (Sink due) kind gives = let one : Sink due ≡ kind = cc in sym (ap is_source one)
+
+kind-station : (find : Finder) (at : ℕ) (named : NamedKind) (kind : KindOver ℕ) → linked_kind find at named ≡ Ok kind → is_station kind ≡ is_station named
+kind-station find at (Source first every count next) kind gives = let one = seen (link find at next) _ kind gives in sym (ap is_station one.2)
+kind-station find at (Station servers service line strict next) kind gives = let one = seen (link find at next) _ kind gives in sym (ap is_station one.2)
+kind-station find at (Delay delay next) kind gives = let one = seen (link find at next) _ kind gives in sym (ap is_station one.2)
+kind-station find at (Router next weights) kind gives = let one = seen (links find at next) _ kind gives in sym (ap is_station one.2)
+kind-station find at (Sink due) kind gives = let one : Sink due ≡ kind = cc in sym (ap is_station one)
 
 kind-lawful : (objects : List Item) (find : Finder) (links_are : (n : ℕ) → IsFound find n → IsLink objects n) (at : ℕ) (named : NamedKind) (kind : KindOver ℕ)
     → IsKind AnyName named → linked_kind find at named ≡ Ok kind → IsKind (IsLink objects) kind
@@ -129,6 +136,7 @@ linked-lawful all find links_are k (o ∷ named) objects fine gives =
       name = name-lawful o.name here.named;
       kind = kind-lawful all find links_are k o.kind kind.0 here.in_range kind.1;
       rank = here.rank;
+      traced = subst (λ station. IsTrue (not o.trace || station)) (sym (kind-station find k o.kind kind.0 kind.1)) here.traced;
     }) in
     subst (All (IsObject all)) others.2
     (All-cons (IsObject all) first.0 others.0 lawful (linked-lawful all find links_are (k + 1) named others.0 (All-tail IsNamedItem o named fine) others.1))
@@ -182,7 +190,7 @@ name_at named objects same i d e within named_within =
 names-differ : (named : List NamedItem) (objects : List Item) → map (λ (object : Item). object.name) objects ≡ map (λ (object : NamedItem). object.name) named
     → length objects ≡ length named → AllPairs (λ (a b : NamedItem). a.name ≢ b.name) named → AllPairs (λ (a b : Item). a.name ≢ b.name) objects
 names-differ named objects same long apart i j d before within = λ equal.
-    let e : NamedItem = record { name = []; kind = Sink None; rank = 0 } in
+    let e : NamedItem = record { name = []; kind = Sink None; rank = 0; quiet = false; trace = false } in
     let first = name_at named objects same i d e (omega arith) (omega arith) in
     let second = name_at named objects same j d e within (omega arith) in
     apart i j e before (omega arith) (sym first ∙ equal ∙ second)

@@ -1,8 +1,10 @@
+pub mod Additions
 pub mod Causes
 pub mod Checks
 pub mod Circuits
 pub mod Directories
 pub mod Fields
+pub mod FormatLaws
 pub mod Formats
 pub mod GateFields
 pub mod Jobs

@@ -28,7 +28,7 @@ linked_kind find at (Router next weights) = links find at next >>= (λ numbers. 
 linked_kind find at (Sink due) = Ok (Sink due)
 
 abbrev pub linked_item : Finder → ℕ → NamedItem → Checked Item
-linked_item find at object = linked_kind find at object.kind >>= (λ kind. Ok (record { name = object.name; kind = kind; rank = object.rank }))
+linked_item find at object = linked_kind find at object.kind >>= (λ kind. Ok (record { name = object.name; kind = kind; rank = object.rank; quiet = object.quiet; trace = object.trace }))
 
 -- the objects one after another, with items from k on
 abbrev pub linked_from : Finder → ℕ → List NamedItem → Checked (List Item)

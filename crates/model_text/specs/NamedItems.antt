@@ -1,6 +1,7 @@
 -- The numbers of an object that was read lie within their bounds.
-use Rattle.std.specs.Prelude.{ℕ, ◌≤◌, IsTrue, List}
+use Rattle.std.specs.Prelude.{ℕ, ◌≤◌, ◌||◌, not, IsTrue, List}
 use Rattle.event_key.specs.declared.key.TheConstants.{MOST_RANK}
+use Rattle.queue_models.specs.Kinds.{is_station}
 use Rattle.queue_models.specs.Parts.{IsKind}
 use Rattle.model_text.specs.Names.{NamedItem, is_name}
 
@@ -12,3 +13,4 @@ pub record IsNamedItem (object : NamedItem) : Type 0 where
   pub named : IsTrue (is_name object.name)
   pub in_range : IsKind AnyName object.kind
   pub rank : object.rank ≤ MOST_RANK
+  pub traced : IsTrue (not object.trace || is_station object.kind)

@@ -14,15 +14,15 @@ use Rattle.model_text.specs.Names.{NamedItem, place_in}
 use Rattle.model_text.specs.Objects.{objects}
 
 -- passes two and three, after pass one; the items of the objects begin with 1, and those of the jobs follow them
-unfoldable pub linked_network : ℕ → List NamedItem → Items → Checked Meaning
-linked_network seed named entries = do
+unfoldable pub linked_network : Format → ℕ → List NamedItem → Items → Checked Meaning
+linked_network format seed named entries = do
   linked ← linked_from (place_in named) 1 named
-  jobs ← jobs_from (place_in named) (length named + 1) entries
+  jobs ← jobs_from format (place_in named) (length named + 1) entries
   Ok (network_meaning (network_of seed linked jobs))
 
 unfoldable pub network : Format → ℕ → Members → Checked Meaning
 network format seed ms = do
   tables ← array_of 0 MOST_OBJECTS (optional (array no_items) (codes "object") ms)
   entries ← array_of 0 MOST_ENTRIES (optional (array no_items) (codes "job") ms)
-  named ← objects tables
-  linked_network seed named entries
+  named ← objects format tables
+  linked_network format seed named entries

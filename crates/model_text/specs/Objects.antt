@@ -5,7 +5,10 @@ use Rattle.toml.specs.Data.{Data, integer, boolean, Items, no_items, item, Membe
 use Rattle.event_key.specs.declared.stamp.TheConstants.{LAST_TICK}
 use Rattle.queue_models.specs.declared.kind.KindOver.TheVariants.{Source, Station, Delay, Router, Sink}
 use Rattle.queue_models.specs.declared.station.TheConstants.{MOST_WAITING}
+use Rattle.queue_models.specs.Kinds.{is_station}
+use Rattle.model_text.specs.declared.formats.Format.{Format}
 use Rattle.model_text.specs.declared.refusal.Cause.TheVariants.{BadValue}
+use Rattle.model_text.specs.Additions.{added, rank, flag, trace}
 use Rattle.model_text.specs.Checks.{Checked, refusal, ◌>>=◌}
 use Rattle.model_text.specs.Fields.{number, text, truth, table_of, required, optional, only}
 use Rattle.model_text.specs.LawTexts.{law}
@@ -60,7 +63,7 @@ named_kind at ms word =
     else if bytes_eq word (codes "sink") then sink at ms
     else refusal BadValue at
 
--- the keys that an object of each kind may have
+-- the keys of the fields of each kind
 abbrev pub kind_keys : NamedKind → List (List ℕ)
 kind_keys (Source first every count next) = codes "first" ∷ codes "every" ∷ codes "count" ∷ codes "next" ∷ []
 kind_keys (Station servers service line strict next) = codes "servers" ∷ codes "service" ∷ codes "line" ∷ codes "strict" ∷ codes "next" ∷ []
@@ -68,23 +71,32 @@ kind_keys (Delay delay next) = codes "delay" ∷ codes "next" ∷ []
 kind_keys (Router next weights) = codes "next" ∷ codes "weights" ∷ []
 kind_keys (Sink due) = codes "due" ∷ []
 
-abbrev pub known_keys : NamedKind → List (List ℕ)
-known_keys kind = codes "name" ∷ codes "kind" ∷ kind_keys kind
+-- the keys that the second format adds
+abbrev pub added_keys : NamedKind → List (List ℕ)
+added_keys kind = if is_station kind then codes "rank" ∷ codes "quiet" ∷ codes "trace" ∷ [] else codes "rank" ∷ codes "quiet" ∷ []
+
+-- the keys that an object of each kind may have
+abbrev pub known_keys : Format → NamedKind → List (List ℕ)
+known_keys format kind = codes "name" ∷ codes "kind" ∷ kind_keys kind ++ added format (added_keys kind)
 
 -- an object, where the names before it are found so
-unfoldable pub object : Finder → ℕ → Data → Checked NamedItem
-object find at d = do
+unfoldable pub object : Format → Finder → ℕ → Data → Checked NamedItem
+object format find at d = do
   ms ← table_of at d
   name ← required at (codes "name") ms >>= new_name find at
   word ← required at (codes "kind") ms >>= text at
   kind ← named_kind at ms word
-  known ← only at (known_keys kind) ms
-  Ok (record { name = name; kind = kind; rank = 0 })
+  rank ← rank format at ms
+  quiet ← flag format at (codes "quiet") ms
+  trace ← trace format kind at ms
+  known ← only at (known_keys format kind) ms
+  Ok (record { name = name; kind = kind; rank = rank; quiet = quiet; trace = trace })
 
 -- each further object, whose item is the number of those before it and 1
-abbrev pub objects_after : List NamedItem → Items → Checked (List NamedItem)
-objects_after before no_items = Ok before
-objects_after before (item d ds) = object (place_in before) (length before + 1) d >>= (λ next. objects_after (before ++ next ∷ []) ds)
+abbrev pub objects_after : Format → List NamedItem → Items → Checked (List NamedItem)
+objects_after format before no_items = Ok before
+objects_after format before (item d ds) =
+    object format (place_in before) (length before + 1) d >>= (λ next. objects_after format (before ++ next ∷ []) ds)
 
-abbrev pub objects : Items → Checked (List NamedItem)
-objects ds = objects_after [] ds
+abbrev pub objects : Format → Items → Checked (List NamedItem)
+objects format ds = objects_after format [] ds

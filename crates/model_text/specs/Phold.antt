@@ -8,6 +8,7 @@ use Rattle.phold_model.specs.Parts.{phold_parts}
 use Rattle.phold_model.specs.Meaning.{phold_meaning}
 use Rattle.model_text.specs.declared.formats.Format.{Format}
 use Rattle.model_text.specs.declared.refusal.Cause.TheVariants.{BadValue}
+use Rattle.model_text.specs.Additions.{added, rank}
 use Rattle.model_text.specs.Checks.{Checked, refusal, ◌>>=◌}
 use Rattle.model_text.specs.Fields.{number, text, table_of, array_of, required, optional, only}
 use Rattle.model_text.specs.LawTexts.{law}
@@ -25,6 +26,10 @@ destination at d = do
   name ← text at d
   named_destination at name
 
+-- the keys of the table `phold`
+abbrev pub phold_keys : Format → List (List ℕ)
+phold_keys format = codes "objects" ∷ codes "delay" ∷ codes "to" ∷ codes "each" ∷ codes "start" ∷ added format (codes "rank" ∷ [])
+
 -- the table `phold`: its fields in their order, unknown keys, and then the entries of `start`
 unfoldable pub phold : Format → ℕ → Data → Checked Meaning
 phold format seed d = do
@@ -34,6 +39,7 @@ phold format seed d = do
   uniform ← required 0 (codes "to") ms >>= destination 0
   each ← number 0 0 4 (optional (integer (pos 0)) (codes "each") ms)
   entries ← array_of 0 MOST_ENTRIES (optional (array no_items) (codes "start") ms)
-  known ← only 0 (codes "objects" ∷ codes "delay" ∷ codes "to" ∷ codes "each" ∷ codes "start" ∷ []) ms
-  start ← start_entries objects entries
-  Ok (phold_meaning (phold_parts seed objects delay uniform each start 0))
+  rank ← rank format 0 ms
+  known ← only 0 (phold_keys format) ms
+  start ← start_entries format objects entries
+  Ok (phold_meaning (phold_parts seed objects delay uniform each start rank))

@@ -4,11 +4,13 @@ ghost use Rattle.std.specs.Option.{ForSome};
 ghost use Rattle.toml.specs.Data.{get_member};
 ghost use Rattle.toml.specs.View.{view, table_view};
 ghost use Rattle.queue_models.specs.Parts.{IsKind};
+ghost use Rattle.model_text.specs.declared.formats.Format.TheVariants.{One, Two};
 ghost use Rattle.model_text.specs.Checks.{Gives};
 ghost use Rattle.model_text.specs.NamedItems.{AnyName};
 ghost use Rattle.model_text.specs.Objects.{source, station, delay, router, due_time, sink, named_kind, known_keys};
 
 use crate::fields::{field, number, optional, required, text, truth};
+use crate::formats::Format;
 use crate::label::Label;
 use crate::laws::law;
 use crate::named::NamedKind;
@@ -135,8 +137,18 @@ pub(crate) fn named_kind(
 }
 
 /// The keys that an object of each kind may have.
-pub(crate) fn known_keys(kind: &NamedKind) -> &'static [&'static str]
-    ensures { map (λ name. name.now) result.now ≡ known_keys kind.now }
+pub(crate) fn known_keys(format: Format, kind: &NamedKind) -> &'static [&'static str]
+    ensures { map (λ name. name.now) result.now ≡ known_keys format kind.now }
+{
+    match format {
+        Format::One => first_keys(kind),
+        Format::Two => second_keys(kind),
+    }
+}
+
+/// Those of the first format.
+fn first_keys(kind: &NamedKind) -> &'static [&'static str]
+    ensures { map (λ name. name.now) result.now ≡ known_keys One kind.now }
 {
     match kind {
         NamedKind::Source { .. } => &["name", "kind", "first", "every", "count", "next"],
@@ -146,5 +158,23 @@ pub(crate) fn known_keys(kind: &NamedKind) -> &'static [&'static str]
         NamedKind::Delay { .. } => &["name", "kind", "delay", "next"],
         NamedKind::Router { .. } => &["name", "kind", "next", "weights"],
         NamedKind::Sink { .. } => &["name", "kind", "due"],
+    }
+}
+
+/// Those of the second format.
+fn second_keys(kind: &NamedKind) -> &'static [&'static str]
+    ensures { map (λ name. name.now) result.now ≡ known_keys Two kind.now }
+{
+    match kind {
+        NamedKind::Source { .. } => &[
+            "name", "kind", "first", "every", "count", "next", "rank", "quiet",
+        ],
+        NamedKind::Station { .. } => &[
+            "name", "kind", "servers", "service", "line", "strict", "next", "rank", "quiet",
+            "trace",
+        ],
+        NamedKind::Delay { .. } => &["name", "kind", "delay", "next", "rank", "quiet"],
+        NamedKind::Router { .. } => &["name", "kind", "next", "weights", "rank", "quiet"],
+        NamedKind::Sink { .. } => &["name", "kind", "due", "rank", "quiet"],
     }
 }

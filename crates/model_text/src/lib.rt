@@ -2,9 +2,11 @@
 //! fails.
 #![tactic(auto)]
 
+mod additions;
 mod circuits;
 mod directory;
 mod fields;
+mod format_laws;
 mod formats;
 mod gate_fields;
 mod gates;
@@ -25,6 +27,7 @@ mod routers;
 mod starts;
 mod top;
 
+pub use format_laws::law_formats;
 pub use model::AnyModel;
 pub use refusal::{Cause, Refusal};
 pub use top::read_model;

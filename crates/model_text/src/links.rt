@@ -105,6 +105,8 @@ fn linked_item(
         name: object.name,
         kind,
         rank: object.rank,
+        quiet: object.quiet,
+        trace: object.trace,
     })
 }
 

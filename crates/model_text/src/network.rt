@@ -35,6 +35,7 @@ fn first_job_item(objects: &[NamedItem]) -> u32
 #[tactic(auto, unfolding(crate::specs::Networks::linked_network))]
 fn linked_network(
     alloc: Global,
+    format: Format,
     seed: u64,
     named: Vec<NamedItem>,
     directory: &Directory,
@@ -46,11 +47,11 @@ fn linked_network(
     requires found { finder directory.now ≡ place_in named.items }
     requires in_range { All IsNamedItem named.items }
     requires names_differ { AllPairs (λ (a b : NamedItem). a.name ≢ b.name) named.items }
-    ensures { Gives (λ model. network_meaning (parts_of model)) result (linked_network seed named.items (items_view entries.now)) }
+    ensures { Gives (λ model. network_meaning (parts_of model)) result (linked_network format seed named.items (items_view entries.now)) }
 {
     let first_job = first_job_item(&named);
     let items = linked_items(alloc, directory, named)?;
-    let jobs = jobs(alloc, entries, directory, first_job)?;
+    let jobs = jobs(alloc, entries, format, directory, first_job)?;
     Ok(Network::make(alloc, seed, items, jobs)?)
 }
 
@@ -59,15 +60,15 @@ fn linked_network(
 pub(crate) fn network(
     alloc: Global,
     table: &Table,
-    _format: Format,
+    format: Format,
     seed: u64,
 ) -> Result<Network, Refusal>
     requires { seed < 2 ^ 63 }
-    ensures { Gives (λ model. network_meaning (parts_of model)) result (network _format seed (table_view table.now)) }
+    ensures { Gives (λ model. network_meaning (parts_of model)) result (network format seed (table_view table.now)) }
 {
     let none = Value::Array(Vec::new(alloc));
     let tables = array_of(optional(table, "object", &none), 0, MOST_OBJECTS as usize)?;
     let entries = array_of(optional(table, "job", &none), 0, MOST_ENTRIES)?;
-    let (named, directory) = objects(alloc, tables)?;
-    linked_network(alloc, seed, named, &directory, entries)
+    let (named, directory) = objects(alloc, tables, format)?;
+    linked_network(alloc, format, seed, named, &directory, entries)
 }

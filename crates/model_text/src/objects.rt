@@ -8,8 +8,10 @@ ghost use Rattle.model_text.specs.NamedItems.{IsNamedItem};
 ghost use Rattle.model_text.specs.Names.{NamedItem, TakesIn, place_in, place_of};
 ghost use Rattle.model_text.specs.Objects.{object, objects};
 
+use crate::additions::{flag, rank, trace};
 use crate::directory::{Directory, Place};
 use crate::fields::{only, required, table_of, text};
+use crate::formats::Format;
 use crate::kinds::{known_keys, named_kind};
 use crate::named::NamedItem;
 use crate::names::new_name;
@@ -22,11 +24,12 @@ use toml::Value;
 fn object(
     alloc: Global,
     value: &Value,
+    format: Format,
     directory: &mut Directory,
     number: u32,
 ) -> Result<NamedItem, Refusal>
     requires { number < MOST_OBJECTS }
-    ensures read { Gives (λ object. object) result (object (finder directory.old) (number + 1) (view value.now)) }
+    ensures read { Gives (λ object. object) result (object format (finder directory.old) (number + 1) (view value.now)) }
     ensures in_range { IfOk result IsNamedItem }
     ensures new { IfOk result (λ object. finder directory.old object.name ≡ None) }
     ensures taken_in { IfOk result (λ object. TakesIn (finder directory.old) (finder directory.new) object.name (place_of number object)) }
@@ -36,7 +39,10 @@ fn object(
     let name = new_name(alloc, required(table, "name", item)?, directory, item)?;
     let word = text(required(table, "kind", item)?, item)?;
     let kind = named_kind(alloc, table, word, item)?;
-    only(table, known_keys(&kind), item)?;
+    let rank = rank(table, format, item)?;
+    let quiet = flag(table, "quiet", format, item)?;
+    let trace = trace(table, &kind, format, item)?;
+    only(table, known_keys(format, &kind), item)?;
     let takes_links = !kind.is_source();
     directory.add(
         alloc,
@@ -49,7 +55,9 @@ fn object(
     Ok(NamedItem {
         name: name.into_name(),
         kind,
-        rank: 0,
+        rank,
+        quiet,
+        trace,
     })
 }
 
@@ -57,9 +65,10 @@ fn object(
 pub(crate) fn objects(
     alloc: Global,
     values: &[Value],
+    format: Format,
 ) -> Result<(Vec<NamedItem>, Directory), Refusal>
     requires { length values.now ≤ MOST_OBJECTS }
-    ensures read { Gives (λ read. read.0.items) result (objects (items_view values.now)) }
+    ensures read { Gives (λ read. read.0.items) result (objects format (items_view values.now)) }
     ensures found { IfOk result (λ read. finder read.1 ≡ place_in read.0.items) }
     ensures count { IfOk result (λ read. length read.0.items ≡ length values.now) }
     ensures in_range { IfOk result (λ read. All IsNamedItem read.0.items) }
@@ -69,7 +78,7 @@ pub(crate) fn objects(
     let mut directory = Directory::new(alloc);
     for value in values {
         let number = objects.len() as u32;
-        let object = object(alloc, value, &mut directory, number)?;
+        let object = object(alloc, value, format, &mut directory, number)?;
         objects.push(object)?;
     }
     Ok((objects, directory))

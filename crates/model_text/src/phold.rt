@@ -1,11 +1,12 @@
 //! The body of a PHOLD model.
-ghost use Rattle.std.specs.Prelude.{◌<◌, ◌^◌};
+ghost use Rattle.std.specs.Prelude.{◌≡◌, ◌<◌, ◌^◌, map};
 ghost use Rattle.toml.specs.View.{view};
 ghost use Rattle.phold_model.specs.Meaning.{phold_meaning};
 ghost use Rattle.phold_model.specs.Views.{parts_of};
 ghost use Rattle.model_text.specs.Checks.{Gives};
-ghost use Rattle.model_text.specs.Phold.{destination, phold};
+ghost use Rattle.model_text.specs.Phold.{destination, phold, phold_keys};
 
+use crate::additions::rank;
 use crate::fields::{array_of, number, only, optional, required, table_of, text};
 use crate::formats::Format;
 use crate::laws::law;
@@ -31,16 +32,26 @@ fn destination(value: &Value, item: u32) -> Result<bool, Refusal>
     Err(Cause::BadValue.at(item))
 }
 
+/// The keys of the table `phold`.
+fn phold_keys(format: Format) -> &'static [&'static str]
+    ensures { map (λ name. name.now) result.now ≡ phold_keys format }
+{
+    match format {
+        Format::One => &["objects", "delay", "to", "each", "start"],
+        Format::Two => &["objects", "delay", "to", "each", "start", "rank"],
+    }
+}
+
 /// The table `phold`.
 #[tactic(auto, unfolding(crate::specs::Phold::phold))]
 pub(crate) fn phold(
     alloc: Global,
     value: &Value,
-    _format: Format,
+    format: Format,
     seed: u64,
 ) -> Result<Phold, Refusal>
     requires { seed < 2 ^ 63 }
-    ensures { Gives (λ model. phold_meaning (parts_of model)) result (phold _format seed (view value.now)) }
+    ensures { Gives (λ model. phold_meaning (parts_of model)) result (phold format seed (view value.now)) }
 {
     let table = table_of(value, 0)?;
     let objects = number(
@@ -54,7 +65,8 @@ pub(crate) fn phold(
     let each = number(optional(table, "each", &Value::Integer(0)), 0, 0, 4)? as u32;
     let none = Value::Array(Vec::new(alloc));
     let entries = array_of(optional(table, "start", &none), 0, MOST_ENTRIES)?;
-    only(table, &["objects", "delay", "to", "each", "start"], 0)?;
-    let start = start_entries(alloc, entries, objects)?;
-    Ok(Phold::make(seed, objects, delay, uniform, each, start, 0)?)
+    let rank = rank(table, format, 0)?;
+    only(table, phold_keys(format), 0)?;
+    let start = start_entries(alloc, entries, format, objects)?;
+    Ok(Phold::make(seed, objects, delay, uniform, each, start, rank)?)
 }

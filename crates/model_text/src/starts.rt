@@ -6,7 +6,9 @@ ghost use Rattle.toml.specs.View.{view, items_view};
 ghost use Rattle.model_text.specs.Checks.{Gives};
 ghost use Rattle.model_text.specs.Starts.{start_entry, start_entries};
 
+use crate::additions::{entry_keys, rank};
 use crate::fields::{number, only, required, table_of};
+use crate::formats::Format;
 use crate::refusal::{Cause, Refusal};
 use event_key::LAST_TICK;
 use model_core::{Entry, MOST_OBJECTS};
@@ -15,8 +17,8 @@ use toml::Value;
 
 /// An entry, in a model of so many objects.
 #[tactic(auto, unfolding(crate::specs::Starts::start_entry))]
-fn start_entry(value: &Value, objects: u32, item: u32) -> Result<Entry, Refusal>
-    ensures read { Gives (λ entry. entry) result (start_entry objects item (view value.now)) }
+fn start_entry(value: &Value, format: Format, objects: u32, item: u32) -> Result<Entry, Refusal>
+    ensures read { Gives (λ entry. entry) result (start_entry format objects item (view value.now)) }
     ensures entry { IfOk result (IsEntry objects) }
 {
     let table = table_of(value, item)?;
@@ -27,29 +29,31 @@ fn start_entry(value: &Value, objects: u32, item: u32) -> Result<Entry, Refusal>
         0,
         u64::from(MOST_OBJECTS - 1),
     )?;
-    only(table, &["time", "at"], item)?;
+    let rank = rank(table, format, item)?;
+    only(table, entry_keys(format), item)?;
     let at = at as u32;
     if at >= objects {
         return Err(Cause::BadLink.at(item));
     }
-    Ok(Entry { time, at, rank: 0 })
+    Ok(Entry { time, at, rank })
 }
 
 /// The entries one after another, the first with item 1.
 pub(crate) fn start_entries(
     alloc: Global,
     values: &[Value],
+    format: Format,
     objects: u32,
 ) -> Result<Vec<Entry>, Refusal>
     requires { length values.now ≤ MOST_ENTRIES }
-    ensures read { Gives (λ entries. entries.items) result (start_entries objects (items_view values.now)) }
+    ensures read { Gives (λ entries. entries.items) result (start_entries format objects (items_view values.now)) }
     ensures count { IfOk result (λ entries. length entries.items ≡ length values.now) }
     ensures entries { IfOk result (λ entries. All (IsEntry objects) entries.items) }
 {
     let mut entries = Vec::new(alloc);
     let mut item = 1;
     for value in values {
-        entries.push(start_entry(value, objects, item)?)?;
+        entries.push(start_entry(value, format, objects, item)?)?;
         item += 1;
     }
     Ok(entries)

@@ -205,6 +205,42 @@ fn entries_are_checked_one_after_another(rt: HostRuntime) -> Result<(), Fail> {
 }
 
 #[test]
+fn the_second_format_adds_ranks_of_hops(rt: HostRuntime) -> Result<(), Fail> {
+    for (rank, start, first, second) in [
+        (
+            "rank = 255",
+            "{ time = 0, at = 2 }",
+            (4u8, 0u32),
+            (0u8, 0u32),
+        ),
+        ("rank = 256", "{ time = 0, at = 2 }", (4, 0), (7, 0)),
+        ("rank = true", "{ time = 0, at = 3 }", (4, 0), (5, 0)),
+        ("", "{ time = 0, at = 2, rank = 255 }", (4, 1), (0, 0)),
+        (
+            "",
+            "{ time = 0, at = 2 }, { time = 0, at = 2, rank = 256 }",
+            (4, 2),
+            (7, 2),
+        ),
+        ("", "{ time = 0, at = 3, rank = 256 }", (4, 1), (7, 1)),
+        ("", "{ time = 0, at = 3, rank = 0 }", (4, 1), (6, 1)),
+        ("", "{ time = 0, at = 2, quiet = true }", (4, 1), (4, 1)),
+    ] {
+        for (format, want) in [("1", first), ("2", second)] {
+            let text = format!(in rt.alloc();
+                "format = {format}\nmodel = \"phold\"\nend = 9\n[phold]\nobjects = 3\ndelay = {{ law = \"fixed\", value = 5 }}\nto = \"next\"\nstart = [ {start} ]\n{rank}\n"
+            )?;
+            assert_eq!(rt;
+                refusal_of(rt.alloc(), text.as_bytes()),
+                Some(want),
+                "{text}"
+            );
+        }
+    }
+    Ok(())
+}
+
+#[test]
 fn a_cause_has_a_code_and_a_name(rt: HostRuntime) {
     for (cause, code, name) in [
         (Cause::TooLong, 1, "TooLong"),

@@ -1,7 +1,5 @@
 -- An advance, turn by turn.
-use Rattle.std.proofs.Common.{◌≡◌, ◌≢◌, ◌⊎◌, ℕ, suc, ◌+◌, ◌<◌, ◌≤◌, ◌^◌, min, List, [], ◌∷◌, length, refl, sym, ap, ◌∙◌, subst, inl, inr, arith}
-use Rattle.std.specs.Prelude.{Option, Some, None}
-use Rattle.std.specs.List.{AllByRecursion as Each}
+use Rattle.std.proofs.Common.{◌≡◌, ◌≢◌, ◌⊎◌, ℕ, ◌+◌, ◌≤◌, min, List, ◌∷◌, length, sym, ◌∙◌, subst, inl, inr, arith}
 use Rattle.event_key.specs.declared.key.Key.{Key}
 use Rattle.event_key.specs.declared.stamp.TheConstants.{NO_STAMP}
 use Rattle.event_key.specs.Stamps.{end_stamp}
@@ -12,11 +10,11 @@ use Rattle.world_spec.specs.Moves.{IsIdle}
 use Rattle.horizon_word.specs.Views.{SeatView}
 use Rattle.node_core.specs.Homes.{HomesView, home_of}
 use Rattle.node_core.specs.Nodes.{NodeView, home, data_of, IsAsBefore}
-use Rattle.node_core.specs.Steps.{HoldsMessageAt, IsHeldLeast, HasProcessed, IsLeftIdle}
+use Rattle.node_core.specs.Steps.{IsHeldLeast, HasProcessed}
 use Rattle.cycle_core.specs.Known.{IsKnown}
 use Rattle.cycle_core.specs.Works.{IsSmall, WorksOn}
 use Rattle.cycle_core.proofs.WorkLemmas.{as_before, works-none, works-more, works-then, small-stays}
-use Rattle.node_team.specs.Advances.{HasOffered, AreFrom, CanAdvance, HasTurned, IsIdleBelow, IsDeep, IsAdvanced}
+use Rattle.node_team.specs.Advances.{HasOffered, AreFrom, CanAdvance, HasTurned, IsIdleBelow, IsAdvanced}
 use Rattle.node_team.proofs.FloorLemmas.{one-later, floor-waits, floor-held}
 use Rattle.world_spec.proofs.IdleLemmas.{idle-on}
 

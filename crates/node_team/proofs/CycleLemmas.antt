@@ -1,19 +1,16 @@
 -- A cycle in threads: advanced, closed, cut and ended.
-use Rattle.std.proofs.Common.{◌≡◌, ℕ, ◌<◌, List, length, refl, sym, ap, ◌∙◌, subst, arith}
+use Rattle.std.proofs.Common.{◌≡◌, ℕ, List, refl, sym, ap, ◌∙◌, subst, arith}
 use Rattle.std.proofs.lemmas.Option.{slice_get_within}
-use Rattle.std.specs.Prelude.{slice_get, Option, Some}
 use Rattle.event_key.specs.declared.key.Key.{Key}
 use Rattle.model_core.specs.Meaning.{Meaning, MeaningLaws}
 use Rattle.model_core.specs.declared.note.Note.{Note}
-use Rattle.sim_spec.specs.declared.terms.Terms.{Terms}
 use Rattle.sim_spec.specs.State.{State}
 use Rattle.world_spec.specs.World.{WorldIsClosed}
-use Rattle.node_core.specs.Homes.{HomesView, home_of}
+use Rattle.node_core.specs.Homes.{home_of}
 use Rattle.node_core.specs.Nodes.{NodeView}
 use Rattle.cycle_core.specs.declared.cut.Cut.{Cut}
 use Rattle.cycle_core.specs.Cuts.{IsCutOf, HaveEnded}
 use Rattle.cycle_core.specs.Known.{AreKnown}
-use Rattle.cycle_core.specs.Places.{EachPair}
 use Rattle.cycle_core.specs.Works.{AllWorkOn, WorksOn}
 use Rattle.cycle_core.specs.Worlds.{WorldView, data_at, StandsAt}
 use Rattle.cycle_core.proofs.PlaceLemmas.{at-some, same-some}

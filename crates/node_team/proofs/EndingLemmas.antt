@@ -1,11 +1,10 @@
 -- What the nodes have released comes to them.
-use Rattle.std.proofs.Common.{◌≡◌, ℕ, ◌<◌, ◌^◌, All, List, [], ◌∷◌, ◌++◌, length, map, get_or, refl, sym, ap, ◌∙◌, subst, arith}
-use Rattle.std.specs.Prelude.{IsPermutation, slice_get, slice_index_or, Option, Some, Result, Ok, Err, OnOk}
+use Rattle.std.proofs.Common.{◌≡◌, ℕ, ◌<◌, ◌^◌, All, List, [], ◌∷◌, ◌++◌, length, map, refl, sym, ap, ◌∙◌, subst, arith}
+use Rattle.std.specs.Prelude.{IsPermutation, slice_get, slice_index_or, Some}
 use Rattle.std.specs.List.{AllZip, range_with_len}
-use Rattle.std.proofs.lemmas.List.{get_or-map, length-map}
+use Rattle.std.proofs.lemmas.List.{get_or-map}
 use Rattle.std.proofs.lemmas.List.Sorted.{IsPermutation-trans, length_permutation}
 use Rattle.std.proofs.lemmas.Option.{get_or_from_slice_get, slice_get_within}
-use Rattle.event_key.specs.declared.key.Key.{Key}
 use Rattle.model_core.specs.declared.event.Event.{Event}
 use Rattle.model_core.specs.Meaning.{Meaning}
 use Rattle.release_lanes.specs.declared.lanes.NodeEnd.{Ghosts as NodeEnd}
@@ -17,8 +16,6 @@ use Rattle.parcel_exchange.specs.Inboxes.{coming, HasArrived}
 use Rattle.parcel_exchange.specs.Team.{handed_to}
 use Rattle.parcel_exchange.proofs.Arrivals.{all_come}
 use Rattle.node_core.specs.declared.committed.Committed.{Committed}
-use Rattle.node_core.specs.Nodes.{NodeView}
-use Rattle.cycle_core.specs.Cuts.{CanEnd}
 use Rattle.cycle_core.specs.Ends.{sent_in, sent_to}
 use Rattle.cycle_core.specs.Places.{AtEach}
 use Rattle.cycle_core.specs.Sendings.{HaveSent}

@@ -1,30 +1,27 @@
 -- What a node sends is above its own events.
-use Rattle.std.proofs.Common.{◌≡◌, ◌≢◌, ◌⊎◌, ℕ, suc, ◌+◌, ◌-◌, ◌<◌, ◌≤◌, List, [], ◌∷◌, take, drop, refl, sym, ap, ◌∙◌, subst, inl, inr, arith}
-use Rattle.std.specs.Prelude.{Contains}
+use Rattle.std.proofs.Common.{ℕ, suc, ◌+◌, ◌-◌, ◌<◌, ◌≤◌, List, take, sym, subst, arith}
 use Rattle.std.specs.List.{AllByRecursion as Each}
-use Rattle.event_key.specs.declared.key.Key.{Key}
 use Rattle.event_key.specs.declared.stamp.TheConstants.{NO_STAMP}
 use Rattle.model_core.specs.Meaning.{Meaning}
 use Rattle.model_core.specs.declared.event.Event.{Event}
 use Rattle.sim_spec.specs.Cut.{emissions_of}
-use Rattle.sim_spec.specs.Firing.{ObjectState, fire, goes, fails}
-use Rattle.key_order.specs.Stamps.{NoneBelow, least_stamp}
-use Rattle.sim_spec.specs.Replay.{Replay, events_at, replay, EmitsFrom}
+use Rattle.sim_spec.specs.Firing.{fire}
+use Rattle.key_order.specs.Stamps.{NoneBelow}
+use Rattle.sim_spec.specs.Replay.{Replay, events_at, EmitsFrom}
 use Rattle.key_order.proofs.EachLemmas.{Each-map, Each-take, Each-drop}
 use Rattle.key_order.proofs.MemberLemmas.{each-contains}
 use Rattle.key_order.proofs.StampLemmas.{least_stamp-from}
 use Rattle.sim_spec.proofs.PartLemmas.{Each-events_at}
 use Rattle.sim_spec.proofs.ReplayLemmas.{replay-emits}
 use Rattle.sim_spec.proofs.StampLemmas.{NoneBelow-emissions_of, fire-later}
-use Rattle.object_log.specs.declared.done.Done.{Done}
 use Rattle.object_log.specs.declared.done.Verdict.{Verdict}
 use Rattle.object_log.specs.declared.done.Verdict.TheVariants.{Noted, Failed}
 use Rattle.object_log.specs.Logs.{LogView}
 use Rattle.object_log.specs.Replays.{IsOneMore, IsTold, firing_of}
-use Rattle.world_spec.specs.Share.{Share, log_of}
+use Rattle.world_spec.specs.Share.{log_of}
 use Rattle.world_spec.proofs.NodeFacts.{each-object}
-use Rattle.node_core.specs.Nodes.{NodeView, log_at, home, data_of, share_of, ahead_of, Stands}
-use Rattle.node_core.specs.Steps.{HoldsMessageAt, IsHeldLeast, HasProcessed}
+use Rattle.node_core.specs.Nodes.{NodeView, home, data_of, share_of, ahead_of, Stands}
+use Rattle.node_core.specs.Steps.{HoldsMessageAt}
 use Rattle.node_team.specs.Advances.{AreFrom}
 
 -- what an event sends lies after it

@@ -1,11 +1,11 @@
 -- Nodes that release one after another, and receive one after another.
-use Rattle.std.proofs.Common.{◌≡◌, ℕ, zero, suc, ◌+◌, ◌<◌, ◌≤◌, Bool, true, false, All, List, [], ◌∷◌, ◌++◌, length, map, get_or, refl, sym, ap, ◌∙◌, subst, arith, eqb, eqb-true, slice_set}
+use Rattle.std.proofs.Common.{◌≡◌, ℕ, zero, suc, ◌+◌, ◌<◌, ◌≤◌, Bool, true, false, List, [], ◌∷◌, ◌++◌, length, map, get_or, refl, sym, ap, ◌∙◌, subst, arith, eqb, eqb-true, slice_set}
 use Rattle.std.proofs.lemmas.Bool.{eqb-false}
 use Rattle.std.proofs.lemmas.List.{get_or-map, length-append, length-map, length-set}
 use Rattle.std.proofs.lemmas.List.FromFn.{length-range_with_len, get_or-range_with_len}
 use Rattle.std.proofs.lemmas.Option.{get_or_from_slice_get, slice_get_within}
-use Rattle.std.specs.Prelude.{slice_get, Option, Some}
-use Rattle.std.specs.List.{AllZip, range_with_len}
+use Rattle.std.specs.Prelude.{slice_get, Some}
+use Rattle.std.specs.List.{AllZip}
 use Rattle.release_lanes.specs.declared.lanes.NodeEnd.{Ghosts as NodeEnd}
 use Rattle.release_lanes.specs.declared.parcel.Parcel.{Parcel}
 use Rattle.parcel_exchange.specs.declared.inbox.Inbox.{Inbox}
@@ -13,9 +13,9 @@ use Rattle.parcel_exchange.specs.Exchange.{HasExchanged}
 use Rattle.parcel_exchange.specs.Team.{HaveExchanged}
 use Rattle.node_core.specs.declared.committed.Committed.{Committed}
 use Rattle.cycle_core.specs.Ends.{sent_in}
-use Rattle.cycle_core.specs.Places.{AtEach, EachPair}
+use Rattle.cycle_core.specs.Places.{AtEach}
 use Rattle.cycle_core.specs.Sendings.{HasSent, HaveSent}
-use Rattle.cycle_core.proofs.PlaceLemmas.{at-set, at-other, at-some, same-some}
+use Rattle.cycle_core.proofs.PlaceLemmas.{at-push, at-set, at-other, at-some, same-some}
 use Rattle.node_team.proofs.SeatingLemmas.{at-each-place}
 use Rattle.node_team.specs.Releases.{arrived_in, AreClear, AreFree, HasPosted, HavePosted}
 
@@ -201,19 +201,12 @@ at-mapped f [] k x at = absurd (cc)
 at-mapped f (y ∷ ys) zero x at = ap (λ z. Some (f z)) (same-some y x at)
 at-mapped f (y ∷ ys) (suc k) x at = at-mapped f ys k x at
 
--- one inbox more
-each-push : {A : Type 0} (P : A → Type 0) (xs : List A) (y : A) → AtEach (λ place x. P x) xs → P y → AtEach (λ place x. P x) (xs ++ y ∷ [])
-each-push P [] y all it zero x at = subst P (same-some y x at) it
-each-push P [] y all it (suc k) x at = absurd (cc)
-each-push P (z ∷ zs) y all it zero x at = all 0 x at
-each-push P (z ∷ zs) y all it (suc k) x at = each-push P zs y (λ j w there. all (suc j) w there) it k x at
-
 pub clear-none : AreClear 0 []
 clear-none = record { many = refl; early = λ place inbox at. absurd (cc); arrived = λ place inbox at. absurd (cc) }
 
 pub clear-more : (nodes : ℕ) (inboxes : List Inbox) (inbox : Inbox) → AreClear nodes inboxes → inbox.early.items ≡ [] → inbox.arrived ≡ [] → AreClear (nodes + 1) (inboxes ++ inbox ∷ [])
 clear-more nodes inboxes inbox clear early arrived = record {
   many = (let many = clear.many in omega (arith, length-append inboxes (inbox ∷ [])));
-  early = each-push (λ (i : Inbox). early_in i ≡ []) inboxes inbox clear.early early;
-  arrived = each-push (λ (i : Inbox). arrived_in i ≡ []) inboxes inbox clear.arrived arrived;
+  early = at-push (λ (i : Inbox). early_in i ≡ []) inboxes inbox clear.early early;
+  arrived = at-push (λ (i : Inbox). arrived_in i ≡ []) inboxes inbox clear.arrived arrived;
 }

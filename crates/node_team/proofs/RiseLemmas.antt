@@ -1,7 +1,7 @@
 -- How far a node works ahead.
-use Rattle.std.proofs.Common.{◌≡◌, ◌⊎◌, inl, inr, ℕ, suc, ◌+◌, ◌<◌, ◌≤◌, min, Bool, true, false, cond, List, [], ◌∷◌, length, refl, sym, ap, ◌∙◌, subst, arith, ltb, ltb-true}
+use Rattle.std.proofs.Common.{◌≡◌, ◌⊎◌, inl, inr, ℕ, suc, ◌+◌, ◌≤◌, min, Bool, true, false, cond, List, [], ◌∷◌, length, refl, sym, ap, ◌∙◌, subst, arith, ltb, ltb-true}
 use Rattle.std.specs.List.{AllByRecursion as Each}
-use Rattle.std.specs.Prelude.{filter, Option, Some, slice_get}
+use Rattle.std.specs.Prelude.{filter, Option}
 use Rattle.std.proofs.lemmas.Option.{slice_get_within}
 use Rattle.event_key.specs.declared.key.Key.{Key}
 use Rattle.model_core.specs.declared.note.Note.{Note}
@@ -10,7 +10,7 @@ use Rattle.model_core.specs.Meaning.{Meaning}
 use Rattle.model_core.specs.declared.event.Event.{Event}
 use Rattle.sim_spec.specs.declared.terms.Terms.{Terms}
 use Rattle.world_spec.specs.Share.{NodeData}
-use Rattle.world_spec.specs.Moves.{IsStep, Steps, IsIdle, IsPastFaultOf}
+use Rattle.world_spec.specs.Moves.{Steps, IsIdle, IsPastFaultOf}
 use Rattle.node_core.specs.Nodes.{NodeView, home, data_of}
 use Rattle.cycle_core.specs.Cuts.{HaveEnded}
 use Rattle.cycle_core.specs.Works.{HasFault, IsFull, WorksOn, AllWorkOn}

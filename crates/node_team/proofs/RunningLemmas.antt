@@ -1,25 +1,21 @@
 -- The nodes of a world as they advance, one after another or at their seats.
-use Rattle.std.proofs.Common.{◌≡◌, ℕ, ◌<◌, List, length, map, refl, sym, ap, ◌∙◌, subst, get_or}
-use Rattle.std.proofs.lemmas.Option.{slice_get-get_or}
-use Rattle.std.specs.Prelude.{slice_get, Some}
-use Rattle.std.proofs.lemmas.Slice.Zip.{AllZip-long}
+use Rattle.std.proofs.Common.{◌≡◌, ℕ, List, refl, sym, ap, ◌∙◌, subst}
 use Rattle.event_key.specs.Stamps.{end_stamp}
 use Rattle.model_core.specs.Meaning.{Meaning}
 use Rattle.sim_spec.specs.declared.terms.Terms.{Terms}
 use Rattle.sim_spec.specs.State.{State}
 use Rattle.world_spec.specs.WorldLaws.{WorldStepsLaw}
-use Rattle.horizon_word.specs.Views.{WordId, SeatView, new_seat}
+use Rattle.horizon_word.specs.Views.{WordId, new_seat}
 use Rattle.node_core.specs.Nodes.{NodeView}
 use Rattle.cycle_core.specs.Known.{AreKnown}
-use Rattle.cycle_core.specs.Places.{AtEach, EachPair}
+use Rattle.cycle_core.specs.Places.{AtEach}
 use Rattle.cycle_core.specs.Works.{AllWorkOn}
 use Rattle.cycle_core.specs.Worlds.{WorldView, AreNodesOf, StandsAt}
 use Rattle.cycle_core.proofs.PlaceLemmas.{IsUpto}
 use Rattle.cycle_core.proofs.WorldLemmas.{all-small, nodes-after, stands-on}
-use Rattle.node_team.specs.declared.seating.Seated.{Seated}
-use Rattle.node_team.specs.Forks.{CanGo, CanAllRun, AllHaveGone, HasRun, AllHaveRun}
-use Rattle.node_team.specs.Teams.{node_in, IsFloorOf, AreSeatedWith, AllAnswered}
-use Rattle.node_team.proofs.SeatingLemmas.{can-advance, all-can-go, all-run}
+use Rattle.node_team.specs.Forks.{CanGo, HasRun, AllHaveRun}
+use Rattle.node_team.specs.Teams.{IsFloorOf}
+use Rattle.node_team.proofs.SeatingLemmas.{can-advance}
 
 -- the first so many nodes have run
 abbrev pub AreRunning : {M : Type 0} → (M → Meaning) → ℕ → ℕ → List (NodeView M) → List (NodeView M) → Type 0

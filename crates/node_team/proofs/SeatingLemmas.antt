@@ -1,12 +1,12 @@
 -- Floors of nodes, and what is said of nodes at their seats.
-use Rattle.std.proofs.Common.{◌≡◌, ◌⊎◌, ℕ, zero, suc, ◌+◌, ◌<◌, ◌≤◌, Bool, true, false, List, [], ◌∷◌, ◌++◌, length, map, get_or, refl, sym, ap, ◌∙◌, subst, inl, inr, arith, ltb, ltb-true, ltb-false}
+use Rattle.std.proofs.Common.{◌≡◌, ℕ, zero, suc, ◌+◌, ◌≤◌, Bool, true, false, List, [], ◌∷◌, ◌++◌, length, map, get_or, refl, sym, ap, ◌∙◌, subst, arith, ltb, ltb-true, ltb-false}
 use Rattle.std.proofs.Math.Seq.{get_or-append_seam}
 use Rattle.std.proofs.lemmas.List.{length-append, length-map, get_or_append_left}
 use Rattle.std.specs.Option.{option_to_list}
 use Rattle.std.proofs.lemmas.Option.{get_or_from_slice_get, slice_get-get_or, slice_get_within}
 use Rattle.std.specs.Prelude.{Contains, slice_get, Option, Some, None, filter, ◌==◌, All, Result, Ok, Err, IsOk, IfOk, OnOk, Vec}
 use Rattle.std.specs.declared.alloc.Global.{Global}
-use Rattle.std.specs.List.{AllByRecursion as Each, AllZip}
+use Rattle.std.specs.List.{AllByRecursion as Each}
 use Rattle.event_key.specs.declared.key.Key.{Key}
 use Rattle.event_key.specs.Keys.{key_lt}
 use Rattle.event_key.specs.Stamps.{end_stamp}
@@ -18,16 +18,13 @@ use Rattle.sim_spec.specs.Replay.{events_at}
 use Rattle.key_order.proofs.EachLemmas.{Each-map}
 use Rattle.object_log.specs.declared.done.Done.{Done}
 use Rattle.object_log.specs.Logs.{events_of, keys_of}
-use Rattle.world_spec.specs.Moves.{IsIdle}
-use Rattle.world_spec.specs.Share.{IsHome}
 use Rattle.key_order.proofs.MemberLemmas.{is-first, is-later}
 use Rattle.world_spec.proofs.NodeFacts.{each-object}
-use Rattle.horizon_word.specs.Views.{WordId, SeatView, IsSeatOf, new_seat}
+use Rattle.horizon_word.specs.Views.{WordId, SeatView, new_seat}
 use Rattle.node_core.specs.Calls.{IsLeastKeyOf}
-use Rattle.node_core.specs.Nodes.{NodeView, log_at, home, data_of, pending_at, share_of, ahead_of}
-use Rattle.cycle_core.specs.Known.{IsKnown, AreKnown}
-use Rattle.cycle_core.specs.Places.{EachPair, AtEach}
-use Rattle.cycle_core.specs.Works.{IsSmall, AreSmall, HaveTerms, AllWorkOn, WorksOn}
+use Rattle.node_core.specs.Nodes.{NodeView, log_at, home, pending_at, share_of, ahead_of}
+use Rattle.cycle_core.specs.Known.{IsKnown}
+use Rattle.cycle_core.specs.Works.{IsSmall}
 use Rattle.cycle_core.proofs.PlaceLemmas.{same-some}
 use Rattle.node_team.specs.declared.seating.Seated.{Seated}
 use Rattle.node_team.specs.Advances.{AreFrom, CanAdvance}

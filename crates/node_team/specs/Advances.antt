@@ -1,5 +1,5 @@
 -- What a node's advance needs, and what it leaves.
-use Rattle.std.specs.Prelude.{◌≡◌, ◌⊎◌, ℕ, ◌+◌, ◌<◌, ◌≤◌, min, List, length, Option, Some, None}
+use Rattle.std.specs.Prelude.{◌≡◌, ◌⊎◌, ℕ, ◌+◌, ◌≤◌, min, List, length, Option, Some, None}
 use Rattle.std.specs.List.{AllByRecursion}
 use Rattle.event_key.specs.declared.key.Key.{Key}
 use Rattle.event_key.specs.Stamps.{end_stamp}
@@ -9,7 +9,7 @@ use Rattle.world_spec.specs.Moves.{IsIdle}
 use Rattle.horizon_word.specs.Views.{SeatView}
 use Rattle.node_core.specs.Nodes.{NodeView, home, data_of, share_of}
 use Rattle.node_core.specs.Steps.{IsHeldLeast, HasProcessed, IsLeftIdle}
-use Rattle.cycle_core.specs.Works.{IsSmall, WorksOn}
+use Rattle.cycle_core.specs.Works.{IsSmall}
 
 -- a seat has offered a stamp, or has offered as little before, by one step of the word
 pub record HasOffered (old : SeatView) (stamp : ℕ) (new : SeatView) : Type 0 where
@@ -32,7 +32,8 @@ module _ {M : Type 0} where
     pub small : IsSmall m n
 
   -- one more event was processed and offered, and the answer is the word
-  pub record HasTurned (m : Meaning) (bound : ℕ) (old : NodeView M) (seat : SeatView) (answer : ℕ) (new : NodeView M) (later : SeatView) : Type 0 where
+  pub record HasTurned (m : Meaning) (bound : ℕ) (old : NodeView M) (seat : SeatView) (answer : ℕ) (new : NodeView M)
+      (later : SeatView) : Type 0 where
     pub key : Key
     pub least : ℕ
     pub did : HasProcessed m bound old new key least

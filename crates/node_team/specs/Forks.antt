@@ -1,7 +1,6 @@
 -- What a fork over nodes at their seats needs, and what it leaves.
-use Rattle.std.specs.Prelude.{◌≡◌, ℕ, All, List, Result, OnOk}
+use Rattle.std.specs.Prelude.{◌≡◌, ℕ, All, List, OnOk}
 use Rattle.std.specs.List.{AllZip}
-use Rattle.delta_exchange.specs.declared.memory.OutOfMemory.{OutOfMemory}
 use Rattle.model_core.specs.Meaning.{Meaning}
 use Rattle.horizon_word.specs.Views.{WordId, SeatView, IsSeatOf}
 use Rattle.node_core.specs.Nodes.{NodeView}

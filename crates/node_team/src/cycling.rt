@@ -1,8 +1,7 @@
 //! A cycle in threads.
 ghost use Rattle.std.specs.Prelude.{◌≡◌, true, false, IfOk, OnOk, OnErr};
-ghost use Rattle.sim_spec.specs.Cut.{after, committed_events, cut};
 ghost use Rattle.sim_spec.specs.State.{State};
-ghost use Rattle.cycle_core.specs.Carries.{AllCarry};
+ghost use Rattle.cycle_core.specs.Cycled.{CarriesOn, IsBucketOf, StandsAfter};
 ghost use Rattle.cycle_core.specs.Standings.{HasCycled};
 ghost use Rattle.cycle_core.specs.Worlds.{StandsAt, CanCycle, IsSameWorld};
 ghost use Rattle.node_team.specs.Handings.{AreWorkers};
@@ -38,12 +37,9 @@ fn run_cycle<R: Threads + Sync, M: SimulationModel, L: Lanes, G: Gate>(
     requires lanes { L.nodes lanes.old ≡ world.old.homes.nodes }
     requires rest { L.are_at_rest lanes.old }
     requires clear { AreClear world.old.homes.nodes kept.old.inboxes.items }
-    ensures bucket { IfOk result (λ bucket. (s : State) → StandsAt (M.meaning world.old.model) world.old s
-        → bucket ≡ cut (M.meaning world.old.model) world.old.terms s) }
-    ensures stands { OnOk result ((s : State) → StandsAt (M.meaning world.old.model) world.old s
-        → StandsAt (M.meaning world.old.model) world.new (after (M.meaning world.old.model) world.old.terms s)) }
-    ensures carried { OnOk result ((s : State) → StandsAt (M.meaning world.old.model) world.old s
-        → AllCarry M.meaning s (committed_events (M.meaning world.old.model) world.old.terms s) world.old.nodes world.new.nodes) }
+    ensures bucket { IfOk result (IsBucketOf M.meaning world.old) }
+    ensures stands { OnOk result (StandsAfter M.meaning world.old world.new) }
+    ensures carried { OnOk result (CarriesOn M.meaning world.old world.new) }
     ensures work { OnOk result (AllRise M.meaning ahead world.old.nodes world.new.nodes) }
     ensures made { IsSameWorld world.old world.new }
     ensures fault { IfOk result (λ bucket. world.new.fault ≡ bucket.fault) }
@@ -78,12 +74,9 @@ pub fn cycle<R: Threads + Sync, M: SimulationModel, L: Lanes, G: Gate>(
     requires lanes { L.nodes lanes.old ≡ world.old.homes.nodes }
     requires rest { world.old.is_spent ≡ false → L.are_at_rest lanes.old }
     requires clear { world.old.is_spent ≡ false → AreClear world.old.homes.nodes kept.old.inboxes.items }
-    ensures bucket { IfOk result (λ bucket. (s : State) → StandsAt (M.meaning world.old.model) world.old s
-        → bucket ≡ cut (M.meaning world.old.model) world.old.terms s) }
-    ensures stands { OnOk result ((s : State) → StandsAt (M.meaning world.old.model) world.old s
-        → StandsAt (M.meaning world.old.model) world.new (after (M.meaning world.old.model) world.old.terms s)) }
-    ensures carried { OnOk result ((s : State) → StandsAt (M.meaning world.old.model) world.old s
-        → AllCarry M.meaning s (committed_events (M.meaning world.old.model) world.old.terms s) world.old.nodes world.new.nodes) }
+    ensures bucket { IfOk result (IsBucketOf M.meaning world.old) }
+    ensures stands { OnOk result (StandsAfter M.meaning world.old world.new) }
+    ensures carried { OnOk result (CarriesOn M.meaning world.old world.new) }
     ensures work { OnOk result (AllRise M.meaning ahead world.old.nodes world.new.nodes) }
     ensures made { IsSameWorld world.old world.new }
     ensures fault { IfOk result (λ bucket. world.new.fault ≡ bucket.fault) }

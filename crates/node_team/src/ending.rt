@@ -2,13 +2,12 @@
 ghost use Rattle.std.specs.Prelude.{◌≡◌, [], length, IfOk, OnOk};
 ghost use Rattle.model_core.specs.Meaning.{MeaningLaws};
 ghost use Rattle.sim_spec.specs.State.{State};
-ghost use Rattle.world_spec.specs.World.{WorldIsClosed};
-ghost use Rattle.node_core.specs.Homes.{home_of};
 ghost use Rattle.release_lanes.specs.Lanes.{AllReceived};
 ghost use Rattle.cycle_core.specs.Blank.{AreBlank};
 ghost use Rattle.cycle_core.specs.Cuts.{HaveEnded, IsCutOf};
+ghost use Rattle.cycle_core.specs.Cycled.{IsClosedAt};
 ghost use Rattle.cycle_core.specs.Known.{AreKnown};
-ghost use Rattle.cycle_core.specs.Worlds.{StandsAt, IsSameWorld, data_at};
+ghost use Rattle.cycle_core.specs.Worlds.{StandsAt, IsSameWorld};
 ghost use Rattle.node_team.specs.Releases.{AreClear, AreFree, CanAllRelease};
 
 use crate::arriving::receive_arrived;
@@ -104,8 +103,7 @@ pub fn end_world<R: Threads + Sync, M: SimulationModel, L: Lanes>(
     cut: &Cut,
 ) -> Result<Vec<(Key, Note)>, OutOfMemory>
     requires stands { (s : State) × StandsAt (M.meaning world.old.model) world.old s }
-    requires closed { WorldIsClosed (M.meaning world.old.model) world.old.terms (home_of world.old.homes) world.old.homes.nodes
-        (data_at world.old.nodes) bound }
+    requires closed { IsClosedAt M.meaning world.old world.old.nodes bound }
     requires cut { IsCutOf M.meaning world.old bound cut.now }
     requires out { L.are_out lanes.old ends.items }
     requires lanes { L.nodes lanes.old ≡ world.old.homes.nodes }

@@ -1,11 +1,9 @@
 //! The team.
 ghost use Rattle.std.specs.Prelude.{◌≡◌, ◌≤◌, true, false, None, IfOk, OnOk, OnErr};
-ghost use Rattle.sim_spec.specs.Cut.{after, committed_events, cut};
 ghost use Rattle.sim_spec.specs.Standing.{Standing, ended, IsCountAt};
-ghost use Rattle.sim_spec.specs.State.{State};
-ghost use Rattle.cycle_core.specs.Carries.{AllCarry};
+ghost use Rattle.cycle_core.specs.Cycled.{CarriesOn, IsBucketOf, StandsAfter};
 ghost use Rattle.cycle_core.specs.Standings.{WorldStandsAt, HasCycled};
-ghost use Rattle.cycle_core.specs.Worlds.{StandsAt, CanCycle, IsSameWorld};
+ghost use Rattle.cycle_core.specs.Worlds.{CanCycle, IsSameWorld};
 ghost use Rattle.node_team.specs.Rises.{AllRise};
 
 use crate::cycling::cycle;
@@ -86,7 +84,8 @@ impl<M: SimulationModel, L: Lanes + Drop> Team<M, L> {
     /// Why no cycle comes any more, where none does: the end or the limit is met, or the last bucket ended at a fault. It
     /// is None of a team whose memory has run out.
     pub fn ended(&self) -> Option<Stop>
-        ensures { (at : Standing) → WorldStandsAt M.meaning self.now.world at → result ≡ ended (M.meaning self.now.world.model) self.now.world.terms at }
+        ensures { (at : Standing) → WorldStandsAt M.meaning self.now.world at
+            → result ≡ ended (M.meaning self.now.world.model) self.now.world.terms at }
     {
         self.world.ended()
     }
@@ -100,12 +99,9 @@ impl<M: SimulationModel, L: Lanes + Drop> Team<M, L> {
         gate: &G,
     ) -> Result<Bucket, OutOfMemory>
         requires { CanCycle (M.meaning self.old.world.model) self.old.world }
-        ensures bucket { IfOk result (λ bucket. (s : State) → StandsAt (M.meaning self.old.world.model) self.old.world s
-            → bucket ≡ cut (M.meaning self.old.world.model) self.old.world.terms s) }
-        ensures stands { OnOk result ((s : State) → StandsAt (M.meaning self.old.world.model) self.old.world s
-            → StandsAt (M.meaning self.old.world.model) self.new.world (after (M.meaning self.old.world.model) self.old.world.terms s)) }
-        ensures carried { OnOk result ((s : State) → StandsAt (M.meaning self.old.world.model) self.old.world s
-            → AllCarry M.meaning s (committed_events (M.meaning self.old.world.model) self.old.world.terms s) self.old.world.nodes self.new.world.nodes) }
+        ensures bucket { IfOk result (IsBucketOf M.meaning self.old.world) }
+        ensures stands { OnOk result (StandsAfter M.meaning self.old.world self.new.world) }
+        ensures carried { OnOk result (CarriesOn M.meaning self.old.world self.new.world) }
         ensures work { OnOk result (AllRise M.meaning self.old.ahead self.old.world.nodes self.new.world.nodes) }
         ensures made { IsSameWorld self.old.world self.new.world }
         ensures ahead { self.new.ahead ≡ self.old.ahead }
@@ -136,12 +132,9 @@ impl<M: SimulationModel, L: Lanes + Drop> Team<M, L> {
     ) -> Result<Bucket, OutOfMemory>
         requires workers { (1 ≤ workers) × (workers ≤ 64) }
         requires can { CanCycle (M.meaning self.old.world.model) self.old.world }
-        ensures bucket { IfOk result (λ bucket. (s : State) → StandsAt (M.meaning self.old.world.model) self.old.world s
-            → bucket ≡ cut (M.meaning self.old.world.model) self.old.world.terms s) }
-        ensures stands { OnOk result ((s : State) → StandsAt (M.meaning self.old.world.model) self.old.world s
-            → StandsAt (M.meaning self.old.world.model) self.new.world (after (M.meaning self.old.world.model) self.old.world.terms s)) }
-        ensures carried { OnOk result ((s : State) → StandsAt (M.meaning self.old.world.model) self.old.world s
-            → AllCarry M.meaning s (committed_events (M.meaning self.old.world.model) self.old.world.terms s) self.old.world.nodes self.new.world.nodes) }
+        ensures bucket { IfOk result (IsBucketOf M.meaning self.old.world) }
+        ensures stands { OnOk result (StandsAfter M.meaning self.old.world self.new.world) }
+        ensures carried { OnOk result (CarriesOn M.meaning self.old.world self.new.world) }
         ensures work { OnOk result (AllRise M.meaning self.old.ahead self.old.world.nodes self.new.world.nodes) }
         ensures made { IsSameWorld self.old.world self.new.world }
         ensures ahead { self.new.ahead ≡ self.old.ahead }

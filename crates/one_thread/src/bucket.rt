@@ -36,13 +36,15 @@ fn partial(done: Vec<(Key, Note)>, fault: Option<(Key, u32)>) -> Bucket
     }
 }
 
-/// Fires the events of one bucket in their order, each over the same sheet.
+/// Fires the events of one bucket in their order, each over the same sheet. The list of what is done has room for so many
+/// from the start.
 pub fn fire_bucket<M: Model>(
     course: &mut Course,
     alloc: Global,
     model: &M,
     terms: &Terms,
     sheet: &mut Effect,
+    room: usize,
 ) -> Result<Bucket, OutOfMemory>
     requires { Lawful (M.meaning model.now) terms.now (state_of course.old) }
     ensures bucket { IfOk result (λ bucket. bucket ≡ cut (M.meaning model.now) terms.now (state_of course.old)) }
@@ -51,7 +53,7 @@ pub fn fire_bucket<M: Model>(
 {
     keeps_laws(model);
     course.merge();
-    let mut done = Vec::new(alloc);
+    let mut done = Vec::with_capacity(alloc, room)?;
     'turns: loop {
         match course.turn(alloc, model, terms, sheet)? {
             Turn::Does(key) => done.push((key, sheet.note))?,

@@ -25,6 +25,8 @@ pub struct OneThread<M: SimulationModel> {
     course: Option<Course>,
     // what the last event did, whose room serves for the next
     sheet: Effect,
+    // how many records the next bucket has room for from the start
+    room: usize,
     fault: Option<(Key, u32)>,
 }
 
@@ -38,6 +40,19 @@ impl<M: SimulationModel> Model for OneThread<M> {
     ghost view = { λ e. record { model = arc_value e.model; terms = e.terms; standing = standing_of e.course e.fault } };
 
     ghost invariant = { λ e. IsLawfulStanding (M.meaning (arc_value e.model)) e.terms (standing_of e.course e.fault) };
+}
+
+/// How many records the bucket after one of so many gets room for: few buckets are longer by more than a quarter.
+fn next_room(done: usize) -> usize {
+    done.saturating_add(done / 4).saturating_add(4)
+}
+
+/// Lets a simulation go. It is a function of its own, since each call of a function clears the room of its locals, and
+/// a course is large.
+fn spend(course: &mut Option<Course>)
+    ensures { course.new ≡ None }
+{
+    *course = None;
 }
 
 impl<M: SimulationModel> OneThread<M> {
@@ -54,6 +69,7 @@ impl<M: SimulationModel> OneThread<M> {
             terms,
             course: Some(course),
             sheet: Effect::new(alloc)?,
+            room: 0,
             fault: None,
         })
     }
@@ -106,13 +122,21 @@ impl<M: SimulationModel> OneThread<M> {
         let Some(course) = &mut self.course else {
             return Err(OutOfMemory);
         };
-        match fire_bucket(course, alloc, &*self.model, &self.terms, &mut self.sheet) {
+        match fire_bucket(
+            course,
+            alloc,
+            &*self.model,
+            &self.terms,
+            &mut self.sheet,
+            self.room,
+        ) {
             Ok(bucket) => {
+                self.room = next_room(bucket.done.as_slice().len());
                 self.fault = bucket.fault;
                 Ok(bucket)
             }
             Err(refused) => {
-                self.course = None;
+                spend(&mut self.course);
                 Err(refused)
             }
         }

@@ -10,7 +10,12 @@ pub record HasTaken (nodes : ℕ) (before after : ℕ → List Parcel) (parcels 
   pub received : (from : ℕ) → from < nodes → after from ≡ before from ++ took from
   pub all : IsPermutation (from_each nodes (λ from. events_in (took from))) (events_in parcels)
 
+-- a node has posted these lists of events, each to the one of so many nodes whose number is its place
+abbrev pub PostsAll : ℕ → ℕ → List (List Event) → (ℕ → List Parcel) → (ℕ → List Parcel) → Type 0
+PostsAll nodes number out before after = (to : ℕ) → to < nodes → after to ≡ before to ++ parcels_of number (slice_index_or out to [])
+
 -- one node's end has posted these lists of events, each to the node of its place, and has taken these parcels
-pub record HasExchanged {E : Type 0} (sent received : E → ℕ → List Parcel) (nodes number : ℕ) (out : List (List Event)) (early : List Parcel) (old new : E) : Type 0 where
-  pub posted : (to : ℕ) → to < nodes → sent new to ≡ sent old to ++ parcels_of number (slice_index_or out to [])
+pub record HasExchanged {E : Type 0} (sent received : E → ℕ → List Parcel) (nodes number : ℕ)
+    (out : List (List Event)) (early : List Parcel) (old new : E) : Type 0 where
+  pub posted : PostsAll nodes number out (sent old) (sent new)
   pub taken : HasTaken nodes (received old) (received new) early

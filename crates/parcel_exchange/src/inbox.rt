@@ -1,9 +1,10 @@
 //! What comes to a node.
-ghost use Rattle.std.specs.Prelude.{◌≡◌, ◌≢◌, ℕ, ◌+◌, ◌<◌, ◌≤◌, ◌^◌, ◌++◌, [], All, length, Some, slice_get, vec_capacity, IfOk, IsPermutation};
+ghost use Rattle.std.specs.Prelude.{◌≡◌, ℕ, ◌+◌, ◌<◌, ◌≤◌, ◌^◌, ◌++◌, [], All, length, Some, slice_get, vec_capacity};
+ghost use Rattle.std.specs.Prelude.{IfOk, IsPermutation};
 ghost use Rattle.release_lanes.specs.Lanes.{SameLists};
-ghost use Rattle.parcel_exchange.specs.Mail.{events_in, from_each};
+ghost use Rattle.parcel_exchange.specs.Mail.{events_in};
 ghost use Rattle.parcel_exchange.specs.Exchange.{HasTaken, HasExchanged};
-ghost use Rattle.parcel_exchange.specs.Inboxes.{coming, HasArrived};
+ghost use Rattle.parcel_exchange.specs.Inboxes.{coming, resting, HasArrived, StaysElsewhere};
 
 use crate::posting::post_all;
 use event_chain::Chain;
@@ -91,12 +92,12 @@ impl Inbox {
     fn fetch<L: Lanes>(&mut self, lanes: &mut L, to: u32)
         requires back { L.are_back lanes.old }
         requires node { to < L.nodes lanes.old }
-        requires few { length (self.old.arrived ++ from_each (L.nodes lanes.old) (λ from. events_in (L.rest lanes.old from to))) < 2 ^ 60 }
+        requires few { length (self.old.arrived ++ resting (L.nodes lanes.old) (λ from. L.rest lanes.old from to)) < 2 ^ 60 }
         ensures back { L.are_back lanes.new }
         ensures nodes { L.nodes lanes.new ≡ L.nodes lanes.old }
-        ensures others { (i j : ℕ) → i < L.nodes lanes.old → j < L.nodes lanes.old → j ≢ to → L.rest lanes.new i j ≡ L.rest lanes.old i j }
+        ensures others { StaysElsewhere (L.nodes lanes.old) to (L.rest lanes.old) (L.rest lanes.new) }
         ensures rest { (from : ℕ) → from < L.nodes lanes.old → L.rest lanes.new from to ≡ [] }
-        ensures arrived { IsPermutation (self.old.arrived ++ from_each (L.nodes lanes.old) (λ from. events_in (L.rest lanes.old from to))) self.new.arrived }
+        ensures arrived { IsPermutation (self.old.arrived ++ resting (L.nodes lanes.old) (λ from. L.rest lanes.old from to)) self.new.arrived }
         ensures early { self.new.early ≡ self.old.early }
     {
         while let Some(parcel) = lanes.rest(to) {
@@ -111,7 +112,7 @@ impl Inbox {
         requires few { length (coming (L.nodes lanes.old) (λ from. L.rest lanes.old from to) self.old) < 2 ^ 60 }
         ensures back { L.are_back lanes.new }
         ensures nodes { L.nodes lanes.new ≡ L.nodes lanes.old }
-        ensures others { (i j : ℕ) → i < L.nodes lanes.old → j < L.nodes lanes.old → j ≢ to → L.rest lanes.new i j ≡ L.rest lanes.old i j }
+        ensures others { StaysElsewhere (L.nodes lanes.old) to (L.rest lanes.old) (L.rest lanes.new) }
         ensures rest { (from : ℕ) → from < L.nodes lanes.old → L.rest lanes.new from to ≡ [] }
         ensures arrived { HasArrived (L.nodes lanes.old) (λ from. L.rest lanes.old from to) self.old self.new }
         ensures room { vec_capacity self.new.early ≡ vec_capacity self.old.early }

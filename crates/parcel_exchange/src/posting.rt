@@ -1,6 +1,7 @@
 //! What a node hands out is posted.
-ghost use Rattle.std.specs.Prelude.{◌≡◌, ◌≢◌, ℕ, ◌<◌, ◌^◌, ◌++◌, [], All, length, slice_index_or};
+ghost use Rattle.std.specs.Prelude.{◌≡◌, ◌≢◌, ℕ, ◌<◌, ◌^◌, ◌++◌, [], All, length};
 ghost use Rattle.release_lanes.specs.Lanes.{SameLists};
+ghost use Rattle.parcel_exchange.specs.Exchange.{PostsAll};
 ghost use Rattle.parcel_exchange.specs.Mail.{parcels_of};
 
 use event_chain::Chain;
@@ -38,7 +39,7 @@ pub fn post_all<E: NodeEnd>(end: &mut E, number: u32, out: &mut [Chain<Event>])
     requires few { length out.old < 2 ^ 32 }
     requires free { (to : ℕ) → to < length out.old → E.is_free end.old to }
     ensures end { E.is_same end.old end.new }
-    ensures sent { (to : ℕ) → to < length out.old → E.sent end.new to ≡ E.sent end.old to ++ parcels_of number (slice_index_or out.old to []) }
+    ensures sent { PostsAll (length out.old) number out.old (E.sent end.old) (E.sent end.new) }
     ensures received { SameLists (E.received end.old) (E.received end.new) }
     ensures none { All (λ events. events ≡ []) out.new }
 {

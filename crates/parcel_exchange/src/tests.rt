@@ -1,7 +1,7 @@
 //! What no clause says: that calls succeed, and what threads see of one another.
-ghost use Rattle.std.specs.Prelude.{◌≡◌, ◌<◌, ◌^◌, [], ◌∷◌, ℕ, All, length, map, Some, slice_get, IfOk, OnOk, IsPermutation};
+ghost use Rattle.std.specs.Prelude.{◌≡◌, ◌<◌, ◌^◌, [], ◌∷◌, ℕ, All, length, map, IfOk, OnOk};
 ghost use Rattle.std.specs.List.{AllZip, range_with_len};
-ghost use Rattle.parcel_exchange.specs.Team.{HaveExchanged, handed_to};
+ghost use Rattle.parcel_exchange.specs.Team.{HaveAllCome, HaveExchanged, handed_to};
 
 use crate::{Inbox, OutOfMemory, receive_all};
 use event_chain::{Cell, Chain};
@@ -51,7 +51,7 @@ fn cycle<L: Lanes>(
     requires arrived { All (λ inbox. inbox.arrived ≡ []) inboxes.old }
     ensures rest { L.are_at_rest lanes.new }
     ensures nodes { L.nodes lanes.new ≡ L.nodes lanes.old }
-    ensures arrived { OnOk result ((to : ℕ) (inbox : Inbox) → slice_get inboxes.new to ≡ Some inbox → IsPermutation (handed_to (λ out. out.items) to outs.old) inbox.arrived) }
+    ensures arrived { OnOk result (HaveAllCome (λ out. out.items) outs.old inboxes.new) }
 {
     let mut ends = lanes.ready(alloc)?;
     post_each(ends.as_mut_slice(), outs, inboxes);

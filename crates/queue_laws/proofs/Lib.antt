@@ -3,5 +3,6 @@ pub mod Leaves
 pub mod NetworkStarts
 pub mod NetworkSteps
 pub mod OrderLaw
+pub mod PlainRuns
 pub mod ServersLaw
 pub mod SmallShop

@@ -9,7 +9,7 @@ use Rattle.model_core.specs.declared.event.Event.{Event}
 use Rattle.model_core.specs.Meaning.{Meaning}
 use Rattle.sim_spec.specs.Firing.{ObjectState}
 use Rattle.sim_spec.specs.State.{initial_state, start_event, event_of_start, first_object, no_object as no_state}
-use Rattle.queue_models.specs.Meaning.{network_meaning, source_start, job_start, start_of}
+use Rattle.queue_models.specs.Meaning.{plain_meaning, network_meaning, source_start, job_start, start_of}
 use Rattle.queue_models.specs.Kinds.{first_cells_of, is_source, kind_of_station}
 use Rattle.queue_models.specs.Objects.{Item, NetworkParts, object_at, no_object, source_numbers}
 use Rattle.queue_models.specs.Stations.{Station, first_station_cells}
@@ -33,20 +33,20 @@ station_exists p i station is = exists_as p i (λ o. o.kind ≡ kind_of_station 
 pub source_exists : (p : NetworkParts) (i : ℕ) → is_source (object_at p.objects i).kind ≡ true → i < length p.objects
 source_exists p i is = exists_as p i (λ o. is_source o.kind ≡ true) is (λ sink. cc)
 
-pub cells_at_start : (p : NetworkParts) (i : ℕ) → i < length p.objects → cells_at (initial_state (network_meaning p)) i ≡ first_cells_of (object_at p.objects i).kind
-unfolding initial_state network_meaning
+pub cells_at_start : (p : NetworkParts) (i : ℕ) → i < length p.objects → cells_at (initial_state (plain_meaning p)) i ≡ first_cells_of (object_at p.objects i).kind
+unfolding initial_state plain_meaning network_meaning
 cells_at_start p i exists =
-    ap (λ (o : ObjectState). o.cells) (get_or-map-range_with_len (first_object (network_meaning p)) 0 (length p.objects) i i no_state exists (omega arith))
+    ap (λ (o : ObjectState). o.cells) (get_or-map-range_with_len (first_object (plain_meaning p)) 0 (length p.objects) i i no_state exists (omega arith))
 
-pub station_at_start : (p : NetworkParts) (i : ℕ) (station : Station) → IsStationAt p i station → cells_at (initial_state (network_meaning p)) i ≡ first_station_cells
+pub station_at_start : (p : NetworkParts) (i : ℕ) (station : Station) → IsStationAt p i station → cells_at (initial_state (plain_meaning p)) i ≡ first_station_cells
 station_at_start p i station is = cells_at_start p i (station_exists p i station is) ∙ ap first_cells_of is
 
 -- an initial event makes the first job of a source, or is the arrival of a job
 pub start_cases : (P : Event → Type 0) (p : NetworkParts) (k : ℕ)
     → (k < length (source_numbers p.objects) → P (event_of_start k (source_start p (slice_index (source_numbers p.objects) k))))
     → (length (source_numbers p.objects) ≤ k → P (event_of_start k (job_start p (k - length (source_numbers p.objects)))))
-    → P (start_event (network_meaning p) k)
-unfolding network_meaning start_of
+    → P (start_event (plain_meaning p) k)
+unfolding plain_meaning network_meaning start_of
 start_cases P p k source job = by (nat_lt k (length (source_numbers p.objects))) refl
   where
     by : (early : Bool) → nat_lt k (length (source_numbers p.objects)) ≡ early

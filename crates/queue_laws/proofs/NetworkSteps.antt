@@ -12,8 +12,8 @@ use Rattle.sim_spec.specs.State.{State, Lawful, no_object}
 use Rattle.sim_spec.specs.Run.{does, next}
 use Rattle.sim_spec.proofs.RunLemmas.{first_sound}
 use Rattle.queue_models.specs.Kinds.{is_lawful}
-use Rattle.queue_models.specs.Meaning.{network_meaning, site_of}
-use Rattle.queue_models.specs.ModelLaws.{network_laws}
+use Rattle.queue_models.specs.Meaning.{plain_meaning, network_meaning, site_of}
+use Rattle.queue_models.specs.ModelLaws.{plain_laws}
 use Rattle.queue_models.specs.Objects.{NetworkParts, object_at}
 use Rattle.queue_models.specs.Parts.{IsNetwork}
 use Rattle.run_laws.specs.Reached.{Reaches}
@@ -25,23 +25,23 @@ use Rattle.queue_laws.proofs.Cases.{EventDoes, event_does}
 
 -- an event of a network, at a lawful state
 pub record IsNetworkStep (p : NetworkParts) (t : Terms) (s : State) (told : Key × Note) (after : State) : Type 0 where
-  pub step : IsStep (network_meaning p) t s told after
-  pub lawful : Lawful (network_meaning p) t s
+  pub step : IsStep (plain_meaning p) t s told after
+  pub lawful : Lawful (plain_meaning p) t s
   pub exists : step.event.key.dest < length p.objects
   pub long : length s.objects ≡ length p.objects
   pub cells : IsTrue (is_lawful (object_at p.objects step.event.key.dest).kind (cells_at s step.event.key.dest))
   pub does_so : EventDoes (site_of p step.event.key.dest) (cells_at s step.event.key.dest) step.event (object_at p.objects step.event.key.dest).kind step.effect
 
-pub reached_lawful : (p : NetworkParts) (t : Terms) (s : State) → IsNetwork p → Reaches (network_meaning p) t s → Lawful (network_meaning p) t s
-reached_lawful p t s fine reached = reached-lawful (network_meaning p) t s (network_laws p fine) reached
+pub reached_lawful : (p : NetworkParts) (t : Terms) (s : State) → IsNetwork p → Reaches (plain_meaning p) t s → Lawful (plain_meaning p) t s
+reached_lawful p t s fine reached = reached-lawful (plain_meaning p) t s (plain_laws p fine) reached
 
-pub network_step : (p : NetworkParts) (t : Terms) (s : State) (told : Key × Note) (after : State) → IsNetwork p → Reaches (network_meaning p) t s
-    → next (network_meaning p) t s ≡ does told after → IsNetworkStep p t s told after
-unfolding network_meaning
+pub network_step : (p : NetworkParts) (t : Terms) (s : State) (told : Key × Note) (after : State) → IsNetwork p → Reaches (plain_meaning p) t s
+    → next (plain_meaning p) t s ≡ does told after → IsNetworkStep p t s told after
+unfolding plain_meaning network_meaning
 network_step p t s told after fine reached is_next =
-    let step : IsStep (network_meaning p) t s told after = is_step (network_meaning p) t s told after is_next in
-    let lawful : Lawful (network_meaning p) t s = reached_lawful p t s fine reached in
-    let exists : step.event.key.dest < length p.objects = (first_sound (network_meaning p) t s step.event step.rest lawful step.pending).dest in
+    let step : IsStep (plain_meaning p) t s told after = is_step (plain_meaning p) t s told after is_next in
+    let lawful : Lawful (plain_meaning p) t s = reached_lawful p t s fine reached in
+    let exists : step.event.key.dest < length p.objects = (first_sound (plain_meaning p) t s step.event step.rest lawful step.pending).dest in
     record {
       step = step;
       lawful = lawful;

@@ -20,8 +20,8 @@ use Rattle.key_order.proofs.ShareLemmas.{filter-enqueue_all}
 use Rattle.queue_models.specs.declared.kind.KindOver.{KindOver}
 use Rattle.queue_models.specs.declared.site.Site.{Site}
 use Rattle.queue_models.specs.Kinds.{kind_of_station}
-use Rattle.queue_models.specs.Meaning.{network_meaning, site_of}
-use Rattle.queue_models.specs.ModelLaws.{network_laws}
+use Rattle.queue_models.specs.Meaning.{plain_meaning, network_meaning, site_of}
+use Rattle.queue_models.specs.ModelLaws.{plain_laws}
 use Rattle.queue_models.specs.Objects.{NetworkParts, object_at}
 use Rattle.queue_models.specs.Parts.{IsNetwork}
 use Rattle.queue_models.specs.Sites.{drawn_at}
@@ -37,7 +37,8 @@ use Rattle.queue_laws.proofs.Cases.{EventDoes, takes, waits, loses, serves, free
 use Rattle.queue_laws.proofs.Leaves.{HasStationCells, station_shape, take_leaves, wait_leaves, serve_leaves, free_leaves}
 use Rattle.queue_laws.proofs.NetworkStarts.{station_at_start}
 use Rattle.queue_laws.proofs.NetworkSteps.{IsNetworkStep, network_step, reached_lawful, cells_here, cells_elsewhere}
-use Rattle.queue_laws.proofs.ServersLaw.{ends, ends_elsewhere, lose_leaves, station_lawful, servers_law}
+use Rattle.queue_laws.proofs.ServersLaw.{ends, ends_elsewhere, lose_leaves, station_lawful, plain_servers_law}
+use Rattle.queue_laws.proofs.PlainRuns.{same_after}
 
 -- the jobs of which a note tells
 jobs_of : (ℕ → Bool) → Note → List ℕ
@@ -169,9 +170,9 @@ moves_on site cells e station x stamp object serial others has busy full upto (f
 
 -- what one event moves at a station, as the run tells it
 record IsMoved (p : NetworkParts) (s : State) (told : Key × Note) (after : State) (i : ℕ) (station : Station) : Type 0 where
-  pub in_order : waiting_at s i ++ jobs_told is_coming i s (does told after) ≡ begins_at (network_meaning p) i s (does told after) ++ waiting_at after i
+  pub in_order : waiting_at s i ++ jobs_told is_coming i s (does told after) ≡ begins_at (plain_meaning p) i s (does told after) ++ waiting_at after i
   pub one_by_one : station.servers ≡ 1
-      → numbers_of (in_service_at s i) ++ begins_at (network_meaning p) i s (does told after) ≡ jobs_told is_done i s (does told after) ++ numbers_of (in_service_at after i)
+      → numbers_of (in_service_at s i) ++ begins_at (plain_meaning p) i s (does told after) ≡ jobs_told is_done i s (does told after) ++ numbers_of (in_service_at after i)
 
 told_here : (is_word : ℕ → Bool) (i : ℕ) (s after : State) (told : Key × Note) (e : Event) (note : Note) (here : Bool) → told ≡ (e.key, note) → (e.key.dest == i) ≡ here
     → jobs_told is_word i s (does told after) ≡ (if here then jobs_of is_word note else [])
@@ -193,9 +194,9 @@ served_after p t s told after n i up =
     ap (filter (ends_service_at i)) is ∙ filter-enqueue_all (ends_service_at i) events n.step.rest (subst A is up)
 
 begins_are : (p : NetworkParts) (t : Terms) (s : State) (told : Key × Note) (after : State) (n : IsNetworkStep p t s told after) (i : ℕ)
-    → begins_at (network_meaning p) i s (does told after) ≡ numbers_of (filter (ends_service_at i) (first_firing s n.step.event n.step.effect).events)
+    → begins_at (plain_meaning p) i s (does told after) ≡ numbers_of (filter (ends_service_at i) (first_firing s n.step.event n.step.effect).events)
 begins_are p t s told after n i =
-    ap (λ (es : List Event). numbers_of (filter (ends_service_at i) es)) (sent_next-step (network_meaning p) t s told after n.step)
+    ap (λ (es : List Event). numbers_of (filter (ends_service_at i) es)) (sent_next-step (plain_meaning p) t s told after n.step)
 
 moved_elsewhere : (p : NetworkParts) (t : Terms) (s : State) (told : Key × Note) (after : State) (n : IsNetworkStep p t s told after) (i : ℕ) (station : Station)
     → IsAscending after.pending → i ≢ n.step.event.key.dest → IsMoved p s told after i station
@@ -208,7 +209,7 @@ moved_elsewhere p t s told after n i station up apart =
     let none : filter (ends_service_at i) events ≡ [] =
     empty_list (filter (ends_service_at i) events) (length-filter (ends_service_at i) events
     ∙ ends_elsewhere (site_of p e.key.dest) (cells_at s e.key.dest) e (object_at p.objects e.key.dest).kind n.step.effect i e.key.stamp e.key.dest _ (λ eq. apart (sym eq)) n.does_so) in
-    let begins : begins_at (network_meaning p) i s (does told after) ≡ [] = begins_are p t s told after n i ∙ ap numbers_of none in
+    let begins : begins_at (plain_meaning p) i s (does told after) ≡ [] = begins_are p t s told after n i ∙ ap numbers_of none in
     let line : List ℕ = waiting_at s i in
     let kept : waiting_at after i ≡ line = ap (λ (c : CellData). line_of c 0) (cells_elsewhere p t s told after n i apart) in
     let coming = told_here is_coming i s after told e n.step.effect.note false n.step.tells away in
@@ -257,22 +258,22 @@ moved_here p t s told after n station up is good =
     and_true true = refl
     and_true false = refl
 
-moved : (p : NetworkParts) (t : Terms) (s : State) (told : Key × Note) (after : State) (i : ℕ) (station : Station) → IsNetwork p → Reaches (network_meaning p) t s
-    → next (network_meaning p) t s ≡ does told after → IsStationAt p i station → IsMoved p s told after i station
+moved : (p : NetworkParts) (t : Terms) (s : State) (told : Key × Note) (after : State) (i : ℕ) (station : Station) → IsNetwork p → Reaches (plain_meaning p) t s
+    → next (plain_meaning p) t s ≡ does told after → IsStationAt p i station → IsMoved p s told after i station
 moved p t s told after i station fine reached is_next is = by (eqb i n.step.event.key.dest) refl
   where
     n : IsNetworkStep p t s told after
     n = network_step p t s told after fine reached is_next
 
     up : IsAscending after.pending
-    up = (next-lawful (network_meaning p) t s told after (network_laws p fine) (reached_lawful p t s fine reached) is_next).ordered
+    up = (next-lawful (plain_meaning p) t s told after (plain_laws p fine) (reached_lawful p t s fine reached) is_next).ordered
 
     by : (here : Bool) → eqb i n.step.event.key.dest ≡ here → IsMoved p s told after i station
     by false apart_is = moved_elsewhere p t s told after n i station up (λ same. let yes = eq-eqb i n.step.event.key.dest same in cc)
     by true here_is =
         let same : i ≡ n.step.event.key.dest = eqb-true i n.step.event.key.dest here_is in
         let P : ℕ → Type 0 = λ j. IsStationAt p j station → IsMoved p s told after j station in
-        subst P (sym same) (λ is. moved_here p t s told after n station up is (servers_law p t s n.step.event.key.dest station fine reached is)) is
+        subst P (sym same) (λ is. moved_here p t s told after n station up is (plain_servers_law p t s n.step.event.key.dest station fine reached is)) is
 
 -- lists that go on as one event moves jobs
 goes_on : (came bs line coming begins after : List ℕ) → came ≡ bs ++ line → line ++ coming ≡ begins ++ after → came ++ coming ≡ (bs ++ begins) ++ after
@@ -282,20 +283,24 @@ goes_on came bs line coming begins after so_far step =
 both : {xs us ys vs : List ℕ} → xs ≡ us → ys ≡ vs → xs ++ ys ≡ us ++ vs
 both {xs} {us} {ys} {vs} same more = ap (λ (l : List ℕ). l ++ ys) same ∙ ap (λ (l : List ℕ). us ++ l) more
 
-first_moves : (p : NetworkParts) (t : Terms) (i : ℕ) (station : Station) → IsNetwork p → IsStationAt p i station → IsFirstComeFirstServed p t i station 0
+-- the law over the plain meaning
+abbrev Served : NetworkParts → Terms → ℕ → Station → ℕ → Type 0
+Served p t i station n = IsFirstComeFirstServed p t i station n (after_events n (plain_meaning p) t)
+
+first_moves : (p : NetworkParts) (t : Terms) (i : ℕ) (station : Station) → IsNetwork p → IsStationAt p i station → Served p t i station 0
 unfolding gathered after_events
 first_moves p t i station fine is = record {
   begun = sym (ap (λ (c : CellData). line_of c 0) (station_at_start p i station is));
   done = λ one.
-      let good : AreServing (initial_state (network_meaning p)) i station = servers_law p t (initial_state (network_meaning p)) i station fine (0, refl) is in
-      let idle : busy_at (initial_state (network_meaning p)) i ≡ 0 = ap (λ (c : CellData). busy_servers c) (station_at_start p i station is) in
-      sym (ap numbers_of (empty_list (in_service_at (initial_state (network_meaning p)) i) (omega (arith, good.under_way, idle))));
+      let good : AreServing (initial_state (plain_meaning p)) i station = plain_servers_law p t (initial_state (plain_meaning p)) i station fine (0, refl) is in
+      let idle : busy_at (initial_state (plain_meaning p)) i ≡ 0 = ap (λ (c : CellData). busy_servers c) (station_at_start p i station is) in
+      sym (ap numbers_of (empty_list (in_service_at (initial_state (plain_meaning p)) i) (omega (arith, good.under_way, idle))));
 }
 
-halted : (p : NetworkParts) (t : Terms) (i : ℕ) (station : Station) (n : ℕ) (stop : Stop) → next (network_meaning p) t (after_events n (network_meaning p) t) ≡ stops stop
-    → IsFirstComeFirstServed p t i station n → IsFirstComeFirstServed p t i station (suc n)
+halted : (p : NetworkParts) (t : Terms) (i : ℕ) (station : Station) (n : ℕ) (stop : Stop) → next (plain_meaning p) t (after_events n (plain_meaning p) t) ≡ stops stop
+    → Served p t i station n → Served p t i station (suc n)
 halted p t i station n stop is_next before =
-    let m = network_meaning p in
+    let m = plain_meaning p in
     let same = after_events-stops m t n stop is_next in
     let line = ap (λ (s : State). waiting_at s i) same in
     let served = ap (λ (s : State). numbers_of (in_service_at s i)) same in
@@ -306,9 +311,9 @@ halted p t i station n stop is_next before =
     }
 
 happened : (p : NetworkParts) (t : Terms) (i : ℕ) (station : Station) → IsNetwork p → IsStationAt p i station → (n : ℕ) (told : Key × Note) (after : State)
-    → next (network_meaning p) t (after_events n (network_meaning p) t) ≡ does told after → IsFirstComeFirstServed p t i station n → IsFirstComeFirstServed p t i station (suc n)
+    → next (plain_meaning p) t (after_events n (plain_meaning p) t) ≡ does told after → Served p t i station n → Served p t i station (suc n)
 happened p t i station fine is n told after is_next before =
-    let m = network_meaning p in
+    let m = plain_meaning p in
     let s : State = after_events n m t in
     let same = after_events-does m t n told after is_next in
     let step : IsMoved p s told after i station = moved p t s told after i station fine (n, refl) is_next is in
@@ -328,6 +333,7 @@ happened p t i station fine is n told after is_next before =
 
 pub first_come_first_served : FirstComeFirstServed
 first_come_first_served p t i station n fine is =
-    each_number (network_meaning p) t (IsFirstComeFirstServed p t i station) (first_moves p t i station fine is)
+    subst (IsFirstComeFirstServed p t i station n) (sym (same_after p t n))
+    (each_number (plain_meaning p) t (Served p t i station) (first_moves p t i station fine is)
     (λ n stop is_next before. halted p t i station n stop is_next before)
-    (λ n told after is_next before. happened p t i station fine is n told after is_next before) n
+    (λ n told after is_next before. happened p t i station fine is n told after is_next before) n)

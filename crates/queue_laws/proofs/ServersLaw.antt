@@ -14,18 +14,21 @@ use Rattle.sim_spec.specs.State.{State, initial_state, start_event, event_of_sta
 use Rattle.queue_models.specs.declared.kind.KindOver.{KindOver}
 use Rattle.queue_models.specs.declared.site.Site.{Site}
 use Rattle.queue_models.specs.Kinds.{is_lawful, kind_of_station}
-use Rattle.queue_models.specs.Meaning.{network_meaning, site_of, source_start, job_start}
+use Rattle.queue_models.specs.Meaning.{plain_meaning, network_meaning, site_of, source_start, job_start}
 use Rattle.queue_models.specs.Objects.{NetworkParts, object_at, source_numbers}
 use Rattle.queue_models.specs.Sources.{idle_effect, last_effect, make_effect}
 use Rattle.queue_models.specs.Stations.{Station, busy_servers, waiting_jobs, is_station_cells, take_effect, wait_effect, lose_effect, serve_effect, free_effect}
+use Rattle.queue_models.specs.Parts.{IsNetwork}
+use Rattle.run_laws.specs.Reached.{Reaches}
 use Rattle.run_laws.proofs.Induction.{each_reached}
 use Rattle.run_laws.proofs.Steps.{first_firing}
-use Rattle.queue_laws.specs.ServerLaws.{ServersLaw}
+use Rattle.queue_laws.specs.ServerLaws.{AreServing, ServersLaw}
 use Rattle.queue_laws.specs.Stations.{IsStationAt, cells_at, ends_service_at}
 use Rattle.queue_laws.proofs.Cases.{EventDoes, idles, makes_last, makes, takes, waits, loses, serves, frees, holds, routes, leaves}
 use Rattle.queue_laws.proofs.Leaves.{HasStationCells, station_shape, take_leaves, wait_leaves, serve_leaves, free_leaves}
 use Rattle.queue_laws.proofs.NetworkStarts.{station_exists, station_at_start, start_cases, sum_at_start, starts_none}
 use Rattle.queue_laws.proofs.NetworkSteps.{IsNetworkStep, network_step, reached_lawful, cells_here, cells_elsewhere, sum_before, sum_after}
+use Rattle.queue_laws.proofs.PlainRuns.{plain_reaches}
 
 -- how many of the events are ends of services at this object
 unfoldable pub ends : ℕ → List Event → ℕ
@@ -196,24 +199,26 @@ serving_kept p t s told after n before i station is = by (eqb i n.step.event.key
         subst P (sym same) (serving_here p t s told after n station) is (before i station is)
 
 -- at the start no server is busy, and no service is under way
-start_weight : (p : NetworkParts) (i k : ℕ) → weight i (start_event (network_meaning p) k) ≡ 0
+start_weight : (p : NetworkParts) (i k : ℕ) → weight i (start_event (plain_meaning p) k) ≡ 0
 start_weight p i k =
     start_cases (λ e. weight i e ≡ 0) p k
     (λ early. weight_arrival i (event_of_start k (source_start p (slice_index (source_numbers p.objects) k))) (λ two. let w : 1 ≡ 2 = two in absurd (omega arith)))
     (λ late. weight_arrival i (event_of_start k (job_start p (k - length (source_numbers p.objects)))) (λ two. let w : 3 ≡ 2 = two in absurd (omega arith)))
 
-serving_first : (p : NetworkParts) → AllServing p (initial_state (network_meaning p))
+serving_first : (p : NetworkParts) → AllServing p (initial_state (plain_meaning p))
 unfolding AllServing ends weight
 serving_first p i station is =
-    let m = network_meaning p in
+    let m = plain_meaning p in
     let S : CellData → Type 0 = λ c. Serving station c (ends i (initial_state m).pending) in
     let none : ends i (initial_state m).pending ≡ 0 = sum_at_start (weight i) m ∙ starts_none (weight i) m 0 m.starts (start_weight p i) in
     subst S (sym (station_at_start p i station is)) (record { under_way = sym none; none_idle = λ some. absurd (omega arith) })
 
-pub servers_law : ServersLaw
-unfolding AllServing ends network_meaning
-servers_law p t s i station fine reached is =
-    let all : AllServing p s = each_reached (network_meaning p) t (AllServing p) (serving_first p)
+-- the law over the plain meaning
+pub plain_servers_law : (p : NetworkParts) (t : Terms) (s : State) (i : ℕ) (station : Station)
+    → IsNetwork p → Reaches (plain_meaning p) t s → IsStationAt p i station → AreServing s i station
+unfolding AllServing ends plain_meaning network_meaning
+plain_servers_law p t s i station fine reached is =
+    let all : AllServing p s = each_reached (plain_meaning p) t (AllServing p) (serving_first p)
     (λ s told after here is_next before. serving_kept p t s told after (network_step p t s told after fine here is_next) before) s reached in
     let here : Serving station (cells_at s i) (ends i s.pending) = all i station is in
     let lawful : IsTrue (is_station_cells station.servers station.line (cells_at s i)) = station_lawful p s i station is ((reached_lawful p t s fine reached).cells i (station_exists p i station is)) in
@@ -223,3 +228,6 @@ servers_law p t s i station fine reached is =
       none_idle = here.none_idle;
       line = grind (arith, nat_tests);
     }
+
+pub servers_law : ServersLaw
+servers_law p t s i station fine reached is = plain_servers_law p t s i station fine (plain_reaches p t s reached) is

@@ -18,7 +18,7 @@ use Rattle.sim_spec.specs.State.{State, initial_state}
 use Rattle.sim_spec.specs.Run.{next, next_of, next_fired}
 use Rattle.queue_models.specs.declared.kind.KindOver.TheVariants.{Source, Sink}
 use Rattle.queue_models.specs.Kinds.{kind_of_station}
-use Rattle.queue_models.specs.Meaning.{network_meaning, start_of}
+use Rattle.queue_models.specs.Meaning.{plain_meaning, network_meaning, start_of}
 use Rattle.queue_models.specs.Objects.{NetworkParts, sources_below}
 use Rattle.queue_models.specs.Sinks.{sink_effect}
 use Rattle.model_core.specs.Places.{place_changes}
@@ -37,9 +37,9 @@ unfoldable pub shop : NetworkParts
 unfolding counter
 shop = record {
   seed = 7;
-  objects = record { name = 112 ∷ []; kind = Source 1 (Fixed 2) 4 1; rank = 0 }
-      ∷ record { name = 113 ∷ []; kind = kind_of_station counter; rank = 0 }
-      ∷ record { name = 114 ∷ []; kind = Sink None; rank = 0 }
+  objects = record { name = 112 ∷ []; kind = Source 1 (Fixed 2) 4 1; rank = 0; quiet = false; trace = false }
+      ∷ record { name = 113 ∷ []; kind = kind_of_station counter; rank = 0; quiet = false; trace = false }
+      ∷ record { name = 114 ∷ []; kind = Sink None; rank = 0; quiet = false; trace = false }
       ∷ [];
   jobs = [];
 }
@@ -61,7 +61,7 @@ four_records : first_records 4 (network_meaning shop) to_fifty ≡
     ∷ told_at (key_at 3 0 0 0 1) 2 2 2
     ∷ told_at (key_at 3 1 1 0 2) 4 2 1
     ∷ []
-unfolding gathered shop counter to_fifty draw drawn_value words_read start_of sources_below place_changes idle_effect last_effect make_effect source_effect sink_effect take_effect wait_effect lose_effect arrival_outcome serve_effect free_effect done_effect station_effect network_meaning key_lt key_cmp next_stamp has_no_step cells_after_all inverses_of enqueue enqueue_all has_endless_chain emissions fired_by fire initial_state next next_of next_fired left_by after_events
+unfolding gathered shop counter to_fifty draw drawn_value words_read start_of sources_below place_changes idle_effect last_effect make_effect source_effect sink_effect take_effect wait_effect lose_effect arrival_outcome serve_effect free_effect done_effect station_effect plain_meaning network_meaning key_lt key_cmp next_stamp has_no_step cells_after_all inverses_of enqueue enqueue_all has_endless_chain emissions fired_by fire initial_state next next_of next_fired left_by after_events
 four_records = refl
 
 -- the third of them sent the event of the fourth, one step later
@@ -69,7 +69,7 @@ second_arrival : Event
 second_arrival = record { key = key_at 3 1 1 0 2; kind = 3; a = 2; b = 3 }
 
 cause_of_fourth : IsCause (network_meaning shop) to_fifty 2 (key_at 3 1 1 0 2)
-unfolding second_arrival sent_next shop counter to_fifty draw drawn_value words_read start_of sources_below place_changes idle_effect last_effect make_effect source_effect sink_effect take_effect wait_effect lose_effect arrival_outcome serve_effect free_effect done_effect station_effect network_meaning key_lt key_cmp next_stamp has_no_step cells_after_all inverses_of enqueue enqueue_all has_endless_chain emissions fired_by fire initial_state next next_of next_fired left_by after_events
+unfolding second_arrival sent_next shop counter to_fifty draw drawn_value words_read start_of sources_below place_changes idle_effect last_effect make_effect source_effect sink_effect take_effect wait_effect lose_effect arrival_outcome serve_effect free_effect done_effect station_effect plain_meaning network_meaning key_lt key_cmp next_stamp has_no_step cells_after_all inverses_of enqueue enqueue_all has_endless_chain emissions fired_by fire initial_state next next_of next_fired left_by after_events
 cause_of_fourth = record {
   told = told_at (key_at 3 0 0 0 1) 2 2 2;
   after = after_events 3 (network_meaning shop) to_fifty;
@@ -91,7 +91,7 @@ unfolding shop
 is_counter = refl
 
 who_waits : ◌≡◌ {A = ℕ × List ℕ × List ℕ} (busy_at three_here 1, waiting_at three_here 1, map (λ e. e.a) (in_service_at three_here 1)) (1, 2 ∷ 3 ∷ [], 1 ∷ [])
-unfolding three_here shop counter to_fifty draw drawn_value words_read start_of sources_below place_changes idle_effect last_effect make_effect source_effect sink_effect take_effect wait_effect lose_effect arrival_outcome serve_effect free_effect done_effect station_effect network_meaning key_lt key_cmp next_stamp has_no_step cells_after_all inverses_of enqueue enqueue_all has_endless_chain emissions fired_by fire initial_state next next_of next_fired left_by after_events
+unfolding three_here shop counter to_fifty draw drawn_value words_read start_of sources_below place_changes idle_effect last_effect make_effect source_effect sink_effect take_effect wait_effect lose_effect arrival_outcome serve_effect free_effect done_effect station_effect plain_meaning network_meaning key_lt key_cmp next_stamp has_no_step cells_after_all inverses_of enqueue enqueue_all has_endless_chain emissions fired_by fire initial_state next next_of next_fired left_by after_events
 who_waits = refl
 
 -- after eleven events all four jobs came in; three services began, and two of them have ended
@@ -101,5 +101,5 @@ eleven = after_events 11 (network_meaning shop) to_fifty
 in_turn : ◌≡◌ {A = List ℕ × List ℕ × List ℕ × List ℕ × List ℕ}
     (arrived_at shop to_fifty 1 11, begun_at shop to_fifty 1 11, done_at shop to_fifty 1 11, waiting_at eleven 1, numbers_of (in_service_at eleven 1))
     (1 ∷ 2 ∷ 3 ∷ 4 ∷ [], 1 ∷ 2 ∷ 3 ∷ [], 1 ∷ 2 ∷ [], 4 ∷ [], 3 ∷ [])
-unfolding eleven gathered sent_next shop counter to_fifty draw drawn_value words_read start_of sources_below place_changes idle_effect last_effect make_effect source_effect sink_effect take_effect wait_effect lose_effect arrival_outcome serve_effect free_effect done_effect station_effect network_meaning key_lt key_cmp next_stamp has_no_step cells_after_all inverses_of enqueue enqueue_all has_endless_chain emissions fired_by fire initial_state next next_of next_fired left_by after_events
+unfolding eleven gathered sent_next shop counter to_fifty draw drawn_value words_read start_of sources_below place_changes idle_effect last_effect make_effect source_effect sink_effect take_effect wait_effect lose_effect arrival_outcome serve_effect free_effect done_effect station_effect plain_meaning network_meaning key_lt key_cmp next_stamp has_no_step cells_after_all inverses_of enqueue enqueue_all has_endless_chain emissions fired_by fire initial_state next next_of next_fired left_by after_events
 in_turn = refl

@@ -1,4 +1,5 @@
--- In which order jobs come to a station, begin their service there, and are done.
+-- In which order jobs come to a station, begin their service there, and are done. An event tells of these by its note, so the
+-- run is that of the plain meaning: what would be told if no object were quiet.
 use Rattle.std.specs.Prelude.{ℕ, Bool, ◌==◌, ◌||◌, if◌then◌else◌, List, [], map, filter}
 use Rattle.model_core.specs.declared.event.Event.{Event}
 use Rattle.model_core.specs.declared.note.Part.{Part}
@@ -6,7 +7,7 @@ use Rattle.model_core.specs.Meaning.{Meaning}
 use Rattle.sim_spec.specs.declared.terms.Terms.{Terms}
 use Rattle.sim_spec.specs.State.{State}
 use Rattle.sim_spec.specs.Run.{Next, stops, does}
-use Rattle.queue_models.specs.Meaning.{network_meaning}
+use Rattle.queue_models.specs.Meaning.{plain_meaning}
 use Rattle.queue_models.specs.Objects.{NetworkParts}
 use Rattle.run_laws.specs.Reached.{gathered}
 use Rattle.run_laws.specs.Sent.{sent_next}
@@ -27,11 +28,11 @@ is_done word = word == 6
 
 -- the numbers of the jobs that came in at a station within the first n events, in order; one that is turned away doesn't
 abbrev pub arrived_at : NetworkParts → Terms → ℕ → ℕ → List ℕ
-arrived_at p t i n = gathered (jobs_told is_coming i) n (network_meaning p) t
+arrived_at p t i n = gathered (jobs_told is_coming i) n (plain_meaning p) t
 
 -- those that were done there
 abbrev pub done_at : NetworkParts → Terms → ℕ → ℕ → List ℕ
-done_at p t i n = gathered (jobs_told is_done i) n (network_meaning p) t
+done_at p t i n = gathered (jobs_told is_done i) n (plain_meaning p) t
 
 abbrev pub numbers_of : List Event → List ℕ
 numbers_of es = map (λ (e : Event). e.a) es
@@ -43,4 +44,4 @@ begins_at m i s (does told after) = numbers_of (filter (ends_service_at i) (sent
 
 -- those whose service began there
 abbrev pub begun_at : NetworkParts → Terms → ℕ → ℕ → List ℕ
-begun_at p t i n = gathered (begins_at (network_meaning p) i) n (network_meaning p) t
+begun_at p t i n = gathered (begins_at (plain_meaning p) i) n (plain_meaning p) t

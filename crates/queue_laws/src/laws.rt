@@ -9,7 +9,8 @@ pub fn law_servers()
 {}
 
 /// First come, first served: at a station jobs begin their service in the order in which they came in, after any number of
-/// events; with one server they are done in that order.
+/// events; with one server they are done in that order. Who came in and who was done is what the events tell, or would tell
+/// if no object were quiet.
 pub fn law_first_come_first_served()
     ensures { FirstComeFirstServed }
 {}

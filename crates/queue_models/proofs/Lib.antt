@@ -1,1 +1,3 @@
+mod LoadLemmas
 mod RingLemmas
+mod TellingLemmas

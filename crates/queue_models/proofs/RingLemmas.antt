@@ -1,6 +1,6 @@
 -- The parts of the ring lie within their bounds.
 use Rattle.std.proofs.Common.{◌≡◌, ◌≢◌, ℕ, ◌+◌, ◌*◌, ◌/◌, ◌%◌, ◌^◌, ◌<◌, ◌≤◌, Bool, true, false, List, [], ◌∷◌, length, drop, refl, sym, ap, ◌∙◌, subst, arith, eqb-true, eq-eqb, get_or, mod-lt, lit<}
-use Rattle.std.specs.Prelude.{IsTrue, ◌==◌, if◌then◌else◌, decimal}
+use Rattle.std.specs.Prelude.{IsTrue, not, ◌||◌, ◌==◌, if◌then◌else◌, decimal}
 use Rattle.std.specs.List.{list_all}
 use Rattle.std.proofs.lemmas.Bool.Decides.{nat_tests}
 use Rattle.std.proofs.lemmas.Fmt.{decimal_by_steps, decimal_injective, length-decimal-le}
@@ -10,7 +10,7 @@ use Rattle.event_key.specs.declared.key.TheConstants.{MOST_RANK}
 use Rattle.model_core.specs.declared.entry.Entry.{Entry}
 use Rattle.random_streams.specs.declared.law.Law.TheVariants.{Uniform}
 use Rattle.random_streams.specs.Laws.{is_delay, is_drawable}
-use Rattle.queue_models.specs.Kinds.{is_source}
+use Rattle.queue_models.specs.Kinds.{is_source, is_station as is_station_kind}
 use Rattle.queue_models.specs.Objects.{Item, network_of}
 use Rattle.queue_models.specs.Parts.{is_name_byte, IsName, IsLink, IsKind, IsObject, IsJob, IsNetwork}
 use Rattle.queue_models.specs.Rings.{ring_station, ring_delay, ring_object, ring_objects, ring_jobs, ring_parts}
@@ -36,6 +36,11 @@ no_rank : (n : ℕ) (is_station : Bool) (i : ℕ) → (object_for n is_station i
 unfolding object_for ring_station ring_delay
 no_rank n true i = omega arith
 no_rank n false i = omega arith
+
+no_trace : (n : ℕ) (is_station : Bool) (i : ℕ) → IsTrue (not (object_for n is_station i).trace || is_station_kind (object_for n is_station i).kind)
+unfolding object_for ring_station ring_delay
+no_trace n true i = refl
+no_trace n false i = refl
 
 ring_link : (n number : ℕ) → number < 2 * n → IsLink (ring_objects n) number
 ring_link n number exists = record {
@@ -87,6 +92,7 @@ is_object n number exists few = record {
   name = has_name n (number / 2) (number % 2 == 0) (omega arith);
   kind = is_kind n (number / 2) (number % 2 == 0) (omega arith) few;
   rank = no_rank n (number % 2 == 0) (number / 2);
+  traced = no_trace n (number % 2 == 0) (number / 2);
 }
 
 job_at : ℕ → Entry

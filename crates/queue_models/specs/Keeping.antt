@@ -21,6 +21,7 @@ pub record Keeps (lawful : CellData → Bool) (changes : List Change) (cells : C
 pub record EffectKeeps (objects : ℕ) (lawful : CellData → Bool) (cells : CellData) (effect : Effect) : Type 0 where
   pub changes : Keeps lawful effect.changes cells
   pub few_sends : length effect.sends ≤ 8
+  pub one_part : length effect.note ≡ 1
   pub sends : SendsInRange objects effect.sends
 
 abbrev pub OutcomeKeeps : ℕ → (CellData → Bool) → CellData → Outcome → Type 0

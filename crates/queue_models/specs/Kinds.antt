@@ -26,6 +26,14 @@ is_source (Delay delay next) = false
 is_source (Router next weights) = false
 is_source (Sink due) = false
 
+-- whether it serves jobs
+abbrev pub is_station : {L : Type 0} → KindOver L → Bool
+is_station (Source first every count next) = false
+is_station (Station servers service line strict next) = true
+is_station (Delay delay next) = false
+is_station (Router next weights) = false
+is_station (Sink due) = false
+
 -- when a source makes its first job, and 0 for any other kind
 abbrev pub first_time_of : KindOver ℕ → ℕ
 first_time_of (Source first every count next) = first

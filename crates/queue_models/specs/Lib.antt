@@ -1,6 +1,7 @@
 pub mod Delays
 pub mod Keeping
 pub mod Kinds
+pub mod Loads
 pub mod Meaning
 pub mod ModelLaws
 pub mod Objects
@@ -16,4 +17,5 @@ pub mod Sources
 pub mod Starts
 pub mod StationLaws
 pub mod Stations
+pub mod Telling
 pub mod Views

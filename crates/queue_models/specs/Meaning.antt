@@ -6,6 +6,7 @@ use Rattle.model_core.specs.Meaning.{Meaning}
 use Rattle.queue_models.specs.declared.site.Site.{Site}
 use Rattle.queue_models.specs.Kinds.{is_lawful, effect_at, first_cells_of, first_time_of}
 use Rattle.queue_models.specs.Objects.{NetworkParts, object_at, source_numbers}
+use Rattle.queue_models.specs.Telling.{as_told}
 
 -- where the events of an object happen
 abbrev pub site_of : NetworkParts → ℕ → Site
@@ -34,9 +35,14 @@ unfoldable pub network_meaning : NetworkParts → Meaning
 network_meaning p = record {
   objects = length p.objects;
   lawful = λ object cells. is_lawful (object_at p.objects object).kind cells;
-  effect = λ object cells event. effect_at (site_of p object) (object_at p.objects object).kind cells event;
+  effect = λ object cells event.
+      as_told (object_at p.objects object) cells (effect_at (site_of p object) (object_at p.objects object).kind cells event);
   first = λ object. first_cells_of (object_at p.objects object).kind;
   starts = length (source_numbers p.objects) + length p.jobs;
   start_at = λ i. start_of p i;
   label = λ object. (object_at p.objects object).name;
 }
+
+-- what it would mean if no object were quiet or traced
+unfoldable pub plain_meaning : NetworkParts → Meaning
+plain_meaning p = record (network_meaning p) { effect = λ object cells event. effect_at (site_of p object) (object_at p.objects object).kind cells event }

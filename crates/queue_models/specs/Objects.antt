@@ -1,5 +1,5 @@
 -- The objects of a network, and the parts of which it is made.
-use Rattle.std.specs.Prelude.{ℕ, None, List, [], length, slice_index_or}
+use Rattle.std.specs.Prelude.{ℕ, false, None, List, [], length, slice_index_or}
 use Rattle.std.specs.List.{filter, range_with_len}
 use Rattle.model_core.specs.declared.entry.Entry.{Entry}
 use Rattle.queue_models.specs.declared.kind.ItemOver.{ItemOver}
@@ -21,7 +21,7 @@ network_of seed objects jobs = record { seed = seed; objects = objects; jobs = j
 
 -- what stands for an object where there is none
 abbrev pub no_object : Item
-no_object = record { name = []; kind = Sink None; rank = 0 }
+no_object = record { name = []; kind = Sink None; rank = 0; quiet = false; trace = false }
 
 -- objects are numbered from 0 on, in their order
 abbrev pub object_at : List Item → ℕ → Item

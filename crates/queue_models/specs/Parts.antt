@@ -1,5 +1,5 @@
 -- The parts of a network lie within their bounds, and name what there is.
-use Rattle.std.specs.Prelude.{◌≡◌, ◌≢◌, ℕ, ◌^◌, ◌<◌, ◌≤◌, ◌==◌, ◌||◌, ◌&&◌, nat_le, Bool, false, IsTrue, List, length, All}
+use Rattle.std.specs.Prelude.{◌≡◌, ◌≢◌, ℕ, ◌^◌, ◌<◌, ◌≤◌, ◌==◌, ◌||◌, ◌&&◌, nat_le, not, Bool, false, IsTrue, List, length, All}
 use Rattle.std.specs.List.{AllPairs, list_all}
 use Rattle.std.specs.Option.{ForSome}
 use Rattle.event_key.specs.declared.key.TheConstants.{MOST_RANK}
@@ -10,7 +10,7 @@ use Rattle.random_streams.specs.Laws.{is_choice, is_delay}
 use Rattle.queue_models.specs.declared.kind.KindOver.{KindOver}
 use Rattle.queue_models.specs.declared.kind.KindOver.TheVariants.{Source, Station, Delay, Router, Sink}
 use Rattle.queue_models.specs.declared.station.TheConstants.{MOST_WAITING}
-use Rattle.queue_models.specs.Kinds.{is_source}
+use Rattle.queue_models.specs.Kinds.{is_source, is_station}
 use Rattle.queue_models.specs.Objects.{Item, NetworkParts, object_at}
 
 -- an ASCII letter, a digit, '_' or '-'
@@ -48,10 +48,12 @@ pub record IsLink (objects : List Item) (number : ℕ) : Type 0 where
   pub exists : number < length objects
   pub takes : is_source (object_at objects number).kind ≡ false
 
+-- only a station is traced
 pub record IsObject (objects : List Item) (object : Item) : Type 0 where
   pub name : IsName object.name
   pub kind : IsKind (IsLink objects) object.kind
   pub rank : object.rank ≤ MOST_RANK
+  pub traced : IsTrue (not object.trace || is_station object.kind)
 
 -- a job begins at an object that takes jobs
 pub record IsJob (objects : List Item) (job : Entry) : Type 0 where

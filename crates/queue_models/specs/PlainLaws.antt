@@ -1,5 +1,5 @@
 -- Delays, routers and sinks keep the laws of models.
-use Rattle.std.proofs.Common.{◌≡◌, ℕ, ◌-◌, ◌<◌, ◌≤◌, Bool, true, false, List, [], ◌∷◌, length, arith}
+use Rattle.std.proofs.Common.{◌≡◌, ℕ, ◌-◌, ◌<◌, ◌≤◌, Bool, true, false, refl, List, [], ◌∷◌, length, arith}
 use Rattle.std.specs.Prelude.{IsTrue, All, Option, if◌then◌else◌, ◌==◌, ◌&&◌, slice_index}
 use Rattle.std.proofs.lemmas.Bool.Decides.{nat_tests}
 use Rattle.delta_exchange.specs.Changes.{CellData, AllFit, cells_after_all}
@@ -44,6 +44,7 @@ unfolding delay_effect
 delay_keeps objects site law next cells event delay link here lawful = record {
   changes = place_keeps cells (drawn_at site cells law).1 lawful;
   few_sends = omega arith;
+  one_part = refl;
   sends = (link.exists, draw-le site.seed site.object (place_of cells) law (is_drawable-delay law delay), here.rank, tt);
 }
 
@@ -66,6 +67,7 @@ router_keeps objects site next weights cells event matched choice links here law
     record {
       changes = place_keeps cells (drawn_at site cells (Choice weights)).1 lawful;
       few_sends = omega arith;
+      one_part = refl;
       sends = (link.exists, omega arith, here.rank, tt);
     }
 
@@ -79,4 +81,4 @@ sink_keeps objects due cells event lawful = by (is_late due age)
 
     by : (late : Bool) → OutcomeKeeps (length objects) is_plain_cells cells (if late then Fails 3 else Goes (record { changes = []; sends = []; note = told 9 event.a age }))
     by true = omega arith
-    by false = record { changes = record { few = omega arith; fits = tt; after = lawful }; few_sends = omega arith; sends = tt }
+    by false = record { changes = record { few = omega arith; fits = tt; after = lawful }; few_sends = omega arith; one_part = refl; sends = tt }

@@ -14,6 +14,8 @@ ring_station i = record {
   name = codes "q" ++ decimal i;
   kind = Station 1 (Uniform 1 (1 + i % 7)) 256 false (2 * i + 1);
   rank = 0;
+  quiet = false;
+  trace = false;
 }
 
 -- from there to the next station, from the last one to the first
@@ -22,6 +24,8 @@ ring_delay n i = record {
   name = codes "d" ++ decimal i;
   kind = Delay (Uniform 1 (1 + i % 11)) (2 * ((i + 1) % n));
   rank = 0;
+  quiet = false;
+  trace = false;
 }
 
 -- station i is object 2 i, and the delay behind it object 2 i + 1

@@ -65,6 +65,7 @@ unfolding idle_effect AllFit cells_after_all
 idle_keeps objects count cells lawful = record {
   changes = record { few = omega arith; fits = tt; after = lawful };
   few_sends = omega arith;
+  one_part = refl;
   sends = tt;
 }
 
@@ -76,6 +77,7 @@ last_keeps objects site count next cells time link here lawful last =
     record {
       changes = subst (λ left. Keeps (is_source_cells count) (Set 1 (made_of cells + 1) ∷ Set 2 left ∷ []) cells) none (counts count cells 0 lawful (omega arith)).1;
       few_sends = omega arith;
+      one_part = refl;
       sends = (link.exists, omega arith, here.rank, tt);
     }
 
@@ -85,6 +87,7 @@ unfolding make_effect
 make_keeps objects site every count next cells time delay link here lawful some = record {
   changes = (counts count cells (drawn_at site cells every).1 lawful some).0;
   few_sends = omega arith;
+  one_part = refl;
   sends = (link.exists, omega arith, here.rank, (here.object, every_delay site every cells delay, here.rank, tt));
 }
 

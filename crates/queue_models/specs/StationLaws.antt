@@ -107,6 +107,7 @@ unfolding take_effect
 take_keeps objects site station cells event fine here lawful free = record {
   changes = take_changes station (drawn_at site cells station.service).1 cells lawful free;
   few_sends = omega arith;
+  one_part = refl;
   sends = (here.object, service_delay objects site station cells fine, here.rank, tt);
 }
 
@@ -114,13 +115,13 @@ wait_keeps : (objects : List Item) (station : Station) (cells : CellData) (event
     → EffectKeeps (length objects) (is_station_cells station.servers station.line) cells (wait_effect cells event)
 unfolding wait_effect
 wait_keeps objects station cells event lawful room =
-    record { changes = wait_changes station event.a event.b cells lawful room; few_sends = omega arith; sends = tt }
+    record { changes = wait_changes station event.a event.b cells lawful room; few_sends = omega arith; one_part = refl; sends = tt }
 
 lose_keeps : (objects : List Item) (station : Station) (cells : CellData) (event : Event) → IsTrue (is_station_cells station.servers station.line cells)
     → EffectKeeps (length objects) (is_station_cells station.servers station.line) cells (lose_effect cells event)
 unfolding lose_effect AllFit cells_after_all
 lose_keeps objects station cells event lawful =
-    record { changes = record { few = omega arith; fits = tt; after = lawful }; few_sends = omega arith; sends = tt }
+    record { changes = record { few = omega arith; fits = tt; after = lawful }; few_sends = omega arith; one_part = refl; sends = tt }
 
 serve_keeps : (objects : List Item) (site : Site) (station : Station) (cells : CellData) (event : Event) → IsStation station.servers station.service station.line → IsLink objects station.next → IsSite (length objects) site
     → IsTrue (is_station_cells station.servers station.line cells) → 0 < waiting_jobs cells
@@ -129,6 +130,7 @@ unfolding serve_effect
 serve_keeps objects site station cells event fine link here lawful some = record {
   changes = serve_changes station (drawn_at site cells station.service).1 cells lawful some;
   few_sends = omega arith;
+  one_part = refl;
   sends = (link.exists, omega arith, here.rank, (here.object, service_delay objects site station cells fine, here.rank, tt));
 }
 
@@ -136,7 +138,7 @@ free_keeps : (objects : List Item) (site : Site) (station : Station) (cells : Ce
     → IsTrue (is_station_cells station.servers station.line cells) → EffectKeeps (length objects) (is_station_cells station.servers station.line) cells (free_effect site station cells event)
 unfolding free_effect
 free_keeps objects site station cells event fine link here lawful =
-    record { changes = free_changes station cells lawful; few_sends = omega arith; sends = (link.exists, omega arith, here.rank, tt) }
+    record { changes = free_changes station cells lawful; few_sends = omega arith; one_part = refl; sends = (link.exists, omega arith, here.rank, tt) }
 
 arrival_keeps : (objects : List Item) (site : Site) (station : Station) (cells : CellData) (event : Event) → IsStation station.servers station.service station.line → IsSite (length objects) site
     → IsTrue (is_station_cells station.servers station.line cells) → OutcomeKeeps (length objects) (is_station_cells station.servers station.line) cells (arrival_outcome site station cells event)

@@ -1,6 +1,6 @@
 //! The objects of which a network is made.
 ghost use Rattle.std.specs.Prelude.{◌≡◌};
-ghost use Rattle.queue_models.specs.Kinds.{is_source};
+ghost use Rattle.queue_models.specs.Kinds.{is_source, is_station};
 
 use model_core::{Name, Sequence};
 use random_streams::{Law, Weights};
@@ -46,13 +46,16 @@ pub enum KindOver<L> {
 /// What an object of a network does.
 pub type Kind = KindOver<u32>;
 
-/// An object: its name, of 1 to 16 bytes, each an ASCII letter, a digit, `_` or `-`; what it does; and the rank of all
-/// that it sends, at most `MOST_RANK`.
+/// An object: its name, of 1 to 16 bytes, each an ASCII letter, a digit, `_` or `-`; what it does; the rank of all that
+/// it sends, at most `MOST_RANK`; whether it is quiet, so that nothing is told of its events; and whether it is traced,
+/// so that each event at it tells besides how many servers are busy and how many jobs wait. Only a station is traced.
 #[derive(Debug, Drop)]
 pub struct ItemOver<L> {
     pub name: Name,
     pub kind: KindOver<L>,
     pub rank: u32,
+    pub quiet: bool,
+    pub trace: bool,
 }
 
 /// An object of a network.
@@ -64,5 +67,12 @@ impl<L> KindOver<L> {
         ensures { result ≡ is_source self.now }
     {
         matches!(self, KindOver::Source { .. })
+    }
+
+    /// Whether it serves jobs, so that it can be traced.
+    pub fn is_station(&self) -> bool
+        ensures { result ≡ is_station self.now }
+    {
+        matches!(self, KindOver::Station { .. })
     }
 }

@@ -15,6 +15,7 @@ mod sink;
 mod site;
 mod source;
 mod station;
+mod telling;
 
 pub use kind::{Item, ItemOver, Kind, KindOver};
 pub use network::Network;

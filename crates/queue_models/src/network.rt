@@ -6,7 +6,7 @@ ghost use Rattle.queue_models.specs.Parts.{IsNetwork};
 ghost use Rattle.queue_models.specs.PartsProps.{IsNetwork-prop};
 ghost use Rattle.queue_models.specs.Meaning.{network_meaning};
 
-use crate::kind::{Item, Kind};
+use crate::kind::Item;
 use crate::site::{ARRIVE, MAKE, Site};
 use model_core::model::Model as SimulationModel;
 use model_core::{Cells, Effect, Ending, Entry, Event, OutOfMemory, Start};
@@ -66,13 +66,12 @@ impl Network {
     ghost use Rattle.queue_models.specs.Meaning.{source_start, job_start, site_of};
     ghost use Rattle.queue_models.specs.Views.{parts_of};
 
-    /// What an object does.
-    fn kind_of(&self, object: u32) -> &Kind
+    /// The object with this number.
+    fn item(&self, object: u32) -> &Item
         requires { object < length self.now.objects.items }
-        ensures { result.now ≡ (object_at self.now.objects.items object).kind }
+        ensures { result.now ≡ object_at self.now.objects.items object }
     {
-        let object = &self.objects[object as usize];
-        &object.kind
+        &self.objects[object as usize]
     }
 
     /// Where an event at an object happens.
@@ -149,13 +148,11 @@ impl SimulationModel for Network {
     }
 
     fn first_cells(&self, alloc: Global, object: u32) -> Result<Cells, OutOfMemory> {
-        let kind = self.kind_of(object);
-        kind.first_cells(alloc)
+        self.item(object).kind.first_cells(alloc)
     }
 
     fn is_lawful(&self, object: u32, cells: &Cells) -> bool {
-        let kind = self.kind_of(object);
-        kind.is_lawful(cells)
+        self.item(object).kind.is_lawful(cells)
     }
 
     fn respond(
@@ -167,9 +164,15 @@ impl SimulationModel for Network {
         sheet: &mut Effect,
     ) -> Result<Ending, OutOfMemory> {
         let site = self.site(object);
-        let kind = self.kind_of(object);
+        let item = self.item(object);
         sheet.clear();
-        Ok(kind.react(words, site, cells, event, sheet))
+        match item.kind.react(words, site, cells, event, sheet) {
+            Ending::Goes => {
+                item.tell(cells, sheet);
+                Ok(Ending::Goes)
+            }
+            Ending::Fails(code) => Ok(Ending::Fails(code)),
+        }
     }
 
     fn put_name(&self, _alloc: Global, object: u32, into: &mut Vec<u8>) -> Result<(), OutOfMemory> {

@@ -31,6 +31,8 @@ fn ring_station(alloc: Global, number: u32) -> Result<Item, OutOfMemory>
             next: 2 * number + 1,
         },
         rank: 0,
+        quiet: false,
+        trace: false,
     })
 }
 
@@ -52,6 +54,8 @@ fn ring_delay(alloc: Global, n: u32, number: u32) -> Result<Item, OutOfMemory>
             next: 2 * ((number + 1) % n),
         },
         rank: 0,
+        quiet: false,
+        trace: false,
     })
 }
 

@@ -14,10 +14,10 @@ use random_streams::{Law, Stream, draw_by};
 use std::alloc::Global;
 
 /// The word that counts the busy servers.
-const BUSY: u32 = 1;
+pub const BUSY: u32 = 1;
 
 /// The lines of the waiting jobs, and of when each was born.
-const JOBS: u32 = 0;
+pub const JOBS: u32 = 0;
 
 const BIRTHS: u32 = 1;
 

@@ -1,6 +1,6 @@
 -- The ends of rings of all nodes: new ones, and what a change of one leaves.
 use Rattle.std.proofs.Common.{◌≡◌, ◌≢◌, ⊎_elim, ℕ, zero, suc, ◌<◌, List, [], ◌∷◌, ◌++◌, map, length, get_or, set, sym, subst, ap, ◌∙◌, refl, arith, append_assoc}
-use Rattle.std.specs.Prelude.{Option, None, Some, All, IfNone, Vec}
+use Rattle.std.specs.Prelude.{All, Vec}
 use Rattle.std.specs.declared.alloc.Global.{Global}
 use Rattle.std.specs.List.{range_with_len}
 use mathlib.Core.List.{map-map}

@@ -27,11 +27,22 @@ module _ {T : Type 0} where
   -- these ends, in the order of the nodes, have received from one another all that they have sent to one another
   abbrev pub AllReceived : {E : Type 0} → (E → ℕ → List T) → (E → ℕ → List T) → List E → Type 0
   AllReceived {E} sent received ends =
-      (from to : ℕ) (sender receiver : E) → slice_get ends from ≡ Some sender → slice_get ends to ≡ Some receiver → received receiver from ≡ sent sender to
+      (from to : ℕ) (sender receiver : E) → slice_get ends from ≡ Some sender → slice_get ends to ≡ Some receiver
+      → received receiver from ≡ sent sender to
 
   -- no lane between so many nodes has anything left
   abbrev pub NothingRests : ℕ → (ℕ → ℕ → List T) → Type 0
   NothingRests nodes rest = (from to : ℕ) → from < nodes → to < nodes → rest from to ≡ []
+
+  -- on each lane between so many nodes all that was sent was received
+  abbrev pub AllArrived : ℕ → (ℕ → ℕ → List T) → (ℕ → ℕ → List T) → Type 0
+  AllArrived nodes received sent = (from to : ℕ) → from < nodes → to < nodes → received from to ≡ sent from to
+
+-- the item is now the last that was received from one of so many nodes
+pub record TakesFromOne {T : Type 0} (nodes : ℕ) (before after : ℕ → List T) (item : T) : Type 0 where
+  pub from : ℕ
+  pub within : from < nodes
+  pub last : AddsOne before after from item
 
 -- the item was the first that rested on a lane to a node, and is now the last that was received on it
 pub record TakesRest {T : Type 0} (nodes : ℕ) (rested rest received_before received : ℕ → ℕ → List T) (to : ℕ) (item : T) : Type 0 where

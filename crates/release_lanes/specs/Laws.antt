@@ -18,8 +18,10 @@ same_map f [] (y ∷ ys) same = absurd same
 same_map f (x ∷ xs) [] same = absurd same
 same_map f (x ∷ xs) (y ∷ ys) same = let head = same.0 in let tail = same_map f xs ys same.1 in cc
 
-pub plain_lane : (nodes served next : ℕ) (sent ends : List PlainEnd) (from to : ℕ) → AreBack nodes served next sent ends → delivered sent ends from to ++ standing ends from to ≡ standing sent from to
+pub plain_lane : (nodes served next : ℕ) (sent ends : List PlainEnd) (from to : ℕ) → AreBack nodes served next sent ends
+    → delivered sent ends from to ++ standing ends from to ≡ standing sent from to
 plain_lane nodes served next sent ends from to back = front_and_rest (standing sent from to) (standing ends from to) (back.left from to)
 
-pub plain_stay : (nodes : ℕ) (before after : List PlainEnd) → IsTeam nodes before → AllZip (λ x y. outline y ≡ outline x) before after → IsTeam nodes after
+pub plain_stay : (nodes : ℕ) (before after : List PlainEnd) → IsTeam nodes before → AllZip (λ x y. outline y ≡ outline x) before after
+    → IsTeam nodes after
 plain_stay nodes before after team same = same_map outline before after same ∙ team

@@ -1,9 +1,10 @@
 -- What plain slots hold.
-use Rattle.std.specs.Prelude.{◌≡◌, ◌⊎◌, ℕ, ◌-◌, ◌<◌, ◌≤◌, List, [], ◌∷◌, None, map, length, take, All, option_to_list, slice_index_or, slice_set}
+use Rattle.std.specs.Prelude.{◌≡◌, ◌⊎◌, ℕ, ◌-◌, ◌<◌, ◌≤◌, List, [], ◌∷◌, None, map, length, take, All}
+use Rattle.std.specs.Prelude.{option_to_list, slice_index_or, slice_set}
 use Rattle.std.specs.List.{range_with_len}
 use Rattle.release_lanes.specs.declared.parcel.Parcel.{Parcel}
 use Rattle.release_lanes.specs.declared.plain.PlainEnd.{PlainEnd}
-use Rattle.release_lanes.specs.Lanes.{lane_at}
+use Rattle.release_lanes.specs.Lanes.{NothingRests, lane_at}
 
 -- the number of the node, and how many slots it has
 abbrev pub outline : PlainEnd → ℕ × ℕ
@@ -41,3 +42,7 @@ pub record AreBack (nodes served next : ℕ) (sent ends : List PlainEnd) : Type 
   pub team : IsTeam nodes ends
   pub left : (from to : ℕ) → (standing ends from to ≡ []) ⊎ (standing ends from to ≡ standing sent from to)
   pub taken : (from : ℕ) → from < next → standing ends from served ≡ []
+
+-- the ends were given back, and nothing is left
+abbrev pub AreAtRest : ℕ → ℕ → ℕ → List PlainEnd → List PlainEnd → Type 0
+AreAtRest nodes served next sent ends = AreBack nodes served next sent ends × NothingRests nodes (standing ends)

@@ -1,5 +1,5 @@
 -- What ends of rings have sent and received, and know.
-use Rattle.std.specs.Prelude.{◌≡◌, ◌≢◌, ℕ, ◌<◌, List, [], ◌∷◌, map, length, All, Vec, slice_index, slice_index_or}
+use Rattle.std.specs.Prelude.{◌≡◌, ◌≢◌, ℕ, ◌<◌, List, [], ◌∷◌, ◌++◌, map, length, All, Vec, slice_index, slice_index_or}
 use Rattle.std.specs.declared.alloc.Global.{Global}
 use denote.RawPtr.{Ptr}
 use Rattle.rtrb.specs.Shared.{Names}
@@ -9,7 +9,7 @@ use Rattle.rtrb.specs.declared.consumer.Consumer.{Consumer}
 use Rattle.rtrb.specs.Ring.{sent, known_free, received, known_items}
 use Rattle.release_lanes.specs.declared.parcel.Parcel.{Parcel}
 use Rattle.release_lanes.specs.declared.rings.RingEnd.{RingEnd}
-use Rattle.release_lanes.specs.Lanes.{AddsOne, Meets, list_at, lane_at}
+use Rattle.release_lanes.specs.Lanes.{AddsOne, Meets, NothingRests, list_at, lane_at}
 use Rattle.release_lanes.specs.Woven.{Outline, IsWoven}
 
 abbrev pub Sender : Type 0
@@ -72,6 +72,14 @@ received_on ends from to = lane_at (map received_row ends) to from
 abbrev pub rest_on : List RingEnd → ℕ → ℕ → List Parcel
 rest_on ends from to = lane_at (map known_row ends) to from
 
+-- what so many ends have received from a node, followed by what they know of, is what it has sent to them
+abbrev pub MeetFrom : ℕ → ℕ → (ℕ → List Parcel) → List RingEnd → Type 0
+MeetFrom nodes from sent ends = (to : ℕ) → to < nodes → received_on ends from to ++ rest_on ends from to ≡ sent to
+
+-- of a node's slots to so many nodes each is known to be free where all that was sent there was received
+abbrev pub AreFreed : ℕ → (ℕ → List Parcel) → (ℕ → List Parcel) → (ℕ → ℕ) → Type 0
+AreFreed nodes received sent free = (to : ℕ) → to < nodes → received to ≡ sent to → 0 < free to
+
 -- how many slots one node knows to be free on the ring to another
 abbrev pub free_on : List RingEnd → ℕ → ℕ → ℕ
 free_on ends from to = slice_index (slice_index_or (map free_row ends) from []) to
@@ -101,3 +109,7 @@ pub record AreBack (nodes served next : ℕ) (ends : List RingEnd) : Type 0 wher
   pub connected : AreConnected nodes (map outline ends)
   pub meets : Meets nodes (received_on ends) (rest_on ends) (sent_on ends)
   pub taken : (from : ℕ) → from < next → rest_on ends from served ≡ []
+
+-- the ends were given back, and nothing rests
+abbrev pub AreAtRest : ℕ → ℕ → ℕ → List RingEnd → Type 0
+AreAtRest nodes served next ends = AreBack nodes served next ends × NothingRests nodes (rest_on ends)

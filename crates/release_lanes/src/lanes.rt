@@ -1,7 +1,7 @@
 //! What every kind of lanes keeps.
 ghost use Rattle.std.specs.Prelude.{◌≡◌, ℕ, ◌+◌, ◌<◌, ◌↔◌, ◌≢◌, [], List, All, map, IfOk, OnErr, IfSome, IfNone};
 ghost use Rattle.std.specs.List.{AllZip, range_with_len};
-ghost use Rattle.release_lanes.specs.Lanes.{AddsOne, SameLists, SameLanes, Meets, NothingRests, TakesRest, AllReceived};
+ghost use Rattle.release_lanes.specs.Lanes.{AddsOne, SameLists, SameLanes, Meets, NothingRests, TakesFromOne, TakesRest, AllReceived};
 
 use crate::parcel::Parcel;
 use model_core::OutOfMemory;
@@ -47,7 +47,7 @@ pub trait NodeEnd: Send + Drop {
         ensures end { is_same self.old self.new }
         ensures none { IfNone result ((from : ℕ) → ¬ knows_parcel self.old from) }
         ensures waits { IfNone result (SameLists (received self.old) (received self.new)) }
-        ensures some { IfSome result (λ parcel. (from : ℕ) × (from < nodes self.old) × AddsOne (received self.old) (received self.new) from parcel) }
+        ensures some { IfSome result (TakesFromOne (nodes self.old) (received self.old) (received self.new)) }
         ensures sent { SameLists (sent self.old) (sent self.new) }
         ensures free { (to : ℕ) → is_free self.old to → is_free self.new to };
 

@@ -73,7 +73,8 @@ fn new_ends(alloc: Global, nodes: u32) -> Result<Vec<PlainEnd>, OutOfMemory>
 fn next_parcel(ends: &mut [PlainEnd], to: usize, first: usize) -> Option<(usize, Parcel)>
     requires { All (λ end. to < length end.slots.items) ends.old }
     ensures outlines { map outline ends.new ≡ map outline ends.old }
-    ensures none { IfNone result ((map posted ends.new ≡ map posted ends.old) × ((from : ℕ) → first ≤ from → standing ends.old from to ≡ [])) }
+    ensures none { IfNone result ((from : ℕ) → first ≤ from → standing ends.old from to ≡ []) }
+    ensures same { IfNone result (map posted ends.new ≡ map posted ends.old) }
     ensures some { IfSome result (λ found. TakesFirst ends.old ends.new to first found.0 found.1) }
 {
     for from in first..ends.len() {
@@ -156,8 +157,7 @@ impl PlainLanes {
 
 impl Lanes for PlainLanes {
     ghost use Rattle.std.specs.Prelude.{◌≡◌, ◌<◌, ℕ, [], ◌⊎◌, length};
-    ghost use Rattle.release_lanes.specs.Lanes.{NothingRests};
-    ghost use Rattle.release_lanes.specs.Plain.{outline, posted, standing, delivered, IsTeam, AreBack};
+    ghost use Rattle.release_lanes.specs.Plain.{outline, posted, standing, delivered, IsTeam, AreBack, AreAtRest};
 
     type End = PlainEnd;
 
@@ -167,7 +167,7 @@ impl Lanes for PlainLanes {
 
     ghost are_back = { λ lanes. AreBack lanes.nodes lanes.served lanes.next lanes.sent.value.items lanes.ends.items };
 
-    ghost are_at_rest = { λ lanes. AreBack lanes.nodes lanes.served lanes.next lanes.sent.value.items lanes.ends.items × NothingRests lanes.nodes (standing lanes.ends.items) };
+    ghost are_at_rest = { λ lanes. AreAtRest lanes.nodes lanes.served lanes.next lanes.sent.value.items lanes.ends.items };
 
     ghost sent = { λ lanes. standing lanes.sent.value.items };
 

@@ -1,8 +1,10 @@
 //! Lanes of rings, for nodes that are served by several threads at a time.
-ghost use Rattle.std.specs.Prelude.{◌≡◌, ◌≢◌, ◌↔◌, ℕ, ◌<◌, [], ◌++◌, All, IsTrue, IfOk, OnOk, IfSome, IfNone, map, length, slice_index, slice_index_or};
+ghost use Rattle.std.specs.Prelude.{◌≡◌, ◌≢◌, ◌↔◌, ℕ, ◌<◌, [], ◌++◌, All, IsTrue, IfOk, OnOk, IfSome, IfNone};
+ghost use Rattle.std.specs.Prelude.{map, length, slice_index, slice_index_or};
 ghost use Rattle.rtrb.specs.Ring.{sent, known_free};
-ghost use Rattle.release_lanes.specs.Lanes.{Meets, list_at};
-ghost use Rattle.release_lanes.specs.Rings.{AreConnected, AreBack, AreSendersOf, TakesKnown, Ring, ring_out, ring_in, outline, outs_of, sent_row, received_row, known_row, free_row};
+ghost use Rattle.release_lanes.specs.Lanes.{AllArrived, Meets, list_at};
+ghost use Rattle.release_lanes.specs.Rings.{AreConnected, AreBack, AreSendersOf, AreFreed, MeetFrom, TakesKnown};
+ghost use Rattle.release_lanes.specs.Rings.{Ring, ring_out, ring_in, outline, outs_of, sent_row, received_row, known_row, free_row};
 ghost use Rattle.release_lanes.specs.Rings.{HasSlot, IsNewSender, IsNew, received_on, rest_on, sent_on, free_on};
 ghost use Rattle.release_lanes.specs.Woven.{IsWoven, Grows};
 
@@ -161,8 +163,9 @@ fn look_all(senders: &mut [Producer<Parcel>], from: usize, ends: &mut [RingEnd])
     ensures received { map received_row ends.new ≡ map received_row ends.old }
     ensures senders { (map ring_out senders.new ≡ map ring_out senders.old) × (map sent senders.new ≡ map sent senders.old) }
     ensures known { (i to : ℕ) → i ≢ from → rest_on ends.new i to ≡ rest_on ends.old i to }
-    ensures met { (to : ℕ) → to < length ends.old → received_on ends.new from to ++ rest_on ends.new from to ≡ list_at (map sent senders.old) to }
-    ensures free { (to : ℕ) → to < length ends.old → received_on ends.old from to ≡ list_at (map sent senders.old) to → 0 < slice_index (map known_free senders.new) to }
+    ensures met { MeetFrom (length ends.old) from (list_at (map sent senders.old)) ends.new }
+    ensures free { AreFreed (length ends.old) (received_on ends.old from) (list_at (map sent senders.old))
+        (slice_index (map known_free senders.new)) }
 {
     for to in 0..ends.len() {
         ends[to].look(from, &mut senders[to]);
@@ -177,9 +180,9 @@ fn meet(alloc: Global, ends: &mut [RingEnd], from: usize)
     ensures sent { map sent_row ends.new ≡ map sent_row ends.old }
     ensures received { map received_row ends.new ≡ map received_row ends.old }
     ensures known { (i to : ℕ) → i ≢ from → rest_on ends.new i to ≡ rest_on ends.old i to }
-    ensures met { (to : ℕ) → to < length ends.old → received_on ends.new from to ++ rest_on ends.new from to ≡ sent_on ends.new from to }
+    ensures met { MeetFrom (length ends.old) from (sent_on ends.new from) ends.new }
     ensures others { (i to : ℕ) → i ≢ from → free_on ends.new i to ≡ free_on ends.old i to }
-    ensures free { (to : ℕ) → to < length ends.old → received_on ends.old from to ≡ sent_on ends.old from to → 0 < free_on ends.new from to }
+    ensures free { AreFreed (length ends.old) (received_on ends.old from) (sent_on ends.old from) (free_on ends.new from) }
 {
     let mut senders = mem::replace(&mut ends[from].outs, Vec::new(alloc));
     look_all(senders.as_mut_slice(), from, ends);
@@ -220,7 +223,7 @@ fn free(alloc: Global, ends: &mut [RingEnd], from: usize)
 /// Each end learns that its slots are free.
 fn free_all(alloc: Global, ends: &mut [RingEnd])
     requires connected { AreConnected (length ends.old) (map outline ends.old) }
-    requires rested { (from to : ℕ) → from < length ends.old → to < length ends.old → received_on ends.old from to ≡ sent_on ends.old from to }
+    requires rested { AllArrived (length ends.old) (received_on ends.old) (sent_on ends.old) }
     ensures outlines { map outline ends.new ≡ map outline ends.old }
     ensures sent { map sent_row ends.new ≡ map sent_row ends.old }
     ensures received { map received_row ends.new ≡ map received_row ends.old }
@@ -307,8 +310,8 @@ impl RingLanes {
 
 impl Lanes for RingLanes {
     ghost use Rattle.std.specs.Prelude.{◌≡◌, ◌<◌, ℕ, [], map, length};
-    ghost use Rattle.release_lanes.specs.Lanes.{NothingRests};
-    ghost use Rattle.release_lanes.specs.Rings.{outline, sent_on, received_on, rest_on, AreConnected, AreBack};
+    ghost use Rattle.release_lanes.specs.Lanes.{SameLists};
+    ghost use Rattle.release_lanes.specs.Rings.{outline, sent_on, received_on, rest_on, AreConnected, AreBack, AreAtRest};
 
     type End = RingEnd;
 
@@ -318,7 +321,7 @@ impl Lanes for RingLanes {
 
     ghost are_back = { λ lanes. AreBack lanes.nodes lanes.served lanes.next lanes.ends.items };
 
-    ghost are_at_rest = { λ lanes. AreBack lanes.nodes lanes.served lanes.next lanes.ends.items × NothingRests lanes.nodes (rest_on lanes.ends.items) };
+    ghost are_at_rest = { λ lanes. AreAtRest lanes.nodes lanes.served lanes.next lanes.ends.items };
 
     ghost sent = { λ lanes. sent_on lanes.ends.items };
 
@@ -336,7 +339,7 @@ impl Lanes for RingLanes {
         ensures nodes { self.new.nodes ≡ self.old.nodes }
         ensures back { AreBack self.new.nodes self.new.served self.new.next self.new.ends.items }
         ensures sent { All (λ end. (to : ℕ) → sent_on self.new.ends.items end.number to ≡ list_at (sent_row end) to) ends.items }
-        ensures received { All (λ end. (from : ℕ) → received_on self.new.ends.items from end.number ≡ list_at (received_row end) from) ends.items }
+        ensures received { All (λ end. SameLists (list_at (received_row end)) (λ from. received_on self.new.ends.items from end.number)) ends.items }
     {
         self.ends = ends;
         meet_all(self.alloc, self.ends.as_mut_slice());

@@ -9,7 +9,7 @@ use Rattle.sim_spec.specs.Run.{Run, run}
 use Rattle.sim_spec.specs.Cycles.{cycles, run_of, records_of_buckets}
 use Rattle.sim_spec.specs.HorizonLaws.{CyclesLaw}
 use Rattle.sim_io.specs.Texts.{record_lines, text_of_run, run_text, stop_line}
-use Rattle.sim_io.specs.CycleTexts.{told_cycle, bucket_lines, lines_of_buckets, text_of_cycles, text, PlainText}
+use Rattle.sim_io.specs.CycleTexts.{told_cycle, bucket_lines, lines_of_buckets, text, PlainText}
 use Rattle.sim_io.proofs.TextLemmas.{record_lines-append}
 
 -- no cycle is told where none is asked for
@@ -29,12 +29,6 @@ lines_of_buckets-plain m number (b ∷ bs) =
     ∙ ap (λ text. text ++ lines_of_buckets m false (number + 1) bs) (append-nil (record_lines m b.done))
     ∙ ap (λ text. record_lines m b.done ++ text) (lines_of_buckets-plain m (number + 1) bs)
     ∙ sym (record_lines-append m b.done (records_of_buckets bs))
-
--- the text of cycles that amount to the run is the text of the state
-pub text-of_cycles : (m : Meaning) (t : Terms) (told : Bool) (s : State) → run_of (cycles m t s) ≡ run m t s → text_of_cycles m t told 1 (cycles m t s) ≡ text m t told s
-unfolding text_of_cycles text
-text-of_cycles m t told s same =
-    ap (λ (r : Run). lines_of_buckets m told 1 (cycles m t s).buckets ++ stop_line m t r.last.count r.stop) same
 
 pub plain_text : (m : Meaning) (t : Terms) → CyclesLaw m t → PlainText m t
 unfolding text run_text text_of_run

@@ -1,4 +1,4 @@
--- The text of an event by its parts, and of a simulation by its next event.
+-- The text of an event by its parts, and of records one after another.
 use Rattle.std.proofs.Common.{◌≡◌, ℕ, ◌+◌, ◌≤◌, ◌<◌, List, [], ◌∷◌, ◌++◌, length, drop, get_or, Some, refl, sym, ap, ◌∙◌, append_assoc, add-one}
 use Rattle.std.specs.Prelude.{slice_get}
 use Rattle.std.proofs.Math.Seq.{drop-cons}
@@ -35,30 +35,3 @@ unfolding record_lines
 record_lines-append m [] more = refl
 record_lines-append m (told ∷ records) more =
     ap (λ text. event_lines m told.0 told.1 ++ text) (record_lines-append m records more) ∙ sym (append_assoc (event_lines m told.0 told.1) (record_lines m records) (record_lines m more))
-
-text_of_run-after : (m : Meaning) (t : Terms) (records : List (Key × Note)) (r : Run) → text_of_run m t (after_records records r) ≡ record_lines m records ++ text_of_run m t r
-unfolding text_of_run
-text_of_run-after m t records r =
-    ap (λ text. text ++ stop_line m t r.last.count r.stop) (record_lines-append m records r.records)
-    ∙ append_assoc (record_lines m records) (record_lines m r.records) (stop_line m t r.last.count r.stop)
-
--- events that lead to a state come first in the text
-pub run_text-leads : (m : Meaning) (t : Terms) (records : List (Key × Note)) (s last : State) → s.count ≤ t.limit → Leads m t s records last
-    → run_text m t s ≡ record_lines m records ++ run_text m t last
-unfolding run_text
-run_text-leads m t records s last room leads =
-    ap (text_of_run m t) (run-leads m t records s last room leads) ∙ text_of_run-after m t records (run m t last)
-
--- the next event comes first in the text
-pub run_text-does : (m : Meaning) (t : Terms) (s : State) (told : Key × Note) (after : State) → s.count ≤ t.limit → next m t s ≡ does told after
-    → run_text m t s ≡ event_lines m told.0 told.1 ++ run_text m t after
-unfolding run_text record_lines
-run_text-does m t s told after room is_next =
-    ap (text_of_run m t) (run-does m t s told after room is_next)
-    ∙ text_of_run-after m t (told ∷ []) (run m t after)
-    ∙ append_assoc (event_lines m told.0 told.1) [] (text_of_run m t (run m t after))
-
--- where nothing happens, the text is the stop line
-pub run_text-stops : (m : Meaning) (t : Terms) (s : State) (stop : Stop) → next m t s ≡ stops stop → run_text m t s ≡ stop_line m t s.count stop
-unfolding run_text text_of_run record_lines
-run_text-stops m t s stop is_next = ap (text_of_run m t) (run-stops m t s stop is_next)

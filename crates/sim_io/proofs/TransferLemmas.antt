@@ -23,10 +23,6 @@ pub TakesSome-more : (most n : ℕ) (old mid new : Option (List ℕ)) (bytes : L
 TakesSome-more most n old mid new bytes taken size short more =
     (bytes ++ more.0, omega (arith, size, more.1, length-append bytes more.0), Consumes-trans old mid new bytes more.0 taken more.2)
 
--- a prefix of the bytes was added
-pub AppendsPrefix-whole : (old new : Option (List ℕ)) (prefix back bytes : List ℕ) → Appends old new prefix → bytes ≡ prefix ++ back → AppendsPrefix old new bytes
-AppendsPrefix-whole old new prefix back bytes added is = (prefix, back, is, added)
-
 -- bytes were added, and then a prefix of those that come next
 pub AppendsPrefix-next : (old mid new : Option (List ℕ)) (before next back bytes : List ℕ) → Appends old mid before → AppendsPrefix mid new next → bytes ≡ before ++ (next ++ back)
     → AppendsPrefix old new bytes

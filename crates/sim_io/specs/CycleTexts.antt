@@ -6,7 +6,7 @@ use Rattle.sim_spec.specs.declared.bucket.Bucket.{Bucket}
 use Rattle.sim_spec.specs.declared.terms.Terms.{Terms}
 use Rattle.sim_spec.specs.State.{State, Lawful}
 use Rattle.sim_spec.specs.Run.{run}
-use Rattle.sim_spec.specs.Cycles.{Cycles, cycles}
+use Rattle.sim_spec.specs.Cycles.{cycles}
 use Rattle.sim_io.specs.Texts.{stamp_text, record_lines, stop_line, run_text}
 
 -- a bucket that met neither a fault nor the limit
@@ -38,10 +38,6 @@ bucket_lines m told number b = record_lines m b.done ++ told_cycle told number b
 unfoldable pub lines_of_buckets : Meaning → Bool → ℕ → List Bucket → List ℕ
 lines_of_buckets m told number [] = []
 lines_of_buckets m told number (b ∷ bs) = bucket_lines m told number b ++ lines_of_buckets m told (number + 1) bs
-
--- the lines of cycles, numbered from this one on, and the stop line
-unfoldable pub text_of_cycles : Meaning → Terms → Bool → ℕ → Cycles → List ℕ
-text_of_cycles m t told number c = lines_of_buckets m told number c.buckets ++ stop_line m t c.last.count c.stop
 
 -- the whole text of the simulation from a state, with or without its cycles
 unfoldable pub text : Meaning → Terms → Bool → State → List ℕ

@@ -1,5 +1,5 @@
 //! A source and a sink that never fail.
-ghost use Rattle.std.specs.Prelude.{◌≡◌, Option, None, Some, List, [], ℕ, Ok, OnOk, length, min};
+ghost use Rattle.std.specs.Prelude.{◌≡◌, Option, None, Some, List, [], ℕ, ◌<◌, Ok, IfOk, OnOk, length, min};
 ghost use Rattle.std.specs.Io.{ReadsAtMost, WritesAtMost};
 ghost use Rattle.std.specs.Io.KnownBytes.{Keeps, ReadConsumes, WriteAppends};
 ghost use Rattle.sim_io.specs.Causes.{CountsIdle, HasCause};
@@ -44,6 +44,7 @@ impl Source for CleanSource {
         ensures bound { ReadsAtMost result into.new }
         ensures taken { ReadConsumes (Some self.old) (Some self.new) result into.new }
         ensures cause { HasCause 0 0 result }
+        ensures quiet { OnOk result (◌≡◌ {A = ℕ} 0 0) }
         ensures count { result ≡ Ok (min (length into.old) (length self.old)) }
     {
         let (_, left) = self.bytes.split_at(self.at);
@@ -81,6 +82,7 @@ impl Sink for CleanSink {
         ensures taken { WriteAppends None None result bytes.now }
         ensures cause { HasCause 0 0 result }
         ensures idle { CountsIdle 0 0 bytes.now result }
+        ensures quiet { IfOk result (λ n. 0 < n → ◌≡◌ {A = ℕ} 0 0) }
         ensures whole { result ≡ Ok (length bytes.now) }
     {
         Ok(bytes.len())
@@ -90,6 +92,7 @@ impl Sink for CleanSink {
         ensures taken { Keeps None None }
         ensures all { OnOk result (Keeps None None) }
         ensures cause { HasCause 0 0 result }
+        ensures quiet { OnOk result (◌≡◌ {A = ℕ} 0 0) }
         ensures done { result ≡ Ok tt }
     {
         Ok(())

@@ -1,5 +1,5 @@
 //! A sink that joins small writes, since a write to a file or a pipe costs more than many lines.
-ghost use Rattle.std.specs.Prelude.{◌≡◌, ◌≤◌, OnOk, [], drop, vec_len};
+ghost use Rattle.std.specs.Prelude.{◌≡◌, ◌≤◌, ◌<◌, IfOk, OnOk, [], drop, vec_len};
 ghost use Rattle.std.specs.Io.{WritesAtMost};
 ghost use Rattle.std.specs.Io.KnownBytes.{WriteAppends, append_known};
 ghost use Rattle.sim_io.specs.Causes.{CountsIdle, HasCause};
@@ -67,6 +67,7 @@ fn hand_on<K: Sink>(gathered: &mut Vec<u8>, inner: &mut K) -> Result<(), Failed>
     ensures all { OnOk result (vec_len gathered.new ≡ 0) }
     ensures handed { AppendsSome (K.told inner.old) (K.told inner.new) gathered.old.items gathered.new.items }
     ensures cause { HasCause (K.faults inner.old) (K.faults inner.new) result }
+    ensures quiet { OnOk result (K.faults inner.new ≡ K.faults inner.old) }
 {
     let (count, outcome) = write_prefix(inner, gathered.as_slice());
     remove_prefix(gathered, count);
@@ -79,6 +80,7 @@ fn take_more<K: Sink>(gathered: &mut Vec<u8>, inner: &mut K, bytes: &[u8]) -> Re
     ensures taken { WriteAppends (append_known (K.told inner.old) gathered.old.items) (append_known (K.told inner.new) gathered.new.items) result bytes.now }
     ensures cause { HasCause (K.faults inner.old) (K.faults inner.new) result }
     ensures idle { CountsIdle (K.faults inner.old) (K.faults inner.new) bytes.now result }
+    ensures quiet { IfOk result (λ n. 0 < n → K.faults inner.new ≡ K.faults inner.old) }
 {
     hand_on(gathered, inner)?;
     if bytes.len() >= gathered.capacity() {

@@ -1,5 +1,5 @@
 //! A sink in memory whose faults are chosen by the numbers of its calls.
-ghost use Rattle.std.specs.Prelude.{◌≡◌, ◌≤◌, ◌↔◌, Some, Ok, [], length, Contains, IsErr, IfOk, OnOk};
+ghost use Rattle.std.specs.Prelude.{◌≡◌, ◌≤◌, ◌<◌, ◌↔◌, Some, Ok, [], length, Contains, IsErr, IfOk, OnOk};
 ghost use Rattle.std.specs.Io.{WritesAtMost};
 ghost use Rattle.std.specs.Io.KnownBytes.{Keeps, WriteAppends};
 ghost use Rattle.sim_io.specs.Causes.{CountsIdle, HasCause, next_count};
@@ -97,6 +97,7 @@ impl Sink for MemSink {
         ensures taken { WriteAppends (Some self.old.taken) (Some self.new.taken) result bytes.now }
         ensures cause { HasCause self.old.faults self.new.faults result }
         ensures idle { CountsIdle self.old.faults self.new.faults bytes.now result }
+        ensures quiet { IfOk result (λ n. 0 < n → self.new.faults ≡ self.old.faults) }
         ensures calls { self.new.calls ≡ next_count self.old.calls }
         ensures fails { IsErr result ↔ Contains self.old.fails self.new.calls }
         ensures none { Contains self.old.idle self.new.calls → IfOk result (λ n. n ≡ 0) }
@@ -125,6 +126,7 @@ impl Sink for MemSink {
         ensures taken { Keeps (Some self.old.taken) (Some self.new.taken) }
         ensures all { OnOk result (Keeps (Some self.new.taken) (Some self.new.taken)) }
         ensures cause { HasCause self.old.faults self.new.faults result }
+        ensures quiet { OnOk result (self.new.faults ≡ self.old.faults) }
         ensures done { result ≡ Ok tt }
         ensures same { self.new ≡ self.old }
     {

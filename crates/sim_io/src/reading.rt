@@ -44,6 +44,8 @@ fn read_piece<S: Source>(source: &mut S, bytes: &mut Vec<u8>) -> Result<usize, R
     ensures refused { OnErr result (TakesSome (ENOUGH_BYTES - vec_len bytes.old) (S.left source.old) (S.left source.new)) }
     ensures later { S.faults source.old ≤ S.faults source.new }
     ensures failed { IsErrOf result ReadEnd.Failed → Rose (S.faults source.old) (S.faults source.new) }
+    ensures quiet { OnOk result (S.faults source.new ≡ S.faults source.old) }
+    ensures no_memory { IsErrOf result ReadEnd.OutOfMemory → S.faults source.new ≡ S.faults source.old }
 {
     let mut piece = [0u8; PIECE];
     let room = (ENOUGH_BYTES - bytes.len()).min(PIECE);
@@ -65,6 +67,8 @@ pub fn read_all<S: Source>(alloc: Global, source: &mut S) -> Result<Vec<u8>, Rea
     ensures refused { OnErr result (TakesSome ENOUGH_BYTES (S.left source.old) (S.left source.new)) }
     ensures later { S.faults source.old ≤ S.faults source.new }
     ensures failed { IsErrOf result ReadEnd.Failed → Rose (S.faults source.old) (S.faults source.new) }
+    ensures quiet { OnOk result (S.faults source.new ≡ S.faults source.old) }
+    ensures no_memory { IsErrOf result ReadEnd.OutOfMemory → S.faults source.new ≡ S.faults source.old }
 {
     let mut bytes = Vec::new(alloc);
     while bytes.len() < ENOUGH_BYTES {

@@ -1,5 +1,5 @@
 //! A writer of std as a sink.
-ghost use Rattle.std.specs.Prelude.{◌≡◌, OnOk};
+ghost use Rattle.std.specs.Prelude.{◌≡◌, ◌<◌, IfOk, OnOk};
 ghost use Rattle.std.specs.Io.{WritesAtMost};
 ghost use Rattle.std.specs.Io.KnownBytes.{Keeps, WriteAppends};
 ghost use Rattle.sim_io.specs.Causes.{CountsFailures, CountsIdle, CountsWrites, HasCause};
@@ -42,6 +42,7 @@ impl<W: Write> Sink for StdSink<W> {
         ensures taken { WriteAppends (⟦<StdSink<W> as Sink>⟧.told self.old) (⟦<StdSink<W> as Sink>⟧.told self.new) result bytes.now }
         ensures cause { HasCause (⟦<StdSink<W> as Sink>⟧.faults self.old) (⟦<StdSink<W> as Sink>⟧.faults self.new) result }
         ensures idle { CountsIdle (⟦<StdSink<W> as Sink>⟧.faults self.old) (⟦<StdSink<W> as Sink>⟧.faults self.new) bytes.now result }
+        ensures quiet { IfOk result (λ n. 0 < n → ⟦<StdSink<W> as Sink>⟧.faults self.new ≡ ⟦<StdSink<W> as Sink>⟧.faults self.old) }
         ensures faults { CountsWrites (⟦<StdSink<W> as Sink>⟧.faults self.old) (⟦<StdSink<W> as Sink>⟧.faults self.new) result }
     {
         match self.writer.write(bytes) {
@@ -61,6 +62,7 @@ impl<W: Write> Sink for StdSink<W> {
         ensures taken { Keeps (⟦<StdSink<W> as Sink>⟧.told self.old) (⟦<StdSink<W> as Sink>⟧.told self.new) }
         ensures all { OnOk result (Keeps (⟦<StdSink<W> as Sink>⟧.told self.new) (⟦<StdSink<W> as Sink>⟧.handed self.new)) }
         ensures cause { HasCause (⟦<StdSink<W> as Sink>⟧.faults self.old) (⟦<StdSink<W> as Sink>⟧.faults self.new) result }
+        ensures quiet { OnOk result (⟦<StdSink<W> as Sink>⟧.faults self.new ≡ ⟦<StdSink<W> as Sink>⟧.faults self.old) }
         ensures faults { CountsFailures (⟦<StdSink<W> as Sink>⟧.faults self.old) (⟦<StdSink<W> as Sink>⟧.faults self.new) result }
     {
         match self.writer.flush() {

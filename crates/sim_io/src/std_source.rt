@@ -1,5 +1,5 @@
 //! A reader of std as a source.
-ghost use Rattle.std.specs.Prelude.{◌≡◌};
+ghost use Rattle.std.specs.Prelude.{◌≡◌, OnOk};
 ghost use Rattle.std.specs.Io.{ReadsAtMost};
 ghost use Rattle.std.specs.Io.KnownBytes.{ReadConsumes};
 ghost use Rattle.sim_io.specs.Causes.{CountsFailures, HasCause};
@@ -34,6 +34,7 @@ impl<R: Read> Source for StdSource<R> {
         ensures bound { ReadsAtMost result into.new }
         ensures taken { ReadConsumes (⟦<StdSource<R> as Source>⟧.left self.old) (⟦<StdSource<R> as Source>⟧.left self.new) result into.new }
         ensures cause { HasCause (⟦<StdSource<R> as Source>⟧.faults self.old) (⟦<StdSource<R> as Source>⟧.faults self.new) result }
+        ensures quiet { OnOk result (⟦<StdSource<R> as Source>⟧.faults self.new ≡ ⟦<StdSource<R> as Source>⟧.faults self.old) }
         ensures faults { CountsFailures (⟦<StdSource<R> as Source>⟧.faults self.old) (⟦<StdSource<R> as Source>⟧.faults self.new) result }
     {
         match self.reader.read(into) {

@@ -13,6 +13,7 @@ pub(crate) fn write_prefix<K: Sink>(sink: &mut K, bytes: &[u8]) -> (usize, Resul
     ensures taken { Appends (K.told sink.old) (K.told sink.new) (take result.0 bytes.now) }
     ensures all { OnOk result.1 (result.0 ≡ length bytes.now) }
     ensures cause { HasCause (K.faults sink.old) (K.faults sink.new) result.1 }
+    ensures quiet { OnOk result.1 (K.faults sink.new ≡ K.faults sink.old) }
 {
     let mut at = 0;
     while at < bytes.len() {
@@ -31,6 +32,7 @@ pub fn write_all<K: Sink>(sink: &mut K, bytes: &[u8]) -> Result<(), Failed>
     ensures all { OnOk result (Appends (K.told sink.old) (K.told sink.new) bytes.now) }
     ensures prefix { OnErr result (AppendsPrefix (K.told sink.old) (K.told sink.new) bytes.now) }
     ensures cause { HasCause (K.faults sink.old) (K.faults sink.new) result }
+    ensures quiet { OnOk result (K.faults sink.new ≡ K.faults sink.old) }
 {
     let (_, outcome) = write_prefix(sink, bytes);
     outcome

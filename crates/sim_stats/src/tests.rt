@@ -5,8 +5,8 @@ use super::*;
 use event_key::{INITIAL, Key, stamp_of};
 use model_core::model::Model as SimulationModel;
 use model_core::{
-    DONE_WORD, HELD_WORD, HOP_WORD, LEFT_WORD, LOST_WORD, MADE_WORD, Note, OutOfMemory, Part,
-    ROUTED_WORD, TAKEN_WORD, WAITING_WORD,
+    DONE_WORD, HELD_WORD, HOP_WORD, LEFT_WORD, LOAD_WORD, LOST_WORD, MADE_WORD, Note, OutOfMemory,
+    Part, ROUTED_WORD, TAKEN_WORD, WAITING_WORD,
 };
 use phold_model::Phold;
 use random_streams::Law;
@@ -88,6 +88,37 @@ fn a_station_and_a_sink(rt: HostRuntime) -> Result<(), Fail> {
     Ok(())
 }
 
+/// A note of this word, and the load that a traced station tells after it.
+fn traced(word: u32) -> Note {
+    let mut note = Note::of(part(word));
+    note.add(part(LOAD_WORD));
+    note
+}
+
+#[test]
+fn a_traced_station_and_a_quiet_sink(rt: HostRuntime) -> Result<(), Fail> {
+    let alloc = rt.alloc();
+    let records = [
+        (1, 0, traced(TAKEN_WORD)),
+        (3, 0, traced(WAITING_WORD)),
+        (4, 0, traced(DONE_WORD)),
+        (4, 1, Note::none()),
+        (5, 0, traced(WAITING_WORD)),
+        (7, 0, traced(DONE_WORD)),
+        (7, 1, Note::none()),
+        (10, 0, traced(DONE_WORD)),
+        (10, 1, Note::none()),
+    ];
+    let totals = sum_up(&rt, alloc, &records)?;
+    let wanted = "p0 arrivals 3 served 3 lost 0 busy 9 waiting 3\n\
+                  p1 arrivals 0 served 0 lost 0 busy 0 waiting 0\n";
+    assert_eq!(rt;
+        lines_of(&rt, alloc, &totals)?.as_slice(),
+        wanted.as_bytes()
+    );
+    Ok(())
+}
+
 #[test]
 fn each_word_counts_for_what_it_tells(rt: HostRuntime) -> Result<(), Fail> {
     let alloc = rt.alloc();
@@ -101,7 +132,7 @@ fn each_word_counts_for_what_it_tells(rt: HostRuntime) -> Result<(), Fail> {
         (HELD_WORD, "p0 arrivals 1 served 1 lost 0"),
         (ROUTED_WORD, "p0 arrivals 1 served 1 lost 0"),
         (LEFT_WORD, "p0 arrivals 1 served 1 lost 0"),
-        (10, "p0 arrivals 0 served 0 lost 0"),
+        (LOAD_WORD, "p0 arrivals 0 served 0 lost 0"),
     ] {
         let totals = sum_up(&rt, alloc, &[(9, 0, Note::of(part(word)))])?;
         let text = lines_of(&rt, alloc, &totals)?;

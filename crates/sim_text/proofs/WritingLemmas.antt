@@ -5,14 +5,6 @@ use Rattle.std.specs.Io.KnownBytes.{Appends}
 use Rattle.sim_io.specs.Transfers.{AppendsPrefix, AppendsSome}
 
 module _ (a b c : Option (List ℕ)) (whole : List ℕ) where
-  -- what comes next is written
-  pub writes_more : (rest next after : List ℕ) → AppendsSome a b whole rest → rest ≡ next ++ after → Appends b c next → AppendsSome a c whole after
-  writes_more rest next after some is_rest written = (
-    some.0 ++ next,
-    Appends-trans a b c some.0 next some.1 written,
-    some.2 ∙ ap (λ xs. some.0 ++ xs) is_rest ∙ sym (append_assoc some.0 next after),
-  )
-
   -- all that is left is written
   pub writes_last : (rest : List ℕ) → AppendsSome a b whole rest → Appends b c rest → Appends a c whole
   writes_last rest some written =
@@ -27,7 +19,3 @@ module _ (a b c : Option (List ℕ)) (whole : List ℕ) where
     some.2 ∙ ap (λ xs. some.0 ++ xs) (is_rest ∙ ap (λ xs. xs ++ after) part.2 ∙ append_assoc part.0 part.1 after) ∙ sym (append_assoc some.0 part.0 (part.1 ++ after)),
     Appends-trans a b c some.0 part.0 some.1 part.3,
   )
-
-  -- nothing further is written
-  pub writes_no_more : (rest : List ℕ) → AppendsSome a b whole rest → AppendsPrefix a b whole
-  writes_no_more rest some = (some.0, rest, some.2, some.1)

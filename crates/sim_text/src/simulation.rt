@@ -7,7 +7,7 @@ ghost use Rattle.sim_spec.specs.Run.{run};
 ghost use Rattle.sim_io.specs.Causes.{Rose};
 ghost use Rattle.sim_io.specs.Transfers.{AppendsPrefix};
 ghost use Rattle.sim_text.specs.WholeTexts.{text_from_start};
-ghost use Rattle.sim_text.specs.declared.unfinished.Unfinished.TheVariants.{WriteFault};
+ghost use Rattle.sim_text.specs.declared.unfinished.Unfinished.TheVariants.{WriteFault, OutOfMemory as NoMemory};
 
 use crate::report::Report;
 use crate::unfinished::Unfinished;
@@ -41,6 +41,8 @@ pub fn simulate<M: Model, E: Engine, F: Fn(&mut E, Global) -> Result<Bucket, Out
     ensures prefix { OnErr result (AppendsPrefix (K.told sink.old) (K.told sink.new) (text_from_start (M.meaning model.now) terms.now settings)) }
     ensures fault { IsErrOf result WriteFault → Rose (K.faults sink.old) (K.faults sink.new) }
     ensures later { K.faults sink.old ≤ K.faults sink.new }
+    ensures quiet { OnOk result (K.faults sink.new ≡ K.faults sink.old) }
+    ensures no_memory { IsErrOf result NoMemory → K.faults sink.new ≡ K.faults sink.old }
 {
     law_initial(model, terms);
     law_next(model, terms);

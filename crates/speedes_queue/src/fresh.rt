@@ -4,7 +4,7 @@ ghost use Rattle.key_order.specs.Stamps.{least_stamp};
 ghost use Rattle.key_order.specs.Keys.{KeysDiffer, first_key};
 ghost use Rattle.key_order.specs.Pending.{in_order};
 
-use crate::least::lesser;
+use crate::least::keep_lesser;
 use delta_exchange::OutOfMemory;
 use event_chain::{Cell, Chain};
 use event_key::{Key, NO_STAMP};
@@ -123,15 +123,14 @@ impl Fresh {
         ensures events { self.new.events ≡ self.old.events ++ cell ∷ [] }
         ensures spare { self.new.spare + 1 ≡ self.old.spare }
     {
-        let key = cell.get().key;
-        self.least = lesser(self.least, Some(key));
+        let key = &cell.get().key;
+        keep_lesser(&mut self.least, key);
         self.least_stamp = self.least_stamp.min(key.stamp);
         self.spare -= 1;
         let Some(cells) = &mut self.cells else {
             unreachable!()
         };
-        let pushed = cells.push(cell);
-        prove!(pushed.is_ok());
+        cells.push_reserved(cell);
     }
 
     /// Takes all events, in the order of their keys. The room that they had is spare again.

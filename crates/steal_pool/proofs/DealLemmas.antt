@@ -1,6 +1,6 @@
 -- Turns that are dealt out one after another.
-use Rattle.std.proofs.Common.{◌≡◌, ◌+◌, ◌<◌, ℕ, Bool, List, [], ◌∷◌, ◌++◌, length, get_or, set, refl, sym, ap, ◌∙◌, subst, arith, cond, eqb, ltb}
-use Rattle.std.specs.Prelude.{All, slice_get, Some, sum_by, nat_lt, if◌then◌else◌}
+use Rattle.std.proofs.Common.{◌≡◌, ◌+◌, ◌<◌, ℕ, List, [], ◌∷◌, ◌++◌, length, get_or, set, sym, ap, ◌∙◌, subst, arith, cond, eqb}
+use Rattle.std.specs.Prelude.{All, slice_get, Some, nat_lt, if◌then◌else◌}
 use Rattle.std.proofs.lemmas.Bool.Decides.{nat_tests}
 use Rattle.std.proofs.lemmas.List.Elements.{All-get_or, All-nil, All-push, All-set}
 use Rattle.std.proofs.lemmas.List.Sums.{sum_by-set, sum_by_push}
@@ -8,7 +8,7 @@ use Rattle.steal_pool.specs.declared.task.Task.{Task}
 use Rattle.steal_pool.specs.Tallies.{WHOLE, tally}
 use Rattle.steal_pool.specs.Ends.{End, IsFresh}
 use Rattle.steal_pool.specs.Turns.{IsOf, times}
-use Rattle.steal_pool.specs.Workers.{put_at}
+use Rattle.steal_pool.specs.Workers.{put_at, AreDealt}
 use Rattle.steal_pool.proofs.RuleLemmas.{no-sum}
 
 below-none : (number : ℕ) → ◌≡◌ {A = ℕ} (if nat_lt number 0 then 1 else 0) 0
@@ -22,7 +22,7 @@ module _ {T : Type 0} where
   pub record Dealing (turns : List T) (i : ℕ) (deques : List (End T)) : Type 0 where
     pub fresh : All (IsFresh WHOLE) deques
     pub of : All (λ deque. All (IsOf turns) deque.knows.put) deques
-    pub once : (number : ℕ) → sum_by (put_at number) deques ≡ (if nat_lt number i then 1 else 0)
+    pub once : AreDealt i deques
 
   pub dealing-none : (turns : List T) (deques : List (End T)) → All (λ deque. deque.knows ≡ tally WHOLE [] []) deques → Dealing turns 0 deques
   dealing-none turns deques empty = record {

@@ -1,6 +1,6 @@
 -- What is done of the tasks that were taken.
-use Rattle.std.proofs.Common.{◌≡◌, ◌+◌, ◌==◌, ℕ, Bool, List, [], ◌∷◌, ◌++◌, refl, sym, ap, ◌∙◌, subst, arith, cond, eqb}
-use Rattle.std.specs.Prelude.{All, Contains, slice_get, Some, IsSomeAnd, sum_by}
+use Rattle.std.proofs.Common.{◌≡◌, ◌+◌, ℕ, List, [], ◌∷◌, ◌++◌, refl, sym, ap, ◌∙◌, subst, arith, cond, eqb}
+use Rattle.std.specs.Prelude.{All, Contains, slice_get, IsSomeAnd, sum_by}
 use Rattle.std.proofs.lemmas.List.Elements.{All-head, All-push, All-contains}
 use Rattle.std.proofs.lemmas.List.Sums.{sum_by_push}
 use Rattle.steal_pool.specs.declared.task.Task.{Task}

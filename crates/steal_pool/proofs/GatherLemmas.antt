@@ -11,8 +11,7 @@ use Rattle.std.proofs.lemmas.Slice.Zip.{AllZip-long}
 use Rattle.std.proofs.lemmas.List.Sums.{sum-map, sum_by-append, sum_by-cons, sum_by-set}
 use Rattle.steal_pool.specs.declared.task.Task.{Task}
 use Rattle.steal_pool.specs.declared.worker.Worker.{Worker}
-use Rattle.steal_pool.specs.Ends.{End, Mark, mark, with_part_of}
-use Rattle.steal_pool.specs.Turns.{times}
+use Rattle.steal_pool.specs.Ends.{End, mark, with_part_of}
 use Rattle.steal_pool.specs.Tallies.{WHOLE}
 use Rattle.steal_pool.specs.Workers.{ArePasses, HasGotBack, done_of, own_mark, own_taken, taken_at, taken_by}
 use Rattle.steal_pool.proofs.PlaceLemmas.{Upto, from-place, upto-length, upto-next, zip-map}

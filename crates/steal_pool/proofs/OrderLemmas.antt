@@ -1,6 +1,6 @@
 -- Places that are filled one after another.
-use Rattle.std.proofs.Common.{◌≡◌, ◌≢◌, ◌+◌, ◌<◌, ℕ, zero, suc, Bool, true, false, List, [], ◌∷◌, ◌++◌, length, map, get_or, set, refl, sym, ap, ◌∙◌, subst, arith, cond, eqb, eqb-true, ◌⊎◌, ⊎_elim, inl, inr}
-use Rattle.std.specs.Prelude.{All, IfOk, Option, Result, Ok, Err, Vec, slice_get, Some, IsSomeAnd, sum_by}
+use Rattle.std.proofs.Common.{◌≡◌, ◌≢◌, ◌+◌, ◌<◌, ℕ, zero, suc, Bool, true, false, List, [], ◌∷◌, ◌++◌, length, map, set, refl, sym, ap, ◌∙◌, subst, arith, cond, eqb, eqb-true, ◌⊎◌, ⊎_elim, inl, inr}
+use Rattle.std.specs.Prelude.{All, IfOk, Option, Result, Ok, Err, Vec, slice_get, Some}
 use Rattle.std.specs.List.{AllZip}
 use Rattle.std.proofs.lemmas.Bool.{eqb-false}
 use Rattle.std.proofs.lemmas.Bool.Decides.{eqb_tells}

@@ -1,9 +1,6 @@
 -- Lists that change place by place.
 use Rattle.std.proofs.Common.{◌≡◌, ◌+◌, ◌<◌, ◌≤◌, ℕ, zero, suc, List, [], ◌∷◌, ◌++◌, length, map, take, drop, get_or, set, refl, sym, ap, ◌∙◌, subst, arith}
-use Rattle.std.specs.Prelude.{Vec}
 use Rattle.std.specs.List.{AllZip}
-use Rattle.std.specs.Vec.{with_items}
-use lib.Seq.{take-append_seam}
 use Rattle.std.proofs.lemmas.List.{get_or-map, length-drop, length-map, map-append, take_more}
 
 module _ {A : Type 0} (R : A → A → Type 0) where
@@ -69,7 +66,3 @@ module _ {A : Type 0} where
   from-place [] i y ys is = absurd (let none = ap length is in omega (arith, length-drop {A = A} i []))
   from-place (x ∷ xs) zero y ys is = (omega arith, cc, cc)
   from-place (x ∷ xs) (suc i) y ys is = let rest = from-place xs i y ys is in (omega (arith, rest.0), rest.1 ∙ ap (λ k. drop k (x ∷ xs)) (let later : suc (i + 1) ≡ suc i + 1 = omega arith in later), rest.2)
-
--- a list that is written over by one as long
-pub items-over : {X Z : Type 0} (v : Vec X Z) (ws : List X) → length ws ≡ length v.items → (with_items v ws).items ≡ ws
-items-over v ws same = ap (λ n. take n (ws ++ drop (length ws) v.items)) (v.ok.0 ∙ sym same) ∙ take-append_seam ws (drop (length ws) v.items)

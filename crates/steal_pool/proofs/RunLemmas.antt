@@ -1,17 +1,16 @@
 -- What is said of all turns is said of the tasks that were dealt out.
-use Rattle.std.proofs.Common.{◌≡◌, ◌<◌, ◌≤◌, ℕ, zero, suc, Bool, true, List, [], ◌∷◌, length, map, refl, sym, ap, ◌∙◌, subst, arith, cond, ltb, lt-ltb}
-use Rattle.std.specs.Prelude.{All, Vec, slice_get, Some, IsSomeAnd, sum_by, nat_lt, if◌then◌else◌}
+use Rattle.std.proofs.Common.{◌≡◌, ◌<◌, ℕ, zero, suc, Bool, List, [], ◌∷◌, length, map, ap, ◌∙◌, subst, arith, cond, lt-ltb}
+use Rattle.std.specs.Prelude.{All, Vec, slice_get, IsSomeAnd, sum_by, nat_lt, if◌then◌else◌}
 use Rattle.std.specs.Vec.{with_items}
 use Rattle.std.specs.declared.alloc.Global.{Global}
-use Rattle.std.proofs.lemmas.List.{length-map}
+use Rattle.std.proofs.lemmas.List.{length-map, with_items_is}
 use Rattle.std.proofs.lemmas.List.Elements.{All-get_or, All-map, All-weaker}
 use Rattle.std.proofs.lemmas.Option.{get_or_from_slice_get, slice_get_within}
 use Rattle.steal_pool.specs.declared.task.Task.{Task}
 use Rattle.steal_pool.specs.declared.worker.Worker.{Worker}
 use Rattle.steal_pool.specs.Ends.{End, Mark, mark}
-use Rattle.steal_pool.specs.Turns.{IsDoneAt, IsDoneOf, IsOf}
-use Rattle.steal_pool.specs.Workers.{AreDone, AreOf, AreReady, HaveEnded, done_by, own_mark, put_at, put_in}
-use Rattle.steal_pool.proofs.PlaceLemmas.{items-over}
+use Rattle.steal_pool.specs.Turns.{IsDoneOf, IsOf}
+use Rattle.steal_pool.specs.Workers.{AreDone, AreOf, AreReady, HaveEnded, done_by, own_mark, put_in, AreDealt}
 use Rattle.steal_pool.proofs.TogetherLemmas.{sum-mapped}
 
 module _ {T : Type 0} where
@@ -38,7 +37,7 @@ module _ {T : Type 0} where
       (λ worker these. All-weaker (IsDoneOf turned turns) (λ task. task.number < length turns) (λ task one. at-within (λ turn. turned turn task.turn) turns task.number one) worker.done.items these) workers done
 
   pub done-all : (turned : T → T → Type 0) (turns : List T) (deques : List (End T)) (workers : List (Worker T)) → HaveEnded turned (map mark deques) workers
-      → ((number : ℕ) → sum_by (put_at number) deques ≡ (if nat_lt number (length turns) then 1 else 0)) → (number : ℕ) → number < length turns → 0 < sum_by (done_by number) workers
+      → AreDealt (length turns) deques → (number : ℕ) → number < length turns → 0 < sum_by (done_by number) workers
   done-all turned turns deques workers ended once number inside =
       let counted = ended.counted number in
       let mapped = sum-mapped mark (put_in number) deques in
@@ -50,4 +49,4 @@ module _ {T : Type 0} where
   pub same-marks : (marks : List (Mark T)) (all : Vec (Worker T) Global) (now new : List (Worker T)) → now ≡ all.items → map own_mark all.items ≡ marks → map own_mark new ≡ map own_mark now
       → map own_mark (with_items all new).items ≡ marks
   same-marks marks all now new is dealt stay =
-      ap (map own_mark) (items-over all new (omega (arith, ap length stay, ap length is, length-map new own_mark, length-map now own_mark))) ∙ stay ∙ ap (map own_mark) is ∙ dealt
+      ap (map own_mark) (with_items_is all new (omega (arith, all.ok.0, ap length stay, ap length is, length-map new own_mark, length-map now own_mark))) ∙ stay ∙ ap (map own_mark) is ∙ dealt

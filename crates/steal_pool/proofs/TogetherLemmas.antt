@@ -1,17 +1,17 @@
 -- What workers can do together, and have done.
-use Rattle.std.proofs.Common.{◌≡◌, ◌+◌, ◌-◌, ◌<◌, ◌≤◌, ℕ, Bool, true, List, [], ◌∷◌, length, map, get_or, refl, sym, ap, ◌∙◌, subst, arith, cond, eqb}
-use Rattle.std.specs.Prelude.{All, IsOk, OnOk, Result, Ok, Err, sum, sum_by}
+use Rattle.std.proofs.Common.{◌≡◌, ◌+◌, ◌<◌, ◌≤◌, ℕ, List, [], ◌∷◌, length, map, get_or, refl, sym, ap, ◌∙◌, subst, arith, cond, eqb}
+use Rattle.std.specs.Prelude.{All, IsOk, OnOk, Result, Ok, Err, sum_by}
 use Rattle.std.specs.List.{AllZip}
 use Rattle.std.proofs.lemmas.List.{get_or_default, length-map}
 use Rattle.std.proofs.lemmas.List.Elements.{All-head, All-tail, All-map, All-nil, AllZip-get_or}
-use Rattle.std.proofs.lemmas.List.Sums.{sum-map, sum_by-cons}
+use Rattle.std.proofs.lemmas.List.Sums.{sum_by-cons}
 use Rattle.std.proofs.lemmas.Slice.Zip.{AllZip-long}
 use Rattle.steal_pool.specs.declared.task.Task.{Task}
 use Rattle.steal_pool.specs.declared.worker.Worker.{Worker}
 use Rattle.steal_pool.specs.Tallies.{WHOLE}
-use Rattle.steal_pool.specs.Ends.{End, Mark, IsFresh, mark, parts}
+use Rattle.steal_pool.specs.Ends.{End, Mark, mark, parts}
 use Rattle.steal_pool.specs.Turns.{IsOf, IsDoneOf, times}
-use Rattle.steal_pool.specs.Workers.{AllOf, AllReady, AreHired, AreNew, AreOf, ArePasses, AreReady, Can, CanAll, HasDone, HasEnded, HasWorked, HaveEnded, HaveWorked, IsHired, done_by, done_of, marks_of, own_mark, own_taken, put_in, put_to, taken_at, taken_by}
+use Rattle.steal_pool.specs.Workers.{AreHired, AreNew, AreOf, ArePasses, AreReady, CanAll, HasDone, HasEnded, HasWorked, HaveEnded, HaveWorked, IsHired, done_by, done_of, own_mark, own_taken, put_in, put_to, taken_at, taken_by}
 use Rattle.steal_pool.proofs.PlaceLemmas.{zip-map}
 use Rattle.steal_pool.proofs.RuleLemmas.{no-sum}
 use Rattle.steal_pool.proofs.WorkerLemmas.{at-place, unmapped}

@@ -1,6 +1,6 @@
 -- What a worker has done, step by step.
-use Rattle.std.proofs.Common.{◌≡◌, ◌+◌, ◌<◌, ℕ, List, [], ◌∷◌, length, map, get_or, set, Vec, Global, refl, sym, ap, ◌∙◌, subst, arith}
-use Rattle.std.specs.Prelude.{All, sum_by}
+use Rattle.std.proofs.Common.{◌≡◌, ◌<◌, ℕ, List, length, map, get_or, Vec, Global, refl, sym, ap, ◌∙◌, subst, arith}
+use Rattle.std.specs.Prelude.{All}
 use Rattle.std.specs.Vec.{with_item}
 use Rattle.std.proofs.Math.Seq.{map-set_same}
 use Rattle.std.proofs.lemmas.List.{get_or-map, length-map}
@@ -8,8 +8,8 @@ use Rattle.std.proofs.lemmas.List.Sums.{sum_by-set}
 use Rattle.steal_pool.specs.declared.task.Task.{Task}
 use Rattle.steal_pool.specs.declared.worker.Worker.{Worker}
 use Rattle.steal_pool.specs.Ends.{End, Mark, mark, parts}
-use Rattle.steal_pool.specs.Turns.{Does, IsOf, IsDoneOf, times}
-use Rattle.steal_pool.specs.Workers.{AllOf, AllReady, Can, HasWorked, marks_of, own_mark, taken_at}
+use Rattle.steal_pool.specs.Turns.{Does, IsOf}
+use Rattle.steal_pool.specs.Workers.{AllOf, AllReady, Can, HasWorked, taken_at}
 
 module _ {A B : Type 0} (f : A → B) where
   -- what holds of each value holds of the value at a place

@@ -4,7 +4,6 @@ use Rattle.std.specs.declared.alloc.Global.{Global}
 use Rattle.atomic_blocks.specs.Lent.{RowsId}
 use Rattle.steal_pool.specs.declared.task.Task.{Task}
 use Rattle.steal_pool.specs.declared.tally.Tally.{Tally}
-use Rattle.steal_pool.specs.Tallies.{tally}
 
 -- which deque it is
 abbrev pub DequeId : Type 0
@@ -33,8 +32,14 @@ module _ {T : Type 0} where
 
   -- once a thief has got a part
   abbrev pub without_part : End T → End T
-  without_part end = record { deque = end.deque; knows = record { parts = end.knows.parts - 1; put = end.knows.put; taken = end.knows.taken } }
+  without_part end = record {
+    deque = end.deque;
+    knows = record { parts = end.knows.parts - 1; put = end.knows.put; taken = end.knows.taken };
+  }
 
   -- once a thief has given its part back
   abbrev pub with_part_of : End T → End T → End T
-  with_part_of end thief = record { deque = end.deque; knows = record { parts = end.knows.parts + thief.knows.parts; put = end.knows.put; taken = end.knows.taken ++ thief.knows.taken } }
+  with_part_of end thief = record {
+    deque = end.deque;
+    knows = record { parts = end.knows.parts + thief.knows.parts; put = end.knows.put; taken = end.knows.taken ++ thief.knows.taken };
+  }

@@ -1,6 +1,5 @@
 -- Workers: what they can do, and what they have done.
-use Rattle.std.specs.Prelude.{◌≡◌, ◌+◌, ◌-◌, ◌<◌, ◌≤◌, ℕ, List, [], All, length, map, sum_by, OnOk}
-use Rattle.std.specs.declared.alloc.Global.{Global}
+use Rattle.std.specs.Prelude.{◌≡◌, ◌+◌, ◌-◌, ◌<◌, ◌≤◌, ℕ, List, [], All, length, map, nat_lt, sum_by, if◌then◌else◌, OnOk}
 use Rattle.steal_pool.specs.declared.task.Task.{Task}
 use Rattle.steal_pool.specs.declared.worker.Worker.{Worker}
 use Rattle.steal_pool.specs.Tallies.{WHOLE, IsEmptied}
@@ -126,6 +125,15 @@ module _ {T : Type 0} where
     pub part : new.deque.knows.parts ≡ old.deque.knows.parts + 1
     pub victims : new.victims ≡ old.victims
     pub done : new.done ≡ old.done
+
+  -- the owners of deques know now as well of what went through these passes
+  abbrev pub HaveLearnt : List (End T) → List (Worker T) → List (Worker T) → Type 0
+  HaveLearnt passes old new =
+      (number : ℕ) → sum_by (own_taken number) new ≡ sum_by (own_taken number) old + sum_by (taken_at number) passes
+
+  -- so many tasks, of the numbers from 0 on, each once
+  abbrev pub AreDealt : ℕ → List (End T) → Type 0
+  AreDealt count deques = (number : ℕ) → sum_by (put_at number) deques ≡ (if nat_lt number count then 1 else 0)
 
   -- a worker before it works, which has a new pass to each of these deques
   pub record IsHired (marks : List (Mark T)) (worker : Worker T) : Type 0 where

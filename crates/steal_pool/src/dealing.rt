@@ -1,9 +1,9 @@
 //! Which task begins in which deque.
-ghost use Rattle.std.specs.Prelude.{◌≡◌, ◌<◌, ℕ, [], All, length, nat_lt, sum_by, if◌then◌else◌, IfOk};
+ghost use Rattle.std.specs.Prelude.{◌≡◌, ◌<◌, [], All, length, IfOk};
 ghost use Rattle.steal_pool.specs.Tallies.{tally, WHOLE};
 ghost use Rattle.steal_pool.specs.Ends.{IsFresh};
 ghost use Rattle.steal_pool.specs.Turns.{IsOf};
-ghost use Rattle.steal_pool.specs.Workers.{put_at};
+ghost use Rattle.steal_pool.specs.Workers.{AreDealt};
 
 use crate::deque::Deque;
 use crate::task::Task;
@@ -37,7 +37,7 @@ pub fn deal<T: Turn>(
     ensures many { IfOk result (λ deques. length deques.items ≡ workers) }
     ensures fresh { IfOk result (λ deques. All (IsFresh WHOLE) deques.items) }
     ensures of { IfOk result (λ deques. All (λ deque. All (IsOf turns.items) deque.knows.put) deques.items) }
-    ensures once { IfOk result (λ deques. (number : ℕ) → sum_by (put_at number) deques.items ≡ (if nat_lt number (length turns.items) then 1 else 0)) }
+    ensures once { IfOk result (λ deques. AreDealt (length turns.items) deques.items) }
 {
     let room = turns.len() / workers + 1;
     let mut deques = empty_deques(alloc, workers, room)?;

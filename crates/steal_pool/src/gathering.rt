@@ -1,8 +1,9 @@
 //! What is done once the workers have joined: what is left in their deques.
-ghost use Rattle.std.specs.Prelude.{◌≡◌, ◌+◌, ◌-◌, ◌<◌, ◌≤◌, ℕ, All, length, map, sum_by, OnOk};
+ghost use Rattle.std.specs.Prelude.{◌≡◌, ◌-◌, ◌<◌, ◌≤◌, ℕ, All, length, map, sum_by, OnOk};
 ghost use Rattle.std.specs.List.{AllZip};
 ghost use Rattle.steal_pool.specs.Tallies.{WHOLE};
-ghost use Rattle.steal_pool.specs.Workers.{AreReady, ArePasses, HasEnded, HasGotBack, HaveEnded, HaveWorked, done_of, own_mark, own_taken, taken_at, taken_by};
+ghost use Rattle.steal_pool.specs.Workers.{AreReady, ArePasses, HasEnded, HasGotBack, HaveEnded, HaveLearnt, HaveWorked};
+ghost use Rattle.steal_pool.specs.Workers.{done_of, own_mark, own_taken, taken_by};
 
 use crate::deque::Victim;
 use crate::turn::Turn;
@@ -16,7 +17,7 @@ fn give_back<T: Turn>(workers: &mut Vec<Worker<T>>, victims: Vec<Victim<T>>)
     requires to { ArePasses (map own_mark workers.old.items) victims.items }
     requires part { All (λ worker. 0 < worker.deque.knows.parts) workers.old.items }
     ensures each { AllZip HasGotBack workers.old.items workers.new.items }
-    ensures counted { (number : ℕ) → sum_by (own_taken number) workers.new.items ≡ sum_by (own_taken number) workers.old.items + sum_by (taken_at number) victims.items }
+    ensures counted { HaveLearnt victims.items workers.old.items workers.new.items }
 {
     for (place, victim) in victims.into_iter().enumerate() {
         workers[place].deque.take_back(victim);

@@ -1,2 +1,3 @@
 mod SmallTotals
+mod ToldTotals
 pub mod TotalsLaw

@@ -14,7 +14,7 @@ use Rattle.sim_stats.specs.declared.sums.Sums.{Sums}
 use Rattle.sim_stats.specs.Occupancies.{after_words, intervals, intervals_from}
 use Rattle.sim_stats.specs.Sums.{last_told, sums_of}
 use Rattle.sim_stats.specs.Words.{words_told}
-use Rattle.queue_models.specs.Meaning.{network_meaning, start_of}
+use Rattle.queue_models.specs.Meaning.{plain_meaning, network_meaning, start_of}
 use Rattle.queue_models.specs.Objects.{sources_below}
 use Rattle.queue_models.specs.Sinks.{sink_effect}
 use Rattle.queue_models.specs.Sources.{idle_effect, last_effect, make_effect, source_effect}
@@ -33,5 +33,5 @@ totals_seen : ◌≡◌ {A = Sums} (totals_at shop to_fifty 1 11) (record {
   occupancy = record { busy = 1; waiting = 1 };
   last = 11;
 })
-unfolding sums_of words_told last_told after_words intervals intervals_from shop counter to_fifty gathered draw drawn_value words_read start_of sources_below place_changes idle_effect last_effect make_effect source_effect sink_effect take_effect wait_effect lose_effect arrival_outcome serve_effect free_effect done_effect station_effect network_meaning key_lt key_cmp next_stamp has_no_step cells_after_all inverses_of enqueue enqueue_all has_endless_chain emissions fired_by fire initial_state next next_of next_fired left_by after_events
+unfolding sums_of words_told last_told after_words intervals intervals_from shop counter to_fifty gathered draw drawn_value words_read start_of sources_below place_changes idle_effect last_effect make_effect source_effect sink_effect take_effect wait_effect lose_effect arrival_outcome serve_effect free_effect done_effect station_effect plain_meaning network_meaning key_lt key_cmp next_stamp has_no_step cells_after_all inverses_of enqueue enqueue_all has_endless_chain emissions fired_by fire initial_state next next_of next_fired left_by after_events
 totals_seen = refl

@@ -27,8 +27,8 @@ use Rattle.sim_stats.proofs.TotalsLemmas.{words_told-here, words_told-elsewhere}
 use Rattle.queue_models.specs.declared.kind.KindOver.{KindOver}
 use Rattle.queue_models.specs.declared.site.Site.{Site}
 use Rattle.queue_models.specs.Kinds.{kind_of_station}
-use Rattle.queue_models.specs.Meaning.{network_meaning, site_of}
-use Rattle.queue_models.specs.ModelLaws.{network_laws}
+use Rattle.queue_models.specs.Meaning.{plain_meaning, network_meaning, site_of}
+use Rattle.queue_models.specs.ModelLaws.{plain_laws}
 use Rattle.queue_models.specs.Objects.{NetworkParts}
 use Rattle.queue_models.specs.Parts.{IsNetwork}
 use Rattle.queue_models.specs.Stations.{Station, busy_servers, waiting_jobs, is_station_cells, take_effect, wait_effect, lose_effect, serve_effect, free_effect}
@@ -41,8 +41,10 @@ use Rattle.queue_laws.proofs.Cases.{EventDoes, takes, waits, loses, serves, free
 use Rattle.queue_laws.proofs.Leaves.{HasStationCells, station_shape, take_leaves, wait_leaves, serve_leaves, free_leaves}
 use Rattle.queue_laws.proofs.NetworkStarts.{station_at_start}
 use Rattle.queue_laws.proofs.NetworkSteps.{IsNetworkStep, network_step, cells_here, cells_elsewhere}
-use Rattle.queue_laws.proofs.ServersLaw.{lose_leaves, station_lawful, servers_law}
-use Rattle.total_laws.specs.TotalLaws.{totals_at, EachStationIsAccountedFor}
+use Rattle.queue_laws.proofs.ServersLaw.{lose_leaves, station_lawful, plain_servers_law}
+use Rattle.total_laws.specs.TotalLaws.{totals_at, IsAccountedFor, EachStationIsAccountedFor}
+use Rattle.queue_laws.proofs.PlainRuns.{same_after}
+use Rattle.total_laws.proofs.ToldTotals.{same_sums}
 
 -- totals beside so many busy servers and waiting jobs
 record Balanced (servers busy waiting : ℕ) (sums : Sums) : Type 0 where
@@ -165,22 +167,26 @@ last_is : (told : List TimedWord) → (sums_of told).last ≡ last_told 0 told
 unfolding sums_of
 last_is told = refl
 
+-- the totals over what would be told if no object were quiet or traced
+abbrev plain_totals_at : NetworkParts → Terms → ℕ → ℕ → Sums
+plain_totals_at p t i n = sums_of (words_told i (first_records n (plain_meaning p) t))
+
 -- a station after n events
 Accounts : NetworkParts → Terms → ℕ → Station → ℕ → Type 0
 Accounts p t i station n =
-    Balanced station.servers (busy_at (after_events n (network_meaning p) t) i) (length (waiting_at (after_events n (network_meaning p) t) i)) (totals_at p t i n)
+    Balanced station.servers (busy_at (after_events n (plain_meaning p) t) i) (length (waiting_at (after_events n (plain_meaning p) t) i)) (plain_totals_at p t i n)
 
 -- each record before an event is told no later
 told_before : (p : NetworkParts) (t : Terms) (n : ℕ) (told : Key × Note) (after : State) → IsNetwork p
-    → next (network_meaning p) t (after_events n (network_meaning p) t) ≡ does told after
-    → All (λ (r : Key × Note). time_part r.0.stamp ≤ time_part told.0.stamp) (first_records n (network_meaning p) t)
+    → next (plain_meaning p) t (after_events n (plain_meaning p) t) ≡ does told after
+    → All (λ (r : Key × Note). time_part r.0.stamp ≤ time_part told.0.stamp) (first_records n (plain_meaning p) t)
 told_before p t n told after fine is_next = λ k none within.
-    let m = network_meaning p in
+    let m = plain_meaning p in
     let records = first_records n m t in
     let more : first_records (suc n) m t ≡ records ++ told ∷ [] = gathered-more record_of m t n (does told after) is_next in
     let long : length (records ++ told ∷ []) ≡ length records + 1 = length-append records (told ∷ []) in
     let P : List (Key × Note) → Type 0 = λ rs. (i j : ℕ) (d : Key × Note) → i < j → j < length rs → key_lt (get_or rs i d).0 (get_or rs j d).0 ≡ true in
-    let pairs : P (records ++ told ∷ []) = subst P more (records_ascend m t (network_laws p fine) (suc n)) in
+    let pairs : P (records ++ told ∷ []) = subst P more (records_ascend m t (plain_laws p fine) (suc n)) in
     let lt : key_lt (get_or (records ++ told ∷ []) k none).0 (get_or (records ++ told ∷ []) (length records) none).0 ≡ true =
     pairs k (length records) none within (omega arith) in
     let first = get_or-append records (told ∷ []) none k within in
@@ -192,21 +198,21 @@ told_before p t n told after fine is_next = λ k none within.
 
 -- an event of the station
 told_here : (p : NetworkParts) (t : Terms) (n : ℕ) (told : Key × Note) (after : State) (station : Station) → IsNetwork p
-    → next (network_meaning p) t (after_events n (network_meaning p) t) ≡ does told after
-    → (step : IsNetworkStep p t (after_events n (network_meaning p) t) told after) → IsStationAt p step.step.event.key.dest station
+    → next (plain_meaning p) t (after_events n (plain_meaning p) t) ≡ does told after
+    → (step : IsNetworkStep p t (after_events n (plain_meaning p) t) told after) → IsStationAt p step.step.event.key.dest station
     → Accounts p t step.step.event.key.dest station n
     → Balanced station.servers (busy_at after step.step.event.key.dest) (length (waiting_at after step.step.event.key.dest))
-    (sums_of (words_told step.step.event.key.dest (first_records n (network_meaning p) t ++ told ∷ [])))
+    (sums_of (words_told step.step.event.key.dest (first_records n (plain_meaning p) t ++ told ∷ [])))
 unfolding Accounts
 told_here p t n told after station fine is_next step is before =
-    let m = network_meaning p in
+    let m = plain_meaning p in
     let s : State = after_events n m t in
     let records = first_records n m t in
     let e : Event = step.step.event in
     let d : ℕ = e.key.dest in
     let x : Effect = step.step.effect in
     let cells : CellData = cells_at s d in
-    let good : AreServing s d station = servers_law p t s d station fine (n, refl) is in
+    let good : AreServing s d station = plain_servers_law p t s d station fine (n, refl) is in
     let lawful : IsTrue (is_station_cells station.servers station.line cells) = station_lawful p s d station is step.cells in
     let D : KindOver ℕ → Type 0 = λ kind. EventDoes (site_of p d) cells e kind x in
     let pending : length (in_service_at s d) ≡ length (filter (ends_service_at d) (e ∷ step.step.rest)) =
@@ -232,29 +238,29 @@ told_here p t n told after station fine is_next step is before =
     subst T (sym at) (subst W (sym (words_told-here records (e.key, x.note))) (subst C (sym (cells_here p t s told after step)) on))
 
 accounts_on : (p : NetworkParts) (t : Terms) (i : ℕ) (station : Station) (n : ℕ) (told : Key × Note) (after : State) → IsNetwork p → IsStationAt p i station
-    → next (network_meaning p) t (after_events n (network_meaning p) t) ≡ does told after → Accounts p t i station n → Accounts p t i station (suc n)
+    → next (plain_meaning p) t (after_events n (plain_meaning p) t) ≡ does told after → Accounts p t i station n → Accounts p t i station (suc n)
 unfolding Accounts
 accounts_on p t i station n told after fine is is_next before =
-    let B : State → Type 0 = λ s. Balanced station.servers (busy_at s i) (length (waiting_at s i)) (totals_at p t i (suc n)) in
+    let B : State → Type 0 = λ s. Balanced station.servers (busy_at s i) (length (waiting_at s i)) (plain_totals_at p t i (suc n)) in
     let R : List (Key × Note) → Type 0 = λ records. Balanced station.servers (busy_at after i) (length (waiting_at after i)) (sums_of (words_told i records)) in
-    subst B (sym (after_events-does (network_meaning p) t n told after is_next))
-    (subst R (sym (gathered-more record_of (network_meaning p) t n (does told after) is_next)) (by (eqb i step.step.event.key.dest) refl))
+    subst B (sym (after_events-does (plain_meaning p) t n told after is_next))
+    (subst R (sym (gathered-more record_of (plain_meaning p) t n (does told after) is_next)) (by (eqb i step.step.event.key.dest) refl))
   where
     s : State
-    s = after_events n (network_meaning p) t
+    s = after_events n (plain_meaning p) t
 
     records : List (Key × Note)
-    records = first_records n (network_meaning p) t
+    records = first_records n (plain_meaning p) t
 
-    step : IsNetworkStep p t (after_events n (network_meaning p) t) told after
-    step = network_step p t (after_events n (network_meaning p) t) told after fine (n, refl) is_next
+    step : IsNetworkStep p t (after_events n (plain_meaning p) t) told after
+    step = network_step p t (after_events n (plain_meaning p) t) told after fine (n, refl) is_next
 
     by : (here : Bool) → eqb i step.step.event.key.dest ≡ here
-        → Balanced station.servers (busy_at after i) (length (waiting_at after i)) (sums_of (words_told i (first_records n (network_meaning p) t ++ told ∷ [])))
+        → Balanced station.servers (busy_at after i) (length (waiting_at after i)) (sums_of (words_told i (first_records n (plain_meaning p) t ++ told ∷ [])))
     by true here_is =
         let same : i ≡ step.step.event.key.dest = eqb-true i step.step.event.key.dest here_is in
         let P : ℕ → Type 0 = λ j. IsStationAt p j station → Accounts p t j station n
-        → Balanced station.servers (busy_at after j) (length (waiting_at after j)) (sums_of (words_told j (first_records n (network_meaning p) t ++ told ∷ []))) in
+        → Balanced station.servers (busy_at after j) (length (waiting_at after j)) (sums_of (words_told j (first_records n (plain_meaning p) t ++ told ∷ []))) in
         subst P (sym same) (told_here p t n told after station fine is_next step) is before
     by false apart_is =
         let apart : i ≢ step.step.event.key.dest = λ same. let yes = eq-eqb i step.step.event.key.dest same in cc in
@@ -275,27 +281,35 @@ accounts_first p t i station is =
     subst C (sym (station_at_start p i station is)) (nothing_told station.servers)
 
 accounts_halted : (p : NetworkParts) (t : Terms) (i : ℕ) (station : Station) (n : ℕ) (stop : Stop)
-    → next (network_meaning p) t (after_events n (network_meaning p) t) ≡ stops stop → Accounts p t i station n → Accounts p t i station (suc n)
+    → next (plain_meaning p) t (after_events n (plain_meaning p) t) ≡ stops stop → Accounts p t i station n → Accounts p t i station (suc n)
 unfolding Accounts
 accounts_halted p t i station n stop is_next before =
-    let m = network_meaning p in
-    let B : State → Type 0 = λ s. Balanced station.servers (busy_at s i) (length (waiting_at s i)) (totals_at p t i (suc n)) in
+    let m = plain_meaning p in
+    let B : State → Type 0 = λ s. Balanced station.servers (busy_at s i) (length (waiting_at s i)) (plain_totals_at p t i (suc n)) in
     let R : List (Key × Note) → Type 0 = λ records. Balanced station.servers (busy_at (after_events n m t) i) (length (waiting_at (after_events n m t) i)) (sums_of (words_told i records)) in
     subst B (sym (after_events-stops m t n stop is_next))
     (subst R (sym (gathered-more record_of m t n (stops stop) is_next ∙ append-nil (first_records n m t))) before)
 
-pub totals_law : EachStationIsAccountedFor
+-- the law over the plain meaning
+plain_totals : (p : NetworkParts) (t : Terms) (i : ℕ) (station : Station) (n : ℕ) → IsNetwork p → IsStationAt p i station
+    → IsAccountedFor (plain_totals_at p t i n) (after_events n (plain_meaning p) t) i station
 unfolding Accounts
-totals_law p t i station n fine is =
-    let m = network_meaning p in
+plain_totals p t i station n fine is =
+    let m = plain_meaning p in
     let accounts : Accounts p t i station n =
     each_number m t (Accounts p t i station) (accounts_first p t i station is)
     (λ n stop is_next before. accounts_halted p t i station n stop is_next before)
     (λ n told after is_next before. accounts_on p t i station n told after fine is is_next before) n in
-    let good : AreServing (after_events n m t) i station = servers_law p t (after_events n m t) i station fine (n, refl) is in
+    let good : AreServing (after_events n m t) i station = plain_servers_law p t (after_events n m t) i station fine (n, refl) is in
     record {
       jobs = omega (arith, accounts.jobs, good.under_way);
       busy = accounts.busy_now;
       waiting = accounts.waiting_now;
       busy_ticks = accounts.ticks;
     }
+
+pub totals_law : EachStationIsAccountedFor
+totals_law p t i station n fine is loud =
+    let S : State → Type 0 = λ s. IsAccountedFor (totals_at p t i n) s i station in
+    let T : Sums → Type 0 = λ totals. IsAccountedFor totals (after_events n (plain_meaning p) t) i station in
+    subst S (sym (same_after p t n)) (subst T (sym (same_sums p t i fine loud n)) (plain_totals p t i station n fine is))

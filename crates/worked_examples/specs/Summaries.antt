@@ -45,4 +45,4 @@ entry_at time object = record { time = time; at = object; rank = 0 }
 
 -- an object of a network, by its name and kind
 abbrev pub item_of : List ℕ → KindOver ℕ → Item
-item_of name kind = record { name = name; kind = kind; rank = 0 }
+item_of name kind = record { name = name; kind = kind; rank = 0; quiet = false; trace = false }

@@ -314,3 +314,108 @@ fn a_router_has_at_most_64_ways(rt: HostRuntime) -> Result<(), Fail> {
     }
     Ok(())
 }
+
+#[test]
+fn the_second_format_adds_fields_of_objects(rt: HostRuntime) -> Result<(), Fail> {
+    let shop = replaced(rt.alloc(), SHOP, "format = 1", "format = 2")?;
+    for (old, new, first, second) in [
+        (
+            "count = 3\n",
+            "count = 3\nrank = 0\n",
+            (4u8, 1u32),
+            (0u8, 0u32),
+        ),
+        ("count = 3\n", "count = 3\nrank = 255\n", (4, 1), (0, 0)),
+        ("count = 3\n", "count = 3\nrank = 256\n", (4, 1), (7, 1)),
+        ("count = 3\n", "count = 3\nrank = -1\n", (4, 1), (5, 1)),
+        ("count = 3\n", "count = 0\nrank = 256\n", (5, 1), (5, 1)),
+        ("line = 10\n", "rank = 256\nquiet = 1\n", (4, 2), (7, 2)),
+        (
+            "line = 10\n",
+            "quiet = 1\nrank = \"first\"\n",
+            (4, 2),
+            (5, 2),
+        ),
+        (
+            "line = 10\n",
+            "quiet = true\ntrace = true\n",
+            (4, 2),
+            (0, 0),
+        ),
+        ("line = 10\n", "quiet = true\ntrace = 1\n", (4, 2), (5, 2)),
+        ("line = 10\n", "trace = false\ncolor = 1\n", (4, 2), (4, 2)),
+        (
+            "kind = \"sink\"\n",
+            "kind = \"sink\"\nquiet = true\n",
+            (4, 3),
+            (0, 0),
+        ),
+        (
+            "kind = \"sink\"\n",
+            "kind = \"sink\"\ntrace = false\n",
+            (4, 3),
+            (4, 3),
+        ),
+        (
+            "kind = \"sink\"\n",
+            "kind = \"sink\"\ndue = -1\nrank = 256\n",
+            (5, 3),
+            (5, 3),
+        ),
+    ] {
+        for (text, want) in [(SHOP, first), (shop.as_str(), second)] {
+            let text = replaced(rt.alloc(), text, old, new)?;
+            assert_eq!(rt;
+                refusal_of(rt.alloc(), text.as_bytes()),
+                Some(want),
+                "{text}"
+            );
+        }
+    }
+    Ok(())
+}
+
+#[test]
+fn the_second_format_adds_a_rank_of_jobs(rt: HostRuntime) -> Result<(), Fail> {
+    let jobs = replaced(rt.alloc(), TWO_JOBS, "format = 1", "format = 2")?;
+    for (new, first, second) in [
+        ("time = 4\nrank = 1\n", (4u8, 3u32), (0u8, 0u32)),
+        ("time = 4\nrank = 256\n", (4, 3), (7, 3)),
+        ("time = 4\nrank = 1.0\n", (4, 3), (5, 3)),
+        ("rank = 256\n", (3, 3), (3, 3)),
+        ("time = 4\nquiet = true\n", (4, 3), (4, 3)),
+    ] {
+        for (text, want) in [(TWO_JOBS, first), (jobs.as_str(), second)] {
+            let text = replaced(rt.alloc(), text, "time = 4\n", new)?;
+            assert_eq!(rt;
+                refusal_of(rt.alloc(), text.as_bytes()),
+                Some(want),
+                "{text}"
+            );
+        }
+    }
+    Ok(())
+}
+
+#[test]
+fn initial_events_have_the_ranks_of_sources_and_jobs(rt: HostRuntime) -> Result<(), Fail> {
+    let text = replaced(rt.alloc(), SHOP, "format = 1", "format = 2")?;
+    let text = replaced(
+        rt.alloc(),
+        text.as_str(),
+        "count = 3\n",
+        "count = 3\nrank = 7\n",
+    )?;
+    let job = "kind = \"sink\"\n\n[[job]]\ntime = 2\nat = \"s\"\nrank = 9\n";
+    let text = replaced(rt.alloc(), text.as_str(), "kind = \"sink\"\n", job)?;
+    let read = read_model(rt.alloc(), text.as_bytes());
+    assert!(rt; read.is_ok(), "{text}");
+    if let Ok((model, _terms)) = read {
+        assert_eq!(rt; model.starts(), 2);
+        if model.starts() == 2 {
+            assert_eq!(rt; model.start(0).rank, 7);
+            assert_eq!(rt; model.start(1).rank, 9);
+        }
+    }
+    Ok(())
+}

@@ -94,6 +94,7 @@ fn any_sink_may_stand_behind(rt: HostRuntime) -> Result<(), Fail> {
     let mut sink = GatheringSink::new(alloc, StdSink::new(&mut written));
     write_all(&mut sink, b"end 9 events 3\n")?;
     sink.flush()?;
+    drop(sink);
     assert_eq!(rt; written.as_slice(), b"end 9 events 3\n".as_slice());
     Ok(())
 }

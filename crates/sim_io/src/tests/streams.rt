@@ -106,3 +106,54 @@ fn a_reader_and_a_writer_that_fail(rt: HostRuntime) -> Result<(), Fail> {
     assert_eq!(rt; small.as_slice(), b"in ar".as_slice());
     Ok(())
 }
+
+/// Fails at its second call and at no other, in the way after which std's own loops try again. Each other call moves a byte.
+#[derive(Drop)]
+struct FailsOnce {
+    calls: u64,
+}
+
+impl FailsOnce {
+    fn call(&mut self) -> io::Result<()> {
+        self.calls = self.calls.saturating_add(1);
+        if self.calls == 2 {
+            return Err(io::Error::from(ErrorKind::Interrupted));
+        }
+        Ok(())
+    }
+}
+
+impl Read for FailsOnce {
+    fn read(&mut self, into: &mut [u8]) -> io::Result<usize> {
+        self.call()?;
+        Ok(into.len().min(1))
+    }
+}
+
+impl Write for FailsOnce {
+    fn write(&mut self, bytes: &[u8]) -> io::Result<usize> {
+        self.call()?;
+        Ok(bytes.len().min(1))
+    }
+
+    fn flush(&mut self) -> io::Result<()> {
+        Ok(())
+    }
+}
+
+#[test]
+fn a_call_that_fails_once_is_told_and_not_tried_again(rt: HostRuntime) -> Result<(), Fail> {
+    let mut reader = FailsOnce { calls: 0 };
+    match read_all(rt.alloc(), &mut StdSource::new(&mut reader)) {
+        Ok(_) => panic!(rt; "the reader fails"),
+        Err(end) => assert_eq!(rt; end, ReadEnd::Failed),
+    }
+    assert_eq!(rt; reader.calls, 2);
+    let mut writer = FailsOnce { calls: 0 };
+    assert_eq!(rt;
+        write_all(&mut StdSink::new(&mut writer), TEXT),
+        Err(Failed)
+    );
+    assert_eq!(rt; writer.calls, 2);
+    Ok(())
+}

@@ -14,5 +14,5 @@ invariant-loop-value l =
       place : l.item ≡ l.first_item + l.value-index;
       count : length l.jobs.items ≡ l.value-index;
       linked : All (IsLinkedJob (finder l.directory)) l.jobs.items;
-      so_far : with_front l.jobs.items (each_from (job (finder l.directory)) l.item (items_view (drop l.value-index l.values))) ≡ jobs_from (finder l.directory) l.first_item (items_view l.values);
+      so_far : with_front l.jobs.items (each_from (job l.format (finder l.directory)) l.item (items_view (drop l.value-index l.values))) ≡ jobs_from l.format (finder l.directory) l.first_item (items_view l.values);
     }

@@ -11,14 +11,14 @@ pub returns-in_err-items : goal.returns-in_err-items
 returns-in_err-items c =
     let refused = err_from_is_err_and c.from_residual.result c.from_residual.ensures.1 in
     rw (refused.1, refused.2)
-    (links_fail c.args.seed c.args.named.items (finder c.args.directory.now) (items_view c.args.entries.now) c.in_err-items.field-0.0 c.requires.found c.in_err-items.ensures)
+    (links_fail c.args.format c.args.seed c.args.named.items (finder c.args.directory.now) (items_view c.args.entries.now) c.in_err-items.field-0.0 c.requires.found c.in_err-items.ensures)
 
 pub returns-in_err-jobs : goal.returns-in_err-jobs
 returns-in_err-jobs c =
     let refused = err_from_is_err_and c.from_residual-in_err-jobs.result c.from_residual-in_err-jobs.ensures.1 in
     let at : c.first_job_item-first_job.result ≡ length c.args.named.items + 1 = c.first_job_item-first_job.ensures ∙ ap (λ (os : List NamedItem). length os + 1) c.deref.ensures.value in
     rw (refused.1, refused.2)
-    (jobs_fail c.args.seed c.args.named.items (finder c.args.directory.now) (items_view c.args.entries.now) c.in_ok-items.items.items _ c.in_err-jobs.field-0.0
+    (jobs_fail c.args.format c.args.seed c.args.named.items (finder c.args.directory.now) (items_view c.args.entries.now) c.in_ok-items.items.items _ c.in_err-jobs.field-0.0
     c.requires.found at c.in_ok-items.ensures c.in_err-jobs.ensures.read)
 
 pub make-requires : goal.make-requires
@@ -30,6 +30,6 @@ make-requires c =
 pub returns : goal.returns
 returns c =
     let at : c.first_job_item-first_job.result ≡ length c.args.named.items + 1 = c.first_job_item-first_job.ensures ∙ ap (λ (os : List NamedItem). length os + 1) c.deref.ensures.value in
-    jobs_done c.args.seed c.args.named.items (finder c.args.directory.now) (items_view c.args.entries.now) c.in_ok-items.items.items _ c.in_ok-jobs.jobs.items
+    jobs_done c.args.format c.args.seed c.args.named.items (finder c.args.directory.now) (items_view c.args.entries.now) c.in_ok-items.items.items _ c.in_ok-jobs.jobs.items
     c.requires.found at c.in_ok-items.ensures c.in_ok-jobs.ensures.read
     ∙ ap (λ m. Ok m) (sym c.in_ok-make.ensures)

@@ -15,7 +15,7 @@ returns-in_err-object-clause-read c =
     let refused = err_from_is_err_and c.from_residual.result c.from_residual.ensures.1 in
     let number : c.len-number.result ≡ length c.loop-value.objects.items = omega arith in
     rw (refused.1, refused.2)
-    (objects_end c.loop-value.objects.items (finder c.loop-value.directory) c.in_err-object.field-0.0 (c.len-number.result + 1) c.loop-value.value-index c.args.values.now c.value-item.result _
+    (objects_end c.args.format c.loop-value.objects.items (finder c.loop-value.directory) c.in_err-object.field-0.0 (c.len-number.result + 1) c.loop-value.value-index c.args.values.now c.value-item.result _
     c.loop-value-test.true c.value-item.is c.loop-value.invariant.found (ap (λ n. n + 1) number) c.in_err-object.ensures.read c.loop-value.invariant.so_far)
 
 pub loop-value-preserved : goal.loop-value-preserved
@@ -34,7 +34,7 @@ loop-value-preserved c =
       in_range = rw pushed (All-push IsNamedItem before o c.loop-value.invariant.in_range c.in_ok-object.ensures.in_range);
       names_differ = rw pushed (all_pairs_push (λ (a b : NamedItem). a.name ≢ b.name) before o c.loop-value.invariant.names_differ
           (names-new (λ (object : NamedItem). object.name) place_of before 0 o.name (sym (ap (λ f. f o.name) c.loop-value.invariant.found) ∙ absent)));
-      so_far = rw pushed (objects_go_on before find (c.len-number.result + 1) c.loop-value.value-index c.args.values.now c.value-item.result o _
+      so_far = rw pushed (objects_go_on c.args.format before find (c.len-number.result + 1) c.loop-value.value-index c.args.values.now c.value-item.result o _
           c.loop-value-test.true c.value-item.is c.loop-value.invariant.found (ap (λ n. n + 1) number) c.in_ok-object.ensures.read c.loop-value.invariant.so_far);
     }
 

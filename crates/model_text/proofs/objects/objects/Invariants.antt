@@ -14,5 +14,5 @@ invariant-loop-value l =
       found : finder l.directory ≡ place_in l.objects.items;
       in_range : All IsNamedItem l.objects.items;
       names_differ : AllPairs (λ (a b : NamedItem). a.name ≢ b.name) l.objects.items;
-      so_far : objects_after l.objects.items (items_view (drop l.value-index l.values)) ≡ objects (items_view l.values);
+      so_far : objects_after l.format l.objects.items (items_view (drop l.value-index l.values)) ≡ objects l.format (items_view l.values);
     }

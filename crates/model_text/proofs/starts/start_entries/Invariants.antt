@@ -13,5 +13,5 @@ invariant-loop-value l =
       place : l.item ≡ l.value-index + 1;
       count : length l.entries.items ≡ l.value-index;
       entries : All (IsEntry l.objects) l.entries.items;
-      so_far : with_front l.entries.items (each_from (start_entry l.objects) l.item (items_view (drop l.value-index l.values))) ≡ start_entries l.objects (items_view l.values);
+      so_far : with_front l.entries.items (each_from (start_entry l.format l.objects) l.item (items_view (drop l.value-index l.values))) ≡ start_entries l.format l.objects (items_view l.values);
     }

@@ -1,4 +1,4 @@
-use Rattle.std.proofs.Common.{◌≡◌, ◌≤◌, ◌+◌, ◌∙◌, ap, length, arith}
+use Rattle.std.proofs.Common.{◌≡◌, ◌∙◌, ap, arith}
 use Rattle.event_key.specs.Stamps.{end_stamp}
 use Rattle.node_team.proofs.AdvanceLemmas.{held-floor, advancing-first, advancing-more, advancing-refused, idle-later}
 use Rattle.node_team.proofs.advancing.advance.Goals as goal

@@ -1,5 +1,4 @@
 use Rattle.std.proofs.Common.{◌≡◌, ◌≤◌, ◌+◌, length}
-use Rattle.event_key.specs.Stamps.{end_stamp}
 use Rattle.node_team.specs.Advances.{IsIdleBelow}
 use Rattle.node_team.proofs.AdvanceLemmas.{IsAdvancing}
 use Rattle.node_team.proofs.advancing.advance.Given as goal

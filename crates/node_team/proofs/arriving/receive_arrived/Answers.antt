@@ -1,6 +1,6 @@
-use Rattle.std.proofs.Common.{◌≡◌, ◌∙◌, ap, sym, arith, length, map, get_or, refl}
+use Rattle.std.proofs.Common.{◌∙◌, ap, sym, arith, map, refl}
 use Rattle.std.proofs.lemmas.Option.{slice_get-get_or, slice_get_within}
-use Rattle.std.specs.Prelude.{Some, slice_get}
+use Rattle.std.specs.Prelude.{Some}
 use Rattle.cycle_core.proofs.EndingLemmas.{receive-none, receive-more}
 use Rattle.node_team.specs.Releases.{arrived_in}
 use Rattle.node_team.proofs.ReleaseLemmas.{at-mapped, taken-none, taken-more}

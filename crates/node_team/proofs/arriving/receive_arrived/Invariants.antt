@@ -1,5 +1,4 @@
-use Rattle.std.proofs.Common.{◌≡◌, ◌<◌, ◌≤◌, ℕ, [], length, map}
-use Rattle.std.specs.Prelude.{slice_get, Some}
+use Rattle.std.proofs.Common.{map}
 use Rattle.cycle_core.specs.Ends.{ReceiveUpto}
 use Rattle.node_team.specs.Releases.{arrived_in}
 use Rattle.node_team.proofs.ReleaseLemmas.{AreTakenUpto}

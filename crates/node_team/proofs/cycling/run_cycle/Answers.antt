@@ -1,6 +1,6 @@
 use Rattle.std.proofs.Common.{◌≡◌, ◌+◌, ℕ, length, sym, ◌∙◌, subst, arith}
 use Rattle.sim_spec.specs.Cut.{after}
-use Rattle.cycle_core.specs.Worlds.{WorldView, StandsAt}
+use Rattle.cycle_core.specs.Worlds.{StandsAt}
 use Rattle.node_team.proofs.CycleLemmas.{stands-two, closed-two, threaded-cycle}
 use Rattle.node_team.proofs.RiseLemmas.{all-rise}
 use Rattle.node_team.proofs.RunningLemmas.{run-works}

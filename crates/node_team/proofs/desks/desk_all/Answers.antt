@@ -1,6 +1,5 @@
-use Rattle.std.proofs.Common.{◌≡◌, length, refl, sym, ap, ◌∙◌, subst, arith}
-use Rattle.cycle_core.specs.Places.{AtEach}
-use Rattle.node_team.specs.Desks.{node_at, end_at, commit_at, inbox_at, AreNumbered}
+use Rattle.std.proofs.Common.{◌≡◌, length, refl, ap, ◌∙◌, arith}
+use Rattle.node_team.specs.Desks.{node_at, end_at, commit_at, inbox_at}
 use Rattle.node_team.proofs.DeskLemmas.{at-last, gone-many, moved-on, none-left}
 use Rattle.node_team.proofs.desks.desk_all.Goals as goal
 

@@ -1,7 +1,7 @@
-use Rattle.std.proofs.Common.{◌≡◌, ℕ, ◌<◌, ◌^◌, List, [], ◌∷◌, length, map, sym, ap, subst, ◌∙◌, arith}
+use Rattle.std.proofs.Common.{◌≡◌, ℕ, ◌<◌, ◌^◌, List, [], length, map, sym, ap, subst, ◌∙◌, arith}
 use Rattle.std.specs.Prelude.{IsPermutation, Some, slice_get}
 use Rattle.std.specs.List.{AllByRecursion}
-use Rattle.std.proofs.lemmas.List.{length-map}
+use Rattle.std.proofs.lemmas.List.{length-map, with_items_is}
 use Rattle.parcel_exchange.specs.declared.inbox.Inbox.{Inbox}
 use Rattle.parcel_exchange.specs.Inboxes.{coming, HasArrived}
 use Rattle.node_core.specs.declared.committed.Committed.{Committed}
@@ -15,7 +15,6 @@ use Rattle.cycle_core.specs.Records.{AreInOrder, RecordsDiffer, HaveGiven}
 use Rattle.cycle_core.proofs.CyclingLemmas.{sends-to}
 use Rattle.cycle_core.proofs.GivenLemmas.{blank-again, ordered-sent, told-sent}
 use Rattle.cycle_core.proofs.RecordLemmas.{parts-ordered}
-use Rattle.cycle_core.proofs.ValueLemmas.{items-over}
 use Rattle.node_team.specs.Releases.{arrived_in}
 use Rattle.node_team.proofs.EndingLemmas.{inboxes-many, released-sent, released-same, released-few, released-arrives, arrived-early}
 use Rattle.node_team.proofs.ending.end_nodes.Goals as goal
@@ -45,7 +44,7 @@ receive_arrived-requires-clause-can g c κs within =
     let later = c.receive_all.new.inboxes in
     let slice = c.as_mut_slice.ensures.value in
     let many : length later ≡ length inboxes.items = c.receive_all.auto.inboxes ∙ ap length slice in
-    let whole = items-over inboxes later many in
+    let whole = with_items_is inboxes later (many ∙ sym inboxes.ok.0) in
     let A : List Inbox → Type 0 = λ l. (to : ℕ) (x y : Inbox) → slice_get l to ≡ Some x → slice_get later to ≡ Some y → HasArrived (length l) (λ from. g.L.Lanes.rest lanes from to) x y in
     let arrived = subst A slice c.receive_all.ensures.arrived in
     let mids = c.in_ok-released.released.nodes.items in
@@ -67,7 +66,7 @@ receive_arrived-requires-clause-early g c κs within =
     let later = c.receive_all.new.inboxes in
     let slice = c.as_mut_slice.ensures.value in
     let many : length later ≡ length inboxes.items = c.receive_all.auto.inboxes ∙ ap length slice in
-    let whole = items-over inboxes later many in
+    let whole = with_items_is inboxes later (many ∙ sym inboxes.ok.0) in
     let A : List Inbox → Type 0 = λ l. (to : ℕ) (x y : Inbox) → slice_get l to ≡ Some x → slice_get later to ≡ Some y → HasArrived (length l) (λ from. g.L.Lanes.rest lanes from to) x y in
     let arrived = subst A slice c.receive_all.ensures.arrived in
     let P : List Inbox → Type 0 = λ l. AtEach (λ place inbox. inbox.early.items ≡ []) l in
@@ -102,7 +101,7 @@ returns-clause-ended g c =
     let later = c.receive_all.new.inboxes in
     let slice = c.as_mut_slice.ensures.value in
     let many : length later ≡ length inboxes.items = c.receive_all.auto.inboxes ∙ ap length slice in
-    let whole = items-over inboxes later many in
+    let whole = with_items_is inboxes later (many ∙ sym inboxes.ok.0) in
     let A : List Inbox → Type 0 = λ l. (to : ℕ) (x y : Inbox) → slice_get l to ≡ Some x → slice_get later to ≡ Some y → HasArrived (length l) (λ from. g.L.Lanes.rest lanes from to) x y in
     let arrived = subst A slice c.receive_all.ensures.arrived in
     let mids = c.in_ok-released.released.nodes.items in
@@ -115,7 +114,7 @@ returns-clause-ended g c =
     let new = c.receive_arrived.new.nodes in
     let R : List Inbox → List (NodeView g.row.M.Denot) → Type 0 = λ l ns. ReceiveUpto g.M.Model.meaning (length ns) (map arrived_in l) ns new in
     let receives = subst (λ ns. R later ns) c.as_mut_slice-2.ensures.value (subst (λ l. R l c.as_mut_slice-2.result.now) (c.as_mut_slice-3.ensures.value ∙ whole) c.in_ok-receive_arrived.ensures.received) in
-    let whole_nodes = items-over c.in_ok-released.released.nodes new (c.receive_arrived.auto.nodes ∙ ap length c.as_mut_slice-2.ensures.value) in
+    let whole_nodes = with_items_is c.in_ok-released.released.nodes new (c.receive_arrived.auto.nodes ∙ ap length c.as_mut_slice-2.ensures.value ∙ sym c.in_ok-released.released.nodes.ok.0) in
     let records = c.in_ok-records.records in
     let H : List (NodeView g.row.M.Denot) → Type 0 = λ ns. HaveEnded g.M.Model.meaning c.args.due.now.bound c.args.due.now.below c.args.parts.nodes.items ns records.items in
     subst H (sym whole_nodes) record {
@@ -147,4 +146,4 @@ returns-clause-blank g c =
     let sent = released-sent g.L.End.NodeEnd g.M.Model.meaning c.args.due.now c.args.parts c.in_ok-released.released c.requires.can c.in_ok-released.ensures in
     let G : List Committed → Type 0 = λ l. HaveGiven l c.merge.new.committed in
     let blank = blank-again nodes released.handed committed.items c.merge.new.committed released.committed.count sends sent (subst G c.as_mut_slice-4.ensures.value c.in_ok-records.ensures.given) in
-    subst (AreBlank nodes) (sym (items-over committed c.merge.new.committed (c.merge.auto.committed ∙ ap length c.as_mut_slice-4.ensures.value))) blank
+    subst (AreBlank nodes) (sym (with_items_is committed c.merge.new.committed (c.merge.auto.committed ∙ ap length c.as_mut_slice-4.ensures.value ∙ sym committed.ok.0))) blank

@@ -1,4 +1,4 @@
-use Rattle.std.proofs.Common.{◌≡◌, ◌<◌, get_or, length, sym, ◌∙◌, subst, arith}
+use Rattle.std.proofs.Common.{length, sym, ◌∙◌, arith}
 use Rattle.std.proofs.lemmas.Option.{slice_get-get_or}
 use Rattle.node_team.proofs.ReleaseLemmas.{posted-more, posted-all, free-number, free-wide, free-slots}
 use Rattle.node_team.proofs.posting.post_in_turn.Goals as goal

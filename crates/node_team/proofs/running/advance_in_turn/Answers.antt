@@ -1,4 +1,4 @@
-use Rattle.std.proofs.Common.{rules, ◌≡◌, sym, ◌∙◌, arith, add-one, length}
+use Rattle.std.proofs.Common.{rules, ◌≡◌, sym, ◌∙◌, arith, add-one}
 use Rattle.std.proofs.lemmas.Option.{slice_get-get_or}
 use Rattle.cycle_core.proofs.PlaceLemmas.{upto-more, upto-all}
 use Rattle.node_team.specs.Forks.{HasRun}

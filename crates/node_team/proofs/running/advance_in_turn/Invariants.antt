@@ -1,4 +1,4 @@
-use Rattle.std.proofs.Common.{◌≡◌, ◌≤◌, ◌+◌, ℕ, length}
+use Rattle.std.proofs.Common.{◌≡◌, ◌≤◌, ◌+◌, length}
 use Rattle.std.specs.Prelude.{All}
 use Rattle.node_team.proofs.RunningLemmas.{AreRunning}
 use Rattle.node_team.proofs.running.advance_in_turn.Given as goal

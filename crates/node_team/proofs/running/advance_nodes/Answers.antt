@@ -1,7 +1,7 @@
 use Rattle.std.proofs.Common.{◌≡◌, sym, ap, ◌∙◌, subst, length, map}
 use Rattle.std.specs.Prelude.{IfOk, OnOk}
 use Rattle.std.proofs.lemmas.Slice.Zip.{AllZip-long}
-use Rattle.cycle_core.proofs.ValueLemmas.{items-over}
+use Rattle.std.proofs.lemmas.List.{with_items_is}
 use Rattle.node_team.specs.Forks.{AllCanGo, HasGone}
 use Rattle.node_team.specs.Teams.{node_in, AllAnswered}
 use Rattle.node_team.proofs.SeatingLemmas.{all-can-go, unseated-run}
@@ -20,7 +20,7 @@ returns-in_ok-all-in-InParts g c =
     let all = c.in_ok-all-in-InParts.all in
     let slice = c.as_mut_slice-in-InParts in
     let are : map node_in slice.result.now ≡ c.args.nodes.items = ap (map node_in) slice.ensures.value ∙ c.in_ok-all-in-InParts.ensures.nodes in
-    let over = items-over all new (AllZip-long (HasGone (g.M.Model.meaning) c.args.word.now c.args.ahead) slice.result.now new gone ∙ ap length slice.ensures.value) in
+    let over = with_items_is all new (AllZip-long (HasGone (g.M.Model.meaning) c.args.word.now c.args.ahead) slice.result.now new gone ∙ ap length slice.ensures.value ∙ sym all.ok.0) in
     unseated-run (g.M.Model.meaning) c.args.word.now c.args.ahead c.args.nodes.items slice.result.now new c.unseat_all.result are gone
     (subst (λ ns. IfOk c.unseat_all.result (λ now. now.items ≡ map node_in ns)) over c.unseat_all.ensures.nodes)
     (subst (λ ns. OnOk c.unseat_all.result (AllAnswered ns)) over c.unseat_all.ensures.answers)

@@ -11,8 +11,8 @@ use Rattle.one_thread.proofs.bucket.fire_bucket.Goals as goal
 
 pub turns-init : goal.turns-init
 turns-init g c =
-    starts (g.M.Model.meaning c.args.model.now) c.args.terms.now (state_of c.args.course.now) c.new-done.result.items c.merge.new.self
-    c.new-done.ensures.items c.merge.ensures.state c.merge.ensures.fresh c.requires
+    starts (g.M.Model.meaning c.args.model.now) c.args.terms.now (state_of c.args.course.now) c.in_ok-done.done.items c.merge.new.self
+    c.in_ok-done.ensures.items c.merge.ensures.state c.merge.ensures.fresh c.requires
 
 pub turns-preserved : goal.turns-preserved
 turns-preserved g c =

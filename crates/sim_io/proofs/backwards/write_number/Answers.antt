@@ -1,5 +1,5 @@
 -- A number of 64 bits has at most 20 digits.
-use Rattle.std.proofs.Common.{arith, rules}
+use Rattle.std.proofs.Common.{arith}
 use Rattle.std.proofs.lemmas.Fmt.{length-decimal-le}
 use Rattle.sim_io.proofs.backwards.write_number.Goals as goal
 

@@ -1,5 +1,5 @@
 -- The texts that were written one before another.
-use Rattle.std.proofs.Common.{◌≡◌, ℕ, List, [], ◌∷◌, ◌++◌, ap, ◌∙◌, append_assoc}
+use Rattle.std.proofs.Common.{◌≡◌, ℕ, [], ◌∷◌, ◌++◌, ap, ◌∙◌, append_assoc}
 use Rattle.std.specs.Prelude.{codes, decimal}
 use Rattle.sim_io.specs.Texts.{stamp_text}
 use Rattle.sim_io.proofs.BackwardsLemmas.{WritesBefore-next, text_before}

@@ -1,6 +1,6 @@
 -- The texts that were written one before another.
 use Rattle.std.proofs.Common.{◌≡◌, ℕ, List, [], ◌∷◌, ◌++◌, ap, ◌∙◌, append_assoc}
-use Rattle.std.specs.Prelude.{codes, decimal}
+use Rattle.std.specs.Prelude.{codes}
 use Rattle.sim_io.specs.Texts.{part_text}
 use Rattle.sim_io.proofs.BackwardsLemmas.{WritesBefore-next, text_before}
 use Rattle.sim_io.proofs.lines.put_tail.Goals as goal

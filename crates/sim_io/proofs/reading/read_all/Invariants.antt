@@ -1,4 +1,4 @@
-use Rattle.std.proofs.Common.{◌≤◌, ◌-◌, vec_len}
+use Rattle.std.proofs.Common.{◌≡◌, ◌≤◌, ◌-◌, vec_len}
 use Rattle.std.specs.Io.KnownBytes.{Consumes}
 use Rattle.sim_io.proofs.reading.read_all.Given as goal
 use Rattle.sim_io.specs.declared.reading.TheConstants.{ENOUGH_BYTES}
@@ -9,6 +9,7 @@ invariant-loop-source g l =
       taken : Consumes (g.S.Source.left l.initial.source) (g.S.Source.left l.source) l.bytes.items;
       short : vec_len l.bytes ≤ ENOUGH_BYTES;
       later : g.S.Source.faults l.initial.source ≤ g.S.Source.faults l.source;
+      quiet : g.S.Source.faults l.source ≡ g.S.Source.faults l.initial.source;
     }
 
 abbrev pub decreases-loop-source : goal.decreases-loop-source

@@ -10,4 +10,5 @@ loop-at-preserved g c =
       within = search rules;
       taken = rw take-add (Appends-trans _ _ _ _ _ c.loop-at.invariant.taken (rw c.split_at.ensures.back at c.in-Ok.ensures.taken));
       later = omega (arith, c.loop-at.invariant.later, c.in-Ok.ensures.cause.later);
+      quiet = search rules;
     }

@@ -1,4 +1,4 @@
-use Rattle.std.proofs.Common.{length, take, ◌-◌, ◌≤◌}
+use Rattle.std.proofs.Common.{◌≡◌, length, take, ◌-◌, ◌≤◌}
 use Rattle.std.specs.Io.KnownBytes.{Appends}
 use Rattle.sim_io.proofs.writing.write_prefix.Given as goal
 
@@ -8,6 +8,7 @@ invariant-loop-at g l =
       within : l.at ≤ length l.bytes;
       taken : Appends (g.K.Sink.told l.initial.sink) (g.K.Sink.told l.sink) (take l.at l.bytes);
       later : g.K.Sink.faults l.initial.sink ≤ g.K.Sink.faults l.sink;
+      quiet : g.K.Sink.faults l.sink ≡ g.K.Sink.faults l.initial.sink;
     }
 
 abbrev pub decreases-loop-at : goal.decreases-loop-at

@@ -43,6 +43,7 @@ cycles-init g c =
       kept = c.in_ok-report.ensures ∙ ap (λ n. report_of n c.args.settings []) c.objects.ensures;
       told = subst (Appends (g.K.Sink.told c.args.sink.now) (g.K.Sink.told c.args.sink.now)) (sym (none_so_far m c.args.settings)) (Appends-nil (g.K.Sink.told c.args.sink.now));
       later = omega arith;
+      quiet = refl;
     }
 
 pub put-requires-after_bounds : goal.put-requires-after_bounds
@@ -174,4 +175,5 @@ cycles-preserved g c =
       kept = c.add.ensures.kept _ c.args.settings i.so_far i.kept;
       told = bucket-told _ c.args.terms.now c.args.settings _ _ i.so_far i.told c.cycles.report i.kept b c.cycles.number _ i.numbered (subst P lines c.in_ok-write_all-2.ensures.all);
       later = omega (arith, i.later, c.in_ok-write_all-2.ensures.cause.later);
+      quiet = c.in_ok-write_all-2.ensures.quiet ∙ i.quiet;
     }

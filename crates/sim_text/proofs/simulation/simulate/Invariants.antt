@@ -22,6 +22,7 @@ invariant-cycles g l =
       kept : l.report ≡ report_of m.objects l.fn.settings so_far;
       told : Appends (g.K.Sink.told l.fn.sink) (g.K.Sink.told l.sink) (lines_so_far m l.fn.settings so_far);
       later : g.K.Sink.faults l.fn.sink ≤ g.K.Sink.faults l.sink;
+      quiet : g.K.Sink.faults l.sink ≡ g.K.Sink.faults l.fn.sink;
     }
 
 abbrev pub decreases-cycles : goal.decreases-cycles

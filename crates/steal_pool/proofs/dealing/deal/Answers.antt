@@ -1,8 +1,7 @@
-use Rattle.std.proofs.Common.{◌≡◌, ◌+◌, ◌<◌, ◌%◌, ◌∙◌, add-one, ap, arith, drop, length, rules, set, subst, sym}
-use Rattle.std.specs.Prelude.{Some, sum_by, nat_lt, if◌then◌else◌}
+use Rattle.std.proofs.Common.{◌≡◌, ◌<◌, ◌%◌, ◌∙◌, ap, arith, drop, length, set, subst, sym}
+use Rattle.std.specs.Prelude.{Some, nat_lt, if◌then◌else◌}
 use Rattle.std.proofs.lemmas.List.{length-drop, length-set}
 use Rattle.std.proofs.lemmas.Option.{slice_get-get_or}
-use Rattle.steal_pool.specs.Workers.{put_at}
 use Rattle.steal_pool.proofs.PlaceLemmas.{from-place}
 use Rattle.steal_pool.proofs.DealLemmas.{Dealing, dealing-none, dealing-more}
 use Rattle.steal_pool.proofs.dealing.deal.Goals as goal

@@ -1,5 +1,5 @@
 use Rattle.std.specs.Prelude.{All, IsOk}
-use Rattle.std.proofs.Common.{◌≤◌, arith, length, map}
+use Rattle.std.proofs.Common.{arith, map}
 use Rattle.std.proofs.lemmas.List.{length-map}
 use Rattle.steal_pool.specs.Workers.{own_mark}
 use Rattle.steal_pool.proofs.TogetherLemmas.{hired-can, have-worked, on-ok}

@@ -1,7 +1,7 @@
-use Rattle.std.proofs.Common.{All, ◌≡◌, ◌+◌, ◌<◌, ap, add-one, get_or, arith, refl, rules, subst, sym, ◌∙◌}
+use Rattle.std.proofs.Common.{All, ap, add-one, get_or, arith, subst, sym}
 use Rattle.std.proofs.lemmas.List.{get_or_default}
 use Rattle.steal_pool.specs.Workers.{HasEnded, own_mark}
-use Rattle.steal_pool.proofs.PlaceLemmas.{upto-length, upto-more, upto-next, upto-all}
+use Rattle.steal_pool.proofs.PlaceLemmas.{upto-more, upto-next, upto-all}
 use Rattle.steal_pool.proofs.WorkerLemmas.{at-place}
 use Rattle.steal_pool.proofs.gathering.do_rest.Goals as goal
 

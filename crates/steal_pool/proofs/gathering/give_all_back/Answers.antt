@@ -1,7 +1,6 @@
-use Rattle.std.proofs.Common.{◌≡◌, ◌<◌, ◌∙◌, ap, arith, length, map, subst, sym}
-use Rattle.std.proofs.lemmas.List.{length-map}
+use Rattle.std.proofs.Common.{◌∙◌, ap, arith, map, subst, sym}
 use Rattle.std.specs.Prelude.{sum_by}
-use Rattle.steal_pool.specs.Workers.{ArePasses, own_mark, own_taken, taken_at}
+use Rattle.steal_pool.specs.Workers.{ArePasses, own_mark, taken_at}
 use Rattle.steal_pool.proofs.GatherLemmas.{all-returned, half-marks, returning-more, returning-none}
 use Rattle.steal_pool.proofs.gathering.give_all_back.Goals as goal
 

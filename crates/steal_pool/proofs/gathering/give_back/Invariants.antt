@@ -1,4 +1,4 @@
-use Rattle.std.proofs.Common.{◌≡◌, ◌+◌, ◌++◌, ℕ, drop, map, length}
+use Rattle.std.proofs.Common.{◌≡◌, ◌+◌, ℕ, drop, map}
 use Rattle.std.specs.Prelude.{All, sum_by}
 use Rattle.steal_pool.specs.Ends.{mark, parts}
 use Rattle.steal_pool.specs.Workers.{HasGotBack, own_mark, own_taken, taken_at}

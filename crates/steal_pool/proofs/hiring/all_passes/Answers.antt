@@ -1,4 +1,4 @@
-use Rattle.std.proofs.Common.{All, ◌≡◌, ◌+◌, ◌-◌, ◌++◌, ◌∷◌, [], ap, arith, length, map, rules, subst, sym, ◌∙◌}
+use Rattle.std.proofs.Common.{All, ◌≡◌, ◌+◌, ◌-◌, arith, map, rules, subst, sym, ◌∙◌}
 use Rattle.std.proofs.lemmas.List.Elements.{All-push}
 use Rattle.steal_pool.specs.Tallies.{WHOLE}
 use Rattle.steal_pool.specs.Ends.{IsFresh, mark}

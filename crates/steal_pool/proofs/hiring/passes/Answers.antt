@@ -1,4 +1,4 @@
-use Rattle.std.proofs.Common.{All, ◌≡◌, ◌+◌, ◌<◌, ◌++◌, ◌∷◌, [], ap, add-one, arith, get_or, map, refl, rules, subst, sym, ◌∙◌}
+use Rattle.std.proofs.Common.{All, ◌≡◌, ◌<◌, ap, add-one, arith, map, refl, rules, subst, sym, ◌∙◌}
 use Rattle.std.proofs.Math.Seq.{map-set_same}
 use Rattle.std.proofs.lemmas.List.{length-map, take_all}
 use Rattle.std.proofs.lemmas.List.Elements.{All-push, AllZip-get_or}

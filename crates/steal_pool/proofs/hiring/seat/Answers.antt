@@ -1,5 +1,4 @@
-use Rattle.std.proofs.Common.{All, ◌≡◌, ◌-◌, ◌∷◌, ◌++◌, [], ◌∙◌, ap, append_assoc, arith, length, map, refl, rules, subst, sym}
-use Rattle.std.specs.Prelude.{MatchOption, IfSome}
+use Rattle.std.proofs.Common.{All, ◌-◌, ◌∷◌, ◌++◌, [], ◌∙◌, ap, append_assoc, arith, length, map, subst, sym}
 use Rattle.std.proofs.lemmas.List.{length-append, length-map, map-append}
 use Rattle.std.proofs.lemmas.List.Elements.{All-head, All-pop, All-push}
 use Rattle.std.proofs.lemmas.Option.{MatchOption-at_some}

@@ -1,7 +1,6 @@
-use Rattle.std.proofs.Common.{◌≡◌, ◌++◌, ◌-◌, length, map}
+use Rattle.std.proofs.Common.{◌≡◌, ◌++◌, length, map}
 use Rattle.std.specs.Prelude.{All}
-use Rattle.steal_pool.specs.Tallies.{WHOLE}
-use Rattle.steal_pool.specs.Ends.{IsFresh, mark}
+use Rattle.steal_pool.specs.Ends.{mark}
 use Rattle.steal_pool.specs.Workers.{AreNew, IsHired, own_mark}
 use Rattle.steal_pool.proofs.hiring.seat.Given as goal
 

@@ -1,4 +1,4 @@
-use Rattle.std.proofs.Common.{◌≡◌, ◌∷◌, ◌++◌, [], ◌∙◌, ap, arith, length, sym}
+use Rattle.std.proofs.Common.{◌++◌, ◌∙◌, ap, length, sym}
 use Rattle.std.specs.Prelude.{Some, slice_get}
 use Rattle.std.proofs.lemmas.Option.{same_Some, slice_get_within}
 use Rattle.steal_pool.proofs.OrderLemmas.{at-middle}

@@ -1,9 +1,8 @@
-use Rattle.std.proofs.Common.{All, ◌≡◌, ◌+◌, ◌<◌, ◌∷◌, ◌++◌, [], ◌∙◌, ap, append_assoc, arith, length, subst, sym, ⊎_elim}
-use Rattle.std.specs.Prelude.{IfOk, Some, map, sum_by}
-use Rattle.std.specs.List.{AllZip}
+use Rattle.std.proofs.Common.{All, ◌+◌, ◌<◌, ◌∷◌, ◌++◌, [], ◌∙◌, ap, append_assoc, arith, subst, sym, ⊎_elim}
+use Rattle.std.specs.Prelude.{sum_by}
 use Rattle.std.proofs.lemmas.List.Sums.{sum_by_push}
 use Rattle.steal_pool.specs.declared.worker.Worker.{Worker}
-use Rattle.steal_pool.specs.Turns.{AreRight, IsDoneOf}
+use Rattle.steal_pool.specs.Turns.{IsDoneOf}
 use Rattle.steal_pool.specs.Workers.{done_by}
 use Rattle.steal_pool.proofs.RuleLemmas.{first-part, last-part}
 use Rattle.steal_pool.proofs.OrderLemmas.{nothing-left, positive, all-right}

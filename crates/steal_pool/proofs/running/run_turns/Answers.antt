@@ -1,4 +1,4 @@
-use Rattle.std.proofs.Common.{All, ◌≡◌, ◌<◌, ◌∙◌, ℕ, ap, map, subst, sym}
+use Rattle.std.proofs.Common.{All, ◌<◌, ◌∙◌, ℕ, ap, map, subst, sym}
 use Rattle.std.specs.Prelude.{sum_by}
 use Rattle.steal_pool.specs.Ends.{mark}
 use Rattle.steal_pool.specs.Workers.{AreReady, HaveEnded, done_by, own_mark}

@@ -1,16 +1,13 @@
-use Rattle.std.proofs.Common.{◌≡◌, ◌<◌, ◌∙◌, ℕ, length, ap, sym, subst, arith, false, []}
+use Rattle.std.proofs.Common.{◌≡◌, ◌∙◌, length, sym, subst, false, []}
 use Rattle.std.specs.Prelude.{None}
-use Rattle.model_core.specs.Meaning.{MeaningLaws}
 use Rattle.sim_spec.specs.Standing.{stands}
 use Rattle.sim_spec.specs.State.{initial_state}
-use Rattle.node_core.specs.Homes.{home_of}
 use Rattle.cycle_core.specs.Ends.{AllCanReceive, ReceiveUpto}
 use Rattle.cycle_core.specs.Places.{AtEach}
 use Rattle.cycle_core.specs.Standings.{WorldStandsAt}
-use Rattle.cycle_core.specs.Starts.{AreFirstParcels}
 use Rattle.cycle_core.specs.Worlds.{WorldView}
 use Rattle.cycle_core.proofs.StartLemmas.{begins, can-start, start-processed, start-standing}
-use Rattle.cycle_core.proofs.ValueLemmas.{items-over}
+use Rattle.std.proofs.lemmas.List.{with_items_is}
 use Rattle.cycle_core.proofs.world.World.begin.Goals as goal
 
 pub receive_all-requires-clause-can : goal.receive_all-requires-clause-can
@@ -37,7 +34,7 @@ returns-clause-stands g c =
     c.requires.low c.in_ok-homes.ensures.nodes c.in_ok-homes.ensures.homes c.in_ok-homes-2.ensures.ok c.in_ok-parcels.ensures c.deref-5.ensures c.deref-6.ensures in
     let got = subst (λ ns. ReceiveUpto of (length ns) c.as_mut_slice-2.result.now ns c.receive_all.new.nodes) c.as_mut_slice.ensures.value c.in_ok-receive_all.ensures.received in
     let receives = subst (λ ps. ReceiveUpto of (length olds) ps olds c.receive_all.new.nodes) c.as_mut_slice-2.ensures.value got in
-    let over = items-over c.in_ok-nodes.nodes c.receive_all.new.nodes receives.many in
+    let over = with_items_is c.in_ok-nodes.nodes c.receive_all.new.nodes (receives.many ∙ sym c.in_ok-nodes.nodes.ok.0) in
     let w : WorldView _ = record { model = model; terms = c.args.terms; homes = homes; nodes = c.receive_all.new.nodes; count = 0; fault = None; is_spent = false } in
     subst (λ ns. WorldStandsAt of (record w { nodes = ns }) (stands (initial_state (of model)) None)) (sym over) (start-standing of model c.args.terms homes b.laws b.placed b.some olds c.in_ok-nodes.ensures parcels b.first c.receive_all.new.nodes receives)
 
@@ -52,5 +49,5 @@ returns-clause-new g c =
     c.requires.low c.in_ok-homes.ensures.nodes c.in_ok-homes.ensures.homes c.in_ok-homes-2.ensures.ok c.in_ok-parcels.ensures c.deref-5.ensures c.deref-6.ensures in
     let got = subst (λ ns. ReceiveUpto of (length ns) c.as_mut_slice-2.result.now ns c.receive_all.new.nodes) c.as_mut_slice.ensures.value c.in_ok-receive_all.ensures.received in
     let receives = subst (λ ps. ReceiveUpto of (length olds) ps olds c.receive_all.new.nodes) c.as_mut_slice-2.ensures.value got in
-    let over = items-over c.in_ok-nodes.nodes c.receive_all.new.nodes receives.many in
+    let over = with_items_is c.in_ok-nodes.nodes c.receive_all.new.nodes (receives.many ∙ sym c.in_ok-nodes.nodes.ok.0) in
     subst (AtEach (λ number n. n.processed ≡ [])) (sym over) (λ number n at. start-processed of model c.args.terms homes b.laws b.placed b.some olds c.in_ok-nodes.ensures parcels b.first c.receive_all.new.nodes receives number n at)

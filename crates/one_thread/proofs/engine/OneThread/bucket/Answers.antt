@@ -1,7 +1,8 @@
 -- A cycle of the engine is a bucket of its simulation.
-use Rattle.std.proofs.Common.{ap, refl}
+use Rattle.std.proofs.Common.{Option, ap, subst, sym}
 use Rattle.std.specs.Arc.{arc_value}
-use Rattle.one_thread.specs.Engines.{state_of}
+use Rattle.sim_spec.specs.Standing.{IsLawfulStanding}
+use Rattle.one_thread.specs.Engines.{Course, standing_of, state_of}
 use Rattle.one_thread.proofs.EngineLemmas.{cycle_given, refusal_given, lawful_at, spent_lawful, stands_lawful}
 use Rattle.one_thread.proofs.engine.OneThread.bucket.Goals as goal
 
@@ -17,7 +18,10 @@ invariant_of-self-in-Ok g c =
     stands_lawful (g.M.Model.meaning (arc_value c.self.inside.model)) _ c.self.inside.terms (state_of c.fire_bucket.new.course) c.in-Ok.bucket.fault (ap g.M.Model.meaning c.deref.ensures) c.in-Ok.ensures.lawful
 
 pub invariant_of-self-in-Err : goal.invariant_of-self-in-Err
-invariant_of-self-in-Err g c = spent_lawful (g.M.Model.meaning (arc_value c.self.inside.model)) c.self.inside.terms
+invariant_of-self-in-Err g c =
+    let meaning = g.M.Model.meaning (arc_value c.self.inside.model) in
+    let P : Option Course → Type 0 = λ place. IsLawfulStanding meaning c.self.inside.terms (standing_of place c.self.inside.fault) in
+    subst P (sym c.spend.ensures) (spent_lawful meaning c.self.inside.terms)
 
 pub returns-in-Ok-clause-gives : goal.returns-in-Ok-clause-gives
 returns-in-Ok-clause-gives g c =
@@ -25,4 +29,4 @@ returns-in-Ok-clause-gives g c =
     c.self.view_is c.in-Some.is c.deref.ensures c.requires c.in-Ok.ensures.bucket c.in-Ok.ensures.after
 
 pub returns-in-Err-clause-gives : goal.returns-in-Err-clause-gives
-returns-in-Err-clause-gives g c = refusal_given _ _ _ _ c.self.inside.fault _ refl
+returns-in-Err-clause-gives g c = refusal_given _ _ _ c.spend.new.course c.self.inside.fault _ c.spend.ensures

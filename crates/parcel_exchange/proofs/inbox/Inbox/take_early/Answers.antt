@@ -38,10 +38,10 @@ loop-preserved g c =
     let nodes = g.E.NodeEnd.nodes c.args.end.now in
     let received = g.E.NodeEnd.received in
     let alike = met.same_nodes c.args.end.now c.loop.end inv.same in
-    let from = says.some.0 in
-    let within : from < nodes = let less = says.some.1 in omega arith in
+    let from = says.some.from in
+    let within : from < nodes = let less = says.some.within in omega arith in
     let P : List Parcel → Type 0 = λ parcels. HasTaken nodes (received c.args.end.now) (received c.early.new.self) parcels in
-    let more = takes_more nodes from (received c.args.end.now) (received c.loop.end) (received c.early.new.self) c.loop.self.early.items c.in-Some.parcel inv.taken within says.some.2 in record {
+    let more = takes_more nodes from (received c.args.end.now) (received c.loop.end) (received c.early.new.self) c.loop.self.early.items c.in-Some.parcel inv.taken within says.some.last in record {
       same = met.same_then c.args.end.now c.loop.end c.early.new.self inv.same says.end;
       sent_same = λ to. says.sent to ∙ inv.sent_same to;
       taken = subst P (sym c.push_reserved.ensures.items) more;

@@ -1,14 +1,40 @@
-use Rattle.std.proofs.Common.{subst, sym}
-use Rattle.queue_models.specs.Meaning.{network_meaning}
+use Rattle.std.proofs.Common.{◌≡◌, subst, sym, ap, ◌∙◌, arith}
+use Rattle.model_core.specs.declared.effect.Outcome.TheVariants.{Goes}
+use Rattle.queue_models.specs.declared.site.Site.{Site}
+use Rattle.queue_models.specs.Meaning.{network_meaning, site_of}
 use Rattle.queue_models.specs.ModelLaws.{object_fine, kind_can_draw}
-use Rattle.queue_models.specs.Objects.{object_at}
-use Rattle.queue_models.specs.Kinds.{KindCanDraw}
+use Rattle.queue_models.specs.Objects.{Item, object_at}
+use Rattle.queue_models.specs.Kinds.{KindCanDraw, effect_at}
 use Rattle.queue_models.specs.Views.{parts_of}
+use Rattle.queue_models.proofs.TellingLemmas.{has_load, one_part}
 use Rattle.queue_models.proofs.network.NetworkSimulationModel.respond.Goals as goal
 
 pub react-requires-clause-draws : goal.react-requires-clause-draws
 unfolding network_meaning
 react-requires-clause-draws c =
-    subst KindCanDraw (sym c.kind_of-kind.ensures)
+    subst (λ (o : Item). KindCanDraw o.kind) (sym c.item-item.ensures)
     (kind_can_draw c.args.self.now.objects.items (object_at c.args.self.now.objects.items c.args.object).kind
     (object_fine (parts_of c.args.self.now) c.args.self.now.in_range c.args.object c.requires.object).kind)
+
+pub tell-requires-clause-load : goal.tell-requires-clause-load
+unfolding network_meaning
+tell-requires-clause-load c = λ traced.
+    let p = parts_of c.args.self.now in
+    let cells = c.args.cells.now.contents in
+    let goes : Goes c.react.new.sheet ≡ effect_at (site_of p c.args.object) (object_at p.objects c.args.object).kind cells c.args.event.now =
+    c.in-Goes.ensures
+    ∙ ap (λ (s : Site). effect_at s c.item-item.result.now.kind cells c.args.event.now) c.site-site.ensures
+    ∙ ap (λ (o : Item). effect_at (site_of p c.args.object) o.kind cells c.args.event.now) c.item-item.ensures in
+    has_load p c.args.self.now.in_range c.args.object cells c.args.event.now c.react.new.sheet c.requires.object c.requires.lawful goes
+    (sym (ap (λ (o : Item). o.trace) c.item-item.ensures) ∙ traced)
+
+pub tell-requires-clause-room : goal.tell-requires-clause-room
+unfolding network_meaning
+tell-requires-clause-room c =
+    let p = parts_of c.args.self.now in
+    let cells = c.args.cells.now.contents in
+    let goes : Goes c.react.new.sheet ≡ effect_at (site_of p c.args.object) (object_at p.objects c.args.object).kind cells c.args.event.now =
+    c.in-Goes.ensures
+    ∙ ap (λ (s : Site). effect_at s c.item-item.result.now.kind cells c.args.event.now) c.site-site.ensures
+    ∙ ap (λ (o : Item). effect_at (site_of p c.args.object) o.kind cells c.args.event.now) c.item-item.ensures in
+    omega (arith, one_part p c.args.self.now.in_range c.args.object cells c.args.event.now c.react.new.sheet c.requires.object c.requires.lawful goes)

@@ -20,12 +20,13 @@ returns-in-Ok-clause-some c =
     let long = same_nodes c.args.self.now end c.loop-from.invariant.same in
     let count = c.len-from-end.ensures in
     let ok = c.args.self.now.ins.ok.0 in
-    let within : c.loop-from.from < length c.args.self.now.ins.items = omega arith in (
-      c.loop-from.from,
-      within,
-      one_pushed received end.ins.items (received_row c.args.self.now) c.loop-from.from c.pop.new.self c.index_mut.result.now c.in-Ok.parcel c.loop-from.invariant.received_same
-          (omega arith) c.index_mut.ensures.value c.in-Ok.ensures.ok.0,
-    )
+    record {
+      from = c.loop-from.from;
+      within = omega arith;
+      last =
+          one_pushed received end.ins.items (received_row c.args.self.now) c.loop-from.from c.pop.new.self c.index_mut.result.now c.in-Ok.parcel
+          c.loop-from.invariant.received_same (omega arith) c.index_mut.ensures.value c.in-Ok.ensures.ok.0;
+    }
 
 pub loop-from-preserved : goal.loop-from-preserved
 loop-from-preserved c =

@@ -1,4 +1,4 @@
-use Rattle.std.proofs.Common.{ap, arith, refl, sym, subst, ◌∙◌, rules}
+use Rattle.std.proofs.Common.{arith, rules}
 use Rattle.steal_pool.proofs.RuleLemmas.{takes, finds}
 use Rattle.steal_pool.proofs.DoesLemmas.{does-more, next-ready}
 use Rattle.steal_pool.proofs.deque.Deque.empty.Goals as goal

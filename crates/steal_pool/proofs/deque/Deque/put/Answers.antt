@@ -1,5 +1,4 @@
 use Rattle.std.proofs.Common.{ap, ◌∙◌}
-use Rattle.steal_pool.specs.Ends.{End}
 use Rattle.steal_pool.proofs.RuleLemmas.{puts}
 use Rattle.steal_pool.proofs.deque.Deque.put.Goals as goal
 

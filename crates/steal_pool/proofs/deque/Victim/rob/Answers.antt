@@ -1,6 +1,4 @@
-use Rattle.std.proofs.Common.{ap, arith, refl, sym, subst, ◌∙◌, rules}
-use Rattle.crossbeam_deque.specs.Handles.{view}
-use Rattle.steal_pool.specs.Turns.{Does}
+use Rattle.std.proofs.Common.{ap, arith, ◌∙◌, rules}
 use Rattle.steal_pool.proofs.RuleLemmas.{takes}
 use Rattle.steal_pool.proofs.DoesLemmas.{does-more, does-over, next-ready}
 use Rattle.steal_pool.proofs.deque.Victim.rob.Goals as goal

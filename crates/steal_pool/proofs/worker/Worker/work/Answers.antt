@@ -1,4 +1,4 @@
-use Rattle.std.proofs.Common.{◌≡◌, ◌<◌, ◌∙◌, length, arith, rules, sym}
+use Rattle.std.proofs.Common.{◌≡◌, ◌∙◌, arith, rules, sym}
 use Rattle.std.specs.Prelude.{All}
 use Rattle.std.proofs.lemmas.List.{length-set}
 use Rattle.steal_pool.specs.Ends.{mark, parts}
