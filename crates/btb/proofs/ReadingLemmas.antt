@@ -48,7 +48,3 @@ module _ (old new : Option (List ℕ)) (taken slice : List ℕ) (chosen : Settin
       by_left None rest took = tt
       by_left (Some bytes) None took = absurd took
       by_left (Some bytes) (Some rest) took = ap Some took.1
-
--- all of it is a prefix of it
-pub whole_prefix : (a b : Option (List ℕ)) (bytes : List ℕ) → Appends a b bytes → AppendsPrefix a b bytes
-whole_prefix a b bytes added = (bytes, [], sym (append-nil bytes), added)

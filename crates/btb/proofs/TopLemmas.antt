@@ -4,6 +4,7 @@ use Rattle.std.specs.Prelude.{IfSome, IsErr, OnOk, OnErr}
 use Rattle.std.specs.Io.KnownBytes.{Appends, Keeps}
 use Rattle.std.proofs.KnownBytes.{Appends-kept, Appends-trans}
 use Rattle.sim_io.specs.declared.words.WordFault.{WordFault}
+use Rattle.sim_io.specs.declared.words.WordFault.TheVariants.{BadValue}
 use Rattle.sim_io.specs.declared.words.Settings.{Settings}
 use Rattle.sim_io.specs.Causes.{Rose, HasCause}
 use Rattle.sim_io.specs.Transfers.{AppendsPrefix, KeepsBackSome}
@@ -14,21 +15,11 @@ use Rattle.btb.specs.declared.ending.Ending.{Ending}
 use Rattle.btb.specs.declared.ending.Ending.TheVariants.{Stopped, RefusedWords, RefusedModel, ReadFault, WriteFault, OutOfMemory}
 use Rattle.btb.specs.declared.status.TheConstants.{WORDS, READ_FAULT, WRITE_FAULT}
 use Rattle.btb.specs.Answer.{Answer, answer, answer_to_settings, answer_to_model, demo_answer, model_asked, reads_model, takes_input, words_line, HandsOnPrefix, WritesOutput, WritesPrefix}
-use Rattle.btb.specs.Endings.{status_of_ending, line_of_ending, IsAnswered, IsAnswering, RefusesWords, noted_line, IsComplete}
-use Rattle.btb.proofs.ReadingLemmas.{whole_prefix}
+use Rattle.btb.specs.Endings.{status_of_ending, line_of_ending, EndsUnread, IsAnswered, IsAnswering, RefusesWords, noted_line, IsComplete}
 
 pub on_err_map : {T E P Q : Type 0} (r : Result T E) → (P → Q) → OnErr r P → OnErr r Q
 on_err_map (Ok x) f p = tt
 on_err_map (Err e) f p = f p
-
--- what was written of a line, however the write went
-pub prefix_of_write : {E : Type 0} (a b : Option (List ℕ)) (line : List ℕ) (r : Result (Unit {0}) E) → OnOk r (Appends a b line) → OnErr r (AppendsPrefix a b line) → AppendsPrefix a b line
-prefix_of_write a b line (Ok done) whole prefix = whole_prefix a b line whole
-prefix_of_write a b line (Err e) whole prefix = prefix
-
-pub whole_or_rose : {E : Type 0} (a b : Option (List ℕ)) (line : List ℕ) (before now : ℕ) (r : Result (Unit {0}) E) → OnOk r (Appends a b line) → HasCause before now r → Appends a b line ⊎ Rose before now
-whole_or_rose a b line before now (Ok done) whole cause = inl whole
-whole_or_rose a b line before now (Err e) whole cause = inr cause.failed
 
 -- a status with which the answer is whole comes of an ending that answers
 pub answered : (e : Ending) (status : ℕ) → status ≡ status_of_ending e → IsAnswering status → IsAnswered e
@@ -98,9 +89,39 @@ completes ReadFault status target rf wf is h r w = inr (inl (r refl))
 completes WriteFault status target rf wf is h r w = inr (inr (inl (w refl)))
 completes OutOfMemory status target rf wf is h r w = inr (inr (inr is))
 
+-- where the words can't be read, what is noted is that one of them is no text, or want of memory
+pub unread_noted : (e : Ending) (status : ℕ) → status ≡ status_of_ending e → EndsUnread e → (Q : List ℕ → Type 0) → Q (line_of_ending e)
+    → Q (noted_line status (words_line BadValue))
+unread_noted e status is ends Q q = subst Q (noted e (words_line BadValue) (line_so e ends) ∙ ap (λ n. noted_line n (words_line BadValue)) (sym is)) q
+  where
+    line_so : (e : Ending) → EndsUnread e → IsAnswered e → line_of_ending e ≡ words_line BadValue
+    line_so (Stopped stop) ends done = absurd ends
+    line_so (RefusedWords fault) ends done = ap words_line ends
+    line_so (RefusedModel line) ends done = absurd ends
+    line_so ReadFault ends done = absurd done
+    line_so WriteFault ends done = absurd done
+    line_so OutOfMemory ends done = absurd done
+
+-- nothing was read or written then, so that no fault is told
+pub unread_reads : (e : Ending) → EndsUnread e → status_of_ending e ≡ READ_FAULT → ⊥
+unread_reads (Stopped stop) ends is = ends
+unread_reads (RefusedWords fault) ends is = cc
+unread_reads (RefusedModel line) ends is = ends
+unread_reads ReadFault ends is = ends
+unread_reads WriteFault ends is = ends
+unread_reads OutOfMemory ends is = cc
+
+pub unread_writes : (e : Ending) → EndsUnread e → status_of_ending e ≡ WRITE_FAULT → ⊥
+unread_writes (Stopped stop) ends is = ends
+unread_writes (RefusedWords fault) ends is = cc
+unread_writes (RefusedModel line) ends is = ends
+unread_writes ReadFault ends is = ends
+unread_writes WriteFault ends is = ends
+unread_writes OutOfMemory ends is = cc
+
 -- what is no demo reads a model
 pub not_demo : (s : Settings) → ((n : ℕ) → s ≡ Settings.Demo n → ⊥) → reads_model s ≡ true
-not_demo (Settings.Run nodes ahead placement cycles) other = refl
+not_demo (Settings.Run nodes ahead placement cycles workers) other = refl
 not_demo (Settings.One cycles) other = refl
 not_demo Settings.Totals other = refl
 not_demo (Settings.Demo n) other = absurd (other n refl)
@@ -115,7 +136,7 @@ module _ (ws : List (List ℕ)) where
   runs s h bytes = ap (λ r. answer_to_settings r bytes) h
 
   asks_for_input : (s : Settings) → reads_model s ≡ true → (bytes : List ℕ) → model_asked s bytes ≡ model_of bytes
-  asks_for_input (Settings.Run nodes ahead placement cycles) reads bytes = refl
+  asks_for_input (Settings.Run nodes ahead placement cycles workers) reads bytes = refl
   asks_for_input (Settings.One cycles) reads bytes = refl
   asks_for_input Settings.Totals reads bytes = refl
   asks_for_input (Settings.Demo n) reads bytes = cc
@@ -142,10 +163,7 @@ module _ (ws : List (List ℕ)) where
   pub not_refused : (s : Settings) → settings ws ≡ Ok s → IsErr (settings ws) → ⊥
   not_refused s h refused = let P : Result Settings WordFault → Type 0 = IsErr in let none : IsErr {T = Settings} {E = WordFault} (Ok s) = subst P h refused in cc
 
-  -- refused words and a demo take no input, and other words do
-  pub refused_input : (fault : WordFault) → settings ws ≡ Err fault → takes_input (settings ws) ≡ false
-  refused_input fault h = ap takes_input h
-
+  -- words that are accepted take input, but for a demo
   pub asked_input : (s : Settings) (b : Bool) → settings ws ≡ Ok s → reads_model s ≡ b → takes_input (settings ws) ≡ b
   asked_input s b h reads = ap takes_input h ∙ reads
 

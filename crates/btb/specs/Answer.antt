@@ -49,7 +49,7 @@ answer_to_model chosen (Ok model) = answer_of_run chosen model.meaning model.ter
 
 -- a demo makes its model from its number, and no other command does
 abbrev pub reads_model : Settings → Bool
-reads_model (Settings.Run nodes ahead placement cycles) = true
+reads_model (Settings.Run nodes ahead placement cycles workers) = true
 reads_model (Settings.One cycles) = true
 reads_model Settings.Totals = true
 reads_model (Settings.Demo n) = false
@@ -62,7 +62,7 @@ demo_answer n = answer_of_run (Settings.Demo n) (demo_model n).meaning (demo_mod
 
 -- the model that is simulated: what the input describes, but for a demo, where the input plays no part
 abbrev pub model_asked : Settings → List ℕ → Checked ModelOf
-model_asked (Settings.Run nodes ahead placement cycles) bytes = model_of bytes
+model_asked (Settings.Run nodes ahead placement cycles workers) bytes = model_of bytes
 model_asked (Settings.One cycles) bytes = model_of bytes
 model_asked Settings.Totals bytes = model_of bytes
 model_asked (Settings.Demo n) bytes = Ok (demo_model n)

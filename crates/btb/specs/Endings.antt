@@ -1,6 +1,7 @@
 -- How the program ends, with which status and with which line among the notes.
 use Rattle.std.specs.Prelude.{◌≡◌, ◌≢◌, ◌⊎◌, ◌==◌, if◌then◌else◌, ℕ, List, [], Option, codes}
 use Rattle.std.specs.Io.KnownBytes.{Appends}
+use Rattle.sim_io.specs.declared.words.WordFault.TheVariants.{BadValue}
 use Rattle.sim_io.specs.Transfers.{AppendsPrefix}
 use Rattle.btb.specs.declared.ending.Ending.{Ending}
 use Rattle.btb.specs.declared.ending.Ending.TheVariants.{Stopped, RefusedWords, RefusedModel, ReadFault, WriteFault, OutOfMemory}
@@ -22,6 +23,15 @@ line_of_ending (RefusedModel line) = line.items
 line_of_ending ReadFault = codes "read failed\n"
 line_of_ending WriteFault = codes "write failed\n"
 line_of_ending OutOfMemory = codes "out of memory\n"
+
+-- how the program may end where its words can't be read: for want of memory, or since one of them is no text
+abbrev pub EndsUnread : Ending → Type 0
+EndsUnread (Stopped stop) = ⊥
+EndsUnread (RefusedWords fault) = fault ≡ BadValue
+EndsUnread (RefusedModel line) = ⊥
+EndsUnread ReadFault = ⊥
+EndsUnread WriteFault = ⊥
+EndsUnread OutOfMemory = Unit {0}
 
 -- the simulation stopped, or the words or the model were refused: the answer is whole
 abbrev pub IsAnswered : Ending → Type 0

@@ -3,18 +3,16 @@
 
 mod ending;
 mod notes;
+mod program;
 mod running;
 mod status;
 #[cfg(test)]
 mod tests;
 mod top;
 
-use crate::ending::Ending;
-use crate::notes::conclude;
-use crate::top::btb;
+use crate::program::run_program;
 use node_team::Open;
-use sim_io::{GatheringSink, StdSink, StdSource, WordFault};
-use std::io::ErrorKind;
+use sim_io::{GatheringSink, StdSink, StdSource};
 use std::process::ExitCode;
 use std::{env, io};
 
@@ -24,21 +22,10 @@ fn program_words(rt: &HostRuntime) -> io::Result<Vec<String>> {
     Ok(words)
 }
 
-/// The ending where the words can't be read: one that is no text is refused like any faulty word, before all else.
-fn unread_words(kind: ErrorKind) -> Ending {
-    match kind {
-        ErrorKind::OutOfMemory => Ending::OutOfMemory,
-        _ => Ending::RefusedWords(WordFault::BadValue),
-    }
-}
-
 fn main(rt: HostRuntime) -> ExitCode {
-    let mut notes = StdSink::new(rt.stderr());
-    let words = match program_words(&rt) {
-        Ok(words) => words,
-        Err(error) => return ExitCode::from(conclude(&unread_words(error.kind()), &mut notes)),
-    };
+    let words = program_words(&rt).map_err(|error| error.kind());
     let mut source = StdSource::new(rt.stdin());
     let mut out = GatheringSink::new(rt.alloc(), StdSink::new(rt.stdout()));
-    ExitCode::from(btb(&rt, &words, &mut source, &mut out, &mut notes, &Open))
+    let mut notes = StdSink::new(rt.stderr());
+    ExitCode::from(run_program(&rt, words, &mut source, &mut out, &mut notes, &Open))
 }

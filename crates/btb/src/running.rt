@@ -53,6 +53,7 @@ fn run_to_the_end<R: Threads + Sync, G: Gate, K: Sink>(
     ensures words { ¬ (RefusesWords result) }
     ensures read { result ≢ Ending.ReadFault }
     ensures write_fault { result ≡ Ending.WriteFault → Rose (K.faults out.old) (K.faults out.new) }
+    ensures write_quiet { result ≢ Ending.WriteFault → K.faults out.new ≡ K.faults out.old }
 {
     match run_model(rt, alloc, gate, model, terms, settings, out) {
         Ok(stop) => Ending::Stopped(stop),
@@ -78,8 +79,10 @@ fn run_command<R: AllocGlobal + Threads + Sync, G: Gate, S: Source, K: Sink>(
     ensures prefix { OfModelAnswer settings (S.left source.old) (WritesPrefix (K.told out.old) (K.told out.new)) }
     ensures words { ¬ (RefusesWords result) }
     ensures read_fault { result ≡ Ending.ReadFault → Rose (S.faults source.old) (S.faults source.new) }
+    ensures read_quiet { result ≢ Ending.ReadFault → S.faults source.new ≡ S.faults source.old }
     ensures unwritten { result ≡ Ending.ReadFault → out.new ≡ out.old }
     ensures write_fault { result ≡ Ending.WriteFault → Rose (K.faults out.old) (K.faults out.new) }
+    ensures write_quiet { result ≢ Ending.WriteFault → K.faults out.new ≡ K.faults out.old }
 {
     let alloc = rt.alloc();
     let bytes = match read_all(alloc, source) {
@@ -111,6 +114,7 @@ fn run_demo<R: AllocGlobal + Threads + Sync, G: Gate, K: Sink>(
     ensures words { ¬ (RefusesWords result) }
     ensures read { result ≢ Ending.ReadFault }
     ensures write_fault { result ≡ Ending.WriteFault → Rose (K.faults out.old) (K.faults out.new) }
+    ensures write_quiet { result ≢ Ending.WriteFault → K.faults out.new ≡ K.faults out.old }
 {
     let alloc = rt.alloc();
     match ring(alloc, n) {
@@ -141,7 +145,9 @@ pub fn run_words<R: AllocGlobal + Threads + Sync, G: Gate, S: Source, K: Sink>(
         → IfSome (S.left source.old) (λ bytes. S.left source.new ≡ Some (drop ENOUGH_BYTES bytes)) }
     ensures reads { result ≡ Ending.ReadFault → takes_input (settings (texts_of words.now.items)) ≡ true }
     ensures read_fault { result ≡ Ending.ReadFault → Rose (S.faults source.old) (S.faults source.new) }
+    ensures read_quiet { result ≢ Ending.ReadFault → S.faults source.new ≡ S.faults source.old }
     ensures write_fault { result ≡ Ending.WriteFault → Rose (K.faults out.old) (K.faults out.new) }
+    ensures write_quiet { result ≢ Ending.WriteFault → K.faults out.new ≡ K.faults out.old }
     ensures unwritten_words { RefusesWords result → out.new ≡ out.old }
     ensures unwritten { result ≡ Ending.ReadFault → out.new ≡ out.old }
 {

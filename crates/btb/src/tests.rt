@@ -6,6 +6,8 @@ mod networks;
 mod nodes;
 mod refusals;
 mod totals;
+mod words;
+mod workers;
 mod writes;
 
 use crate::top::btb;
@@ -203,41 +205,6 @@ fn no_bytes_are_no_model(rt: HostRuntime) -> Result<(), Fail> {
     assert_eq!(rt; run.status, 3);
     assert_eq!(rt; run.text.as_str(), "");
     assert_eq!(rt; run.notes.as_str(), "model: 3 Missing item 0\n");
-    Ok(())
-}
-
-#[test]
-fn refused_words_read_nothing(rt: HostRuntime) -> Result<(), Fail> {
-    let alloc = rt.alloc();
-    for (words, line) in [
-        ([].as_slice(), "words: no command\n"),
-        (["go"].as_slice(), "words: unknown command\n"),
-        (["run", "--nodes=2"].as_slice(), "words: unknown option\n"),
-        (["totals", "--cycles"].as_slice(), "words: unknown option\n"),
-        (
-            ["run", "--ahead", "1", "--ahead", "2"].as_slice(),
-            "words: repeated option\n",
-        ),
-        (
-            ["one", "--cycles", "--cycles"].as_slice(),
-            "words: repeated option\n",
-        ),
-        (["run", "--nodes"].as_slice(), "words: missing value\n"),
-        (["demo"].as_slice(), "words: missing value\n"),
-        (["run", "--nodes", "0"].as_slice(), "words: bad value\n"),
-        (["run", "--nodes", "65"].as_slice(), "words: bad value\n"),
-        (["run", "--nodes", "02"].as_slice(), "words: bad value\n"),
-        (["demo", "257"].as_slice(), "words: bad value\n"),
-        (["run", "x"].as_slice(), "words: extra word\n"),
-        (["one", "x"].as_slice(), "words: extra word\n"),
-        (["demo", "1", "2"].as_slice(), "words: extra word\n"),
-    ] {
-        let source = source_of(alloc, TIE, &[1])?;
-        let run = answer_of(&rt, words, source, sink_of(alloc, &[], &[])?)?;
-        assert_eq!(rt; run.status, 2);
-        assert_eq!(rt; run.text.as_str(), "");
-        assert_eq!(rt; run.notes.as_str(), line);
-    }
     Ok(())
 }
 

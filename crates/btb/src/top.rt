@@ -55,9 +55,11 @@ pub fn btb<R: AllocGlobal + Threads + Sync, S: Source, K: Sink, N: Sink, G: Gate
         → IfSome (S.left source.old) (λ bytes. S.left source.new ≡ Some (drop ENOUGH_BYTES bytes)) }
     ensures reads { result ≡ READ_FAULT → takes_input (settings (texts_of words.now.items)) ≡ true }
 
-    // Faults have causes.
+    // Faults have causes, and each is told.
     ensures read_fault { result ≡ READ_FAULT → Rose (S.faults source.old) (S.faults source.new) }
     ensures write_fault { result ≡ WRITE_FAULT → Rose (K.faults out.old) (K.faults out.new) }
+    ensures read_quiet { result ≢ READ_FAULT → S.faults source.new ≡ S.faults source.old }
+    ensures write_quiet { result ≢ WRITE_FAULT → K.faults out.new ≡ K.faults out.old }
     ensures unwritten { (result ≡ WORDS) ⊎ (result ≡ READ_FAULT) → out.new ≡ out.old }
 
     // One line is noted, or a prefix of it.

@@ -48,6 +48,7 @@ const NODES: Settings = Settings::Run {
     ahead: 8,
     placement: Placement::Round,
     cycles: false,
+    workers: None,
 };
 
 /// The text of a model's simulation.

@@ -12,6 +12,7 @@ ghost use Rattle.sim_io.specs.Words.{AreInBounds};
 ghost use Rattle.sim_text.specs.WholeTexts.{text_from_start};
 ghost use Rattle.sim_text.specs.declared.unfinished.Unfinished.TheVariants.{WriteFault, OutOfMemory as NoMemory};
 ghost use Rattle.cycle_core.specs.Standings.{WorldStandsAt, GoesOn, HasCycled};
+ghost use Rattle.node_team.specs.Handings.{AreWorkers};
 ghost use Rattle.model_text.specs.Meanings.{meaning_of};
 
 use crate::one_thread_run::OneThreadRun;
@@ -95,6 +96,7 @@ fn run_on_nodes<R: Threads + Sync, G: Gate, K: Sink>(
 ) -> Result<Stop, Unfinished>
     requires low { 1 ≤ spread.nodes }
     requires high { spread.nodes ≤ 64 }
+    requires workers { AreWorkers spread.workers }
     ensures whole { OnOk result (Appends (K.told out.old) (K.told out.new) (text_from_start (meaning_of model) terms settings)) }
     ensures stop { IfOk result (λ stop. stop ≡ (run (meaning_of model) terms (initial_state (meaning_of model))).stop) }
     ensures prefix { OnErr result (AppendsPrefix (K.told out.old) (K.told out.new) (text_from_start (meaning_of model) terms settings)) }
@@ -104,10 +106,11 @@ fn run_on_nodes<R: Threads + Sync, G: Gate, K: Sink>(
     ensures no_memory { IsErrOf result NoMemory → K.faults out.new ≡ K.faults out.old }
 {
     let (model, mut run) = on_nodes(alloc, model, terms, spread)?;
+    let workers = spread.workers;
     let cycle = |run: &mut TeamRun, alloc: Global| -> Result<Bucket, OutOfMemory>
-        requires { IsSync R.row × IsSync G.row × GoesOn meaning_of run.old.team.world }
+        requires { IsSync R.row × IsSync G.row × AreWorkers workers × GoesOn meaning_of run.old.team.world }
         ensures { HasCycled meaning_of run.old.team.world result run.new.team.world }
-    { run.team.cycle(rt, alloc, gate) };
+    { run.cycle(rt, alloc, workers, gate) };
     simulate(alloc, &*model, &terms, &mut run, &cycle, settings, out)
 }
 
@@ -135,12 +138,14 @@ fn run_as_set<R: Threads + Sync, G: Gate, K: Sink>(
             nodes,
             ahead,
             placement,
+            workers,
             ..
         } => {
             let spread = Spread {
                 nodes,
                 ahead,
                 placement,
+                workers,
             };
             run_on_nodes(rt, alloc, gate, model, terms, spread, settings, out)
         }
@@ -152,7 +157,7 @@ fn run_as_set<R: Threads + Sync, G: Gate, K: Sink>(
 }
 
 /// Runs a model as it is set, writes the text of its simulation, and hands it on. The text is the same whatever the
-/// engine, the nodes, their placement, how far they work ahead, and the schedule of threads.
+/// engine, the nodes, their placement, how far they work ahead, the workers, who steals what, and the schedule of threads.
 pub fn run_model<R: Threads + Sync, G: Gate, K: Sink>(
     rt: &R,
     alloc: Global,

@@ -1,5 +1,5 @@
 -- The words of the command line: what they set, or what is wrong with them.
-use Rattle.std.specs.Prelude.{◌≤◌, ℕ, Bool, true, false, not, ◌&&◌, ◌||◌, List, [], ◌∷◌, ◌++◌, length, Option, Some, None, is_some, unwrap_or, Result, Ok, Err, if◌then◌else◌, codes, bytes_eq, nat_eq, nat_le, nat_lt, String, string_bytes, map}
+use Rattle.std.specs.Prelude.{◌≤◌, ℕ, Bool, true, false, not, ◌&&◌, ◌||◌, List, [], ◌∷◌, ◌++◌, length, Option, Some, None, IfSome, is_some, unwrap_or, Result, Ok, Err, if◌then◌else◌, codes, bytes_eq, nat_eq, nat_le, nat_lt, String, string_bytes, map}
 use Rattle.std.specs.Char.{is_ascii_digit}
 use Rattle.std.specs.List.{list_all, starts_with}
 use Rattle.std.specs.Str.Parse.{digits_value}
@@ -36,6 +36,7 @@ option_named word =
     else if bytes_eq word (codes "--ahead") then Some CommandOption.Ahead
     else if bytes_eq word (codes "--placement") then Some CommandOption.Placement
     else if bytes_eq word (codes "--cycles") then Some CommandOption.Cycles
+    else if bytes_eq word (codes "--workers") then Some CommandOption.Workers
     else None
 
 -- `one` takes no option that says how nodes are used, and `totals` takes none
@@ -59,12 +60,14 @@ takes_value CommandOption.Nodes = true
 takes_value CommandOption.Ahead = true
 takes_value CommandOption.Placement = true
 takes_value CommandOption.Cycles = false
+takes_value CommandOption.Workers = true
 
 abbrev pub is_value : CommandOption → List ℕ → Bool
 is_value CommandOption.Nodes word = is_some (number_within 1 64 word)
 is_value CommandOption.Ahead word = is_some (number_within 0 1024 word)
 is_value CommandOption.Placement word = is_some (placement_named word)
 is_value CommandOption.Cycles word = false
+is_value CommandOption.Workers word = is_some (number_within 1 64 word)
 
 -- a word that stands for nothing
 abbrev pub stray_word : List ℕ → WordFault
@@ -111,6 +114,11 @@ abbrev pub value_or : {T : Type 0} → T → (List ℕ → Option T) → Option 
 value_or default read None = default
 value_or default read (Some word) = unwrap_or (read word) default
 
+-- what a value says, where one is given
+abbrev pub value_if : {T : Type 0} → (List ℕ → Option T) → Option (List ℕ) → Option T
+value_if read None = None
+value_if read (Some word) = read word
+
 -- what the options of a run set
 abbrev pub run_settings : List (List ℕ) → Settings
 run_settings words = Settings.Run
@@ -118,6 +126,7 @@ run_settings words = Settings.Run
     (value_or 8 (number_within 0 1024) (value_after (codes "--ahead") words))
     (value_or Placement.Round placement_named (value_after (codes "--placement") words))
     (is_among words (codes "--cycles"))
+    (value_if (number_within 1 64) (value_after (codes "--workers") words))
 
 abbrev pub one_settings : List (List ℕ) → Settings
 one_settings words = Settings.One (is_among words (codes "--cycles"))
@@ -132,16 +141,17 @@ abbrev pub demo_settings : List (List ℕ) → Result Settings WordFault
 demo_settings [] = Err MissingValue
 demo_settings (word ∷ rest) = demo_of (number_within 1 256 word) rest
 
--- a run has 1 to 64 nodes, which process at most 1,024 events more than they must, and a demo's number is 1 to 256
+-- a run has 1 to 64 nodes, which process at most 1,024 events more than they must, and 1 to 64 workers if any; a demo's number is 1 to 256
 abbrev pub AreInBounds : Settings → Type 0
-AreInBounds (Settings.Run nodes ahead placement cycles) = (1 ≤ nodes) × (nodes ≤ 64) × (ahead ≤ 1024)
+AreInBounds (Settings.Run nodes ahead placement cycles workers) =
+    (1 ≤ nodes) × (nodes ≤ 64) × (ahead ≤ 1024) × IfSome workers (λ many. (1 ≤ many) × (many ≤ 64))
 AreInBounds (Settings.One cycles) = Unit {0}
 AreInBounds Settings.Totals = Unit {0}
 AreInBounds (Settings.Demo n) = (1 ≤ n) × (n ≤ 256)
 
 -- whether a line is told for each cycle
 abbrev pub are_cycles_told : Settings → Bool
-are_cycles_told (Settings.Run nodes ahead placement cycles) = cycles
+are_cycles_told (Settings.Run nodes ahead placement cycles workers) = cycles
 are_cycles_told (Settings.One cycles) = cycles
 are_cycles_told Settings.Totals = false
 are_cycles_told (Settings.Demo n) = false

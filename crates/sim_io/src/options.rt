@@ -21,6 +21,7 @@ pub enum CommandOption {
     Ahead,
     Placement,
     Cycles,
+    Workers,
 }
 
 impl Command {
@@ -56,6 +57,7 @@ impl CommandOption {
             "--ahead" => Some(CommandOption::Ahead),
             "--placement" => Some(CommandOption::Placement),
             "--cycles" => Some(CommandOption::Cycles),
+            "--workers" => Some(CommandOption::Workers),
             _ => None,
         }
     }
@@ -76,6 +78,7 @@ impl CommandOption {
             CommandOption::Ahead => number_within(0, 1024, word).is_some(),
             CommandOption::Placement => placement_named(word).is_some(),
             CommandOption::Cycles => false,
+            CommandOption::Workers => number_within(1, 64, word).is_some(),
         }
     }
 }

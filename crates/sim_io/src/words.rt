@@ -1,6 +1,6 @@
 //! The words of the command line.
-ghost use Rattle.std.specs.Prelude.{◌≡◌, ◌≤◌, IfOk, [], None, codes, slice_get, string_bytes};
-ghost use Rattle.sim_io.specs.Words.{AreInBounds, demo_settings, is_among, judged, number_within, placement_named, run_settings, settings, stray_word, texts_of, value_after, value_or, word_meant};
+ghost use Rattle.std.specs.Prelude.{◌≡◌, ◌≤◌, IfOk, IfSome, [], None, codes, slice_get, string_bytes};
+ghost use Rattle.sim_io.specs.Words.{AreInBounds, demo_settings, is_among, judged, number_within, placement_named, run_settings, settings, stray_word, texts_of, value_after, value_if, value_or, word_meant};
 
 use crate::options::{Command, CommandOption, number_within, placement_named};
 use sim_spec::Placement;
@@ -61,6 +61,8 @@ pub enum Settings {
         ahead: u32,
         placement: Placement,
         cycles: bool,
+        /// How many workers take nodes' turns and steal them from each other, 1 to 64, where they do.
+        workers: Option<u32>,
     },
     /// The same text, by the engine for one thread.
     One {
@@ -190,6 +192,15 @@ fn placement_given(words: &[String]) -> Placement
     }
 }
 
+/// How many workers are asked for, where they are.
+fn workers_given(words: &[String]) -> Option<u32>
+    ensures value { result ≡ value_if (number_within 1 64) (value_after (codes "--workers") (texts_of words.now)) }
+    ensures bounds { IfSome result (λ many. (1 ≤ many) × (many ≤ 64)) }
+{
+    let value = words.get(place_after(words, "--workers"))?;
+    number_within(1, 64, value.as_str())
+}
+
 /// What the options of a run set.
 fn run_settings(words: &[String]) -> Settings
     ensures value { result ≡ run_settings (texts_of words.now) }
@@ -200,6 +211,7 @@ fn run_settings(words: &[String]) -> Settings
         ahead: number_given(words, "--ahead", 0, 1024, DEFAULT_AHEAD),
         placement: placement_given(words),
         cycles: is_among(words, "--cycles"),
+        workers: workers_given(words),
     }
 }
 

@@ -13,7 +13,7 @@ use Rattle.sim_text.proofs.SummaryLemmas.{records_of_buckets-more}
 
 pub lines-kept : (cycles : Bool) (objects : ℕ) (chosen : Settings) (bs : List Bucket) (b : Bucket) → Lines cycles ≡ report_of objects chosen bs → Lines cycles ≡ report_of objects chosen (bs ++ b ∷ [])
 unfolding report_of
-lines-kept cycles objects (Settings.Run nodes ahead placement told) bs b kept = kept
+lines-kept cycles objects (Settings.Run nodes ahead placement told workers) bs b kept = kept
 lines-kept cycles objects (Settings.One told) bs b kept = kept
 lines-kept cycles objects Settings.Totals bs b kept = cc
 lines-kept cycles objects (Settings.Demo n) bs b kept = cc
@@ -22,7 +22,7 @@ pub sums-kept : (old new : Summed) (objects : ℕ) (chosen : Settings) (bs : Lis
     → ((objects : ℕ) (before : List (Key × Note)) → old ≡ totals_of objects before → new ≡ totals_of objects (before ++ b.done))
     → Sums old ≡ report_of objects chosen bs → Sums new ≡ report_of objects chosen (bs ++ b ∷ [])
 unfolding report_of
-sums-kept old new objects (Settings.Run nodes ahead placement told) bs b added kept = cc
+sums-kept old new objects (Settings.Run nodes ahead placement told workers) bs b added kept = cc
 sums-kept old new objects (Settings.One told) bs b added kept = cc
 sums-kept old new objects Settings.Totals bs b added kept =
     let summed : old ≡ totals_of objects (records_of_buckets bs) = cc in
@@ -33,7 +33,7 @@ pub counts-kept : (old new : Summary) (objects : ℕ) (chosen : Settings) (bs : 
     → ((n : ℕ) (bs : List Bucket) → old ≡ summary_of n bs → new ≡ summary_of n (bs ++ b ∷ []))
     → Counts old ≡ report_of objects chosen bs → Counts new ≡ report_of objects chosen (bs ++ b ∷ [])
 unfolding report_of
-counts-kept old new objects (Settings.Run nodes ahead placement told) bs b added kept = cc
+counts-kept old new objects (Settings.Run nodes ahead placement told workers) bs b added kept = cc
 counts-kept old new objects (Settings.One told) bs b added kept = cc
 counts-kept old new objects Settings.Totals bs b added kept = cc
 counts-kept old new objects (Settings.Demo n) bs b added kept =

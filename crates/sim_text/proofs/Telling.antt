@@ -27,14 +27,14 @@ use Rattle.sim_text.proofs.WritingLemmas.{writes_last, writes_prefix}
 
 -- what was told at once of these buckets
 unfoldable pub lines_so_far : Meaning → Settings → List Bucket → List ℕ
-lines_so_far m (Settings.Run nodes ahead placement cycles) bs = lines_of_buckets m cycles 1 bs
+lines_so_far m (Settings.Run nodes ahead placement cycles workers) bs = lines_of_buckets m cycles 1 bs
 lines_so_far m (Settings.One cycles) bs = lines_of_buckets m cycles 1 bs
 lines_so_far m Settings.Totals bs = []
 lines_so_far m (Settings.Demo n) bs = []
 
 pub none_so_far : (m : Meaning) (chosen : Settings) → lines_so_far m chosen [] ≡ []
 unfolding lines_so_far lines_of_buckets
-none_so_far m (Settings.Run nodes ahead placement cycles) = refl
+none_so_far m (Settings.Run nodes ahead placement cycles workers) = refl
 none_so_far m (Settings.One cycles) = refl
 none_so_far m Settings.Totals = refl
 none_so_far m (Settings.Demo n) = refl
@@ -59,7 +59,7 @@ lines_of_buckets-more m told bs b number is =
 pub lines_so_far-more : (m : Meaning) (objects : ℕ) (chosen : Settings) (report : Report) (bs : List Bucket) (b : Bucket) (number : ℕ) → number ≡ length bs + 1 → report ≡ report_of objects chosen bs
     → lines_so_far m chosen (bs ++ b ∷ []) ≡ lines_so_far m chosen bs ++ told_at_once m report number b
 unfolding lines_so_far report_of
-lines_so_far-more m objects (Settings.Run nodes ahead placement cycles) report bs b number is kept =
+lines_so_far-more m objects (Settings.Run nodes ahead placement cycles workers) report bs b number is kept =
     lines_of_buckets-more m cycles bs b number is ∙ ap (λ (r : Report). lines_of_buckets m cycles 1 bs ++ told_at_once m r number b) (sym kept)
 lines_so_far-more m objects (Settings.One cycles) report bs b number is kept =
     lines_of_buckets-more m cycles bs b number is ∙ ap (λ (r : Report). lines_of_buckets m cycles 1 bs ++ told_at_once m r number b) (sym kept)
@@ -70,7 +70,7 @@ lines_so_far-more m objects (Settings.Demo n) report bs b number is kept = ap (�
 pub text-begins : (m : Meaning) (t : Terms) (chosen : Settings) (bs more : List Bucket) → (cycles m t (initial_state m)).buckets ≡ bs ++ more
     → (behind : List ℕ) × (text_from_start m t chosen ≡ lines_so_far m chosen bs ++ behind)
 unfolding text_from_start lines_so_far text
-text-begins m t (Settings.Run nodes ahead placement told) bs more all = (
+text-begins m t (Settings.Run nodes ahead placement told workers) bs more all = (
   lines_of_buckets m told (1 + length bs) more ++ stop_line m t (run m t (initial_state m)).last.count (run m t (initial_state m)).stop,
   ap (λ lines. lines ++ stop_line m t (run m t (initial_state m)).last.count (run m t (initial_state m)).stop) (ap (lines_of_buckets m told 1) all ∙ lines_of_buckets-append m told 1 bs more)
       ∙ append_assoc (lines_of_buckets m told 1 bs) _ _,
@@ -99,7 +99,7 @@ last_line m t bs count stop ends =
 pub text-ends : (m : Meaning) (t : Terms) (chosen : Settings) (report : Report) (bs : List Bucket) (count : ℕ) (stop : Stop) → EndsSo m t bs count stop → report ≡ report_of m.objects chosen bs
     → text_from_start m t chosen ≡ lines_so_far m chosen bs ++ (told_in_the_end m report count ++ stop_line m t count stop)
 unfolding text_from_start lines_so_far text report_of summary_of totals_lines
-text-ends m t (Settings.Run nodes ahead placement told) report bs count stop ends kept =
+text-ends m t (Settings.Run nodes ahead placement told workers) report bs count stop ends kept =
     ap (λ (bs : List Bucket). lines_of_buckets m told 1 bs ++ stop_line m t (run m t (initial_state m)).last.count (run m t (initial_state m)).stop) ends.buckets
     ∙ ap (λ line. lines_of_buckets m told 1 bs ++ line) (last_line m t bs count stop ends)
     ∙ ap (λ (r : Report). lines_of_buckets m told 1 bs ++ (told_in_the_end m r count ++ stop_line m t count stop)) (sym kept)
@@ -134,7 +134,7 @@ unfolding report_of summary_of
 can_go_on objects chosen report bs done kept in_time room few = let P : Report → Type 0 = λ r. CanGoOn r done in subst P (sym kept) (by chosen)
   where
     by : (chosen : Settings) → CanGoOn (report_of objects chosen bs) done
-    by (Settings.Run nodes ahead placement told) = tt
+    by (Settings.Run nodes ahead placement told workers) = tt
     by (Settings.One told) = tt
     by Settings.Totals = totals-go_on objects (records_of_buckets bs) done in_time room
     by (Settings.Demo n) = counts-go_on n bs few
@@ -144,7 +144,7 @@ unfolding report_of
 has_objects objects chosen report bs kept = subst (HasObjects objects) (sym kept) (by chosen)
   where
     by : (chosen : Settings) → HasObjects objects (report_of objects chosen bs)
-    by (Settings.Run nodes ahead placement told) = tt
+    by (Settings.Run nodes ahead placement told workers) = tt
     by (Settings.One told) = tt
     by Settings.Totals = totals_of-length objects (records_of_buckets bs)
     by (Settings.Demo n) = tt

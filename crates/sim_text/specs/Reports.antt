@@ -19,7 +19,7 @@ summary_of n bs = record { n = n; cycles = whole_cycles bs; last = last_stamp 0 
 
 -- what is kept of these buckets of a model with so many objects
 unfoldable pub report_of : ℕ → Settings → List Bucket → Report
-report_of objects (Settings.Run nodes ahead placement cycles) bs = Lines cycles
+report_of objects (Settings.Run nodes ahead placement cycles workers) bs = Lines cycles
 report_of objects (Settings.One cycles) bs = Lines cycles
 report_of objects Settings.Totals bs = Sums (totals_of objects (records_of_buckets bs))
 report_of objects (Settings.Demo n) bs = Counts (summary_of n bs)

@@ -37,7 +37,7 @@ demo_text m t n s =
 
 -- the text of a model's simulation from its start
 unfoldable pub text_from_start : Meaning → Terms → Settings → List ℕ
-text_from_start m t (Settings.Run nodes ahead placement cycles) = text m t cycles (initial_state m)
+text_from_start m t (Settings.Run nodes ahead placement cycles workers) = text m t cycles (initial_state m)
 text_from_start m t (Settings.One cycles) = text m t cycles (initial_state m)
 text_from_start m t Settings.Totals = totals_text m t (initial_state m)
 text_from_start m t (Settings.Demo n) = demo_text m t n (initial_state m)

@@ -16,7 +16,7 @@ use std::thread::Threads;
 const TURNS: u64 = 200_000_000;
 
 /// Whether a flag is raised before a gate gives up.
-fn is_raised(flag: &AtomicBool) -> bool {
+pub(super) fn is_raised(flag: &AtomicBool) -> bool {
     for _ in 0..TURNS {
         if flag.load(Ordering::SeqCst) {
             return true;
@@ -26,7 +26,7 @@ fn is_raised(flag: &AtomicBool) -> bool {
     false
 }
 
-fn told_at<R: AllocGlobal + Threads + Sync, G: Gate>(
+pub(super) fn told_at<R: AllocGlobal + Threads + Sync, G: Gate>(
     rt: &R,
     words: &[&str],
     model: &str,

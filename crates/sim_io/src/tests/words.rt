@@ -18,6 +18,18 @@ fn run(nodes: u32, ahead: u32) -> Settings {
         ahead,
         placement: Placement::Round,
         cycles: false,
+        workers: None,
+    }
+}
+
+/// The same by so many workers.
+fn run_by(workers: u32) -> Settings {
+    Settings::Run {
+        nodes: 4,
+        ahead: 8,
+        placement: Placement::Round,
+        cycles: false,
+        workers: Some(workers),
     }
 }
 
@@ -40,7 +52,13 @@ fn a_command_and_its_options(rt: HostRuntime) -> Result<(), Fail> {
                 ahead: 7,
                 placement: Placement::Block,
                 cycles: true,
+                workers: None,
             },
+        ),
+        (["run", "--workers", "1"].as_slice(), run_by(1)),
+        (
+            ["run", "--nodes", "4", "--workers", "64"].as_slice(),
+            run_by(64),
         ),
         (["one"].as_slice(), Settings::One { cycles: false }),
         (
@@ -104,6 +122,17 @@ fn the_first_faulty_word_is_judged(rt: HostRuntime) -> Result<(), Fail> {
         (
             ["run", "--nodes", "2", "3"].as_slice(),
             WordFault::ExtraWord,
+        ),
+        (["run", "--workers"].as_slice(), WordFault::MissingValue),
+        (["run", "--workers", "0"].as_slice(), WordFault::BadValue),
+        (["run", "--workers", "65"].as_slice(), WordFault::BadValue),
+        (
+            ["run", "--workers", "2", "--workers", "2"].as_slice(),
+            WordFault::RepeatedOption,
+        ),
+        (
+            ["one", "--workers", "2"].as_slice(),
+            WordFault::UnknownOption,
         ),
         (["totals", "--cycles"].as_slice(), WordFault::UnknownOption),
         (["totals", "totals"].as_slice(), WordFault::ExtraWord),

@@ -60,6 +60,8 @@ returns-in_default g c =
       reads = λ _. taken;
       read_fault = c.run_command.ensures.read_fault;
       write_fault = c.run_command.ensures.write_fault;
+      read_quiet = c.run_command.ensures.read_quiet;
+      write_quiet = c.run_command.ensures.write_quiet;
       unwritten_words = λ refuses. absurd (c.run_command.ensures.words refuses);
       unwritten = c.run_command.ensures.unwritten;
     }

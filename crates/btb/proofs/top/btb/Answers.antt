@@ -1,10 +1,11 @@
 -- What is answered comes of how the words end.
-use Rattle.std.proofs.Common.{◌⊎◌, sym, ◌∙◌, inl, inr}
+use Rattle.std.proofs.Common.{◌⊎◌, sym, ap, ◌∙◌, inl, inr}
 use Rattle.std.specs.Io.KnownBytes.{Appends}
 use Rattle.sim_io.specs.Causes.{Rose}
 use Rattle.sim_io.specs.Transfers.{AppendsPrefix}
 use Rattle.sim_io.specs.Words.{settings, texts_of}
 use Rattle.btb.specs.Answer.{answer, IsAccepted}
+use Rattle.btb.specs.Endings.{status_of_ending}
 use Rattle.btb.proofs.TopLemmas.{answered, words_refused, words_status, unread, unwritten, handed_fact, handed_prefix_fact, status_fact, notes_fact, complete_fact}
 use Rattle.btb.proofs.top.btb.Goals as goal
 
@@ -43,6 +44,12 @@ returns-clause-read_fault g c = λ is. c.run_words-ending.ensures.read_fault (un
 
 pub returns-clause-write_fault : goal.returns-clause-write_fault
 returns-clause-write_fault g c = λ is. c.run_words-ending.ensures.write_fault (unwritten c.run_words-ending.result (sym c.conclude.ensures.status ∙ is))
+
+pub returns-clause-read_quiet : goal.returns-clause-read_quiet
+returns-clause-read_quiet g c = λ other. c.run_words-ending.ensures.read_quiet (λ is. other (c.conclude.ensures.status ∙ ap status_of_ending is))
+
+pub returns-clause-write_quiet : goal.returns-clause-write_quiet
+returns-clause-write_quiet g c = λ other. c.run_words-ending.ensures.write_quiet (λ is. other (c.conclude.ensures.status ∙ ap status_of_ending is))
 
 pub returns-clause-unwritten : goal.returns-clause-unwritten
 returns-clause-unwritten g c = λ either. elim either [
