@@ -150,19 +150,19 @@ def stream_runs(program, shop):
         yield "a full device for notes", {2}, Run(program, ["go"], b"", stderr=device)
     reading, writing = os.pipe()
     os.close(reading)
-    yield "a pipe that nobody reads", {5, -13}, Run(program, ["run"], shop, stdout=writing)
+    yield "a pipe that nobody reads", {5}, Run(program, ["run"], shop, stdout=writing)
     os.close(writing)
     folder = os.open("/", os.O_RDONLY)
     yield "a folder as input", {4}, Run(program, ["run"], b"", stdin=folder)
     os.close(folder)
-    for closed, allowed in ((0, {3, 4}), (1, {5, 0}), (2, {0})):
+    for closed, allowed in ((0, {4}), (1, {5}), (2, {0})):
         command = ["sh", "-c", f'exec "$0" run {closed}{"<" if closed == 0 else ">"}&-', program]
         yield f"stream {closed} closed", allowed, Run(command[0], command[1:], endless)
     long = b'format=1\nmodel="phold"\nend=70368744177663\nlimit=1000000000\n[phold]\nobjects=4\nto="next"\neach=1\ndelay={law="fixed",value=1}\n'
     reading, writing = os.pipe()
     reader = subprocess.Popen(["head", "-c", "100000"], stdin=reading, stdout=subprocess.DEVNULL)
     os.close(reading)
-    yield "a limit of 1,000,000,000 into a pipe that closes", {5, -13}, Run(program, ["run"], long, stdout=writing)
+    yield "a limit of 1,000,000,000 into a pipe that closes", {5}, Run(program, ["run"], long, stdout=writing)
     os.close(writing)
     reader.wait()
 
