@@ -1,3 +1,5 @@
 pub mod ReadingLemmas
+pub mod SavedRunsLaw
 pub mod SmallAnswers
+pub mod StateAnswers
 pub mod TopLemmas

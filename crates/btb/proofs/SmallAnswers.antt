@@ -29,7 +29,7 @@ use Rattle.sim_io.specs.declared.words.Settings.TheVariants.{One}
 use Rattle.sim_io.specs.Texts.{stamp_text, word_text, part_text, place_text, part_line, event_lines, record_lines, stop_line}
 use Rattle.sim_io.specs.CycleTexts.{cycle_line, told_cycle, bucket_lines, lines_of_buckets, text}
 use Rattle.sim_io.specs.Words.{judged, settings}
-use Rattle.sim_text.specs.WholeTexts.{text_from_start}
+use Rattle.sim_text.specs.WholeTexts.{text_from}
 use Rattle.btb.specs.Answer.{answer, answer_to_settings, answer_to_model, refusal_line}
 
 number_at : List ℕ → ℕ → Members → Members
@@ -48,20 +48,20 @@ tie =
     (member (codes "start") (array (item (start_at 0 1) (item (start_at 5 0) no_items)))
     (member (codes "to") (string (codes "next")) no_members))))) no_members)))
 
-tie_is_settled_by_destination : answer_to_model (One false) (top tie) ≡ record {
+tie_is_settled_by_destination : answer_to_model (One false) [] (top tie) ≡ record {
   output = codes "0.0 p1 hop 5 2\n5.0 p0 hop 5 1\n5.0 p2 hop 5 0\nend 9 events 3\n";
   notes = [];
   status = 0;
 }
-unfolding digits number_at start_at tie key_lt key_cmp next_stamp has_no_step cells_after_all inverses_of draw drawn_value words_read starts_of hop_delay hop_dest hop_next place_changes hop_effect phold_meaning top phold destination law fixed_law start_entry terms_of enqueue enqueue_all has_endless_chain emissions fired_by fire initial_state next next_of next_fired run run_for run_on least_stamp bucket_fired bucket_below horizon_bucket emissions_of objects_after state_with_done is_limited committed_events after cut cycles_behind cycles_on cycles_for cycles stamp_text word_text part_text place_text part_line event_lines record_lines stop_line cycle_line told_cycle bucket_lines lines_of_buckets text text_from_start answer_to_model
+unfolding digits number_at start_at tie key_lt key_cmp next_stamp has_no_step cells_after_all inverses_of draw drawn_value words_read starts_of hop_delay hop_dest hop_next place_changes hop_effect phold_meaning top phold destination law fixed_law start_entry terms_of enqueue enqueue_all has_endless_chain emissions fired_by fire initial_state next next_of next_fired run run_for run_on least_stamp bucket_fired bucket_below horizon_bucket emissions_of objects_after state_with_done is_limited committed_events after cut cycles_behind cycles_on cycles_for cycles stamp_text word_text part_text place_text part_line event_lines record_lines stop_line cycle_line told_cycle bucket_lines lines_of_buckets text text_from answer_to_model
 tie_is_settled_by_destination = refl
 
-an_event_at_the_horizon_waits : answer_to_model (One true) (top tie) ≡ record {
+an_event_at_the_horizon_waits : answer_to_model (One true) [] (top tie) ≡ record {
   output = codes "0.0 p1 hop 5 2\ncycle 1 horizon 5.0 events 1\n5.0 p0 hop 5 1\n5.0 p2 hop 5 0\ncycle 2 horizon 10.0 events 2\nend 9 events 3\n";
   notes = [];
   status = 0;
 }
-unfolding digits number_at start_at tie key_lt key_cmp next_stamp has_no_step cells_after_all inverses_of draw drawn_value words_read starts_of hop_delay hop_dest hop_next place_changes hop_effect phold_meaning top phold destination law fixed_law start_entry terms_of enqueue enqueue_all has_endless_chain emissions fired_by fire initial_state next next_of next_fired run run_for run_on least_stamp bucket_fired bucket_below horizon_bucket emissions_of objects_after state_with_done is_limited committed_events after cut cycles_behind cycles_on cycles_for cycles stamp_text word_text part_text place_text part_line event_lines record_lines stop_line cycle_line told_cycle bucket_lines lines_of_buckets text text_from_start answer_to_model
+unfolding digits number_at start_at tie key_lt key_cmp next_stamp has_no_step cells_after_all inverses_of draw drawn_value words_read starts_of hop_delay hop_dest hop_next place_changes hop_effect phold_meaning top phold destination law fixed_law start_entry terms_of enqueue enqueue_all has_endless_chain emissions fired_by fire initial_state next next_of next_fired run run_for run_on least_stamp bucket_fired bucket_below horizon_bucket emissions_of objects_after state_with_done is_limited committed_events after cut cycles_behind cycles_on cycles_for cycles stamp_text word_text part_text place_text part_line event_lines record_lines stop_line cycle_line told_cycle bucket_lines lines_of_buckets text text_from answer_to_model
 an_event_at_the_horizon_waits = refl
 
 no_bytes_are_no_model : answer (codes "run" ∷ []) [] ≡ record { output = []; notes = codes "model: 3 Missing item 0\n"; status = 3 }

@@ -2,9 +2,12 @@
 #![tactic(auto)]
 
 mod ending;
+mod laws;
 mod notes;
 mod program;
 mod running;
+mod saving;
+mod setting;
 mod status;
 #[cfg(test)]
 mod tests;

@@ -4,12 +4,13 @@ ghost use Rattle.std.specs.Io.KnownBytes.{Appends};
 ghost use Rattle.sim_io.specs.Causes.{HasCause, Rose};
 ghost use Rattle.sim_io.specs.Transfers.{AppendsPrefix};
 ghost use Rattle.model_text.specs.Causes.{code_name};
-ghost use Rattle.btb.specs.Answer.{words_line, refusal_line};
+ghost use Rattle.btb.specs.Answer.{words_line, refusal_line, state_code_name, state_line};
 ghost use Rattle.btb.specs.Endings.{status_of_ending, line_of_ending};
 
 use crate::ending::Ending;
 use delta_exchange::OutOfMemory;
 use model_text::Cause;
+use run_save::StateCause;
 use sim_io::{Failed, Sink, WordFault, write_all};
 use std::alloc::Global;
 
@@ -33,6 +34,26 @@ pub fn refusal_line(alloc: Global, code: u8, item: u32) -> Result<Vec<u8>, OutOf
     Ok(line.into_bytes())
 }
 
+/// The name of the cause with this code.
+fn state_code_name(code: u8) -> &'static str
+    ensures { result.now ≡ state_code_name code }
+{
+    match StateCause::of_code(code) {
+        Some(cause) => cause.name(),
+        None => "",
+    }
+}
+
+/// The line for a saved state that is refused with this code at this line.
+#[tactic(auto, unfolding(crate::specs::Answer::state_line))]
+pub fn state_line(alloc: Global, code: u8, line: u64) -> Result<Vec<u8>, OutOfMemory>
+    ensures { IfOk result (λ told. told.items ≡ state_line code line) }
+{
+    let name = state_code_name(code);
+    let told = format!(in alloc; "state: {code} {name} line {line}\n")?;
+    Ok(told.into_bytes())
+}
+
 /// Notes that the words are refused, part by part: it takes no memory, since the words are judged before any is taken.
 fn note_words<N: Sink>(notes: &mut N, fault: WordFault) -> Result<(), Failed>
     ensures all { OnOk result (Appends (N.told notes.old) (N.told notes.new) (words_line fault)) }
@@ -51,9 +72,11 @@ fn note<N: Sink>(notes: &mut N, ending: &Ending) -> Result<(), Failed>
     ensures cause { HasCause (N.faults notes.old) (N.faults notes.new) result }
 {
     match ending {
-        Ending::Stopped(_) => Ok(()),
+        Ending::Stopped(_) | Ending::Saved => Ok(()),
         Ending::RefusedWords(fault) => note_words(notes, *fault),
-        Ending::RefusedModel { line } => write_all(notes, line.as_slice()),
+        Ending::RefusedModel { line } | Ending::RefusedState { line } => {
+            write_all(notes, line.as_slice())
+        }
         Ending::ReadFault => write_all(notes, b"read failed\n"),
         Ending::WriteFault => write_all(notes, b"write failed\n"),
         Ending::OutOfMemory => write_all(notes, b"out of memory\n"),

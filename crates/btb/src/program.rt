@@ -5,15 +5,15 @@ ghost use Rattle.sim_io.specs.Causes.{Rose};
 ghost use Rattle.sim_io.specs.Transfers.{AppendsPrefix};
 ghost use Rattle.sim_io.specs.Words.{settings, texts_of};
 ghost use Rattle.sim_io.specs.declared.words.WordFault.TheVariants.{BadValue};
-ghost use Rattle.btb.specs.Answer.{takes_input, words_line, OfAnswer, OfAccepted, HandsOnPrefix, WritesOutput, WritesPrefix};
-ghost use Rattle.btb.specs.declared.status.TheConstants.{WORDS, READ_FAULT, WRITE_FAULT, OUT_OF_MEMORY, EVENT_LIMIT};
+ghost use Rattle.btb.specs.Answer.{most_read, takes_input, words_line, OfAnswer, OfAccepted, HandsOnPrefix, WritesOutput, WritesPrefix};
+ghost use Rattle.btb.specs.declared.status.TheConstants.{WORDS, READ_FAULT, WRITE_FAULT, OUT_OF_MEMORY, STATE};
 ghost use Rattle.btb.specs.Endings.{noted_line, EndsUnread, IsAnswering, NotesLine, NotesPrefix, IsComplete};
 
 use crate::ending::Ending;
 use crate::notes::conclude;
 use crate::top::btb;
 use node_team::Gate;
-use sim_io::{ENOUGH_BYTES, Sink, Source, WordFault};
+use sim_io::{Sink, Source, WordFault};
 use std::alloc::AllocGlobal;
 use std::io::ErrorKind;
 use std::thread::Threads;
@@ -41,7 +41,7 @@ pub fn run_program<R: AllocGlobal + Threads + Sync, S: Source, K: Sink, N: Sink,
     notes: &mut N,
     gate: &G,
 ) -> u8
-    ensures known { result ≤ EVENT_LIMIT }
+    ensures known { result ≤ STATE }
 
     // With words that were read: what is written is the answer, or a prefix of it.
     ensures output { IsAnswering result → IfOk words (λ list. OfAnswer list.items (S.left source.old) (WritesOutput (K.told out.old) (K.told out.new))) }
@@ -57,7 +57,7 @@ pub fn run_program<R: AllocGlobal + Threads + Sync, S: Source, K: Sink, N: Sink,
     ensures refused_words { IfOk words (λ list. (result ≡ WORDS) ↔ IsErr (settings (texts_of list.items))) }
     ensures unread { IfOk words (λ list. takes_input (settings (texts_of list.items)) ≡ false → source.new ≡ source.old) }
     ensures read { IsAnswering result → IfOk words (λ list. takes_input (settings (texts_of list.items)) ≡ true
-        → IfSome (S.left source.old) (λ bytes. S.left source.new ≡ Some (drop ENOUGH_BYTES bytes))) }
+        → IfSome (S.left source.old) (λ bytes. S.left source.new ≡ Some (drop (most_read (settings (texts_of list.items))) bytes))) }
     ensures reads { result ≡ READ_FAULT → IfOk words (λ list. takes_input (settings (texts_of list.items)) ≡ true) }
 
     // One line is noted, or a prefix of it.
@@ -65,7 +65,7 @@ pub fn run_program<R: AllocGlobal + Threads + Sync, S: Source, K: Sink, N: Sink,
     ensures notes_whole { IfOk words (λ list. OfAnswer list.items (S.left source.old) (λ answer.
         NotesLine result (N.told notes.old) (N.told notes.new) answer ⊎ Rose (N.faults notes.old) (N.faults notes.new))) }
 
-    // Accepted words, an accepted model and no fault give the whole answer, or want of memory.
+    // Accepted words, an input that they accept and no fault give the whole answer, or want of memory.
     ensures complete { IfOk words (λ list. OfAccepted list.items (S.left source.old) (λ answer.
         IsComplete result answer.status (Rose (S.faults source.old) (S.faults source.new)) (Rose (K.faults out.old) (K.faults out.new)))) }
 

@@ -4,12 +4,14 @@ ghost use Rattle.std.specs.Io.KnownBytes.{Keeps};
 ghost use Rattle.sim_io.specs.Causes.{Rose};
 ghost use Rattle.sim_io.specs.Words.{AreInBounds, settings, texts_of};
 ghost use Rattle.model_text.specs.Meanings.{meaning_of};
-ghost use Rattle.btb.specs.Answer.{refusal_line, answer_of_run, demo_answer, takes_input, OfAnswer, OfModelAnswer, WritesOutput, WritesPrefix};
+ghost use Rattle.btb.specs.Answer.{refusal_line, answer_of_model, answer_of_run, demo_answer, most_read, takes_input, OfAnswer, OfModelAnswer, WritesOutput, WritesPrefix};
 ghost use Rattle.btb.specs.declared.status.TheConstants.{MODEL};
 ghost use Rattle.btb.specs.Endings.{status_of_ending, line_of_ending, IsAnswered, RefusesWords};
 
 use crate::ending::Ending;
 use crate::notes::refusal_line;
+use crate::saving::{resume_command, save_to_the_end};
+use crate::setting::{machine_of, telling_of};
 use model_runs::run_model;
 use model_text::{AnyModel, Refusal, read_model};
 use node_team::Gate;
@@ -45,20 +47,58 @@ fn run_to_the_end<R: Threads + Sync, G: Gate, K: Sink>(
     out: &mut K,
 ) -> Ending
     requires { AreInBounds settings }
-    ensures output { IsAnswered result → WritesOutput (K.told out.old) (K.told out.new) (answer_of_run settings (meaning_of model) terms) }
-    ensures status { IsAnswered result → status_of_ending result ≡ (answer_of_run settings (meaning_of model) terms).status }
+    ensures output { IsAnswered result → WritesOutput (K.told out.old) (K.told out.new) (answer_of_run settings (record { meaning = meaning_of model; terms = terms })) }
+    ensures status { IsAnswered result → status_of_ending result ≡ (answer_of_run settings (record { meaning = meaning_of model; terms = terms })).status }
     ensures line { IsAnswered result → line_of_ending result ≡ [] }
     ensures handed { IsAnswered result → Keeps (K.told out.new) (K.handed out.new) }
-    ensures prefix { WritesPrefix (K.told out.old) (K.told out.new) (answer_of_run settings (meaning_of model) terms) }
+    ensures prefix { WritesPrefix (K.told out.old) (K.told out.new) (answer_of_run settings (record { meaning = meaning_of model; terms = terms })) }
     ensures words { ¬ (RefusesWords result) }
     ensures read { result ≢ Ending.ReadFault }
     ensures write_fault { result ≡ Ending.WriteFault → Rose (K.faults out.old) (K.faults out.new) }
     ensures write_quiet { result ≢ Ending.WriteFault → K.faults out.new ≡ K.faults out.old }
 {
-    match run_model(rt, alloc, gate, model, terms, settings, out) {
+    let machine = machine_of(settings);
+    match run_model(
+        rt,
+        alloc,
+        gate,
+        model,
+        terms,
+        machine,
+        telling_of(settings),
+        out,
+    ) {
         Ok(stop) => Ending::Stopped(stop),
         Err(Unfinished::WriteFault) => Ending::WriteFault,
         Err(Unfinished::OutOfMemory) => Ending::OutOfMemory,
+    }
+}
+
+/// Simulates a model, of which these are the bytes, and writes what the command tells of that.
+fn answer_model<R: Threads + Sync, G: Gate, K: Sink>(
+    rt: &R,
+    alloc: Global,
+    gate: &G,
+    model: AnyModel,
+    terms: Terms,
+    bytes: &[u8],
+    settings: Settings,
+    out: &mut K,
+) -> Ending
+    requires { AreInBounds settings }
+    ensures output { IsAnswered result → WritesOutput (K.told out.old) (K.told out.new) (answer_of_model settings bytes.now (record { meaning = meaning_of model; terms = terms })) }
+    ensures status { IsAnswered result → status_of_ending result ≡ (answer_of_model settings bytes.now (record { meaning = meaning_of model; terms = terms })).status }
+    ensures line { IsAnswered result → line_of_ending result ≡ (answer_of_model settings bytes.now (record { meaning = meaning_of model; terms = terms })).notes }
+    ensures handed { IsAnswered result → Keeps (K.told out.new) (K.handed out.new) }
+    ensures prefix { WritesPrefix (K.told out.old) (K.told out.new) (answer_of_model settings bytes.now (record { meaning = meaning_of model; terms = terms })) }
+    ensures words { ¬ (RefusesWords result) }
+    ensures read { result ≢ Ending.ReadFault }
+    ensures write_fault { result ≡ Ending.WriteFault → Rose (K.faults out.old) (K.faults out.new) }
+    ensures write_quiet { result ≢ Ending.WriteFault → K.faults out.new ≡ K.faults out.old }
+{
+    match settings {
+        Settings::Save { c } => save_to_the_end(rt, alloc, gate, model, terms, bytes, c, out),
+        _ => run_to_the_end(rt, alloc, gate, model, terms, settings, out),
     }
 }
 
@@ -90,8 +130,9 @@ fn run_command<R: AllocGlobal + Threads + Sync, G: Gate, S: Source, K: Sink>(
         Err(ReadEnd::Failed) => return Ending::ReadFault,
         Err(ReadEnd::OutOfMemory) => return Ending::OutOfMemory,
     };
-    match read_model(alloc, bytes.as_slice()) {
-        Ok((model, terms)) => run_to_the_end(rt, alloc, gate, model, terms, settings, out),
+    let bytes = bytes.as_slice();
+    match read_model(alloc, bytes) {
+        Ok((model, terms)) => { answer_model(rt, alloc, gate, model, terms, bytes, settings, out) }
         Err(Refusal::At { code, item }) => refused(alloc, code, item),
         Err(Refusal::OutOfMemory) => Ending::OutOfMemory,
     }
@@ -142,7 +183,7 @@ pub fn run_words<R: AllocGlobal + Threads + Sync, G: Gate, S: Source, K: Sink>(
     ensures words { (RefusesWords result) ↔ IsErr (settings (texts_of words.now.items)) }
     ensures unread { takes_input (settings (texts_of words.now.items)) ≡ false → source.new ≡ source.old }
     ensures read { IsAnswered result → takes_input (settings (texts_of words.now.items)) ≡ true
-        → IfSome (S.left source.old) (λ bytes. S.left source.new ≡ Some (drop ENOUGH_BYTES bytes)) }
+        → IfSome (S.left source.old) (λ bytes. S.left source.new ≡ Some (drop (most_read (settings (texts_of words.now.items))) bytes)) }
     ensures reads { result ≡ Ending.ReadFault → takes_input (settings (texts_of words.now.items)) ≡ true }
     ensures read_fault { result ≡ Ending.ReadFault → Rose (S.faults source.old) (S.faults source.new) }
     ensures read_quiet { result ≢ Ending.ReadFault → S.faults source.new ≡ S.faults source.old }
@@ -157,6 +198,7 @@ pub fn run_words<R: AllocGlobal + Threads + Sync, G: Gate, S: Source, K: Sink>(
     };
     match settings {
         Settings::Demo { n } => run_demo(rt, gate, n, out),
+        Settings::Resume => resume_command(rt, gate, source, out),
         _ => run_command(rt, gate, settings, source, out),
     }
 }

@@ -23,3 +23,6 @@ pub const OUT_OF_MEMORY: u8 = 6;
 
 /// The limit of events was met.
 pub const EVENT_LIMIT: u8 = 7;
+
+/// The saved state is refused, or has too long a text.
+pub const STATE: u8 = 8;

@@ -5,6 +5,8 @@ mod gates;
 mod networks;
 mod nodes;
 mod refusals;
+mod saving;
+mod streams;
 mod totals;
 mod words;
 mod workers;
@@ -205,60 +207,6 @@ fn no_bytes_are_no_model(rt: HostRuntime) -> Result<(), Fail> {
     assert_eq!(rt; run.status, 3);
     assert_eq!(rt; run.text.as_str(), "");
     assert_eq!(rt; run.notes.as_str(), "model: 3 Missing item 0\n");
-    Ok(())
-}
-
-#[test]
-fn a_read_that_fails_at_any_call(rt: HostRuntime) -> Result<(), Fail> {
-    let alloc = rt.alloc();
-    // The text has 159 bytes: ten reads and one that finds the end.
-    for call in 1..=11 {
-        let source = source_of(alloc, TIE, &[call])?;
-        let run = answer_of(&rt, &["run"], source, sink_of(alloc, &[], &[])?)?;
-        assert_eq!(rt; run.status, 4, "{call}");
-        assert_eq!(rt; run.text.as_str(), "");
-        assert_eq!(rt; run.notes.as_str(), "read failed\n");
-    }
-    let source = source_of(alloc, TIE, &[12])?;
-    let run = answer_of(&rt, &["run"], source, sink_of(alloc, &[], &[])?)?;
-    assert_eq!(rt; run.status, 0);
-    assert_eq!(rt; run.text.as_str(), TIE_TEXT);
-    Ok(())
-}
-
-#[test]
-fn a_write_that_fails_at_any_call(rt: HostRuntime) -> Result<(), Fail> {
-    let alloc = rt.alloc();
-    // The buckets have 15 and 30 bytes and the stop line 15: two, three and two writes.
-    let prefix = TIE_TEXT.as_bytes();
-    for (call, length) in (1..).zip([0, 10, 15, 25, 35, 45, 55]) {
-        let failing = sink_of(alloc, &[call], &[])?;
-        let idle = sink_of(alloc, &[], &[call])?;
-        for out in [failing, idle] {
-            let run = answer_of(&rt, &["run"], source_of(alloc, TIE, &[])?, out)?;
-            assert_eq!(rt; run.status, 5, "{call}");
-            assert_eq!(rt; run.text.as_bytes(), prefix.get(..length).ok_or("length")?);
-            assert_eq!(rt; run.notes.as_str(), "write failed\n");
-        }
-    }
-    let out = sink_of(alloc, &[8], &[8])?;
-    let run = answer_of(&rt, &["run"], source_of(alloc, TIE, &[])?, out)?;
-    assert_eq!(rt; run.status, 0);
-    assert_eq!(rt; run.text.as_str(), TIE_TEXT);
-    Ok(())
-}
-
-#[test]
-fn failing_notes_change_only_the_notes(rt: HostRuntime) -> Result<(), Fail> {
-    let alloc = rt.alloc();
-    let words = words_of(alloc, &["run"])?;
-    let mut source = source_of(alloc, "", &[])?;
-    let mut out = sink_of(alloc, &[], &[])?;
-    let mut notes = sink_of(alloc, &[2], &[])?;
-    let status = btb(&rt, &words, &mut source, &mut out, &mut notes, &Open);
-    assert_eq!(rt; status, 3);
-    assert_eq!(rt; out.bytes(), b"".as_slice());
-    assert_eq!(rt; notes.bytes(), b"model: 3 M".as_slice());
     Ok(())
 }
 

@@ -3,14 +3,14 @@ ghost use Rattle.std.specs.Prelude.{◌≡◌, ◌≢◌, ◌≤◌, ◌⊎◌, 
 ghost use Rattle.std.specs.Io.KnownBytes.{Keeps};
 ghost use Rattle.sim_io.specs.Causes.{Rose};
 ghost use Rattle.sim_io.specs.Words.{settings, texts_of};
-ghost use Rattle.btb.specs.Answer.{takes_input, OfAnswer, OfAccepted, HandsOnPrefix, WritesOutput, WritesPrefix};
-ghost use Rattle.btb.specs.declared.status.TheConstants.{WORDS, READ_FAULT, WRITE_FAULT, EVENT_LIMIT};
+ghost use Rattle.btb.specs.Answer.{most_read, takes_input, OfAnswer, OfAccepted, HandsOnPrefix, WritesOutput, WritesPrefix};
+ghost use Rattle.btb.specs.declared.status.TheConstants.{WORDS, READ_FAULT, WRITE_FAULT, STATE};
 ghost use Rattle.btb.specs.Endings.{IsAnswering, NotesLine, NotesPrefix, IsComplete};
 
 use crate::notes::conclude;
 use crate::running::run_words;
 use node_team::Gate;
-use sim_io::{ENOUGH_BYTES, Sink, Source};
+use sim_io::{Sink, Source};
 use std::alloc::AllocGlobal;
 use std::thread::Threads;
 
@@ -18,7 +18,7 @@ use std::thread::Threads;
 ///
 /// | Status | Comes |
 /// |---|---|
-/// | 0 | exactly where the simulation ran to its end |
+/// | 0 | exactly where the simulation ran to its end, or was saved |
 /// | 1 | exactly where an event failed |
 /// | 2 | exactly where the words are refused: nothing is read, and no memory is taken |
 /// | 3 | exactly where the model is refused |
@@ -26,8 +26,10 @@ use std::thread::Threads;
 /// | 5 | only where writing to `out` failed, after a prefix of the text |
 /// | 6 | where there was no memory left, after a prefix of the text |
 /// | 7 | exactly where the limit of events was met |
+/// | 8 | exactly where the saved state is refused, or the text of the state to be saved is too long, after the records |
 ///
-/// 'Exactly' yields to 4, 5 and 6 alone, and for status 2 to none.
+/// 'Exactly' yields to 4, 5 and 6 alone, and for status 2 to none. A command that saves tells neither of a fault of an event
+/// nor of the limit: these are told by the one that goes on from there.
 pub fn btb<R: AllocGlobal + Threads + Sync, S: Source, K: Sink, N: Sink, G: Gate>(
     rt: &R,
     words: &Vec<String>,
@@ -36,7 +38,7 @@ pub fn btb<R: AllocGlobal + Threads + Sync, S: Source, K: Sink, N: Sink, G: Gate
     notes: &mut N,
     gate: &G,
 ) -> u8
-    ensures known { result ≤ EVENT_LIMIT }
+    ensures known { result ≤ STATE }
 
     // What is written is the answer, or a prefix of it.
     ensures output { IsAnswering result → OfAnswer words.now.items (S.left source.old) (WritesOutput (K.told out.old) (K.told out.new)) }
@@ -52,7 +54,7 @@ pub fn btb<R: AllocGlobal + Threads + Sync, S: Source, K: Sink, N: Sink, G: Gate
     ensures refused_words { (result ≡ WORDS) ↔ IsErr (settings (texts_of words.now.items)) }
     ensures unread { takes_input (settings (texts_of words.now.items)) ≡ false → source.new ≡ source.old }
     ensures read { IsAnswering result → takes_input (settings (texts_of words.now.items)) ≡ true
-        → IfSome (S.left source.old) (λ bytes. S.left source.new ≡ Some (drop ENOUGH_BYTES bytes)) }
+        → IfSome (S.left source.old) (λ bytes. S.left source.new ≡ Some (drop (most_read (settings (texts_of words.now.items))) bytes)) }
     ensures reads { result ≡ READ_FAULT → takes_input (settings (texts_of words.now.items)) ≡ true }
 
     // Faults have causes, and each is told.
@@ -67,7 +69,7 @@ pub fn btb<R: AllocGlobal + Threads + Sync, S: Source, K: Sink, N: Sink, G: Gate
     ensures notes_whole { OfAnswer words.now.items (S.left source.old) (λ answer.
         NotesLine result (N.told notes.old) (N.told notes.new) answer ⊎ Rose (N.faults notes.old) (N.faults notes.new)) }
 
-    // Accepted words, an accepted model and no fault give the whole answer, or want of memory.
+    // Accepted words, an input that they accept and no fault give the whole answer, or want of memory.
     ensures complete { OfAccepted words.now.items (S.left source.old) (λ answer.
         IsComplete result answer.status (Rose (S.faults source.old) (S.faults source.new)) (Rose (K.faults out.old) (K.faults out.new))) }
 {

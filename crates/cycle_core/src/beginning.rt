@@ -1,18 +1,38 @@
-//! Nodes at the start, and what arrives there first.
-ghost use Rattle.std.specs.Prelude.{◌≡◌, ◌<◌, ◌+◌, ◌++◌, ◌∷◌, ◌^◌, [], ℕ, length, slice_index_or, slice_set, IfOk};
+//! Nodes at the start, with their objects, and what arrives there first.
+ghost use Rattle.std.specs.Prelude.{◌≡◌, ◌<◌, ◌≤◌, ◌+◌, ◌++◌, ◌∷◌, ◌^◌, [], ℕ, List, length, map, slice_index_or, slice_set, IfOk, OnOk};
+ghost use Rattle.std.specs.List.{AllByRecursion};
 ghost use Rattle.std.specs.Arc.{arc_value};
 ghost use Rattle.model_core.specs.Meaning.{MeaningLaws};
-ghost use Rattle.cycle_core.specs.Starts.{AreAllFirst, AreAllNew};
+ghost use Rattle.model_core.specs.declared.event.Event.{Event};
+ghost use Rattle.sim_spec.specs.declared.terms.Terms.{Terms};
+ghost use Rattle.cycle_core.specs.Starts.{AreAllNew, ArePartsOf, ArePlaced, CanSet, HaveStatesFrom, first_events};
+ghost use Rattle.cycle_core.specs.States.{object_of};
 
 use crate::parcels::no_parcels;
 use event_chain::{Cell, Chain};
 use event_firing::first_event;
 use model_core::model::Model as SimulationModel;
-use model_core::{Event, OutOfMemory};
+use model_core::{Cells, Event, OutOfMemory};
 use node_core::{Homes, Node};
-use sim_spec::Terms;
+use sim_spec::{Placement, Terms};
 use std::alloc::Global;
 use std::sync::Arc;
+
+/// The homes of a model's objects, as these are placed on so many nodes.
+pub fn placed_homes<M: SimulationModel>(
+    alloc: Global,
+    model: &M,
+    nodes: u32,
+    placement: Placement,
+) -> Result<Arc<Homes>, OutOfMemory>
+    requires low { 1 ≤ nodes }
+    requires high { nodes ≤ 64 }
+    ensures nodes { IfOk result (λ homes. (arc_value homes).nodes ≡ nodes) }
+    ensures placed { IfOk result (λ homes. ArePlaced (M.meaning model.now) (arc_value homes)) }
+{
+    let homes = Homes::new(alloc, model.objects(), nodes, placement)?;
+    Ok(Arc::new(alloc, homes)?)
+}
 
 /// Puts an event at the back of the chain at this place.
 fn add_at(parcels: &mut Vec<Chain<Event>>, place: usize, cell: Cell<Event>)
@@ -23,6 +43,25 @@ fn add_at(parcels: &mut Vec<Chain<Event>>, place: usize, cell: Cell<Event>)
     parcels[place].push_back(cell);
 }
 
+/// Puts an event at the back of the chain of its home.
+fn put_home(
+    alloc: Global,
+    homes: &Homes,
+    event: Event,
+    parcels: &mut Vec<Chain<Event>>,
+) -> Result<(), OutOfMemory>
+    requires home { event.key.dest < length homes.now.homes }
+    requires parts { (es : List Event) × (length es + 1 < 2 ^ 60) × ArePartsOf homes.now es parcels.old.items }
+    ensures { (es : List Event) → ArePartsOf homes.now es parcels.old.items → OnOk result (ArePartsOf homes.now (es ++ event ∷ []) parcels.new.items) }
+{
+    let home = homes.home(event.key.dest);
+    let Ok(cell) = Cell::new(alloc, event) else {
+        return Err(OutOfMemory);
+    };
+    add_at(parcels, home as usize, cell);
+    Ok(())
+}
+
 /// The initial events, each in the chain of its home.
 pub fn first_parcels<M: SimulationModel>(
     alloc: Global,
@@ -31,16 +70,28 @@ pub fn first_parcels<M: SimulationModel>(
 ) -> Result<Vec<Chain<Event>>, OutOfMemory>
     requires laws { MeaningLaws (M.meaning model.now) }
     requires objects { length homes.now.homes ≡ (M.meaning model.now).objects }
-    ensures { IfOk result (λ parcels. AreAllFirst (M.meaning model.now) homes.now parcels.items) }
+    ensures { IfOk result (λ parcels. ArePartsOf homes.now (first_events (M.meaning model.now) (M.meaning model.now).starts) parcels.items) }
 {
     let mut parcels = no_parcels(alloc, homes.nodes() as usize)?;
     for i in 0..model.starts() {
-        let event = first_event(model, i);
-        let home = homes.home(event.key.dest);
-        let Ok(cell) = Cell::new(alloc, event) else {
-            return Err(OutOfMemory);
-        };
-        add_at(&mut parcels, home as usize, cell);
+        put_home(alloc, homes, first_event(model, i), &mut parcels)?;
+    }
+    Ok(parcels)
+}
+
+/// Events, each in the chain of its home.
+pub fn parcels_of(
+    alloc: Global,
+    homes: &Homes,
+    events: &[Event],
+) -> Result<Vec<Chain<Event>>, OutOfMemory>
+    requires homes { AllByRecursion (λ e. e.key.dest < length homes.now.homes) events.now }
+    requires few { length events.now < 2 ^ 60 }
+    ensures { IfOk result (λ parcels. ArePartsOf homes.now events.now parcels.items) }
+{
+    let mut parcels = no_parcels(alloc, homes.nodes() as usize)?;
+    for event in events {
+        put_home(alloc, homes, *event, &mut parcels)?;
     }
     Ok(parcels)
 }
@@ -62,4 +113,24 @@ pub fn first_nodes<M: SimulationModel>(
         nodes.push(node)?;
     }
     Ok(nodes)
+}
+
+/// Gives each object its cells, and how many events it has sent. It takes no memory.
+pub fn set_objects<M: SimulationModel>(
+    nodes: &mut [Node<M>],
+    homes: &Homes,
+    objects: Vec<(Cells, u64)>,
+)
+    requires { (model : M) × (terms : Terms) × CanSet M.meaning model terms homes.now (map object_of objects.items) nodes.old }
+    ensures { (model : M) (terms : Terms) → CanSet M.meaning model terms homes.now (map object_of objects.items) nodes.old
+        → HaveStatesFrom M.meaning model terms homes.now 0 (map object_of objects.items) nodes.new }
+{
+    let mut objects = objects;
+    let mut object = homes.objects();
+    'objects: while let Some(state) = objects.pop() {
+        let (cells, sent) = state;
+        object -= 1;
+        let home = homes.home(object);
+        nodes[home as usize].set_object(object, cells, sent);
+    }
 }

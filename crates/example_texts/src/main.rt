@@ -3,17 +3,18 @@
 #![tactic(auto)]
 
 ghost use Rattle.std.specs.Prelude.{◌≡◌, IfOk, IfSome};
-ghost use Rattle.sim_io.specs.Words.{AreInBounds};
 ghost use Rattle.model_text.specs.Meanings.{meaning_of};
 ghost use Rattle.model_text.specs.ModelTexts.{model_of};
+ghost use Rattle.model_runs.specs.Machines.{IsMachine};
 ghost use Rattle.sim_text.specs.WholeTexts.{text_from_start};
+ghost use Rattle.sim_text.specs.declared.telling.Telling.TheVariants.{Lines};
 
-use model_runs::run_model;
+use model_runs::{DEFAULT_SPREAD, Machine, run_model};
 use model_text::{AnyModel, read_model};
 use node_team::Open;
-use sim_io::{MemSink, Settings};
-use sim_spec::{Placement, Terms};
-use sim_text::Unfinished;
+use sim_io::MemSink;
+use sim_spec::Terms;
+use sim_text::{Telling, Unfinished};
 use std::alloc::{AllocGlobal, Global};
 use std::rt::Files;
 use std::thread::Threads;
@@ -39,17 +40,8 @@ const EXAMPLES: [&str; 13] = [
 /// More bytes than any of the texts has.
 const ROOM: usize = 1_048_576;
 
-/// The engine for one thread.
-const ONE_THREAD: Settings = Settings::One { cycles: false };
-
-/// The engine on nodes, as it is where nothing is said of it.
-const NODES: Settings = Settings::Run {
-    nodes: 4,
-    ahead: 8,
-    placement: Placement::Round,
-    cycles: false,
-    workers: None,
-};
+/// The records of the events.
+const RECORDS: Telling = Telling::Lines { cycles: false };
 
 /// The text of a model's simulation.
 fn text_of<R: Threads + Sync>(
@@ -57,13 +49,13 @@ fn text_of<R: Threads + Sync>(
     alloc: Global,
     model: AnyModel,
     terms: Terms,
-    settings: Settings,
+    machine: Machine,
 ) -> Result<MemSink, Unfinished>
-    requires { AreInBounds settings }
-    ensures { IfOk result (λ sink. sink.taken ≡ text_from_start (meaning_of model) terms settings) }
+    requires { IsMachine machine }
+    ensures { IfOk result (λ sink. sink.taken ≡ text_from_start (meaning_of model) terms (Lines false)) }
 {
     let mut sink = MemSink::new(alloc, ROOM, Vec::new(alloc), Vec::new(alloc), ROOM)?;
-    run_model(rt, alloc, &Open, model, terms, settings, &mut sink)?;
+    run_model(rt, alloc, &Open, model, terms, machine, RECORDS, &mut sink)?;
     Ok(sink)
 }
 
@@ -72,13 +64,13 @@ fn told_of<R: Threads + Sync>(
     rt: &R,
     alloc: Global,
     bytes: &[u8],
-    settings: Settings,
+    machine: Machine,
 ) -> Option<MemSink>
-    requires { AreInBounds settings }
-    ensures { IfSome result (λ sink. IfOk (model_of bytes.now) (λ read. sink.taken ≡ text_from_start read.meaning read.terms settings)) }
+    requires { IsMachine machine }
+    ensures { IfSome result (λ sink. IfOk (model_of bytes.now) (λ read. sink.taken ≡ text_from_start read.meaning read.terms (Lines false))) }
 {
     let (model, terms) = read_model(alloc, bytes).ok()?;
-    text_of(rt, alloc, model, terms, settings).ok()
+    text_of(rt, alloc, model, terms, machine).ok()
 }
 
 /// Whether the example has the text that is stored beside it, by either engine.
@@ -89,8 +81,8 @@ fn agrees<R: AllocGlobal + Files + Threads + Sync>(
 ) -> io::Result<bool> {
     let model = fs::read(rt, format!(in alloc; "{name}.toml")?)?;
     let text = fs::read(rt, format!(in alloc; "{name}.txt")?)?;
-    let by_one = told_of(rt, alloc, model.as_slice(), ONE_THREAD);
-    let by_nodes = told_of(rt, alloc, model.as_slice(), NODES);
+    let by_one = told_of(rt, alloc, model.as_slice(), Machine::OneThread);
+    let by_nodes = told_of(rt, alloc, model.as_slice(), Machine::Nodes(DEFAULT_SPREAD));
     let is_text = |told: Option<MemSink>| told.is_some_and(|sink| sink.bytes() == text.as_slice());
     Ok(is_text(by_one) && is_text(by_nodes))
 }

@@ -8,21 +8,23 @@ ghost use Rattle.sim_spec.specs.Standing.{stands};
 ghost use Rattle.sim_spec.specs.State.{initial_state};
 ghost use Rattle.sim_io.specs.Causes.{Rose};
 ghost use Rattle.sim_io.specs.Transfers.{AppendsPrefix};
-ghost use Rattle.sim_io.specs.Words.{AreInBounds};
 ghost use Rattle.sim_text.specs.WholeTexts.{text_from_start};
 ghost use Rattle.sim_text.specs.declared.unfinished.Unfinished.TheVariants.{WriteFault, OutOfMemory as NoMemory};
 ghost use Rattle.cycle_core.specs.Standings.{WorldStandsAt, GoesOn, HasCycled};
 ghost use Rattle.node_team.specs.Handings.{AreWorkers};
+ghost use Rattle.model_runs.specs.Machines.{IsMachine, IsSpread};
 ghost use Rattle.model_text.specs.Meanings.{meaning_of};
 
+use crate::machine::{Machine, Spread};
 use crate::one_thread_run::OneThreadRun;
-use crate::team_run::{DEFAULT_SPREAD, Spread, TeamRun};
+use crate::team_run::TeamRun;
 use model_core::OutOfMemory;
 use model_text::AnyModel;
 use node_team::Gate;
-use sim_io::{Settings, Sink};
+use sim_io::Sink;
+use sim_spec::laws::law_initial;
 use sim_spec::{Bucket, Stop, Terms};
-use sim_text::{Unfinished, simulate};
+use sim_text::{Telling, Unfinished, simulate};
 use std::alloc::Global;
 use std::sync::Arc;
 use std::thread::Threads;
@@ -67,20 +69,21 @@ fn run_one_thread<K: Sink>(
     alloc: Global,
     model: AnyModel,
     terms: Terms,
-    settings: Settings,
+    telling: Telling,
     out: &mut K,
 ) -> Result<Stop, Unfinished>
-    ensures whole { OnOk result (Appends (K.told out.old) (K.told out.new) (text_from_start (meaning_of model) terms settings)) }
+    ensures whole { OnOk result (Appends (K.told out.old) (K.told out.new) (text_from_start (meaning_of model) terms telling)) }
     ensures stop { IfOk result (λ stop. stop ≡ (run (meaning_of model) terms (initial_state (meaning_of model))).stop) }
-    ensures prefix { OnErr result (AppendsPrefix (K.told out.old) (K.told out.new) (text_from_start (meaning_of model) terms settings)) }
+    ensures prefix { OnErr result (AppendsPrefix (K.told out.old) (K.told out.new) (text_from_start (meaning_of model) terms telling)) }
     ensures fault { IsErrOf result WriteFault → Rose (K.faults out.old) (K.faults out.new) }
     ensures later { K.faults out.old ≤ K.faults out.new }
     ensures quiet { OnOk result (K.faults out.new ≡ K.faults out.old) }
     ensures no_memory { IsErrOf result NoMemory → K.faults out.new ≡ K.faults out.old }
 {
     let (model, mut run) = one_thread(alloc, model, terms)?;
+    law_initial(&*model, &terms);
     let cycle = |run: &mut OneThreadRun, alloc: Global| run.engine.bucket(alloc);
-    simulate(alloc, &*model, &terms, &mut run, &cycle, settings, out)
+    simulate(alloc, &*model, &terms, &mut run, &cycle, telling, out)
 }
 
 /// Runs a model on nodes that advance in threads, and writes the text of its simulation.
@@ -91,93 +94,78 @@ fn run_on_nodes<R: Threads + Sync, G: Gate, K: Sink>(
     model: AnyModel,
     terms: Terms,
     spread: Spread,
-    settings: Settings,
+    telling: Telling,
     out: &mut K,
 ) -> Result<Stop, Unfinished>
-    requires low { 1 ≤ spread.nodes }
-    requires high { spread.nodes ≤ 64 }
-    requires workers { AreWorkers spread.workers }
-    ensures whole { OnOk result (Appends (K.told out.old) (K.told out.new) (text_from_start (meaning_of model) terms settings)) }
+    requires { IsSpread spread }
+    ensures whole { OnOk result (Appends (K.told out.old) (K.told out.new) (text_from_start (meaning_of model) terms telling)) }
     ensures stop { IfOk result (λ stop. stop ≡ (run (meaning_of model) terms (initial_state (meaning_of model))).stop) }
-    ensures prefix { OnErr result (AppendsPrefix (K.told out.old) (K.told out.new) (text_from_start (meaning_of model) terms settings)) }
+    ensures prefix { OnErr result (AppendsPrefix (K.told out.old) (K.told out.new) (text_from_start (meaning_of model) terms telling)) }
     ensures fault { IsErrOf result WriteFault → Rose (K.faults out.old) (K.faults out.new) }
     ensures later { K.faults out.old ≤ K.faults out.new }
     ensures quiet { OnOk result (K.faults out.new ≡ K.faults out.old) }
     ensures no_memory { IsErrOf result NoMemory → K.faults out.new ≡ K.faults out.old }
 {
     let (model, mut run) = on_nodes(alloc, model, terms, spread)?;
+    law_initial(&*model, &terms);
     let workers = spread.workers;
     let cycle = |run: &mut TeamRun, alloc: Global| -> Result<Bucket, OutOfMemory>
         requires { IsSync R.row × IsSync G.row × AreWorkers workers × GoesOn meaning_of run.old.team.world }
         ensures { HasCycled meaning_of run.old.team.world result run.new.team.world }
     { run.cycle(rt, alloc, workers, gate) };
-    simulate(alloc, &*model, &terms, &mut run, &cycle, settings, out)
+    simulate(alloc, &*model, &terms, &mut run, &cycle, telling, out)
 }
 
-/// Runs a model by the engine that is asked for, and writes the text of its simulation.
-fn run_as_set<R: Threads + Sync, G: Gate, K: Sink>(
+/// Runs a model by a machine, and writes what is to be told of its simulation.
+fn run_on<R: Threads + Sync, G: Gate, K: Sink>(
     rt: &R,
     alloc: Global,
     gate: &G,
     model: AnyModel,
     terms: Terms,
-    settings: Settings,
+    machine: Machine,
+    telling: Telling,
     out: &mut K,
 ) -> Result<Stop, Unfinished>
-    requires { AreInBounds settings }
-    ensures whole { OnOk result (Appends (K.told out.old) (K.told out.new) (text_from_start (meaning_of model) terms settings)) }
+    requires { IsMachine machine }
+    ensures whole { OnOk result (Appends (K.told out.old) (K.told out.new) (text_from_start (meaning_of model) terms telling)) }
     ensures stop { IfOk result (λ stop. stop ≡ (run (meaning_of model) terms (initial_state (meaning_of model))).stop) }
-    ensures prefix { OnErr result (AppendsPrefix (K.told out.old) (K.told out.new) (text_from_start (meaning_of model) terms settings)) }
+    ensures prefix { OnErr result (AppendsPrefix (K.told out.old) (K.told out.new) (text_from_start (meaning_of model) terms telling)) }
     ensures fault { IsErrOf result WriteFault → Rose (K.faults out.old) (K.faults out.new) }
     ensures later { K.faults out.old ≤ K.faults out.new }
     ensures quiet { OnOk result (K.faults out.new ≡ K.faults out.old) }
     ensures no_memory { IsErrOf result NoMemory → K.faults out.new ≡ K.faults out.old }
 {
-    match settings {
-        Settings::Run {
-            nodes,
-            ahead,
-            placement,
-            workers,
-            ..
-        } => {
-            let spread = Spread {
-                nodes,
-                ahead,
-                placement,
-                workers,
-            };
-            run_on_nodes(rt, alloc, gate, model, terms, spread, settings, out)
-        }
-        Settings::One { .. } => run_one_thread(alloc, model, terms, settings, out),
-        Settings::Totals | Settings::Demo { .. } => {
-            run_on_nodes(rt, alloc, gate, model, terms, DEFAULT_SPREAD, settings, out)
-        }
+    match machine {
+        Machine::OneThread => run_one_thread(alloc, model, terms, telling, out),
+        Machine::Nodes(spread) => run_on_nodes(rt, alloc, gate, model, terms, spread, telling, out),
     }
 }
 
-/// Runs a model as it is set, writes the text of its simulation, and hands it on. The text is the same whatever the
-/// engine, the nodes, their placement, how far they work ahead, the workers, who steals what, and the schedule of threads.
+/// Runs a model from its start, writes what is to be told of its simulation, and hands it on. The text is the same whatever
+/// the machine, the nodes, their placement, how far they work ahead, the workers, who steals what, which objects move, and
+/// the schedule of threads.
 pub fn run_model<R: Threads + Sync, G: Gate, K: Sink>(
     rt: &R,
     alloc: Global,
     gate: &G,
     model: AnyModel,
     terms: Terms,
-    settings: Settings,
+    machine: Machine,
+    telling: Telling,
     out: &mut K,
 ) -> Result<Stop, Unfinished>
-    requires { AreInBounds settings }
-    ensures whole { OnOk result (Appends (K.told out.old) (K.told out.new) (text_from_start (meaning_of model) terms settings)) }
+    requires { IsMachine machine }
+    ensures whole { OnOk result (Appends (K.told out.old) (K.told out.new) (text_from_start (meaning_of model) terms telling)) }
     ensures handed { OnOk result (Keeps (K.told out.new) (K.handed out.new)) }
     ensures stop { IfOk result (λ stop. stop ≡ (run (meaning_of model) terms (initial_state (meaning_of model))).stop) }
-    ensures prefix { OnErr result (AppendsPrefix (K.told out.old) (K.told out.new) (text_from_start (meaning_of model) terms settings)) }
+    ensures prefix { OnErr result (AppendsPrefix (K.told out.old) (K.told out.new) (text_from_start (meaning_of model) terms telling)) }
     ensures fault { IsErrOf result WriteFault → Rose (K.faults out.old) (K.faults out.new) }
     ensures later { K.faults out.old ≤ K.faults out.new }
     ensures quiet { OnOk result (K.faults out.new ≡ K.faults out.old) }
     ensures no_memory { IsErrOf result NoMemory → K.faults out.new ≡ K.faults out.old }
 {
-    let outcome = run_as_set(rt, alloc, gate, model, terms, settings, out);
+    let outcome = run_on(rt, alloc, gate, model, terms, machine, telling, out);
     out.flush()?;
     outcome
 }

@@ -1,47 +1,29 @@
 //! The engine on nodes, on a model of any kind.
-ghost use Rattle.std.specs.Prelude.{◌≡◌, ◌≤◌, IfOk, None};
+ghost use Rattle.std.specs.Prelude.{◌≡◌, ◌≤◌, true, IfOk, OnOk, OnErr, None};
 ghost use Rattle.std.specs.Arc.{arc_value};
-ghost use Rattle.sim_spec.specs.State.{initial_state};
-ghost use Rattle.sim_spec.specs.Standing.{stands};
+ghost use Rattle.sim_spec.specs.State.{Lawful, initial_state};
+ghost use Rattle.sim_spec.specs.Standing.{Standing, stands};
 ghost use Rattle.cycle_core.specs.Standings.{GoesOn, HasCycled, WorldStandsAt};
 ghost use Rattle.node_team.specs.Handings.{AreWorkers};
 ghost use Rattle.model_text.specs.Meanings.{meaning_of};
 
-use cycle_core::World;
+use crate::machine::Spread;
+use crate::moving::Moving;
+use cycle_core::{State, World};
 use model_core::OutOfMemory;
 use model_text::AnyModel;
 use node_team::{Gate, Team};
 use release_lanes::RingLanes;
-use sim_io::{DEFAULT_AHEAD, DEFAULT_NODES};
-use sim_spec::{Bucket, Engine, Placement, Stop, Terms};
+use sim_spec::{Bucket, Engine, Stop, Terms};
 use std::alloc::Global;
 use std::sync::Arc;
 use std::thread::Threads;
-
-/// How the objects of a model are spread over nodes, how far these work ahead, and who takes their turns.
-#[derive(Clone, Copy, Debug, PartialEq, Eq)]
-pub struct Spread {
-    /// 1 to 64.
-    pub nodes: u32,
-    /// 0 to 1,024.
-    pub ahead: u32,
-    pub placement: Placement,
-    /// How many workers take turns of nodes and steal them from each other, 1 to 64, where they do.
-    pub workers: Option<u32>,
-}
-
-/// How they are spread where nothing is asked for.
-pub const DEFAULT_SPREAD: Spread = Spread {
-    nodes: DEFAULT_NODES,
-    ahead: DEFAULT_AHEAD,
-    placement: Placement::Round,
-    workers: None,
-};
 
 /// A simulation of a model of any kind, on nodes that advance in threads.
 #[derive(Drop)]
 pub struct TeamRun {
     pub team: Team<AnyModel, RingLanes>,
+    moving: Moving,
 }
 
 impl TeamRun {
@@ -59,14 +41,64 @@ impl TeamRun {
         ensures begins { IfOk result (λ run. WorldStandsAt meaning_of run.team.world (stands (initial_state (meaning_of (arc_value model))) None)) }
     {
         let world = World::begin(alloc, model, terms, spread.nodes, spread.placement)?;
+        TeamRun::of(alloc, world, spread)
+    }
+
+    /// The simulation at a state.
+    pub fn from_state(
+        alloc: Global,
+        model: Arc<AnyModel>,
+        terms: Terms,
+        spread: Spread,
+        state: State,
+    ) -> Result<TeamRun, OutOfMemory>
+        requires low { 1 ≤ spread.nodes }
+        requires high { spread.nodes ≤ 64 }
+        requires lawful { Lawful (meaning_of (arc_value model)) terms state }
+        ensures model { IfOk result (λ run. run.team.world.model ≡ arc_value model) }
+        ensures terms { IfOk result (λ run. run.team.world.terms ≡ terms) }
+        ensures begins { IfOk result (λ run. WorldStandsAt meaning_of run.team.world (stands state None)) }
+    {
+        let world = World::from_state(alloc, model, terms, spread.nodes, spread.placement, state)?;
+        TeamRun::of(alloc, world, spread)
+    }
+
+    /// The simulation of a world.
+    fn of(alloc: Global, world: World<AnyModel>, spread: Spread) -> Result<TeamRun, OutOfMemory>
+        requires nodes { world.homes.nodes ≡ spread.nodes }
+        requires low { 1 ≤ spread.nodes }
+        requires high { spread.nodes ≤ 64 }
+        ensures { IfOk result (λ run. run.team.world ≡ world) }
+    {
         let lanes = RingLanes::new(alloc, spread.nodes)?;
         Ok(TeamRun {
             team: Team::new(alloc, world, lanes, spread.ahead)?,
+            moving: Moving::new(spread.moves),
         })
     }
 
-    /// One cycle, by so many workers where there are some.
-    pub fn cycle<R: Threads + Sync, G: Gate>(
+    /// Makes the moves that come before the next cycle. After a refusal the world is spent.
+    fn make_moves(&mut self, alloc: Global) -> Result<(), OutOfMemory>
+        requires { (at : Standing) × WorldStandsAt meaning_of self.old.team.world at }
+        ensures at { OnOk result ((at : Standing) → WorldStandsAt meaning_of self.old.team.world at → WorldStandsAt meaning_of self.new.team.world at) }
+        ensures spent { OnErr result (self.new.team.world.is_spent ≡ true) }
+        ensures model { self.new.team.world.model ≡ self.old.team.world.model }
+        ensures terms { self.new.team.world.terms ≡ self.old.team.world.terms }
+    {
+        if self.team.world().is_spent() {
+            return Ok(());
+        }
+        match self.moving.make_next(alloc, &mut self.team) {
+            Ok(()) => Ok(()),
+            Err(refused) => {
+                self.team.spend();
+                Err(refused)
+            }
+        }
+    }
+
+    /// One cycle of the team, by so many workers where there are some.
+    fn cycle_team<R: Threads + Sync, G: Gate>(
         &mut self,
         rt: &R,
         alloc: Global,
@@ -81,6 +113,24 @@ impl TeamRun {
             Some(workers) => self.team.cycle_by(rt, alloc, workers, gate),
             None => self.team.cycle(rt, alloc, gate),
         }
+    }
+
+    /// One cycle, by so many workers where there are some. What moves after a whole cycle does so before the next one.
+    pub fn cycle<R: Threads + Sync, G: Gate>(
+        &mut self,
+        rt: &R,
+        alloc: Global,
+        workers: Option<u32>,
+        gate: &G,
+    ) -> Result<Bucket, OutOfMemory>
+        requires workers { AreWorkers workers }
+        requires goes_on { GoesOn meaning_of self.old.team.world }
+        ensures { HasCycled meaning_of self.old.team.world result self.new.team.world }
+    {
+        self.make_moves(alloc)?;
+        let bucket = self.cycle_team(rt, alloc, workers, gate)?;
+        self.moving = self.moving.after(&bucket);
+        Ok(bucket)
     }
 }
 

@@ -1,15 +1,14 @@
 -- The replay of a log whose first events went.
 use Rattle.sim_spec.proofs.FiringLemmas.{goes-firing}
-use Rattle.std.proofs.Common.{◌≡◌, ℕ, ◌+◌, ◌<◌, ◌≤◌, Bool, true, false, cond, List, [], ◌∷◌, ◌++◌, length, refl, sym, ap, ◌∙◌, subst, arith}
+use Rattle.std.proofs.Common.{◌≡◌, ℕ, ◌+◌, ◌<◌, ◌≤◌, List, [], ◌∷◌, ◌++◌, length, refl, sym, ap, ◌∙◌, subst, arith}
 use Rattle.std.specs.Prelude.{IsTrue}
 use Rattle.std.specs.List.{AllByRecursion as Each}
-use Rattle.delta_exchange.specs.Changes.{cells_after_all, inverses_of}
 use Rattle.model_core.specs.Meaning.{Meaning, MeaningLaws, OutcomeLaws, SendsInRange}
 use Rattle.model_core.specs.declared.effect.Outcome.{Outcome}
 use Rattle.model_core.specs.declared.effect.Outcome.TheVariants.{Fails, Goes}
 use Rattle.model_core.specs.declared.event.Event.{Event}
 use Rattle.model_core.specs.declared.event.Send.{Send}
-use Rattle.sim_spec.specs.Firing.{Firing, ObjectState, emissions, fails, fire, fired_by, goes, has_endless_chain}
+use Rattle.sim_spec.specs.Firing.{Firing, ObjectState, emissions, fire, fired_by, goes}
 use Rattle.sim_spec.specs.Replay.{Replay, replay}
 use Rattle.sim_spec.proofs.BucketInduction.{replay-goes}
 use Rattle.sim_spec.proofs.SerialLemmas.{length-emissions}

@@ -22,7 +22,7 @@ use Rattle.node_core.specs.Calls.{IsNewNode}
 use Rattle.node_core.specs.Homes.{HomesView, home_of}
 use Rattle.node_core.specs.Marks.{mark_of}
 use Rattle.node_core.specs.NewLogs.{first_log, first_logs}
-use Rattle.node_core.specs.Nodes.{Counts, IsHere, base_at, log_at, log_or, slot_at}
+use Rattle.node_core.specs.Nodes.{Counts, IsHere, NodeView, Stands, base_at, home, log_at, log_or, slot_at}
 use Rattle.node_core.specs.Sound.{AreOrderly, IsNode, IsStore}
 use Rattle.node_core.specs.Stores.{StoreView}
 use Rattle.node_core.proofs.NodeViews.{node_of}
@@ -80,6 +80,27 @@ module _ (m : Meaning) (homes : HomesView) (number : ℕ) where
       by_tests true h true g = at (ltb-true object m.objects h, eqb-true (home_of homes object) number g)
       by_tests true h false g = elsewhere (λ home. eqb-false (home_of homes object) number g home.1)
       by_tests false h b g = elsewhere (λ home. (let low = home.0 in let high = ltb-false object m.objects h in omega arith))
+
+-- a node without events stands for the states of its objects
+module _ {M : Type 0} (m : Meaning) (n : NodeView M) (states : ℕ → ObjectState) (cells : (object : ℕ) → IsHome m (home n) n.number object → IsTrue (m.lawful object (states object).cells))
+    (states_are : (object : ℕ) → IsHome m (home n) n.number object → (log_at n.logs object).state ≡ states object) (none : (object : ℕ) → IsHome m (home n) n.number object → (log_at n.logs object).done ≡ [])
+    (waiting : n.waiting ≡ []) where
+  pub blank-stands : Stands m n (record { states = states; pending = [] }) (λ (object : ℕ). 0)
+  unfolding log_of replay replay_of undone events_at Ascends
+  blank-stands = record {
+    stands = record {
+      ordered = tt;
+      homed = tt;
+      cells = cells;
+      early = λ o at. record { whole = refl; below = tt };
+      logs = λ o at. (λ i. replay_of (states_are o at i) (none o at i));
+      waiting_ordered = (let A : List Event → Type 0 = IsAscending in subst A (sym waiting) tt);
+      waiting_homed = (let E : List Event → Type 0 = Each (λ (e : Event). IsHome m (home n) n.number e.key.dest) in subst E (sym waiting) tt);
+      waiting = λ o at. ap (events_at o) waiting;
+    };
+    states = λ o at. sym (λ i. undone (states_are o at i) (none o at i));
+    events = λ o at. sym (λ i. events_of (none o at i) ++ events_at o (waiting i));
+  }
 
 module _ (m : Meaning) (homes : HomesView) (number : ℕ) (logs : List (Option LogView)) (is : logs ≡ first_logs m (home_of homes) number m.objects) where
   pub new-here : (object : ℕ) → IsHome m (home_of homes) number object → slot_at logs object ≡ Some (new_log m object)
@@ -144,28 +165,13 @@ module _ (m : Meaning) (homes : HomesView) (number : ℕ) (logs : List (Option L
 
   pub is-new : {M : Type 0} (model : M) (t : Terms) (s : StoreView) (counts : Counts) → MeaningLaws m → s.logs ≡ logs → s.marks ≡ [] → s.waiting ≡ [] → counts ≡ record { processed = 0; undone = 0; committed = 0 }
       → IsNewNode m (node_of model t number homes s 0 0 counts)
-  unfolding log_of replay replay_of events_at Ascends
   is-new model t s counts laws logs_are marks_are waiting_are none =
-      let base : (o : ℕ) → IsHome m (home_of homes) number o → first_object m o ≡ base_at s.logs o = λ o at. sym (ap (λ slots. base_at slots o) logs_are ∙ new-base o at) in
       let done : (o : ℕ) → (log_at s.logs o).done ≡ [] = λ o. ap (λ slots. (log_at slots o).done) logs_are ∙ new-done o in
       let state : (o : ℕ) → IsHome m (home_of homes) number o → (log_at s.logs o).state ≡ first_object m o = λ o at. ap (λ slots. (log_at slots o).state) logs_are ∙ ap (λ (l : LogView). l.state) (new-log o at) in
       record {
         here = λ o at. ap (λ slots. slot_at slots o) logs_are ∙ new-here o at;
         others = λ o apart. ap (λ slots. slot_at slots o) logs_are ∙ new-elsewhere o apart;
-        stands = record {
-          stands = record {
-            ordered = tt;
-            homed = tt;
-            cells = λ o at. laws.first o at.0;
-            early = λ o at. record { whole = refl; below = tt };
-            logs = λ o at. (λ i. replay_of (state o at i) (done o i));
-            waiting_ordered = (let A : List Event → Type 0 = IsAscending in subst A (sym waiting_are) tt);
-            waiting_homed = (let E : List Event → Type 0 = Each (λ (e : Event). IsHome m (home_of homes) number e.key.dest) in subst E (sym waiting_are) tt);
-            waiting = λ o at. ap (events_at o) waiting_are;
-          };
-          states = base;
-          events = λ o at. sym (λ i. events_of (done o i) ++ events_at o (waiting_are i));
-        };
+        stands = blank-stands m (node_of model t number homes s 0 0 counts) (first_object m) (λ o at. laws.first o at.0) state (λ o at. done o) waiting_are;
         processed = ap (map (λ mark. mark.key)) marks_are;
         waiting = waiting_are;
         work = refl;

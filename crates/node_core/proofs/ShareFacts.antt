@@ -1,6 +1,6 @@
 -- The share that a node's logs and waiting events make up: it stands for it, and for no other.
 use Rattle.std.proofs.Math.Seq.{take-append_seam}
-use Rattle.std.proofs.Common.{◌≡◌, ℕ, zero, suc, ◌+◌, ◌<◌, true, false, List, [], ◌∷◌, ◌++◌, length, take, eqb, eq-eqb, Option, refl, sym, ap, ◌∙◌, subst, arith, append_assoc}
+use Rattle.std.proofs.Common.{◌≡◌, ℕ, zero, suc, ◌+◌, ◌<◌, false, List, [], ◌∷◌, ◌++◌, length, take, eqb, eq-eqb, Option, refl, sym, ap, ◌∙◌, subst, arith, append_assoc}
 use Rattle.std.specs.Prelude.{filter, ◌==◌}
 use Rattle.std.specs.List.{AllByRecursion as Each}
 use Rattle.std.proofs.lemmas.List.{append-nil, length-map}
@@ -17,7 +17,7 @@ use Rattle.world_spec.specs.Share.{IsAhead, IsAtHome, IsHome, Share, ahead_event
 use Rattle.key_order.specs.Keys.{KeysDiffer}
 use Rattle.key_order.proofs.KeyLemmas.{Ascends-differ}
 use Rattle.key_order.proofs.ArrivalLemmas.{enqueue_all-ascending}
-use Rattle.key_order.proofs.FilterLemmas.{filter-all, filter-none}
+use Rattle.key_order.proofs.FilterLemmas.{filter-none}
 use Rattle.world_spec.proofs.HomeLemmas.{homed-same}
 use Rattle.object_log.specs.declared.done.Done.{Done}
 use Rattle.object_log.specs.Logs.{LogView, events_of}

@@ -1,7 +1,8 @@
 //! Processed events in the order of their keys. Each entry has the least stamp that its event and those behind it send, so
 //! that the least of all is known at the first.
-ghost use Rattle.std.specs.Prelude.{◌≡◌, ◌≤◌, ◌++◌, length, filter, drop, nat_lt, false, true, OnOk, OnErr};
+ghost use Rattle.std.specs.Prelude.{◌≡◌, ◌<◌, ◌≤◌, ◌++◌, length, filter, drop, nat_lt, false, true, OnOk, OnErr};
 ghost use Rattle.std.specs.List.{list_any};
+ghost use Rattle.std.specs.VecDeque.{deque_len, deque_capacity};
 ghost use Rattle.event_key.specs.declared.stamp.TheConstants.{NO_STAMP};
 ghost use Rattle.event_key.specs.Keys.{same_key};
 ghost use Rattle.key_order.specs.Due.{is_due};
@@ -126,6 +127,7 @@ fn mend(entries: &mut Entries, place: usize)
     requires but { AreLeastBut place entries.old.items }
     ensures least { AreLeast entries.new.items }
     ensures same { marks_of entries.new.items ≡ marks_of entries.old.items }
+    ensures capacity { deque_capacity entries.new ≡ deque_capacity entries.old }
 {
     let mut place = place;
     'steps: while place > 0 {
@@ -148,6 +150,8 @@ pub fn put(entries: &mut Entries, key: Key) -> Result<(), OutOfMemory>
     ensures ok { OnOk result (marks_of entries.new.items ≡ put_mark (blank_at key) (marks_of entries.old.items)) }
     ensures err { OnErr result (marks_of entries.new.items ≡ marks_of entries.old.items) }
     ensures least { AreLeast entries.new.items }
+    ensures full { OnErr result (deque_capacity entries.old ≤ deque_len entries.old) }
+    ensures capacity { deque_capacity entries.old ≤ deque_capacity entries.new }
 {
     let place = place(entries, &key);
     let entry = Entry {
@@ -169,6 +173,7 @@ pub fn set(entries: &mut Entries, key: Key, mark: Mark)
     requires here { list_any (same_key key) (keys_of (marks_of entries.old.items)) ≡ true }
     ensures same { marks_of entries.new.items ≡ set_mark (record { key = key; least = mark.least; fault = mark.fault }) (marks_of entries.old.items) }
     ensures least { AreLeast entries.new.items }
+    ensures capacity { deque_capacity entries.new ≡ deque_capacity entries.old }
 {
     let place = place(entries, &key);
     let behind = held_from(entries, place + 1);
@@ -178,6 +183,22 @@ pub fn set(entries: &mut Entries, key: Key, mark: Mark)
         held: mark.least.min(behind),
     };
     mend(entries, place);
+}
+
+/// Puts an event in with what is known of it, where there is room. Takes no memory.
+pub fn put_known(entries: &mut Entries, key: Key, mark: Mark)
+    requires order { AreInOrder (marks_of entries.old.items) }
+    requires least { AreLeast entries.old.items }
+    requires new { list_any (same_key key) (keys_of (marks_of entries.old.items)) ≡ false }
+    requires room { deque_len entries.old < deque_capacity entries.old }
+    ensures same { marks_of entries.new.items ≡ put_mark (record { key = key; least = mark.least; fault = mark.fault }) (marks_of entries.old.items) }
+    ensures least { AreLeast entries.new.items }
+    ensures capacity { deque_capacity entries.old ≤ deque_capacity entries.new }
+{
+    let Ok(_put) = put(entries, key) else {
+        unreachable!()
+    };
+    set(entries, key, mark);
 }
 
 /// Takes an event out, and mends the least stamps before it. Moves the shorter side.

@@ -1,20 +1,26 @@
 //! A node.
-ghost use Rattle.std.specs.Prelude.{◌≡◌, ◌<◌, ◌≤◌, ◌+◌, ◌*◌, ◌%◌, ◌^◌, ◌++◌, length, filter, nat_lt, IfOk, OnOk, OnErr};
+ghost use Rattle.std.specs.Prelude.{◌≡◌, ◌≢◌, ◌<◌, ◌≤◌, ◌+◌, ◌*◌, ◌%◌, ◌^◌, ◌++◌, length, filter, nat_lt, IfOk, OnOk, OnErr};
 ghost use Rattle.std.specs.List.{AllByRecursion};
 ghost use Rattle.std.specs.Arc.{arc_value};
 ghost use Rattle.event_key.specs.Stamps.{end_stamp};
-ghost use Rattle.world_spec.specs.Share.{IsAtHome};
+ghost use Rattle.world_spec.specs.Share.{IsAtHome, IsHome};
 ghost use Rattle.world_spec.specs.Moves.{IsDueDone};
 ghost use Rattle.node_core.specs.Blank.{IsBlank};
 ghost use Rattle.node_core.specs.Calls.{HasCommitted, HasReceived, HasUndoneFrom, HaveOwnKeys, HaveSentFew, IsLeastFaultOf, IsLeastKeyOf, IsNewNode, tallies_of};
+ghost use Rattle.node_core.specs.Homes.{IsLeastObject, home_of, objects_of};
+ghost use Rattle.node_core.specs.Moving.{AreAlikeBut, CanTakeIn, HasTakenIn, HasTakenOut, KeepObjects};
 ghost use Rattle.node_core.specs.Nodes.{IsAsBefore, Stands, ahead_of, data_of, home, share_of};
 ghost use Rattle.node_core.specs.Shares.{AreProcessedKeys, SendAtMostEight, StandsForItsOwn};
 ghost use Rattle.node_core.specs.Steps.{IsHeldLeast, HasStepped};
+
+mod saving;
 
 use crate::beginning::first_logs;
 use crate::committed::Committed;
 use crate::homes::Homes;
 use crate::keys::{is_before_fault, lesser};
+use crate::moved::Moved;
+use crate::room::Room;
 use crate::step::Step;
 use crate::store::Store;
 use crate::tallies::{Tallies, met_after, raised};
@@ -278,5 +284,73 @@ impl<M: SimulationModel> Node<M> {
     {
         keeps_laws(&*self.model);
         self.store.tells();
+    }
+}
+
+/// Objects go from node to node.
+impl<M: SimulationModel> Node<M> {
+    /// How many events it has, processed ones among them.
+    pub fn pending(&self) -> u64
+        ensures { result ≡ length self.now.processed + length self.now.waiting }
+    {
+        self.store.tells();
+        (self.store.processed() + self.store.waiting()) as u64
+    }
+
+    /// How many objects it has.
+    pub fn objects(&self) -> u32
+        ensures { result ≡ objects_of self.now.homes self.now.number }
+    {
+        self.homes.objects_of(self.number)
+    }
+
+    /// The least of its objects, in time linear in how many objects of other nodes come before it.
+    pub fn least_object(&self) -> Option<u32>
+        ensures { IsLeastObject self.now.homes self.now.number result }
+    {
+        self.homes.least_of(self.number)
+    }
+
+    /// Takes an object out, with its log and the events that wait for it, and has homes under which it is elsewhere. Takes
+    /// no memory, and time linear in how many events wait at the node.
+    pub fn take_out(&mut self, object: u32, homes: Arc<Homes>) -> Moved
+        requires here { IsHome (M.meaning self.old.model) (home self.old) self.old.number object }
+        requires homes { AreAlikeBut object self.old.homes (arc_value homes) }
+        requires goes { home_of (arc_value homes) object ≢ self.old.number }
+        ensures { HasTakenOut (M.meaning self.old.model) object (arc_value homes) self.old self.new result }
+    {
+        self.store.tells();
+        let moved = self.store.take_out(object);
+        self.processed = self.processed.wrapping_sub(moved.processed() as u64);
+        self.homes = homes;
+        moved
+    }
+
+    /// Takes an object in, with its log and the events that wait for it, and has homes under which it is here. Takes no
+    /// memory, and time linear in how many events are processed.
+    pub fn take_in(&mut self, moved: Moved, homes: Arc<Homes>, room: Room)
+        requires { CanTakeIn (M.meaning self.old.model) (arc_value homes) self.old moved room }
+        ensures { HasTakenIn (arc_value homes) self.old self.new moved }
+    {
+        self.store.tells();
+        let count = moved.processed() as u64;
+        self.store.take_in(moved, room);
+        self.processed = self.processed.wrapping_add(count);
+        self.homes = homes;
+    }
+
+    /// Has other homes, under which its objects are the same.
+    pub fn set_homes(&mut self, homes: Arc<Homes>)
+        requires { KeepObjects self.old.number self.old.homes (arc_value homes) }
+        ensures { self.new ≡ record self.old { homes = arc_value homes } }
+    {
+        self.homes = homes;
+    }
+
+    /// Its homes are those of the model's objects.
+    pub fn tells_homes(&self)
+        ensures { length self.now.homes.homes ≡ (M.meaning self.now.model).objects }
+    {
+        let _ = &self.work;
     }
 }

@@ -6,6 +6,7 @@ mod station;
 
 use driven::Driven;
 use event_key::{INITIAL, Key, stamp_of};
+use model_core::model::Model as SimulationModel;
 use model_core::{Event, Note};
 use model_text::AnyModel;
 use node_core::{Step, Tallies};
@@ -50,10 +51,10 @@ fn assert_step<R: Abort>(
 
 /// Commits what is below the horizon: this event alone, which sent one event, to this node. Answers what is told of
 /// it, and what it sent.
-fn commit_one<R: Abort>(
+fn commit_one<R: Abort, M: SimulationModel>(
     rt: &R,
     alloc: Global,
-    driven: &mut Driven<AnyModel>,
+    driven: &mut Driven<M>,
     horizon: u64,
     event: &Event,
 ) -> Result<(Note, Event), Fail> {
@@ -71,9 +72,9 @@ fn commit_one<R: Abort>(
 }
 
 /// What the node counted: how many events it processed, undid and committed, and how many are processed now.
-fn assert_counts<R: Abort>(
+fn assert_counts<R: Abort, M: SimulationModel>(
     rt: &R,
-    driven: &Driven<AnyModel>,
+    driven: &Driven<M>,
     processed: u64,
     undone: u64,
     committed: u64,

@@ -1,4 +1,5 @@
 pub mod Advances
+pub mod Cycles
 pub mod Desks
 pub mod Forks
 pub mod Handings

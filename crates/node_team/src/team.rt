@@ -1,17 +1,20 @@
 //! The team.
-ghost use Rattle.std.specs.Prelude.{◌≡◌, ◌≤◌, true, false, None, IfOk, OnOk, OnErr};
+ghost use Rattle.std.specs.Prelude.{◌≡◌, ◌≤◌, true, IfOk, OnOk, OnErr};
+ghost use Rattle.std.specs.List.{AllByRecursion};
 ghost use Rattle.sim_spec.specs.Standing.{Standing, ended, IsCountAt};
-ghost use Rattle.cycle_core.specs.Cycled.{CarriesOn, IsBucketOf, StandsAfter};
-ghost use Rattle.cycle_core.specs.Standings.{WorldStandsAt, HasCycled};
-ghost use Rattle.cycle_core.specs.Worlds.{CanCycle, IsSameWorld};
-ghost use Rattle.node_team.specs.Rises.{AllRise};
+ghost use Rattle.sim_spec.specs.State.{State};
+ghost use Rattle.cycle_core.specs.Standings.{WorldStandsAt};
+ghost use Rattle.cycle_core.specs.Worlds.{CanCycle, StandsAt};
+ghost use Rattle.object_moves.specs.Moves.{Exists, IsSameButHomes, homes_after};
+ghost use Rattle.node_team.specs.Cycles.{HasDoneCycle};
 
 use crate::cycling::cycle;
 use crate::gate::Gate;
 use crate::kept::Kept;
-use cycle_core::World;
+use cycle_core::{State, World};
 use model_core::OutOfMemory;
 use model_core::model::Model as SimulationModel;
+use object_moves::{Move, move_objects};
 use release_lanes::Lanes;
 use sim_spec::{Bucket, Stop};
 use std::alloc::Global;
@@ -90,6 +93,43 @@ impl<M: SimulationModel, L: Lanes + Drop> Team<M, L> {
         self.world.ended()
     }
 
+    /// Takes out the state for which the world stands. What is processed is undone first: the world stands for the same
+    /// state, and does after a refusal.
+    pub fn snapshot(&mut self, alloc: Global) -> Result<State, OutOfMemory>
+        requires { (s : State) × StandsAt (M.meaning self.old.world.model) self.old.world s }
+        ensures state { (s : State) → StandsAt (M.meaning self.old.world.model) self.old.world s → IfOk result (λ state. state ≡ s) }
+        ensures stands { (s : State) → StandsAt (M.meaning self.old.world.model) self.old.world s
+            → StandsAt (M.meaning self.new.world.model) self.new.world s }
+        ensures world { self.new.world ≡ record self.old.world { nodes = self.new.world.nodes } }
+        ensures ahead { self.new.ahead ≡ self.old.ahead }
+    {
+        self.world.snapshot(alloc)
+    }
+
+    /// Makes these moves, one after another. An object goes with its log and the events that wait for it: nothing is undone,
+    /// and the world stands for the same state. After a refusal the team is as it was.
+    pub fn move_objects(&mut self, alloc: Global, moves: &[Move]) -> Result<(), OutOfMemory>
+        requires stands { (s : State) × StandsAt (M.meaning self.old.world.model) self.old.world s }
+        requires exist { AllByRecursion (Exists self.old.world.homes) moves.now }
+        ensures stands { (s : State) → StandsAt (M.meaning self.old.world.model) self.old.world s
+            → StandsAt (M.meaning self.new.world.model) self.new.world s }
+        ensures at { (at : Standing) → WorldStandsAt M.meaning self.old.world at → WorldStandsAt M.meaning self.new.world at }
+        ensures same { IsSameButHomes self.old.world self.new.world }
+        ensures homes { OnOk result (self.new.world.homes ≡ homes_after self.old.world.homes moves.now) }
+        ensures refused { OnErr result (self.new ≡ self.old) }
+        ensures ahead { self.new.ahead ≡ self.old.ahead }
+    {
+        move_objects(alloc, &mut self.world, moves)
+    }
+
+    /// Spends the world: no later cycle is answered.
+    pub fn spend(&mut self)
+        ensures world { self.new.world ≡ record self.old.world { is_spent = true } }
+        ensures ahead { self.new.ahead ≡ self.old.ahead }
+    {
+        self.world.spend();
+    }
+
     /// One cycle. The nodes advance and commit in threads where that pays, and always in the first cycle. It answers an
     /// error only for want of memory; the world is spent then, and so is the answer of each later cycle.
     pub fn cycle<R: Threads + Sync, G: Gate>(
@@ -99,15 +139,7 @@ impl<M: SimulationModel, L: Lanes + Drop> Team<M, L> {
         gate: &G,
     ) -> Result<Bucket, OutOfMemory>
         requires { CanCycle (M.meaning self.old.world.model) self.old.world }
-        ensures bucket { IfOk result (IsBucketOf M.meaning self.old.world) }
-        ensures stands { OnOk result (StandsAfter M.meaning self.old.world self.new.world) }
-        ensures carried { OnOk result (CarriesOn M.meaning self.old.world self.new.world) }
-        ensures work { OnOk result (AllRise M.meaning self.old.ahead self.old.world.nodes self.new.world.nodes) }
-        ensures made { IsSameWorld self.old.world self.new.world }
-        ensures ahead { self.new.ahead ≡ self.old.ahead }
-        ensures fault { IfOk result (λ bucket. self.new.world.fault ≡ bucket.fault) }
-        ensures spent { OnErr result (self.new.world.is_spent ≡ true) }
-        ensures cycled { HasCycled M.meaning self.old.world result self.new.world }
+        ensures { HasDoneCycle M.meaning self.old result self.new }
     {
         cycle(
             rt,
@@ -132,15 +164,7 @@ impl<M: SimulationModel, L: Lanes + Drop> Team<M, L> {
     ) -> Result<Bucket, OutOfMemory>
         requires workers { (1 ≤ workers) × (workers ≤ 64) }
         requires can { CanCycle (M.meaning self.old.world.model) self.old.world }
-        ensures bucket { IfOk result (IsBucketOf M.meaning self.old.world) }
-        ensures stands { OnOk result (StandsAfter M.meaning self.old.world self.new.world) }
-        ensures carried { OnOk result (CarriesOn M.meaning self.old.world self.new.world) }
-        ensures work { OnOk result (AllRise M.meaning self.old.ahead self.old.world.nodes self.new.world.nodes) }
-        ensures made { IsSameWorld self.old.world self.new.world }
-        ensures ahead { self.new.ahead ≡ self.old.ahead }
-        ensures fault { IfOk result (λ bucket. self.new.world.fault ≡ bucket.fault) }
-        ensures spent { OnErr result (self.new.world.is_spent ≡ true) }
-        ensures cycled { HasCycled M.meaning self.old.world result self.new.world }
+        ensures { HasDoneCycle M.meaning self.old result self.new }
     {
         cycle(
             rt,

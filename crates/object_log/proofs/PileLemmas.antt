@@ -1,6 +1,6 @@
 -- What a pile tells of all that it holds.
-use Rattle.std.proofs.Common.{◌≡◌, ℕ, ◌+◌, ◌<◌, min, List, [], ◌∷◌, ◌++◌, length, map, take, sym, refl, ap, ◌∙◌, subst}
-use Rattle.std.specs.Prelude.{slice_set, reverse}
+use Rattle.std.proofs.Common.{◌≡◌, ℕ, ◌+◌, ◌<◌, min, List, [], ◌∷◌, ◌++◌, length, map, take, get_or, zero, suc, sym, refl, ap, ◌∙◌, subst, arith}
+use Rattle.std.specs.Prelude.{slice_get, slice_set, reverse, Some}
 use Rattle.std.proofs.lemmas.List.{append-nil, map-append, reverse-append, take_more_set}
 use Rattle.event_key.specs.declared.stamp.TheConstants.{NO_STAMP}
 use Rattle.key_order.specs.Stamps.{least_stamp}
@@ -8,6 +8,7 @@ use Rattle.object_log.specs.declared.done.Done.{Done}
 use Rattle.object_log.specs.declared.entry.Entry.{Entry}
 use Rattle.object_log.specs.Logs.{held_of}
 use Rattle.object_log.specs.Rows.{TellHeld}
+use Rattle.object_log.specs.Sends.{least_of}
 use Rattle.object_log.proofs.HeldLemmas.{least-join, held-append}
 use Rattle.key_order.proofs.StampLemmas.{least_stamp-append}
 
@@ -76,3 +77,9 @@ dones-reverse (e ∷ es) =
     ∙ map-append (λ (x : Entry). x.done) (reverse es) (e ∷ [])
     ∙ ap (λ ds. ds ++ e.done ∷ []) (dones-reverse es)
     ∙ sym (reverse-append (e.done ∷ []) (dones es))
+
+-- what one entry says of the least that it sends
+pub least-row : (es : List Entry) (k : ℕ) (e : Entry) → k < length es → e ≡ get_or es k e → slice_get (map least_of (dones es)) k ≡ Some e.least
+least-row [] k e below at = absurd (omega arith)
+least-row (x ∷ xs) zero e below at = ap (λ (v : Entry). Some (least_of v.done)) (sym at) ∙ ap Some (sym e.least_is)
+least-row (x ∷ xs) (suc k) e below at = least-row xs k e (omega arith) at

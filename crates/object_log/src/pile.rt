@@ -4,6 +4,7 @@ ghost use Rattle.event_key.specs.declared.stamp.TheConstants.{NO_STAMP};
 ghost use Rattle.key_order.specs.Stamps.{least_stamp};
 ghost use Rattle.object_log.specs.Logs.{held_of};
 ghost use Rattle.object_log.specs.Rows.{dones_of, TellHeld};
+ghost use Rattle.object_log.specs.Sends.{least_of};
 
 use crate::done::Done;
 use crate::entry::Entry;
@@ -58,6 +59,17 @@ impl Pile {
             unreachable!()
         };
         entries[place].done.get()
+    }
+
+    /// The least stamp that the one at a place sends, or `NO_STAMP`.
+    pub fn least_at(&self, place: usize) -> u64
+        requires { place < length self.now.done }
+        ensures { slice_get (map least_of self.now.done) place ≡ Some result }
+    {
+        let Some(entries) = &self.entries else {
+            unreachable!()
+        };
+        entries[place].least
     }
 
     /// The least stamp that they send, or `NO_STAMP`.

@@ -4,9 +4,8 @@ use Rattle.event_key.specs.declared.key.Key.{Key}
 use Rattle.model_core.specs.Meaning.{Meaning}
 use Rattle.sim_spec.specs.declared.bucket.Bucket.{Bucket}
 use Rattle.sim_spec.specs.declared.terms.Terms.{Terms}
-use Rattle.sim_spec.specs.State.{State}
 use Rattle.sim_spec.specs.Run.{Run, run}
-use Rattle.sim_spec.specs.Cycles.{cycles, run_of, records_of_buckets}
+use Rattle.sim_spec.specs.Cycles.{cycles, records_of_buckets}
 use Rattle.sim_spec.specs.HorizonLaws.{CyclesLaw}
 use Rattle.sim_io.specs.Texts.{record_lines, text_of_run, run_text, stop_line}
 use Rattle.sim_io.specs.CycleTexts.{told_cycle, bucket_lines, lines_of_buckets, text, PlainText}

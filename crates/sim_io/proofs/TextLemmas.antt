@@ -8,12 +8,7 @@ use Rattle.event_key.specs.declared.key.Key.{Key}
 use Rattle.model_core.specs.declared.note.Note.{Note}
 use Rattle.model_core.specs.declared.note.Part.{Part}
 use Rattle.model_core.specs.Meaning.{Meaning}
-use Rattle.sim_spec.specs.declared.terms.Terms.{Terms}
-use Rattle.sim_spec.specs.declared.stop.Stop.{Stop}
-use Rattle.sim_spec.specs.State.{State}
-use Rattle.sim_spec.specs.Run.{Run, run, next, does, stops, after_records, Leads}
-use Rattle.sim_spec.proofs.RunLemmas.{run-does, run-stops, run-leads}
-use Rattle.sim_io.specs.Texts.{part_line, event_lines, record_lines, stop_line, text_of_run, run_text}
+use Rattle.sim_io.specs.Texts.{part_line, event_lines, record_lines}
 
 -- the lines from a part on, by that part
 pub event_lines-drop : (m : Meaning) (key : Key) (parts : List Part) (i : ℕ) (part : Part) → slice_get parts i ≡ Some part

@@ -6,6 +6,7 @@ use Rattle.std.specs.Str.Parse.{digits_value}
 use Rattle.std.specs.declared.alloc.Global.{Global}
 use Rattle.sim_io.specs.declared.options.Command.{Command}
 use Rattle.sim_io.specs.declared.options.CommandOption.{CommandOption}
+use Rattle.sim_io.specs.declared.moves.Moves.{Moves}
 use Rattle.sim_io.specs.declared.words.Settings.{Settings}
 use Rattle.sim_io.specs.declared.words.WordFault.{WordFault}
 use Rattle.sim_io.specs.declared.words.WordFault.TheVariants.{NoCommand, UnknownCommand, UnknownOption, RepeatedOption, MissingValue, BadValue, ExtraWord}
@@ -30,6 +31,22 @@ placement_named word =
     else if bytes_eq word (codes "block") then Some Placement.Block
     else None
 
+abbrev pub moves_named : List ℕ → Option Moves
+moves_named word =
+    if bytes_eq word (codes "load") then Some Moves.Load
+    else if bytes_eq word (codes "turn") then Some Moves.Turn
+    else None
+
+abbrev pub command_named : List ℕ → Option Command
+command_named word =
+    if bytes_eq word (codes "run") then Some Command.Run
+    else if bytes_eq word (codes "one") then Some Command.One
+    else if bytes_eq word (codes "totals") then Some Command.Totals
+    else if bytes_eq word (codes "demo") then Some Command.Demo
+    else if bytes_eq word (codes "save") then Some Command.Save
+    else if bytes_eq word (codes "resume") then Some Command.Resume
+    else None
+
 abbrev pub option_named : List ℕ → Option CommandOption
 option_named word =
     if bytes_eq word (codes "--nodes") then Some CommandOption.Nodes
@@ -37,14 +54,18 @@ option_named word =
     else if bytes_eq word (codes "--placement") then Some CommandOption.Placement
     else if bytes_eq word (codes "--cycles") then Some CommandOption.Cycles
     else if bytes_eq word (codes "--workers") then Some CommandOption.Workers
+    else if bytes_eq word (codes "--moves") then Some CommandOption.Moves
     else None
 
--- `one` takes no option that says how nodes are used, and `totals` takes none
+-- `one` takes no option that says how nodes are used, and other commands than `run` and `one` take none
 abbrev pub takes : Command → CommandOption → Bool
 takes Command.Run option = true
 takes Command.One CommandOption.Cycles = true
 takes Command.One option = false
 takes Command.Totals option = false
+takes Command.Demo option = false
+takes Command.Save option = false
+takes Command.Resume option = false
 
 -- the option of a command that a word names
 abbrev pub option_if : Command → Option CommandOption → Option CommandOption
@@ -61,6 +82,7 @@ takes_value CommandOption.Ahead = true
 takes_value CommandOption.Placement = true
 takes_value CommandOption.Cycles = false
 takes_value CommandOption.Workers = true
+takes_value CommandOption.Moves = true
 
 abbrev pub is_value : CommandOption → List ℕ → Bool
 is_value CommandOption.Nodes word = is_some (number_within 1 64 word)
@@ -68,6 +90,7 @@ is_value CommandOption.Ahead word = is_some (number_within 0 1024 word)
 is_value CommandOption.Placement word = is_some (placement_named word)
 is_value CommandOption.Cycles word = false
 is_value CommandOption.Workers word = is_some (number_within 1 64 word)
+is_value CommandOption.Moves word = is_some (moves_named word)
 
 -- a word that stands for nothing
 abbrev pub stray_word : List ℕ → WordFault
@@ -127,44 +150,49 @@ run_settings words = Settings.Run
     (value_or Placement.Round placement_named (value_after (codes "--placement") words))
     (is_among words (codes "--cycles"))
     (value_if (number_within 1 64) (value_after (codes "--workers") words))
+    (value_if moves_named (value_after (codes "--moves") words))
 
 abbrev pub one_settings : List (List ℕ) → Settings
 one_settings words = Settings.One (is_among words (codes "--cycles"))
 
--- the one word after `demo` is a number, which is judged first
-abbrev pub demo_of : Option ℕ → List (List ℕ) → Result Settings WordFault
-demo_of None rest = Err BadValue
-demo_of (Some n) [] = Ok (Settings.Demo n)
-demo_of (Some n) (word ∷ rest) = Err ExtraWord
+-- one word follows, which is a number between two and is judged first
+abbrev pub number_alone : Option ℕ → List (List ℕ) → Result ℕ WordFault
+number_alone None rest = Err BadValue
+number_alone (Some number) [] = Ok number
+number_alone (Some number) (word ∷ rest) = Err ExtraWord
 
-abbrev pub demo_settings : List (List ℕ) → Result Settings WordFault
-demo_settings [] = Err MissingValue
-demo_settings (word ∷ rest) = demo_of (number_within 1 256 word) rest
+abbrev pub only_number : ℕ → ℕ → List (List ℕ) → Result ℕ WordFault
+only_number least most [] = Err MissingValue
+only_number least most (word ∷ rest) = number_alone (number_within least most word) rest
 
--- a run has 1 to 64 nodes, which process at most 1,024 events more than they must, and 1 to 64 workers if any; a demo's number is 1 to 256
+-- a run has 1 to 64 nodes, which process at most 1,024 events more than they must, and 1 to 64 workers if any; a demo's number is 1 to 256,
+-- and at most 9,999,999 cycles come before a saved state
 abbrev pub AreInBounds : Settings → Type 0
-AreInBounds (Settings.Run nodes ahead placement cycles workers) =
+AreInBounds (Settings.Run nodes ahead placement cycles workers moves) =
     (1 ≤ nodes) × (nodes ≤ 64) × (ahead ≤ 1024) × IfSome workers (λ many. (1 ≤ many) × (many ≤ 64))
 AreInBounds (Settings.One cycles) = Unit {0}
 AreInBounds Settings.Totals = Unit {0}
 AreInBounds (Settings.Demo n) = (1 ≤ n) × (n ≤ 256)
+AreInBounds (Settings.Save c) = c ≤ 9999999
+AreInBounds Settings.Resume = Unit {0}
 
--- whether a line is told for each cycle
-abbrev pub are_cycles_told : Settings → Bool
-are_cycles_told (Settings.Run nodes ahead placement cycles workers) = cycles
-are_cycles_told (Settings.One cycles) = cycles
-are_cycles_told Settings.Totals = false
-are_cycles_told (Settings.Demo n) = false
+-- what a command sets by the words after it, which are its options, or the one number of a demo or of cycles before a saved state
+abbrev pub command_settings : Command → List (List ℕ) → Result Settings WordFault
+command_settings Command.Run words = and_then (judged Command.Run [] None words) (λ _. Ok (run_settings words))
+command_settings Command.One words = and_then (judged Command.One [] None words) (λ _. Ok (one_settings words))
+command_settings Command.Totals words = and_then (judged Command.Totals [] None words) (λ _. Ok Settings.Totals)
+command_settings Command.Demo words = and_then (only_number 1 256 words) (λ n. Ok (Settings.Demo n))
+command_settings Command.Save words = and_then (only_number 0 9999999 words) (λ c. Ok (Settings.Save c))
+command_settings Command.Resume words = and_then (judged Command.Resume [] None words) (λ _. Ok Settings.Resume)
 
--- the first word is the command, and the others are its options, or the number of a demo
+abbrev pub settings_if : Option Command → List (List ℕ) → Result Settings WordFault
+settings_if None words = Err UnknownCommand
+settings_if (Some command) words = command_settings command words
+
+-- the first word is the command
 unfoldable pub settings : List (List ℕ) → Result Settings WordFault
 settings [] = Err NoCommand
-settings (word ∷ rest) =
-    if bytes_eq word (codes "run") then and_then (judged Command.Run [] None rest) (λ _. Ok (run_settings rest))
-    else if bytes_eq word (codes "one") then and_then (judged Command.One [] None rest) (λ _. Ok (one_settings rest))
-    else if bytes_eq word (codes "totals") then and_then (judged Command.Totals [] None rest) (λ _. Ok Settings.Totals)
-    else if bytes_eq word (codes "demo") then demo_settings rest
-    else Err UnknownCommand
+settings (word ∷ rest) = settings_if (command_named word) rest
 
 -- the bytes of each word
 abbrev pub texts_of : List (String Global) → List (List ℕ)

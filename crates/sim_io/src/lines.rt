@@ -83,7 +83,7 @@ fn put_lines<M: Model>(
 }
 
 /// Takes back what a refused call has appended to so many bytes.
-fn cut_back(
+pub fn cut_back(
     outcome: Result<(), OutOfMemory>,
     before: usize,
     into: &mut Vec<u8>,

@@ -1,17 +1,21 @@
-//! The options of commands, and their values.
+//! The commands, their options, and the values of these.
 ghost use Rattle.std.specs.Prelude.{◌≡◌, ◌≤◌, IfSome};
 ghost use Rattle.std.specs.Char.{is_ascii_digit};
 ghost use Rattle.std.specs.List.{list_all};
-ghost use Rattle.sim_io.specs.Words.{has_zero_first, is_number, is_value, number_within, option_named, option_of, placement_named, takes, takes_value};
+ghost use Rattle.sim_io.specs.Words.{command_named, has_zero_first, is_number, is_value, moves_named, number_within, option_named, option_of, placement_named, takes, takes_value};
 
+use crate::moves::Moves;
 use sim_spec::Placement;
 
-/// A command that may take options.
+/// A command.
 #[derive(Clone, Copy, Debug, PartialEq, Eq)]
 pub enum Command {
     Run,
     One,
     Totals,
+    Demo,
+    Save,
+    Resume,
 }
 
 /// An option of a command.
@@ -22,9 +26,25 @@ pub enum CommandOption {
     Placement,
     Cycles,
     Workers,
+    Moves,
 }
 
 impl Command {
+    /// The command that a word names.
+    pub fn named(word: &str) -> Option<Command>
+        ensures { result ≡ command_named word.now }
+    {
+        match word {
+            "run" => Some(Command::Run),
+            "one" => Some(Command::One),
+            "totals" => Some(Command::Totals),
+            "demo" => Some(Command::Demo),
+            "save" => Some(Command::Save),
+            "resume" => Some(Command::Resume),
+            _ => None,
+        }
+    }
+
     /// Whether the command has an option.
     fn takes(self, option: CommandOption) -> bool
         ensures { result ≡ takes self option }
@@ -32,7 +52,7 @@ impl Command {
         match self {
             Command::Run => true,
             Command::One => matches!(option, CommandOption::Cycles),
-            Command::Totals => false,
+            Command::Totals | Command::Demo | Command::Save | Command::Resume => false,
         }
     }
 
@@ -58,6 +78,7 @@ impl CommandOption {
             "--placement" => Some(CommandOption::Placement),
             "--cycles" => Some(CommandOption::Cycles),
             "--workers" => Some(CommandOption::Workers),
+            "--moves" => Some(CommandOption::Moves),
             _ => None,
         }
     }
@@ -79,6 +100,7 @@ impl CommandOption {
             CommandOption::Placement => placement_named(word).is_some(),
             CommandOption::Cycles => false,
             CommandOption::Workers => number_within(1, 64, word).is_some(),
+            CommandOption::Moves => moves_named(word).is_some(),
         }
     }
 }
@@ -125,6 +147,17 @@ pub fn placement_named(word: &str) -> Option<Placement>
     match word {
         "round" => Some(Placement::Round),
         "block" => Some(Placement::Block),
+        _ => None,
+    }
+}
+
+/// The moves that a word names.
+pub fn moves_named(word: &str) -> Option<Moves>
+    ensures { result ≡ moves_named word.now }
+{
+    match word {
+        "load" => Some(Moves::Load),
+        "turn" => Some(Moves::Turn),
         _ => None,
     }
 }

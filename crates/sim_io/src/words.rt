@@ -1,8 +1,9 @@
 //! The words of the command line.
 ghost use Rattle.std.specs.Prelude.{◌≡◌, ◌≤◌, IfOk, IfSome, [], None, codes, slice_get, string_bytes};
-ghost use Rattle.sim_io.specs.Words.{AreInBounds, demo_settings, is_among, judged, number_within, placement_named, run_settings, settings, stray_word, texts_of, value_after, value_if, value_or, word_meant};
+ghost use Rattle.sim_io.specs.Words.{AreInBounds, command_settings, is_among, judged, moves_named, number_within, only_number, placement_named, run_settings, settings, stray_word, texts_of, value_after, value_if, value_or, word_meant};
 
-use crate::options::{Command, CommandOption, number_within, placement_named};
+use crate::moves::Moves;
+use crate::options::{Command, CommandOption, moves_named, number_within, placement_named};
 use sim_spec::Placement;
 use thiserror::Error;
 
@@ -63,6 +64,8 @@ pub enum Settings {
         cycles: bool,
         /// How many workers take nodes' turns and steal them from each other, 1 to 64, where they do.
         workers: Option<u32>,
+        /// Which objects move to other nodes after a cycle, where some do.
+        moves: Option<Moves>,
     },
     /// The same text, by the engine for one thread.
     One {
@@ -74,20 +77,14 @@ pub enum Settings {
     Demo {
         n: u32,
     },
-}
-
-impl Settings {
-    ghost use Rattle.sim_io.specs.Words.{are_cycles_told};
-
-    /// Whether a line is told for each cycle.
-    pub fn cycles(self) -> bool
-        ensures { result ≡ are_cycles_told self }
-    {
-        match self {
-            Settings::Run { cycles, .. } | Settings::One { cycles } => cycles,
-            Settings::Totals | Settings::Demo { .. } => false,
-        }
-    }
+    /// The text of the first cycles of a simulation on nodes as by default, 0 to 9,999,999, and the state after them,
+    /// from which it can be resumed.
+    Save {
+        /// How many cycles.
+        c: u32,
+    },
+    /// The text of a simulation from a saved state, on nodes as by default.
+    Resume,
 }
 
 /// What is wrong with a word that stands for nothing.
@@ -201,6 +198,14 @@ fn workers_given(words: &[String]) -> Option<u32>
     number_within(1, 64, value.as_str())
 }
 
+/// Which objects are to move, where some are.
+fn moves_given(words: &[String]) -> Option<Moves>
+    ensures { result ≡ value_if moves_named (value_after (codes "--moves") (texts_of words.now)) }
+{
+    let value = words.get(place_after(words, "--moves"))?;
+    moves_named(value.as_str())
+}
+
 /// What the options of a run set.
 fn run_settings(words: &[String]) -> Settings
     ensures value { result ≡ run_settings (texts_of words.now) }
@@ -212,21 +217,56 @@ fn run_settings(words: &[String]) -> Settings
         placement: placement_given(words),
         cycles: is_among(words, "--cycles"),
         workers: workers_given(words),
+        moves: moves_given(words),
     }
 }
 
-/// Reads the number of a demo.
-fn demo_settings(words: &[String]) -> Result<Settings, WordFault>
-    ensures value { result ≡ demo_settings (texts_of words.now) }
-    ensures bounds { IfOk result AreInBounds }
+/// Reads the words of a command that takes one number and nothing else.
+fn only_number(words: &[String], least: u32, most: u32) -> Result<u32, WordFault>
+    ensures value { result ≡ only_number least most (texts_of words.now) }
+    ensures low { IfOk result (λ number. least ≤ number) }
+    ensures high { IfOk result (λ number. number ≤ most) }
 {
     let [number, rest @ ..] = words else {
         return Err(WordFault::MissingValue);
     };
-    match number_within(1, 256, number.as_str()) {
+    match number_within(least, most, number.as_str()) {
         None => Err(WordFault::BadValue),
         Some(_) if !rest.is_empty() => Err(WordFault::ExtraWord),
-        Some(n) => Ok(Settings::Demo { n }),
+        Some(number) => Ok(number),
+    }
+}
+
+/// Reads the words after a command.
+fn command_settings(command: Command, words: &[String]) -> Result<Settings, WordFault>
+    ensures value { result ≡ command_settings command (texts_of words.now) }
+    ensures bounds { IfOk result AreInBounds }
+{
+    match command {
+        Command::Run => {
+            judge(command, words)?;
+            Ok(run_settings(words))
+        }
+        Command::One => {
+            judge(command, words)?;
+            Ok(Settings::One {
+                cycles: is_among(words, "--cycles"),
+            })
+        }
+        Command::Totals => {
+            judge(command, words)?;
+            Ok(Settings::Totals)
+        }
+        Command::Demo => Ok(Settings::Demo {
+            n: only_number(words, 1, 256)?,
+        }),
+        Command::Save => Ok(Settings::Save {
+            c: only_number(words, 0, 9_999_999)?,
+        }),
+        Command::Resume => {
+            judge(command, words)?;
+            Ok(Settings::Resume)
+        }
     }
 }
 
@@ -236,25 +276,11 @@ pub fn read_words(words: &Vec<String>) -> Result<Settings, WordFault>
     ensures value { result ≡ settings (texts_of words.now.items) }
     ensures bounds { IfOk result AreInBounds }
 {
-    let [command, options @ ..] = words.as_slice() else {
+    let [command, rest @ ..] = words.as_slice() else {
         return Err(WordFault::NoCommand);
     };
-    match command.as_str() {
-        "run" => {
-            judge(Command::Run, options)?;
-            Ok(run_settings(options))
-        }
-        "one" => {
-            judge(Command::One, options)?;
-            Ok(Settings::One {
-                cycles: is_among(options, "--cycles"),
-            })
-        }
-        "totals" => {
-            judge(Command::Totals, options)?;
-            Ok(Settings::Totals)
-        }
-        "demo" => demo_settings(options),
-        _ => Err(WordFault::UnknownCommand),
+    match Command::named(command.as_str()) {
+        None => Err(WordFault::UnknownCommand),
+        Some(command) => command_settings(command, rest),
     }
 }

@@ -1,7 +1,9 @@
+pub mod First
+pub mod GoesOnLaw
 pub mod RecordLemmas
 pub mod ReportLemmas
 pub mod Rest
 pub mod SummaryLemmas
-pub mod Telling
+pub mod Told
 pub mod UnderWay
 pub mod WritingLemmas

@@ -1,5 +1,5 @@
 -- The summary with one bucket more.
-use Rattle.std.proofs.Common.{◌≡◌, ℕ, zero, suc, ◌+◌, ◌-◌, ◌<◌, Bool, true, false, List, [], ◌∷◌, ◌++◌, length, get_or, cond, Option, Some, None, refl, sym, ap, ◌∙◌, arith, append-nil, append_assoc}
+use Rattle.std.proofs.Common.{◌≡◌, ℕ, zero, suc, ◌+◌, ◌-◌, Bool, true, false, List, [], ◌∷◌, ◌++◌, length, cond, Some, None, refl, sym, ap, ◌∙◌, arith, append-nil, append_assoc}
 use Rattle.std.specs.Int.{from_bool}
 use Rattle.std.specs.List.{slice_get}
 use Rattle.std.proofs.lemmas.List.Sums.{sum_by-append}
@@ -8,7 +8,6 @@ use Rattle.event_key.specs.declared.key.Key.{Key}
 use Rattle.model_core.specs.declared.note.Note.{Note}
 use Rattle.sim_spec.specs.declared.bucket.Bucket.{Bucket}
 use Rattle.sim_spec.specs.Cycles.{records_of_buckets}
-use Rattle.sim_text.specs.declared.summary.Summary.{Summary}
 use Rattle.sim_text.specs.Reports.{summary_of}
 use Rattle.sim_text.specs.WholeTexts.{is_whole, whole_cycles, last_stamp}
 

@@ -28,36 +28,43 @@ use Rattle.sim_stats.specs.Totals.{IsInTime, last_time}
 use Rattle.sim_stats.proofs.InTime.{in_time-ascending, in_time-behind, in_time-front}
 use Rattle.sim_io.specs.Texts.{IsAtObject}
 use Rattle.sim_text.specs.Rest.{AllAtObjects}
-use Rattle.sim_text.proofs.Telling.{EndsSo}
+use Rattle.sim_text.proofs.Told.{EndsSo}
 use Rattle.sim_text.proofs.SummaryLemmas.{records_of_buckets-append, records_of_buckets-first, records_of_buckets-more}
 use Rattle.sim_text.proofs.Rest.{rest, IsNextFault, ended-next, ended-none, goes_on-end, goes_on-limit, rest-stops, rest-bucket}
 
 -- the laws of a model's simulation
-pub record SimulationLaws (m : Meaning) (t : Terms) : Type 0 where
+pub record SimulationLaws (m : Meaning) (t : Terms) (from : State) : Type 0 where
   pub next : NextLawful m t
   pub buckets : BucketLaw m t
   pub cycles : CyclesLaw m t
   pub moves : MovesLaw m t
   pub ends : EndsLaw m t
-  pub initial : Lawful m t (initial_state m)
+  pub begins : Lawful m t from
   pub ascend : AllPairs (λ (earlier later : Key × Note). key_lt earlier.0 later.0 ≡ true) (run m t (initial_state m)).records
 
 -- where the engine stands, and that the buckets so far and those to come are all
-pub record IsUnderWay (m : Meaning) (t : Terms) (standing : Standing) (so_far : List Bucket) : Type 0 where
+pub record IsUnderWay (m : Meaning) (t : Terms) (from : State) (standing : Standing) (so_far : List Bucket) : Type 0 where
   pub state : State
   pub fault : Option (Key × ℕ)
   pub at_state : standing ≡ stands state fault
   pub lawful : Lawful m t state
   pub failed : IsNextFault m t state fault
-  pub buckets : (cycles m t (initial_state m)).buckets ≡ so_far ++ rest m t state fault
-  pub last : (run m t (initial_state m)).last ≡ (run m t state).last
-  pub stop : (run m t (initial_state m)).stop ≡ (run m t state).stop
-  pub counted : state.count ≡ length (records_of_buckets so_far)
+  pub buckets : (cycles m t from).buckets ≡ so_far ++ rest m t state fault
+  pub last : (run m t from).last ≡ (run m t state).last
+  pub stop : (run m t from).stop ≡ (run m t state).stop
+  pub counted : state.count ≡ from.count + length (records_of_buckets so_far)
   pub few : length so_far ≤ state.count + 1
   pub few_whole : fault ≡ None → length so_far ≤ state.count
 
+-- an engine that began there is under way
+pub record RunsOn (m : Meaning) (t : Terms) {E : Type 0} (StandsIn : E → Standing → Type 0) (engine : E) (so_far : List Bucket) (from : State) : Type 0 where
+  pub laws : SimulationLaws m t from
+  pub at : Standing
+  pub stands : StandsIn engine at
+  pub way : IsUnderWay m t from at so_far
+
 -- what happens happens at objects of the model
-leads-at_objects : (m : Meaning) (t : Terms) → NextLawful m t → (s : State) (records : List (Key × Note)) (last : State) → Lawful m t s → Leads m t s records last → AllAtObjects m records
+pub leads-at_objects : (m : Meaning) (t : Terms) → NextLawful m t → (s : State) (records : List (Key × Note)) (last : State) → Lawful m t s → Leads m t s records last → AllAtObjects m records
 unfolding Leads
 leads-at_objects m t keeps s [] last lawful leads = search rules
 leads-at_objects m t keeps s (told ∷ records) last lawful leads =
@@ -70,10 +77,10 @@ at_object m End h = tt
 at_object m Limit h = tt
 at_object m (Fault key code) h = h
 
-stands-injective : (s s' : State) (f f' : Option (Key × ℕ)) → stands s f ≡ stands s' f' → (s ≡ s') × (f ≡ f')
+pub stands-injective : (s s' : State) (f f' : Option (Key × ℕ)) → stands s f ≡ stands s' f' → (s ≡ s') × (f ≡ f')
 stands-injective s s' f f' same = (cc, cc)
 
-module _ (m : Meaning) (t : Terms) (laws : SimulationLaws m t) (standing : Standing) (so_far : List Bucket) (way : IsUnderWay m t standing so_far) where
+module _ (m : Meaning) (t : Terms) (from : State) (laws : SimulationLaws m t from) (standing : Standing) (so_far : List Bucket) (way : IsUnderWay m t from standing so_far) where
   ended-here : (stop : Option Stop) → ended m t standing ≡ stop → ended m t (stands way.state way.fault) ≡ stop
   ended-here stop is_stop = ap (ended m t) (sym way.at_state) ∙ is_stop
 
@@ -85,24 +92,24 @@ module _ (m : Meaning) (t : Terms) (laws : SimulationLaws m t) (standing : Stand
   stop-at_object stop is_stop = at_object m stop (next-placed m t way.state (stops stop) way.lawful (stops-next stop is_stop))
 
   -- that is the stop of the whole run
-  pub stop-of_run : (stop : Stop) → ended m t standing ≡ Some stop → (run m t (initial_state m)).stop ≡ stop
+  pub stop-of_run : (stop : Stop) → ended m t standing ≡ Some stop → (run m t from).stop ≡ stop
   stop-of_run stop is_stop = way.stop ∙ ap (λ (r : Run). r.stop) (run-stops m t way.state stop (stops-next stop is_stop))
 
   -- and its last state
-  pub last-of_run : (stop : Stop) → ended m t standing ≡ Some stop → (run m t (initial_state m)).last ≡ way.state
+  pub last-of_run : (stop : Stop) → ended m t standing ≡ Some stop → (run m t from).last ≡ way.state
   last-of_run stop is_stop = way.last ∙ ap (λ (r : Run). r.last) (run-stops m t way.state stop (stops-next stop is_stop))
 
   -- and the buckets so far are all
-  pub all-buckets : (stop : Stop) → ended m t standing ≡ Some stop → (cycles m t (initial_state m)).buckets ≡ so_far
+  pub all-buckets : (stop : Stop) → ended m t standing ≡ Some stop → (cycles m t from).buckets ≡ so_far
   all-buckets stop is_stop =
       way.buckets ∙ ap (λ (bs : List Bucket). so_far ++ bs) (rest-stops m t laws.buckets laws.ends way.state way.fault stop way.lawful way.failed (ended-here (Some stop) is_stop))
       ∙ append-nil so_far
 
   -- so the run has these buckets, and ends so
-  pub ends_so : (stop : Stop) (count : ℕ) → ended m t standing ≡ Some stop → count ≡ way.state.count → EndsSo m t so_far count stop
+  pub ends_so : (stop : Stop) (count : ℕ) → ended m t standing ≡ Some stop → count ≡ way.state.count → EndsSo m t from so_far count stop
   ends_so stop count is_stop counted = record {
     buckets = all-buckets stop is_stop;
-    records = ap (λ (r : Run). r.records) (sym (laws.cycles (initial_state m) laws.initial)) ∙ ap records_of_buckets (all-buckets stop is_stop);
+    records = ap (λ (r : Run). r.records) (sym (laws.cycles from laws.begins)) ∙ ap records_of_buckets (all-buckets stop is_stop);
     counted = ap (λ (s : State). s.count) (last-of_run stop is_stop) ∙ sym counted;
     stops_at = stop-of_run stop is_stop;
   }
@@ -149,19 +156,19 @@ module _ (m : Meaning) (t : Terms) (laws : SimulationLaws m t) (standing : Stand
       ∙ ap (λ (b : Bucket). b ∷ rest m t (after m t way.state) b.fault) (sym here.bucket_is)
 
   with-bucket : (bucket : Bucket) (new : Standing) → IsCycleHere bucket new
-      → (cycles m t (initial_state m)).buckets ≡ (so_far ++ bucket ∷ []) ++ rest m t (after m t way.state) bucket.fault
+      → (cycles m t from).buckets ≡ (so_far ++ bucket ∷ []) ++ rest m t (after m t way.state) bucket.fault
   with-bucket bucket new here =
       way.buckets ∙ ap (λ (bs : List Bucket). so_far ++ bs) (rest-here bucket new here) ∙ sym (append_assoc so_far (bucket ∷ []) (rest m t (after m t way.state) bucket.fault))
 
   pub all-with_bucket : (bucket : Bucket) (new : Standing) → ended m t standing ≡ None → IsCycle m t standing bucket new
-      → (more : List Bucket) × ((cycles m t (initial_state m)).buckets ≡ (so_far ++ bucket ∷ []) ++ more)
+      → (more : List Bucket) × ((cycles m t from).buckets ≡ (so_far ++ bucket ∷ []) ++ more)
   all-with_bucket bucket new not_ended cycle = (rest m t (after m t way.state) bucket.fault, with-bucket bucket new (cycle-here bucket new not_ended cycle))
 
   count-after : (bucket : Bucket) (new : Standing) → IsCycleHere bucket new → (after m t way.state).count ≡ way.state.count + length bucket.done
   count-after bucket new here = after-count m t way.state ∙ ap (λ (b : Bucket). way.state.count + length b.done) (sym here.bucket_is)
 
   -- a cycle leaves the simulation under way, with its bucket
-  pub goes_on : (bucket : Bucket) (new : Standing) → ended m t standing ≡ None → IsCycle m t standing bucket new → IsUnderWay m t new (so_far ++ bucket ∷ [])
+  pub goes_on : (bucket : Bucket) (new : Standing) → ended m t standing ≡ None → IsCycle m t standing bucket new → IsUnderWay m t from new (so_far ++ bucket ∷ [])
   goes_on bucket new not_ended cycle =
       let here = cycle-here bucket new not_ended cycle in
       let law = laws.buckets way.state way.lawful in
@@ -178,22 +185,24 @@ module _ (m : Meaning) (t : Terms) (laws : SimulationLaws m t) (standing : Stand
         buckets = with-bucket bucket new here;
         last = way.last ∙ ap (λ (r : Run). r.last) law.run;
         stop = way.stop ∙ ap (λ (r : Run). r.stop) law.run;
-        counted = counted ∙ ap (λ n. n + length bucket.done) way.counted ∙ sym (ap length (records_of_buckets-more so_far bucket) ∙ length-append (records_of_buckets so_far) bucket.done);
+        counted = let long = ap length (records_of_buckets-more so_far bucket) ∙ length-append (records_of_buckets so_far) bucket.done in omega (arith, counted, way.counted, long);
         few = omega (arith, counted, few, many);
         few_whole = λ whole. omega (arith, counted, few, many, some whole);
       }
 
-  -- the records of its bucket come in time after those so far
-  pub bucket-in_time : (bucket : Bucket) (new : Standing) → ended m t standing ≡ None → IsCycle m t standing bucket new → IsInTime (last_time 0 (records_of_buckets so_far)) bucket.done
-  bucket-in_time bucket new not_ended cycle =
+  -- from the start, the records of its bucket come in time after those so far
+  pub bucket-in_time : (bucket : Bucket) (new : Standing) → ended m t standing ≡ None → IsCycle m t standing bucket new → from ≡ initial_state m
+      → IsInTime (last_time 0 (records_of_buckets so_far)) bucket.done
+  bucket-in_time bucket new not_ended cycle is_start =
       let here = cycle-here bucket new not_ended cycle in
       let more : List Bucket = rest m t (after m t way.state) bucket.fault in
-      let all : (run m t (initial_state m)).records ≡ records_of_buckets so_far ++ (bucket.done ++ records_of_buckets more) =
-      ap (λ (r : Run). r.records) (sym (laws.cycles (initial_state m) laws.initial))
+      let all : (run m t from).records ≡ records_of_buckets so_far ++ (bucket.done ++ records_of_buckets more) =
+      ap (λ (r : Run). r.records) (sym (laws.cycles from laws.begins))
       ∙ ap records_of_buckets (way.buckets ∙ ap (λ (bs : List Bucket). so_far ++ bs) (rest-here bucket new here))
       ∙ records_of_buckets-append so_far (bucket ∷ more)
       ∙ ap (λ (records : List (Key × Note)). records_of_buckets so_far ++ records) (records_of_buckets-first bucket more) in
-      let whole : IsInTime 0 (run m t (initial_state m)).records = in_time-ascending 0 (run m t (initial_state m)).records (λ told behind is. omega arith) laws.ascend in
+      let P : State → Type 0 = λ s. AllPairs (λ (earlier later : Key × Note). key_lt earlier.0 later.0 ≡ true) (run m t s).records in
+      let whole : IsInTime 0 (run m t from).records = in_time-ascending 0 (run m t from).records (λ told behind is. omega arith) (subst P (sym is_start) laws.ascend) in
       in_time-front (last_time 0 (records_of_buckets so_far)) bucket.done (records_of_buckets more)
       (in_time-behind 0 (records_of_buckets so_far) (bucket.done ++ records_of_buckets more) (subst (IsInTime 0) all whole))
 
@@ -242,25 +251,25 @@ has_done m t meaning terms StandsIn old at answer bucket new same_meaning same_t
     }
 
 -- a simulation begins under way
-pub begins : (m : Meaning) (t : Terms) (standing : Standing) → Lawful m t (initial_state m) → standing ≡ stands (initial_state m) None → IsUnderWay m t standing []
-unfolding rest records_of_buckets initial_state
-begins m t standing lawful is_start = record {
-  state = initial_state m;
+pub begins : (m : Meaning) (t : Terms) (from : State) → Lawful m t from → IsUnderWay m t from (stands from None) []
+unfolding rest records_of_buckets
+begins m t from lawful = record {
+  state = from;
   fault = None;
-  at_state = is_start;
+  at_state = refl;
   lawful = lawful;
   failed = λ f is_fault. cc;
   buckets = refl;
   last = refl;
   stop = refl;
-  counted = refl;
+  counted = omega arith;
   few = omega arith;
   few_whole = λ whole. omega arith;
 }
 
-pub counted-here : (m : Meaning) (t : Terms) (standing : Standing) (so_far : List Bucket) (way : IsUnderWay m t standing so_far) (count : ℕ) → IsCountAt standing count → count ≡ way.state.count
+pub counted-here : (m : Meaning) (t : Terms) (from : State) (standing : Standing) (so_far : List Bucket) (way : IsUnderWay m t from standing so_far) (count : ℕ) → IsCountAt standing count → count ≡ way.state.count
 unfolding IsCountAt
-counted-here m t standing so_far way count counted = let P : Standing → Type 0 = λ s. IsCountAt s count in subst P way.at_state counted
+counted-here m t from standing so_far way count counted = let P : Standing → Type 0 = λ s. IsCountAt s count in subst P way.at_state counted
 
 -- what a buffer that was empty holds, once lines were put into it
 pub held : (before after slice lines : List ℕ) → before ≡ [] → after ≡ before ++ lines → slice ≡ after → slice ≡ lines

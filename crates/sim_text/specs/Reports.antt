@@ -7,8 +7,8 @@ use Rattle.sim_spec.specs.declared.bucket.Bucket.{Bucket}
 use Rattle.sim_spec.specs.Cycles.{records_of_buckets}
 use Rattle.sim_stats.specs.declared.totals.TheConstants.{MOST_RECORDS}
 use Rattle.sim_stats.specs.Totals.{IsInTime, totals_of, lines_of_sums}
-use Rattle.sim_io.specs.declared.words.Settings.{Settings}
 use Rattle.sim_io.specs.CycleTexts.{bucket_lines, demo_line}
+use Rattle.sim_text.specs.declared.telling.Telling.{Telling}
 use Rattle.sim_text.specs.declared.report.Report.{Report}
 use Rattle.sim_text.specs.declared.report.Report.TheVariants.{Lines, Sums, Counts}
 use Rattle.sim_text.specs.declared.summary.Summary.{Summary}
@@ -18,11 +18,10 @@ unfoldable pub summary_of : ℕ → List Bucket → Summary
 summary_of n bs = record { n = n; cycles = whole_cycles bs; last = last_stamp 0 (records_of_buckets bs) }
 
 -- what is kept of these buckets of a model with so many objects
-unfoldable pub report_of : ℕ → Settings → List Bucket → Report
-report_of objects (Settings.Run nodes ahead placement cycles workers) bs = Lines cycles
-report_of objects (Settings.One cycles) bs = Lines cycles
-report_of objects Settings.Totals bs = Sums (totals_of objects (records_of_buckets bs))
-report_of objects (Settings.Demo n) bs = Counts (summary_of n bs)
+unfoldable pub report_of : ℕ → Telling → List Bucket → Report
+report_of objects (Telling.Lines cycles) bs = Lines cycles
+report_of objects Telling.Totals bs = Sums (totals_of objects (records_of_buckets bs))
+report_of objects (Telling.Demo n) bs = Counts (summary_of n bs)
 
 -- it can go on with these records
 abbrev pub CanGoOn : Report → List (Key × Note) → Type 0

@@ -1,17 +1,17 @@
--- The whole text of a simulation, as it is set.
-use Rattle.std.specs.Prelude.{ℕ, Bool, not, ◌&&◌, List, [], ◌∷◌, ◌++◌, count_by, is_none}
+-- The text of a simulation, whatever is to be told of it.
+use Rattle.std.specs.Prelude.{◌≡◌, ℕ, Bool, false, not, ◌&&◌, List, [], ◌∷◌, ◌++◌, count_by, is_none}
 use Rattle.event_key.specs.declared.key.Key.{Key}
 use Rattle.model_core.specs.declared.note.Note.{Note}
 use Rattle.model_core.specs.Meaning.{Meaning}
 use Rattle.sim_spec.specs.declared.bucket.Bucket.{Bucket}
 use Rattle.sim_spec.specs.declared.terms.Terms.{Terms}
-use Rattle.sim_spec.specs.State.{State, initial_state}
+use Rattle.sim_spec.specs.State.{State, Lawful, initial_state}
 use Rattle.sim_spec.specs.Run.{run}
-use Rattle.sim_spec.specs.Cycles.{cycles}
+use Rattle.sim_spec.specs.Cycles.{cycles, cycles_for, records_of_buckets}
 use Rattle.sim_stats.specs.Totals.{totals_lines}
-use Rattle.sim_io.specs.declared.words.Settings.{Settings}
-use Rattle.sim_io.specs.Texts.{stop_line}
+use Rattle.sim_io.specs.Texts.{record_lines, stop_line}
 use Rattle.sim_io.specs.CycleTexts.{demo_line, text}
+use Rattle.sim_text.specs.declared.telling.Telling.{Telling}
 
 -- how many buckets met neither a fault nor the limit
 abbrev pub is_whole : Bucket → Bool
@@ -35,9 +35,26 @@ demo_text m t n s =
     demo_line n (run m t s).last.count (whole_cycles (cycles m t s).buckets) (last_stamp 0 (run m t s).records)
     ++ stop_line m t (run m t s).last.count (run m t s).stop
 
--- the text of a model's simulation from its start
-unfoldable pub text_from_start : Meaning → Terms → Settings → List ℕ
-text_from_start m t (Settings.Run nodes ahead placement cycles workers) = text m t cycles (initial_state m)
-text_from_start m t (Settings.One cycles) = text m t cycles (initial_state m)
-text_from_start m t Settings.Totals = totals_text m t (initial_state m)
-text_from_start m t (Settings.Demo n) = demo_text m t n (initial_state m)
+-- the text of a simulation from a state
+unfoldable pub text_from : Meaning → Terms → Telling → State → List ℕ
+text_from m t (Telling.Lines cycles) s = text m t cycles s
+text_from m t Telling.Totals s = totals_text m t s
+text_from m t (Telling.Demo n) s = demo_text m t n s
+
+-- the text of a simulation from its start
+abbrev pub text_from_start : Meaning → Terms → Telling → List ℕ
+text_from_start m t telling = text_from m t telling (initial_state m)
+
+-- the records of the first cycles from a state, so many at most
+unfoldable pub first_lines : Meaning → Terms → ℕ → State → List ℕ
+first_lines m t most s = record_lines m (records_of_buckets (cycles_for most m t s).buckets)
+
+-- a simulation from a state goes on from the state after its first cycles: what is told of them, and then from there on,
+-- is its text, and it stops as it would have
+pub record GoesOn (m : Meaning) (t : Terms) (most : ℕ) (s : State) : Type 0 where
+  pub lawful : Lawful m t (cycles_for most m t s).last
+  pub text : text m t false s ≡ first_lines m t most s ++ text m t false (cycles_for most m t s).last
+  pub stop : (run m t s).stop ≡ (run m t (cycles_for most m t s).last).stop
+
+abbrev pub GoesOnAfterCycles : Meaning → Terms → Type 0
+GoesOnAfterCycles m t = (most : ℕ) (s : State) → Lawful m t s → GoesOn m t most s

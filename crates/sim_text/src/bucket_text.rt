@@ -13,7 +13,7 @@ use sim_spec::Bucket;
 use std::alloc::Global;
 
 /// Appends the lines of records.
-fn put_records<M: Model>(
+pub fn put_records<M: Model>(
     alloc: Global,
     model: &M,
     records: &[(Key, Note)],

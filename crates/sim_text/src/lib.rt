@@ -2,10 +2,15 @@
 #![tactic(auto)]
 
 mod bucket_text;
+mod first_cycles;
+pub mod laws;
 mod report;
 mod simulation;
 mod summary;
+mod telling;
 mod unfinished;
 
+pub use first_cycles::simulate_first;
 pub use simulation::simulate;
+pub use telling::Telling;
 pub use unfinished::Unfinished;

@@ -1,14 +1,15 @@
 //! What is kept of a simulation for its text.
 ghost use Rattle.std.specs.Prelude.{◌≡◌, ◌++◌, ◌∷◌, [], ℕ, List, IfOk, OnOk};
 ghost use Rattle.sim_spec.specs.declared.bucket.Bucket.{Bucket};
-ghost use Rattle.sim_io.specs.declared.words.Settings.{Settings};
+ghost use Rattle.sim_text.specs.declared.telling.Telling.{Telling};
 ghost use Rattle.sim_text.specs.Rest.{AllAtObjects};
 
 use crate::bucket_text::put_bucket;
 use crate::summary::Summary;
+use crate::telling::Telling;
 use model_core::OutOfMemory;
 use model_core::model::Model;
-use sim_io::{Settings, put_demo};
+use sim_io::put_demo;
 use sim_spec::Bucket;
 use sim_stats::Totals;
 use std::alloc::Global;
@@ -27,15 +28,15 @@ pub enum Report {
 impl Report {
     ghost use Rattle.sim_text.specs.Reports.{report_of, CanGoOn, HasObjects, told_at_once, told_in_the_end};
 
-    /// What is kept of no bucket, as it is set, for a model with so many objects.
+    /// What is kept of no bucket, where this is to be told, for a model with so many objects.
     #[tactic(auto, unfolding(crate::specs::Reports::report_of, sim_spec::specs::Cycles::records_of_buckets))]
-    pub fn new(alloc: Global, objects: u32, settings: Settings) -> Result<Report, OutOfMemory>
-        ensures { IfOk result (λ report. report ≡ report_of objects settings []) }
+    pub fn new(alloc: Global, objects: u32, telling: Telling) -> Result<Report, OutOfMemory>
+        ensures { IfOk result (λ report. report ≡ report_of objects telling []) }
     {
-        match settings {
-            Settings::Run { cycles, .. } | Settings::One { cycles } => Ok(Report::Lines { cycles }),
-            Settings::Totals => Ok(Report::Sums(Totals::new(alloc, objects)?)),
-            Settings::Demo { n } => Ok(Report::Counts(Summary::new(n))),
+        match telling {
+            Telling::Lines { cycles } => Ok(Report::Lines { cycles }),
+            Telling::Totals => Ok(Report::Sums(Totals::new(alloc, objects)?)),
+            Telling::Demo { n } => Ok(Report::Counts(Summary::new(n))),
         }
     }
 
@@ -52,8 +53,8 @@ impl Report {
         requires sums { HasObjects (M.meaning model.now).objects self.old }
         requires goes_on { CanGoOn self.old bucket.done }
         ensures told { OnOk result (into.new.items ≡ into.old.items ++ told_at_once (M.meaning model.now) self.old number bucket) }
-        ensures kept { (objects : ℕ) (chosen : Settings) (bs : List Bucket) → self.old ≡ report_of objects chosen bs
-            → self.new ≡ report_of objects chosen (bs ++ bucket ∷ []) }
+        ensures kept { (objects : ℕ) (telling : Telling) (bs : List Bucket) → self.old ≡ report_of objects telling bs
+            → self.new ≡ report_of objects telling (bs ++ bucket ∷ []) }
     {
         match self {
             Report::Lines { cycles } => put_bucket(alloc, model, *cycles, number, bucket, into),

@@ -1,56 +1,60 @@
 //! A whole simulation, and its text.
 ghost use Rattle.std.specs.Prelude.{◌≡◌, ◌≤◌, IfOk, OnOk, OnErr, IsErrOf, None};
 ghost use Rattle.std.specs.Io.KnownBytes.{Appends};
-ghost use Rattle.sim_spec.specs.State.{initial_state};
-ghost use Rattle.sim_spec.specs.Standing.{Standing, stands, ended, DoesCycles};
+ghost use Rattle.sim_spec.specs.State.{State};
+ghost use Rattle.sim_spec.specs.Standing.{Standing, ended, DoesCycles};
 ghost use Rattle.sim_spec.specs.Run.{run};
 ghost use Rattle.sim_io.specs.Causes.{Rose};
 ghost use Rattle.sim_io.specs.Transfers.{AppendsPrefix};
-ghost use Rattle.sim_text.specs.WholeTexts.{text_from_start};
+ghost use Rattle.sim_text.specs.Rest.{BeginsAt, CanBeTold};
+ghost use Rattle.sim_text.specs.WholeTexts.{text_from};
 ghost use Rattle.sim_text.specs.declared.unfinished.Unfinished.TheVariants.{WriteFault, OutOfMemory as NoMemory};
 
 use crate::report::Report;
+use crate::telling::Telling;
 use crate::unfinished::Unfinished;
 use model_core::OutOfMemory;
 use model_core::model::Model;
 use run_laws::laws::{law_order, law_reached};
-use sim_io::{Settings, Sink, put_stop, write_all};
-use sim_spec::laws::{law_bucket, law_initial, law_moves, law_next};
+use sim_io::{Sink, put_stop, write_all};
+use sim_spec::laws::{law_bucket, law_moves, law_next};
 use sim_spec::{Bucket, Engine, Stop, Terms};
 use std::alloc::Global;
 
-/// Runs an engine from the start of its model until it has ended, and writes the text of the simulation as it is set: after
-/// each cycle what is told of its bucket at once, and in the end what was kept of all, and why it stopped. No bucket is
-/// kept, and the memory for the text of one serves the next one too.
+/// Runs an engine from a state of its model until it has ended, and writes the text of the simulation: after each cycle
+/// what is told of its bucket at once, and in the end what was kept of all, and why it stopped. No bucket is kept, and the
+/// memory for the text of one serves the next one too.
 pub fn simulate<M: Model, E: Engine, F: Fn(&mut E, Global) -> Result<Bucket, OutOfMemory>, K: Sink>(
     alloc: Global,
     model: &M,
     terms: &Terms,
     engine: &mut E,
     cycle: &F,
-    settings: Settings,
+    telling: Telling,
     sink: &mut K,
 ) -> Result<Stop, Unfinished>
     requires meaning { E.meaning engine.old ≡ M.meaning model.now }
     requires terms { E.terms engine.old ≡ terms.now }
-    requires begins { E.stands_at engine.old (stands (initial_state (M.meaning model.now)) None) }
+    requires begins { (from : State) × BeginsAt (M.meaning model.now) terms.now E.stands_at engine.old from × CanBeTold (M.meaning model.now) telling from }
     requires may { (e : _) (at : Standing) → E.stands_at e.now at → ended (E.meaning e.now) (E.terms e.now) at ≡ None → F.pre cycle.now e alloc }
     requires does { (e : _) (r : _) (f : _) → F.post cycle.now e alloc r f → DoesCycles E.meaning E.terms E.stands_at e.now r f.now }
-    ensures whole { OnOk result (Appends (K.told sink.old) (K.told sink.new) (text_from_start (M.meaning model.now) terms.now settings)) }
-    ensures stop { IfOk result (λ stop. stop ≡ (run (M.meaning model.now) terms.now (initial_state (M.meaning model.now))).stop) }
-    ensures prefix { OnErr result (AppendsPrefix (K.told sink.old) (K.told sink.new) (text_from_start (M.meaning model.now) terms.now settings)) }
+    ensures whole { (from : State) → BeginsAt (M.meaning model.now) terms.now E.stands_at engine.old from → CanBeTold (M.meaning model.now) telling from
+        → OnOk result (Appends (K.told sink.old) (K.told sink.new) (text_from (M.meaning model.now) terms.now telling from)) }
+    ensures stop { (from : State) → BeginsAt (M.meaning model.now) terms.now E.stands_at engine.old from → CanBeTold (M.meaning model.now) telling from
+        → IfOk result (λ stop. stop ≡ (run (M.meaning model.now) terms.now from).stop) }
+    ensures prefix { (from : State) → BeginsAt (M.meaning model.now) terms.now E.stands_at engine.old from → CanBeTold (M.meaning model.now) telling from
+        → OnErr result (AppendsPrefix (K.told sink.old) (K.told sink.new) (text_from (M.meaning model.now) terms.now telling from)) }
     ensures fault { IsErrOf result WriteFault → Rose (K.faults sink.old) (K.faults sink.new) }
     ensures later { K.faults sink.old ≤ K.faults sink.new }
     ensures quiet { OnOk result (K.faults sink.new ≡ K.faults sink.old) }
     ensures no_memory { IsErrOf result NoMemory → K.faults sink.new ≡ K.faults sink.old }
 {
-    law_initial(model, terms);
     law_next(model, terms);
     law_bucket(model, terms);
     law_moves(model, terms);
     law_reached(model, terms);
     law_order(model, terms);
-    let mut report = Report::new(alloc, model.objects(), settings)?;
+    let mut report = Report::new(alloc, model.objects(), telling)?;
     let mut text = Vec::new(alloc);
     let mut number = 1;
     'cycles: loop {

@@ -1,5 +1,6 @@
 pub mod FreshLemmas
 pub mod HeadLemmas
+pub mod LevelLemmas
 pub mod Merging
 pub mod PairLemmas
 pub mod Placing

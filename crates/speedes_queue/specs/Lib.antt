@@ -1,5 +1,6 @@
 pub mod Fresh
 pub mod Heads
+pub mod Levels
 pub mod Pairs
 pub mod Queues
 pub mod Serials

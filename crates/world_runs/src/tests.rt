@@ -1,6 +1,12 @@
 //! What the runs share.
 mod counts;
 mod cuts;
+mod faults;
+mod large;
+mod moved;
+mod refusals;
+mod saved;
+mod team_run;
 mod texts;
 mod world_run;
 

@@ -63,7 +63,7 @@ pub(super) fn station(
 }
 
 /// Two routers that send a job to and fro in one tick.
-fn router_loop(alloc: Global, limit: u64) -> Result<String, Fail> {
+pub(super) fn router_loop(alloc: Global, limit: u64) -> Result<String, Fail> {
     let model = format!(in alloc;
         "format = 1\nmodel = \"network\"\nend = 5\nlimit = {limit}\n
 [[object]]\nname = \"r0\"\nkind = \"router\"\nnext = [\"r1\"]\n

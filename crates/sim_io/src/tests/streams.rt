@@ -1,6 +1,6 @@
 use crate::{
     CleanSink, CleanSource, Failed, MemSink, MemSource, ReadEnd, Sink, Source, StdSink, StdSource,
-    read_all, write_all,
+    read_all, read_some, write_all,
 };
 use std::io;
 use std::io::{Cursor, ErrorKind, Read, Write};
@@ -21,6 +21,20 @@ fn a_read_that_fails_in_mid_stream(rt: HostRuntime) -> Result<(), Fail> {
     }
     let mut source = MemSource::new(TEXT.to_vec(alloc)?, vec![in alloc; 5]?, 16);
     assert_eq!(rt; read_all(alloc, &mut source)?.as_slice(), TEXT);
+    Ok(())
+}
+
+#[test]
+fn one_byte_more_tells_that_an_input_is_too_long(rt: HostRuntime) -> Result<(), Fail> {
+    let alloc = rt.alloc();
+    for most in [0, 15, 16, 46] {
+        let mut source = MemSource::new(TEXT.to_vec(alloc)?, Vec::new(alloc), 16);
+        let (taken, left) = TEXT.split_at(most + 1);
+        assert_eq!(rt; read_some(alloc, &mut source, most)?.as_slice(), taken);
+        assert_eq!(rt; read_all(alloc, &mut source)?.as_slice(), left);
+    }
+    let mut source = MemSource::new(TEXT.to_vec(alloc)?, Vec::new(alloc), 16);
+    assert_eq!(rt; read_some(alloc, &mut source, 47)?.as_slice(), TEXT);
     Ok(())
 }
 

@@ -1,4 +1,4 @@
-use crate::{Settings, WordFault, read_words};
+use crate::{Moves, Settings, WordFault, read_words};
 use sim_spec::Placement;
 use std::alloc::Global;
 use std::test::Fail;
@@ -19,6 +19,7 @@ fn run(nodes: u32, ahead: u32) -> Settings {
         placement: Placement::Round,
         cycles: false,
         workers: None,
+        moves: None,
     }
 }
 
@@ -30,6 +31,19 @@ fn run_by(workers: u32) -> Settings {
         placement: Placement::Round,
         cycles: false,
         workers: Some(workers),
+        moves: None,
+    }
+}
+
+/// The same with objects that move.
+fn run_with(moves: Moves) -> Settings {
+    Settings::Run {
+        nodes: 4,
+        ahead: 8,
+        placement: Placement::Round,
+        cycles: false,
+        workers: None,
+        moves: Some(moves),
     }
 }
 
@@ -53,12 +67,18 @@ fn a_command_and_its_options(rt: HostRuntime) -> Result<(), Fail> {
                 placement: Placement::Block,
                 cycles: true,
                 workers: None,
+                moves: None,
             },
         ),
         (["run", "--workers", "1"].as_slice(), run_by(1)),
         (
             ["run", "--nodes", "4", "--workers", "64"].as_slice(),
             run_by(64),
+        ),
+        (["run", "--moves", "load"].as_slice(), run_with(Moves::Load)),
+        (
+            ["run", "--moves", "turn", "--placement", "round"].as_slice(),
+            run_with(Moves::Turn),
         ),
         (["one"].as_slice(), Settings::One { cycles: false }),
         (
@@ -68,6 +88,12 @@ fn a_command_and_its_options(rt: HostRuntime) -> Result<(), Fail> {
         (["totals"].as_slice(), Settings::Totals),
         (["demo", "1"].as_slice(), Settings::Demo { n: 1 }),
         (["demo", "256"].as_slice(), Settings::Demo { n: 256 }),
+        (["save", "0"].as_slice(), Settings::Save { c: 0 }),
+        (
+            ["save", "9999999"].as_slice(),
+            Settings::Save { c: 9_999_999 },
+        ),
+        (["resume"].as_slice(), Settings::Resume),
     ] {
         assert_eq!(rt; read_words(&list_of(alloc, words)?), Ok(settings));
     }
@@ -134,6 +160,18 @@ fn the_first_faulty_word_is_judged(rt: HostRuntime) -> Result<(), Fail> {
             ["one", "--workers", "2"].as_slice(),
             WordFault::UnknownOption,
         ),
+        (["run", "--moves"].as_slice(), WordFault::MissingValue),
+        (["run", "--moves", "Load"].as_slice(), WordFault::BadValue),
+        (["run", "--moves", "round"].as_slice(), WordFault::BadValue),
+        (
+            ["run", "--moves", "load", "--moves", "turn"].as_slice(),
+            WordFault::RepeatedOption,
+        ),
+        (["run", "--moves=load"].as_slice(), WordFault::UnknownOption),
+        (
+            ["one", "--moves", "load"].as_slice(),
+            WordFault::UnknownOption,
+        ),
         (["totals", "--cycles"].as_slice(), WordFault::UnknownOption),
         (["totals", "totals"].as_slice(), WordFault::ExtraWord),
         (["demo"].as_slice(), WordFault::MissingValue),
@@ -143,6 +181,15 @@ fn the_first_faulty_word_is_judged(rt: HostRuntime) -> Result<(), Fail> {
         (["demo", "01", "2"].as_slice(), WordFault::BadValue),
         (["demo", "1", "2"].as_slice(), WordFault::ExtraWord),
         (["demo", "1", "--cycles"].as_slice(), WordFault::ExtraWord),
+        (["save"].as_slice(), WordFault::MissingValue),
+        (["save", "10000000"].as_slice(), WordFault::BadValue),
+        (["save", "-1"].as_slice(), WordFault::BadValue),
+        (["save", "x", "y"].as_slice(), WordFault::BadValue),
+        (["save", "1", "2"].as_slice(), WordFault::ExtraWord),
+        (["save", "1", "--nodes"].as_slice(), WordFault::ExtraWord),
+        (["resume", "--cycles"].as_slice(), WordFault::UnknownOption),
+        (["resume", "1"].as_slice(), WordFault::ExtraWord),
+        (["resume", "resume", "-"].as_slice(), WordFault::ExtraWord),
     ] {
         assert_eq!(rt; read_words(&list_of(alloc, words)?), Err(fault));
     }

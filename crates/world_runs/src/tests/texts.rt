@@ -1,10 +1,11 @@
 //! The text of a world, on any number of nodes and with objects placed either way.
 use super::world_run::run_world;
 use super::{FALSE_FAULT, PLACEMENTS, SHOP, network_of};
-use model_runs::run_model;
+use model_runs::{Machine, run_model};
 use node_team::Open;
-use sim_io::{MemSink, Settings};
+use sim_io::MemSink;
 use sim_spec::Placement;
+use sim_text::Telling;
 use std::alloc::Global;
 use std::process::Abort;
 use std::test::Fail;
@@ -19,7 +20,7 @@ struct Case {
     text: &'static str,
 }
 
-const SHOP_TEXT: &str = "1.0 in make 1 2
+pub(super) const SHOP_TEXT: &str = "1.0 in make 1 2
 1.1 s take 1 0
 3.0 in make 2 1
 3.1 s wait 2 1
@@ -94,7 +95,7 @@ cycle 5 horizon 7.1 events 2
 limit 10
 ";
 
-const FALSE_FAULT_TEXT: &str = "5.0 s take 1 0
+pub(super) const FALSE_FAULT_TEXT: &str = "5.0 s take 1 0
 9.0 s done 1 0
 9.1 out leave 1 4
 10.0 s take 2 0
@@ -145,7 +146,7 @@ const CASES: [Case; 5] = [
 ];
 
 /// A bank: customers come about every 10 ticks, there are three desks, and one in ten comes again.
-const BANK: &str = "
+pub const BANK: &str = "
 [[object]]
 name = \"door\"
 kind = \"source\"
@@ -235,7 +236,8 @@ fn a_bank_has_the_text_of_the_engine_for_one_thread(rt: HostRuntime) -> Result<(
         &Open,
         model,
         terms,
-        Settings::One { cycles: true },
+        Machine::OneThread,
+        Telling::Lines { cycles: true },
         &mut one,
     ) else {
         return Err(Fail::from("the text isn't whole"));

@@ -11,9 +11,10 @@ use model_core::OutOfMemory;
 use model_core::model::Model as SimulationModel;
 use model_text::AnyModel;
 use node_core::{Node, Tallies};
-use sim_io::{MemSink, Settings};
+use sim_io::MemSink;
+use sim_spec::laws::law_initial;
 use sim_spec::{Bucket, Engine, Placement, Stop, Terms};
-use sim_text::{Unfinished, simulate};
+use sim_text::{Telling, Unfinished, simulate};
 use std::alloc::Global;
 use std::marker::Model;
 use std::sync::Arc;
@@ -187,6 +188,7 @@ pub fn run_world(
     requires high { nodes ≤ 64 }
 {
     let (model, mut run) = run_of(alloc, model, terms, nodes, placement)?;
+    law_initial(&*model, &terms);
     let cycle = |any: &mut AnyRun, alloc: Global| -> Result<Bucket, OutOfMemory>
         requires { GoesOn meaning_of any.old.run }
         ensures { HasCycled meaning_of any.old.run result any.new.run }
@@ -197,7 +199,7 @@ pub fn run_world(
         &terms,
         &mut run,
         &cycle,
-        Settings::One { cycles },
+        Telling::Lines { cycles },
         out,
     )
 }

@@ -1,17 +1,17 @@
-use Rattle.std.proofs.Common.{◌∙◌, ap, sym, arith}
-use Rattle.model_core.specs.declared.event.Event.{Event}
-use Rattle.node_core.specs.Homes.{home_of}
-use Rattle.cycle_core.proofs.StartLemmas.{parcel-few, parcels-more}
+use Rattle.std.proofs.Common.{◌++◌, ◌∷◌, ◌∙◌, [], ap, subst, arith}
+use Rattle.std.proofs.lemmas.List.FromFn.{length-map-range_with_len}
+use Rattle.sim_spec.specs.State.{start_event}
+use Rattle.cycle_core.specs.Starts.{ArePartsOf, first_events}
+use Rattle.cycle_core.proofs.StartLemmas.{first-more}
 use Rattle.cycle_core.proofs.beginning.first_parcels.Goals as goal
 
-pub add_at-requires-clause-few : goal.add_at-requires-clause-few
-add_at-requires-clause-few g c =
-    let few = parcel-few (g.M.Model.meaning c.args.model.now) (home_of c.args.homes.now) c.args.homes.now.nodes c.loop-i.i c.home-home.result c.loop-i.parcels.items c.loop-i.parcels.items c.in-Ok.cell c.loop-i.invariant c.home-home.ensures.node in
-    let starts = c.requires.laws.starts in
-    omega arith
+pub put_home-requires-clause-parts : goal.put_home-requires-clause-parts
+put_home-requires-clause-parts g c =
+    let m = g.M.Model.meaning c.args.model.now in
+    (first_events m c.loop-i.i, (let starts = c.requires.laws.starts in let count = c.starts-i-end.ensures in let long = length-map-range_with_len (start_event m) 0 c.loop-i.i in omega arith), c.loop-i.invariant)
 
 pub loop-i-preserved : goal.loop-i-preserved
 loop-i-preserved g c =
-    let is = c.in-Ok.ensures.ok in
-    parcels-more (g.M.Model.meaning c.args.model.now) (home_of c.args.homes.now) c.args.homes.now.nodes c.loop-i.i c.home-home.result c.loop-i.parcels.items c.add_at.new.parcels.items c.in-Ok.cell c.loop-i.invariant c.home-home.ensures.node
-    (is ∙ c.first_event-event.ensures) (c.home-home.ensures.home ∙ ap (λ (e : Event). home_of c.args.homes.now e.key.dest) (sym is)) c.add_at.ensures
+    let m = g.M.Model.meaning c.args.model.now in
+    subst (λ es. ArePartsOf c.args.homes.now es c.put_home.new.parcels.items) (ap (λ e. first_events m c.loop-i.i ++ e ∷ []) c.first_event.ensures ∙ first-more m c.loop-i.i)
+    (c.in_ok-put_home.ensures (first_events m c.loop-i.i) c.loop-i.invariant)

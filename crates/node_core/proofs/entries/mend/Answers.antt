@@ -15,6 +15,7 @@ steps-preserved c =
       inside = simp length-set (omega (arith, c.steps.invariant.inside));
       but = mend-goes c.steps.place _ es (omega arith) c.steps.invariant.inside c.steps.invariant.but (c.min-held.ensures ∙ ap (min c.index-entry.result.now.mark.least) c.held_from-held.ensures);
       same = marks-set _ _ c.index-entry.result.now es c.index-entry.ensures refl (omega (arith, c.steps.invariant.inside)) ∙ c.steps.invariant.same;
+      capacity = c.steps.invariant.capacity;
     }
 
 pub returns-clause-least : goal.returns-clause-least

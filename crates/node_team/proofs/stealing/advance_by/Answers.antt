@@ -1,5 +1,4 @@
-use Rattle.std.proofs.Common.{◌≡◌, subst}
-use Rattle.std.specs.Prelude.{Result, Ok, Err}
+use Rattle.std.proofs.Common.{subst}
 use Rattle.node_team.specs.declared.seating.Seated.{Seated}
 use Rattle.node_team.specs.Forks.{HasGone}
 use Rattle.node_team.proofs.ForkLemmas.{zip-into, if-ok}

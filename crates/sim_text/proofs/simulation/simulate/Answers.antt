@@ -1,5 +1,5 @@
 -- Each turn tells of one bucket; the last one tells what was kept of all, and why the simulation stopped.
-use Rattle.std.proofs.Common.{◌≡◌, ℕ, ◌+◌, ◌++◌, ◌∷◌, [], true, List, length, length-append, refl, sym, ap, ◌∙◌, subst, arith}
+use Rattle.std.proofs.Common.{◌≡◌, ℕ, ◌+◌, ◌++◌, ◌∷◌, [], true, List, length-append, refl, sym, ap, ◌∙◌, subst, arith}
 use Rattle.std.proofs.KnownBytes.{Appends-nil}
 use Rattle.std.specs.Io.KnownBytes.{Appends}
 use Rattle.std.specs.List.{AllPairs}
@@ -9,11 +9,10 @@ use Rattle.event_key.specs.declared.key.Key.{Key}
 use Rattle.event_key.specs.Keys.{key_lt}
 use Rattle.model_core.specs.declared.note.Note.{Note}
 use Rattle.sim_spec.specs.Standing.{stands}
-use Rattle.sim_spec.specs.State.{initial_state}
 use Rattle.sim_io.specs.Transfers.{AppendsPrefix}
 use Rattle.sim_text.specs.Reports.{report_of}
-use Rattle.sim_text.proofs.Telling.{none_so_far, can_go_on, has_objects, told-prefix, bucket-prefix, bucket-told, end-prefix, end-told}
-use Rattle.sim_text.proofs.UnderWay.{SimulationLaws, begins, counted-here, held, held_both, none_of, ended-same, has_done, stop-at_object, stop-of_run, ends_so, bucket-at_objects, bucket-in_time, bucket-has_room, all-with_bucket, goes_on, few_cycles}
+use Rattle.sim_text.proofs.Told.{none_so_far, can_go_on, has_objects, told-prefix, bucket-prefix, bucket-told, end-prefix, end-told}
+use Rattle.sim_text.proofs.UnderWay.{begins, counted-here, held, held_both, none_of, ended-same, has_done, stop-at_object, stop-of_run, ends_so, bucket-at_objects, bucket-in_time, bucket-has_room, all-with_bucket, goes_on, few_cycles}
 use Rattle.sim_text.proofs.simulation.simulate.Goals as goal
 
 pub cycles-init : goal.cycles-init
@@ -22,26 +21,27 @@ cycles-init g c =
     let t = c.args.terms.now in
     let Ascends : List (Key × Note) → Type 0 = AllPairs (λ (earlier later : Key × Note). key_lt earlier.0 later.0 ≡ true) in
     let whole = c.law_reached.ensures.run in
-    let laws : SimulationLaws m t = record {
-      next = c.law_next.ensures;
-      buckets = c.law_bucket.ensures.next_of_run;
-      cycles = c.law_bucket.ensures.whole_run;
-      moves = c.law_moves.ensures.moves;
-      ends = c.law_moves.ensures.ends;
-      initial = c.law_initial.ensures;
-      ascend = subst Ascends whole.1.records (c.law_order.ensures whole.0);
-    } in
     record {
-      laws = laws;
       meaning = c.requires.meaning;
       terms = c.requires.terms;
-      at = stands (initial_state m) None;
-      stands = c.requires.begins;
       so_far = [];
-      way = begins m t (stands (initial_state m) None) c.law_initial.ensures refl;
+      runs = λ from starts can. record {
+        laws = record {
+          next = c.law_next.ensures;
+          buckets = c.law_bucket.ensures.next_of_run;
+          cycles = c.law_bucket.ensures.whole_run;
+          moves = c.law_moves.ensures.moves;
+          ends = c.law_moves.ensures.ends;
+          begins = starts.lawful;
+          ascend = subst Ascends whole.1.records (c.law_order.ensures whole.0);
+        };
+        at = stands from None;
+        stands = starts.stands;
+        way = begins m t from starts.lawful;
+      };
       numbered = refl;
-      kept = c.in_ok-report.ensures ∙ ap (λ n. report_of n c.args.settings []) c.objects.ensures;
-      told = subst (Appends (g.K.Sink.told c.args.sink.now) (g.K.Sink.told c.args.sink.now)) (sym (none_so_far m c.args.settings)) (Appends-nil (g.K.Sink.told c.args.sink.now));
+      kept = c.in_ok-report.ensures ∙ ap (λ n. report_of n c.args.telling []) c.objects.ensures;
+      told = subst (Appends (g.K.Sink.told c.args.sink.now) (g.K.Sink.told c.args.sink.now)) (sym (none_so_far m c.args.telling)) (Appends-nil (g.K.Sink.told c.args.sink.now));
       later = omega arith;
       quiet = refl;
     }
@@ -49,131 +49,149 @@ cycles-init g c =
 pub put-requires-after_bounds : goal.put-requires-after_bounds
 put-requires-after_bounds g c κs within =
     let i = c.cycles.invariant in
-    has_objects _ c.args.settings _ i.so_far i.kept
+    has_objects _ c.args.telling _ i.so_far i.kept
 
 pub returns-in_err-put-clause-prefix : goal.returns-in_err-put-clause-prefix
-returns-in_err-put-clause-prefix g c =
+returns-in_err-put-clause-prefix g c = λ from starts can.
     let i = c.cycles.invariant in
-    on_err _ (told-prefix _ _ c.args.settings _ _ i.so_far i.told _ i.way.buckets)
+    let r = i.runs from starts can in
+    on_err _ (told-prefix _ _ _ c.args.telling _ _ i.so_far i.told _ r.way.buckets)
 
 pub put_stop-requires-after_bounds : goal.put_stop-requires-after_bounds
 put_stop-requires-after_bounds g c κs within =
     let i = c.cycles.invariant in
-    let ended = ended-same _ _ _ _ _ _ i.meaning i.terms (sym c.in-Some.is ∙ c.ended.ensures i.at i.stands) in
-    stop-at_object _ _ i.laws _ i.so_far i.way c.in-Some.stop ended
+    let r = i.runs c.requires.begins.0 c.requires.begins.1 c.requires.begins.2 in
+    let ended = ended-same _ _ _ _ _ _ i.meaning i.terms (sym c.in-Some.is ∙ c.ended.ensures r.at r.stands) in
+    stop-at_object _ _ _ r.laws _ i.so_far r.way c.in-Some.stop ended
 
 pub returns-in_err-put_stop-clause-prefix : goal.returns-in_err-put_stop-clause-prefix
-returns-in_err-put_stop-clause-prefix g c =
+returns-in_err-put_stop-clause-prefix g c = λ from starts can.
     let i = c.cycles.invariant in
-    on_err _ (told-prefix _ _ c.args.settings _ _ i.so_far i.told _ i.way.buckets)
+    let r = i.runs from starts can in
+    on_err _ (told-prefix _ _ _ c.args.telling _ _ i.so_far i.told _ r.way.buckets)
 
 pub returns-in_err-write_all-clause-prefix : goal.returns-in_err-write_all-clause-prefix
-returns-in_err-write_all-clause-prefix g c =
+returns-in_err-write_all-clause-prefix g c = λ from starts can.
     let i = c.cycles.invariant in
-    let ended = ended-same _ _ _ _ _ _ i.meaning i.terms (sym c.in-Some.is ∙ c.ended.ensures i.at i.stands) in
-    let counted = counted-here _ _ _ i.so_far i.way _ (c.count-count.ensures i.at i.stands) in
-    let ends = ends_so _ _ i.laws _ i.so_far i.way c.in-Some.stop c.count-count.result ended counted in
+    let r = i.runs from starts can in
+    let ended = ended-same _ _ _ _ _ _ i.meaning i.terms (sym c.in-Some.is ∙ c.ended.ensures r.at r.stands) in
+    let counted = counted-here _ _ _ _ i.so_far r.way _ (c.count-count.ensures r.at r.stands) in
+    let ends = ends_so _ _ _ r.laws _ i.so_far r.way c.in-Some.stop c.count-count.result ended counted in
     let P : List ℕ → Type 0 = AppendsPrefix (g.K.Sink.told c.cycles.sink) (g.K.Sink.told c.write_all.new.sink) in
     let lines = held_both _ _ _ _ _ _ c.clear.ensures.items c.in_ok-put.ensures c.in_ok-put_stop.ensures.ok c.as_slice.ensures.value in
-    on_err _ (end-prefix _ _ c.args.settings _ _ i.so_far i.told c.cycles.report i.kept c.count-count.result c.in-Some.stop ends _ (subst P lines c.in_err-write_all.ensures.prefix))
+    on_err _ (end-prefix _ _ _ c.args.telling _ _ i.so_far i.told c.cycles.report i.kept c.count-count.result c.in-Some.stop ends _ (subst P lines c.in_err-write_all.ensures.prefix))
 
 pub returns-in-Some-clause-whole : goal.returns-in-Some-clause-whole
-returns-in-Some-clause-whole g c =
+returns-in-Some-clause-whole g c = λ from starts can.
     let i = c.cycles.invariant in
-    let ended = ended-same _ _ _ _ _ _ i.meaning i.terms (sym c.in-Some.is ∙ c.ended.ensures i.at i.stands) in
-    let counted = counted-here _ _ _ i.so_far i.way _ (c.count-count.ensures i.at i.stands) in
-    let ends = ends_so _ _ i.laws _ i.so_far i.way c.in-Some.stop c.count-count.result ended counted in
+    let r = i.runs from starts can in
+    let ended = ended-same _ _ _ _ _ _ i.meaning i.terms (sym c.in-Some.is ∙ c.ended.ensures r.at r.stands) in
+    let counted = counted-here _ _ _ _ i.so_far r.way _ (c.count-count.ensures r.at r.stands) in
+    let ends = ends_so _ _ _ r.laws _ i.so_far r.way c.in-Some.stop c.count-count.result ended counted in
     let P : List ℕ → Type 0 = Appends (g.K.Sink.told c.cycles.sink) (g.K.Sink.told c.write_all.new.sink) in
     let lines = held_both _ _ _ _ _ _ c.clear.ensures.items c.in_ok-put.ensures c.in_ok-put_stop.ensures.ok c.as_slice.ensures.value in
-    end-told _ _ c.args.settings _ _ i.so_far i.told c.cycles.report i.kept c.count-count.result c.in-Some.stop ends _ (subst P lines c.in_ok-write_all.ensures.all)
+    end-told _ _ _ c.args.telling _ _ i.so_far i.told c.cycles.report i.kept c.count-count.result c.in-Some.stop ends _ (subst P lines c.in_ok-write_all.ensures.all)
 
 pub returns-in-Some-clause-stop : goal.returns-in-Some-clause-stop
-returns-in-Some-clause-stop g c =
+returns-in-Some-clause-stop g c = λ from starts can.
     let i = c.cycles.invariant in
-    let ended = ended-same _ _ _ _ _ _ i.meaning i.terms (sym c.in-Some.is ∙ c.ended.ensures i.at i.stands) in
-    sym (stop-of_run _ _ i.laws _ i.so_far i.way c.in-Some.stop ended)
+    let r = i.runs from starts can in
+    let ended = ended-same _ _ _ _ _ _ i.meaning i.terms (sym c.in-Some.is ∙ c.ended.ensures r.at r.stands) in
+    sym (stop-of_run _ _ _ r.laws _ i.so_far r.way c.in-Some.stop ended)
 
 pub cycle-requires : goal.cycle-requires
 cycle-requires g c =
     let i = c.cycles.invariant in
-    c.requires.may _ i.at i.stands (sym (c.ended.ensures i.at i.stands) ∙ none_of _ c.in_default.not-Some)
+    let r = i.runs c.requires.begins.0 c.requires.begins.1 c.requires.begins.2 in
+    c.requires.may _ r.at r.stands (sym (c.ended.ensures r.at r.stands) ∙ none_of _ c.in_default.not-Some)
 
 pub returns-in_err-bucket-clause-prefix : goal.returns-in_err-bucket-clause-prefix
-returns-in_err-bucket-clause-prefix g c =
+returns-in_err-bucket-clause-prefix g c = λ from starts can.
     let i = c.cycles.invariant in
-    on_err _ (told-prefix _ _ c.args.settings _ _ i.so_far i.told _ i.way.buckets)
+    let r = i.runs from starts can in
+    on_err _ (told-prefix _ _ _ c.args.telling _ _ i.so_far i.told _ r.way.buckets)
 
 pub add-requires-clause-objects : goal.add-requires-clause-objects
 add-requires-clause-objects g c κs within =
     let i = c.cycles.invariant in
-    let own_none = sym (c.ended.ensures i.at i.stands) ∙ none_of _ c.in_default.not-Some in
+    let r = i.runs c.requires.begins.0 c.requires.begins.1 c.requires.begins.2 in
+    let own_none = sym (c.ended.ensures r.at r.stands) ∙ none_of _ c.in_default.not-Some in
     let not_ended = ended-same _ _ _ _ _ _ i.meaning i.terms (sym own_none) in
-    let done = has_done (g.M.Model.meaning c.args.model.now) c.args.terms.now g.E.Engine.meaning g.E.Engine.terms g.E.Engine.stands_at c.cycles.engine i.at c.cycle.result c.in_ok-bucket.bucket c.cycle.new.arg2 i.meaning i.terms c.in_ok-bucket.was
-    (c.requires.does _ c.cycle.result _ c.cycle.ensures i.at i.stands own_none) in
-    bucket-at_objects _ _ i.laws _ i.so_far i.way _ _ not_ended done.cycle
+    let done = has_done (g.M.Model.meaning c.args.model.now) c.args.terms.now g.E.Engine.meaning g.E.Engine.terms g.E.Engine.stands_at c.cycles.engine r.at c.cycle.result c.in_ok-bucket.bucket c.cycle.new.arg2 i.meaning i.terms c.in_ok-bucket.was
+    (c.requires.does _ c.cycle.result _ c.cycle.ensures r.at r.stands own_none) in
+    bucket-at_objects _ _ _ r.laws _ i.so_far r.way _ _ not_ended done.cycle
 
 pub add-requires-clause-sums : goal.add-requires-clause-sums
 add-requires-clause-sums g c κs within =
     let i = c.cycles.invariant in
-    has_objects _ c.args.settings _ i.so_far i.kept
+    has_objects _ c.args.telling _ i.so_far i.kept
 
 pub add-requires-clause-goes_on : goal.add-requires-clause-goes_on
 add-requires-clause-goes_on g c κs within =
     let i = c.cycles.invariant in
-    let own_none = sym (c.ended.ensures i.at i.stands) ∙ none_of _ c.in_default.not-Some in
+    let r = i.runs c.requires.begins.0 c.requires.begins.1 c.requires.begins.2 in
+    let own_none = sym (c.ended.ensures r.at r.stands) ∙ none_of _ c.in_default.not-Some in
     let not_ended = ended-same _ _ _ _ _ _ i.meaning i.terms (sym own_none) in
-    let done = has_done (g.M.Model.meaning c.args.model.now) c.args.terms.now g.E.Engine.meaning g.E.Engine.terms g.E.Engine.stands_at c.cycles.engine i.at c.cycle.result c.in_ok-bucket.bucket c.cycle.new.arg2 i.meaning i.terms c.in_ok-bucket.was
-    (c.requires.does _ c.cycle.result _ c.cycle.ensures i.at i.stands own_none) in
-    let few = few_cycles _ _ i.laws _ i.so_far i.way in
-    can_go_on _ c.args.settings c.cycles.report i.so_far c.in_ok-bucket.bucket.done i.kept
-    (bucket-in_time _ _ i.laws _ i.so_far i.way _ _ not_ended done.cycle)
-    (bucket-has_room _ _ i.laws _ i.so_far i.way _ _ not_ended done.cycle)
+    let done = has_done (g.M.Model.meaning c.args.model.now) c.args.terms.now g.E.Engine.meaning g.E.Engine.terms g.E.Engine.stands_at c.cycles.engine r.at c.cycle.result c.in_ok-bucket.bucket c.cycle.new.arg2 i.meaning i.terms c.in_ok-bucket.was
+    (c.requires.does _ c.cycle.result _ c.cycle.ensures r.at r.stands own_none) in
+    let few = few_cycles _ _ _ r.laws _ i.so_far r.way in
+    can_go_on _ c.args.telling c.cycles.report i.so_far c.in_ok-bucket.bucket.done i.kept
+    (λ totals. bucket-in_time _ _ _ r.laws _ i.so_far r.way _ _ not_ended done.cycle (c.requires.begins.2 totals))
+    (bucket-has_room _ _ _ r.laws _ i.so_far r.way _ _ not_ended done.cycle)
     (omega (arith, few, c.args.terms.now.limit_in_range))
 
 pub returns-in_err-add-clause-prefix : goal.returns-in_err-add-clause-prefix
-returns-in_err-add-clause-prefix g c =
+returns-in_err-add-clause-prefix g c = λ from starts can.
     let i = c.cycles.invariant in
-    on_err _ (told-prefix _ _ c.args.settings _ _ i.so_far i.told _ i.way.buckets)
+    let r = i.runs from starts can in
+    on_err _ (told-prefix _ _ _ c.args.telling _ _ i.so_far i.told _ r.way.buckets)
 
 pub returns-in_err-write_all-2-clause-prefix : goal.returns-in_err-write_all-2-clause-prefix
-returns-in_err-write_all-2-clause-prefix g c =
+returns-in_err-write_all-2-clause-prefix g c = λ from starts can.
     let i = c.cycles.invariant in
-    let own_none = sym (c.ended.ensures i.at i.stands) ∙ none_of _ c.in_default.not-Some in
+    let r = i.runs from starts can in
+    let own_none = sym (c.ended.ensures r.at r.stands) ∙ none_of _ c.in_default.not-Some in
     let not_ended = ended-same _ _ _ _ _ _ i.meaning i.terms (sym own_none) in
-    let done = has_done (g.M.Model.meaning c.args.model.now) c.args.terms.now g.E.Engine.meaning g.E.Engine.terms g.E.Engine.stands_at c.cycles.engine i.at c.cycle.result c.in_ok-bucket.bucket c.cycle.new.arg2 i.meaning i.terms c.in_ok-bucket.was
-    (c.requires.does _ c.cycle.result _ c.cycle.ensures i.at i.stands own_none) in
-    let all = all-with_bucket _ _ i.laws _ i.so_far i.way _ _ not_ended done.cycle in
+    let done = has_done (g.M.Model.meaning c.args.model.now) c.args.terms.now g.E.Engine.meaning g.E.Engine.terms g.E.Engine.stands_at c.cycles.engine r.at c.cycle.result c.in_ok-bucket.bucket c.cycle.new.arg2 i.meaning i.terms c.in_ok-bucket.was
+    (c.requires.does _ c.cycle.result _ c.cycle.ensures r.at r.stands own_none) in
+    let all = all-with_bucket _ _ _ r.laws _ i.so_far r.way _ _ not_ended done.cycle in
     let P : List ℕ → Type 0 = AppendsPrefix (g.K.Sink.told c.cycles.sink) (g.K.Sink.told c.write_all-in-cycles.new.sink) in
     let lines = held _ _ _ _ c.clear.ensures.items c.in_ok-add.ensures.told c.as_slice-in-cycles.ensures.value in
-    on_err _ (bucket-prefix _ _ c.args.settings _ _ i.so_far i.told c.cycles.report i.kept c.in_ok-bucket.bucket c.cycles.number all.0 _ i.numbered all.1 (subst P lines c.in_err-write_all-2.ensures.prefix))
+    on_err _ (bucket-prefix _ _ _ c.args.telling _ _ i.so_far i.told c.cycles.report i.kept c.in_ok-bucket.bucket c.cycles.number all.0 _ i.numbered all.1 (subst P lines c.in_err-write_all-2.ensures.prefix))
 
 pub cycles-smaller : goal.cycles-smaller
 cycles-smaller g c =
     let i = c.cycles.invariant in
-    let few = few_cycles _ _ i.laws _ i.so_far i.way in
+    let r = i.runs c.requires.begins.0 c.requires.begins.1 c.requires.begins.2 in
+    let few = few_cycles _ _ _ r.laws _ i.so_far r.way in
     omega (arith, few, i.numbered)
 
 pub cycles-preserved : goal.cycles-preserved
 cycles-preserved g c =
     let i = c.cycles.invariant in
-    let own_none = sym (c.ended.ensures i.at i.stands) ∙ none_of _ c.in_default.not-Some in
-    let not_ended = ended-same _ _ _ _ _ _ i.meaning i.terms (sym own_none) in
-    let done = has_done (g.M.Model.meaning c.args.model.now) c.args.terms.now g.E.Engine.meaning g.E.Engine.terms g.E.Engine.stands_at c.cycles.engine i.at c.cycle.result c.in_ok-bucket.bucket c.cycle.new.arg2 i.meaning i.terms c.in_ok-bucket.was
-    (c.requires.does _ c.cycle.result _ c.cycle.ensures i.at i.stands own_none) in
+    let m = g.M.Model.meaning c.args.model.now in
+    let t = c.args.terms.now in
     let b = c.in_ok-bucket.bucket in
+    let some = i.runs c.requires.begins.0 c.requires.begins.1 c.requires.begins.2 in
+    let some_none = sym (c.ended.ensures some.at some.stands) ∙ none_of _ c.in_default.not-Some in
+    let some_done = has_done m t g.E.Engine.meaning g.E.Engine.terms g.E.Engine.stands_at c.cycles.engine some.at c.cycle.result b c.cycle.new.arg2 i.meaning i.terms c.in_ok-bucket.was
+    (c.requires.does _ c.cycle.result _ c.cycle.ensures some.at some.stands some_none) in
     let P : List ℕ → Type 0 = Appends (g.K.Sink.told c.cycles.sink) (g.K.Sink.told c.write_all-in-cycles.new.sink) in
     let lines = held _ _ _ _ c.clear.ensures.items c.in_ok-add.ensures.told c.as_slice-in-cycles.ensures.value in
     record {
-      laws = i.laws;
-      meaning = done.meaning_is;
-      terms = done.terms_is;
-      at = done.left;
-      stands = done.stands;
+      meaning = some_done.meaning_is;
+      terms = some_done.terms_is;
       so_far = i.so_far ++ b ∷ [];
-      way = goes_on _ _ i.laws _ i.so_far i.way b _ not_ended done.cycle;
+      runs = λ from starts can.
+          let r = i.runs from starts can in
+          let own_none = sym (c.ended.ensures r.at r.stands) ∙ none_of _ c.in_default.not-Some in
+          let not_ended = ended-same _ _ _ _ _ _ i.meaning i.terms (sym own_none) in
+          let done = has_done m t g.E.Engine.meaning g.E.Engine.terms g.E.Engine.stands_at c.cycles.engine r.at c.cycle.result b c.cycle.new.arg2 i.meaning i.terms c.in_ok-bucket.was
+          (c.requires.does _ c.cycle.result _ c.cycle.ensures r.at r.stands own_none) in
+          record { laws = r.laws; at = done.left; stands = done.stands; way = goes_on _ _ _ r.laws _ i.so_far r.way b _ not_ended done.cycle };
       numbered = ap (λ n. n + 1) (i.numbered ∙ sym (length-append i.so_far (b ∷ [])));
-      kept = c.add.ensures.kept _ c.args.settings i.so_far i.kept;
-      told = bucket-told _ c.args.terms.now c.args.settings _ _ i.so_far i.told c.cycles.report i.kept b c.cycles.number _ i.numbered (subst P lines c.in_ok-write_all-2.ensures.all);
+      kept = c.add.ensures.kept _ c.args.telling i.so_far i.kept;
+      told = bucket-told _ t c.requires.begins.0 c.args.telling _ _ i.so_far i.told c.cycles.report i.kept b c.cycles.number _ i.numbered (subst P lines c.in_ok-write_all-2.ensures.all);
       later = omega (arith, i.later, c.in_ok-write_all-2.ensures.cause.later);
       quiet = c.in_ok-write_all-2.ensures.quiet ∙ i.quiet;
     }

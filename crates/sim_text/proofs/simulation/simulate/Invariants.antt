@@ -1,26 +1,24 @@
 use Rattle.std.proofs.Common.{◌≡◌, ◌≤◌, ◌+◌, ◌-◌, List, length}
 use Rattle.std.specs.Io.KnownBytes.{Appends}
 use Rattle.sim_spec.specs.declared.bucket.Bucket.{Bucket}
-use Rattle.sim_spec.specs.Standing.{Standing}
+use Rattle.sim_spec.specs.State.{State}
+use Rattle.sim_text.specs.Rest.{BeginsAt, CanBeTold}
 use Rattle.sim_text.specs.Reports.{report_of}
-use Rattle.sim_text.proofs.Telling.{lines_so_far}
-use Rattle.sim_text.proofs.UnderWay.{SimulationLaws, IsUnderWay}
+use Rattle.sim_text.proofs.Told.{lines_so_far}
+use Rattle.sim_text.proofs.UnderWay.{RunsOn}
 use Rattle.sim_text.proofs.simulation.simulate.Given as goal
 
 abbrev pub invariant-cycles : goal.invariant-cycles
 invariant-cycles g l =
     let m = g.M.Model.meaning l.model in
     record {
-      laws : SimulationLaws m l.terms;
       meaning : g.E.Engine.meaning l.engine ≡ m;
       terms : g.E.Engine.terms l.engine ≡ l.terms;
-      at : Standing;
-      stands : g.E.Engine.stands_at l.engine at;
       so_far : List Bucket;
-      way : IsUnderWay m l.terms at so_far;
+      runs : (from : State) → BeginsAt m l.terms g.E.Engine.stands_at l.fn.engine from → CanBeTold m l.fn.telling from → RunsOn m l.terms g.E.Engine.stands_at l.engine so_far from;
       numbered : l.number ≡ length so_far + 1;
-      kept : l.report ≡ report_of m.objects l.fn.settings so_far;
-      told : Appends (g.K.Sink.told l.fn.sink) (g.K.Sink.told l.sink) (lines_so_far m l.fn.settings so_far);
+      kept : l.report ≡ report_of m.objects l.fn.telling so_far;
+      told : Appends (g.K.Sink.told l.fn.sink) (g.K.Sink.told l.sink) (lines_so_far m l.fn.telling so_far);
       later : g.K.Sink.faults l.fn.sink ≤ g.K.Sink.faults l.sink;
       quiet : g.K.Sink.faults l.sink ≡ g.K.Sink.faults l.fn.sink;
     }

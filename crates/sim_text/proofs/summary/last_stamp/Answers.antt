@@ -1,4 +1,4 @@
-use Rattle.std.proofs.Common.{Option, Some, sym, ap, ◌∙◌, ◌-◌, length, List}
+use Rattle.std.proofs.Common.{sym, ap, ◌∙◌, ◌-◌, length, List}
 use Rattle.std.specs.List.{slice_get}
 use Rattle.std.specs.Option.{option_copied}
 use Rattle.event_key.specs.declared.key.Key.{Key}

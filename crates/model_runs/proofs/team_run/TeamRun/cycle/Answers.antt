@@ -1,14 +1,18 @@
+-- The moves change nothing of where the world stands, so the cycle after them is the next one.
+use Rattle.std.proofs.Common.{sym, subst}
+use Rattle.std.proofs.lemmas.Result.{err_from_is_err_and}
+use Rattle.std.specs.Prelude.{Result}
+use Rattle.delta_exchange.specs.declared.memory.OutOfMemory.{OutOfMemory}
+use Rattle.sim_spec.specs.declared.bucket.Bucket.{Bucket}
+use Rattle.cycle_core.specs.Standings.{HasCycled}
 use Rattle.model_text.specs.Meanings.{meaning_of}
-use Rattle.cycle_core.proofs.WhereWorldStands.{can-cycle}
+use Rattle.model_runs.proofs.MovingLemmas.{spent-cycled}
 use Rattle.model_runs.proofs.team_run.TeamRun.cycle.Goals as goal
 
--- where nothing has ended, a cycle can be done
-pub cycle_by-requires-clause-can : goal.cycle_by-requires-clause-can
-cycle_by-requires-clause-can g c lifetimes outlives =
-    let on = c.requires.goes_on in
-    can-cycle meaning_of c.args.self.now.team.world on.at on.stands on.more
-
-pub cycle-requires-after_bounds : goal.cycle-requires-after_bounds
-cycle-requires-after_bounds g c lifetimes outlives =
-    let on = c.requires.goes_on in
-    can-cycle meaning_of c.args.self.now.team.world on.at on.stands on.more
+pub returns-in_err-make_moves : goal.returns-in_err-make_moves
+returns-in_err-make_moves g c =
+    let old = c.args.self.now.team.world in
+    let new = c.make_moves.new.self.team.world in
+    let refused = err_from_is_err_and c.from_residual.result c.from_residual.ensures.1 in
+    let P : Result Bucket OutOfMemory → Type 0 = λ answer. HasCycled meaning_of old answer new in
+    subst P (sym refused.1) (spent-cycled meaning_of old new c.make_moves.ensures.model c.make_moves.ensures.terms refused.0 c.in_err-make_moves.ensures.spent)

@@ -1,4 +1,4 @@
-use Rattle.std.proofs.Common.{ℕ, List, ◌++◌, sym, ap, ◌∙◌}
+use Rattle.std.proofs.Common.{List, ◌++◌, sym, ap, ◌∙◌}
 use Rattle.event_key.specs.declared.key.Key.{Key}
 use Rattle.model_core.specs.declared.note.Note.{Note}
 use Rattle.sim_stats.specs.Totals.{totals_of}

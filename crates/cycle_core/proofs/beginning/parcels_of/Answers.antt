@@ -1,0 +1,9 @@
+use Rattle.std.proofs.Common.{subst, sym, take, arith}
+use Rattle.std.proofs.lemmas.List.{take_more}
+use Rattle.cycle_core.specs.Starts.{ArePartsOf}
+use Rattle.cycle_core.proofs.beginning.parcels_of.Goals as goal
+
+pub loop-event-preserved : goal.loop-event-preserved
+loop-event-preserved c =
+    subst (λ es. ArePartsOf c.args.homes.now es c.put_home.new.parcels.items) (sym (take_more c.args.events.now c.loop-event.event-index _ (omega arith)))
+    (c.in_ok-put_home.ensures (take c.loop-event.event-index c.args.events.now) c.loop-event.invariant)

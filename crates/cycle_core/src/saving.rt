@@ -1,0 +1,65 @@
+//! What is read out of nodes: the states of their objects, and the events that wait.
+ghost use Rattle.std.specs.Prelude.{◌≡◌, ℕ, ◌<◌, map, IfOk};
+ghost use Rattle.key_order.specs.Keys.{KeysDiffer};
+ghost use Rattle.key_order.specs.Pending.{in_order};
+ghost use Rattle.sim_spec.specs.declared.terms.Terms.{Terms};
+ghost use Rattle.node_core.specs.Homes.{home_of};
+ghost use Rattle.node_core.specs.Nodes.{IsAsBefore};
+ghost use Rattle.cycle_core.specs.Places.{EachPair};
+ghost use Rattle.cycle_core.specs.Snapshots.{AllUndone, AreStatesOf, waiting_in};
+ghost use Rattle.cycle_core.specs.States.{object_of};
+ghost use Rattle.cycle_core.specs.Worlds.{AreNodesOf};
+
+use model_core::model::Model as SimulationModel;
+use model_core::{Cells, Event, OutOfMemory};
+use node_core::{Homes, Node};
+use std::alloc::Global;
+
+/// Undoes all that these nodes have processed.
+pub fn undo_all<M: SimulationModel>(nodes: &mut [Node<M>])
+    ensures { AllUndone M.meaning nodes.old nodes.new }
+{
+    for node in nodes.iter_mut() {
+        node.undo_from(0);
+    }
+}
+
+/// The events that wait at these nodes, in the order of their keys.
+pub fn pending_of<M: SimulationModel>(
+    alloc: Global,
+    nodes: &mut [Node<M>],
+) -> Result<Vec<Event>, OutOfMemory>
+    requires { KeysDiffer (waiting_in nodes.old) }
+    ensures same { EachPair IsAsBefore nodes.old nodes.new }
+    ensures pending { IfOk result (λ pending. pending.items ≡ in_order (waiting_in nodes.old)) }
+{
+    let mut pending = Vec::new(alloc);
+    for node in nodes.iter_mut() {
+        node.put_pending(&mut pending)?;
+    }
+    // each node's events are in order, and a stable sort merges such runs
+    pending.sort_by_key(|event| event.key)?;
+    Ok(pending)
+}
+
+/// The cells of each object of a model, and how many events it has sent.
+pub fn objects_of<M: SimulationModel>(
+    alloc: Global,
+    model: &M,
+    homes: &Homes,
+    nodes: &[Node<M>],
+) -> Result<Vec<(Cells, u64)>, OutOfMemory>
+    requires nodes { (terms : Terms) × AreNodesOf model.now terms homes.now nodes.now }
+    requires homes { (object : ℕ) → object < (M.meaning model.now).objects → home_of homes.now object < homes.now.nodes }
+    ensures { IfOk result (λ objects. AreStatesOf homes.now nodes.now (M.meaning model.now).objects (map object_of objects.items)) }
+{
+    let count = model.objects();
+    let mut objects = Vec::with_capacity(alloc, count as usize)?;
+    for object in 0..count {
+        let home = homes.home(object);
+        let node = &nodes[home as usize];
+        let cells = node.cells(object).copy(alloc)?;
+        objects.push((cells, node.sent(object)))?;
+    }
+    Ok(objects)
+}

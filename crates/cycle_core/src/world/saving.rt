@@ -1,0 +1,76 @@
+//! The state of a world, taken out and put in.
+ghost use Rattle.std.specs.Prelude.{◌≡◌, ◌≤◌, [], None, IfOk};
+ghost use Rattle.std.specs.Arc.{arc_value};
+ghost use Rattle.sim_spec.specs.Standing.{stands};
+ghost use Rattle.sim_spec.specs.State.{State, Lawful};
+ghost use Rattle.cycle_core.specs.Places.{AtEach};
+ghost use Rattle.cycle_core.specs.Standings.{WorldStandsAt};
+ghost use Rattle.cycle_core.specs.Worlds.{StandsAt};
+
+use super::World;
+use crate::beginning::{first_nodes, parcels_of, placed_homes, set_objects};
+use crate::saving::{objects_of, pending_of, undo_all};
+use crate::state::State;
+use model_core::OutOfMemory;
+use model_core::model::{Model as SimulationModel, keeps_laws};
+use sim_spec::{Placement, Terms};
+use std::alloc::Global;
+use std::sync::Arc;
+
+impl<M: SimulationModel> World<M> {
+    /// A world at a state: so many nodes, with the objects placed on them.
+    pub fn from_state(
+        alloc: Global,
+        model: Arc<M>,
+        terms: Terms,
+        nodes: u32,
+        placement: Placement,
+        state: State,
+    ) -> Result<World<M>, OutOfMemory>
+        requires low { 1 ≤ nodes }
+        requires high { nodes ≤ 64 }
+        requires lawful { Lawful (M.meaning (arc_value model)) terms state }
+        ensures model { IfOk result (λ world. world.model ≡ arc_value model) }
+        ensures terms { IfOk result (λ world. world.terms ≡ terms) }
+        ensures nodes { IfOk result (λ world. world.homes.nodes ≡ nodes) }
+        ensures stands { IfOk result (λ world. WorldStandsAt M.meaning world (stands state None)) }
+        ensures new { IfOk result (λ world. AtEach (λ number n. n.processed ≡ []) world.nodes) }
+    {
+        keeps_laws(&*model);
+        let State {
+            objects,
+            pending,
+            count,
+        } = state;
+        let homes = placed_homes(alloc, &*model, nodes, placement)?;
+        let parcels = parcels_of(alloc, &homes, pending.as_slice())?;
+        let mut nodes = first_nodes(alloc, &model, terms, &homes)?;
+        set_objects(nodes.as_mut_slice(), &homes, objects);
+        let mut world = World::with(model, terms, homes, nodes, count);
+        world.hand_out(alloc, parcels)?;
+        Ok(world)
+    }
+
+    /// Takes out the state for which the world stands. What is processed is undone first: the world stands for the same
+    /// state, and does after a refusal.
+    pub fn snapshot(&mut self, alloc: Global) -> Result<State, OutOfMemory>
+        requires { (s : State) × StandsAt (M.meaning self.old.model) self.old s }
+        ensures state { (s : State) → StandsAt (M.meaning self.old.model) self.old s → IfOk result (λ state. state ≡ s) }
+        ensures stands { (s : State) → StandsAt (M.meaning self.old.model) self.old s → StandsAt (M.meaning self.new.model) self.new s }
+        ensures world { self.new ≡ record self.old { nodes = self.new.nodes } }
+    {
+        let homes = &*self.homes;
+        let Some(nodes) = &mut self.nodes else {
+            unreachable!()
+        };
+        let nodes = nodes.as_mut_slice();
+        undo_all(nodes);
+        let pending = pending_of(alloc, nodes)?;
+        let objects = objects_of(alloc, &*self.model, homes, nodes)?;
+        Ok(State {
+            objects,
+            pending,
+            count: self.count,
+        })
+    }
+}

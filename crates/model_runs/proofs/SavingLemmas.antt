@@ -1,0 +1,18 @@
+-- What was written whole was written in part.
+use Rattle.std.proofs.Common.{◌≡◌, ℕ, List, [], ◌++◌, sym, append-nil, Option, Some, None, Result, Ok, Err}
+use Rattle.std.specs.Prelude.{OnOk, OnErr}
+use Rattle.std.specs.Io.KnownBytes.{Appends, Keeps}
+use Rattle.std.proofs.KnownBytes.{Appends-kept}
+use Rattle.sim_io.specs.Transfers.{AppendsPrefix}
+
+pub all_prefix : (old new : Option (List ℕ)) (bytes : List ℕ) → Appends old new bytes → AppendsPrefix old new bytes
+all_prefix old new bytes all = (bytes, [], sym (append-nil bytes), all)
+
+-- with either outcome
+pub either_prefix : {T E : Type 0} (r : Result T E) (old new : Option (List ℕ)) (bytes : List ℕ) → OnOk r (Appends old new bytes) → OnErr r (AppendsPrefix old new bytes) → AppendsPrefix old new bytes
+either_prefix (Ok x) old new bytes whole part = all_prefix old new bytes whole
+either_prefix (Err e) old new bytes whole part = part
+
+-- and a hand-on that keeps what was taken changes nothing of that
+pub prefix_kept : (old mid new : Option (List ℕ)) (bytes : List ℕ) → AppendsPrefix old mid bytes → Keeps mid new → AppendsPrefix old new bytes
+prefix_kept old mid new bytes part kept = (part.0, part.1, part.2, Appends-kept old mid new part.0 part.3 kept)

@@ -1,0 +1,28 @@
+-- A node with another state of an object.
+use Rattle.std.proofs.Common.{◌≡◌, List, [], sym, ap, subst}
+use Rattle.std.specs.Arc.{arc_value}
+use Rattle.std.specs.Prelude.{IsTrue}
+use Rattle.object_log.specs.Logs.{LogView}
+use Rattle.world_spec.specs.Share.{IsHome}
+use Rattle.node_core.specs.Marks.{MarkView}
+use Rattle.node_core.specs.Nodes.{NodeView, home, log_at}
+use Rattle.node_core.specs.Sound.{IsNode}
+use Rattle.node_core.specs.Stores.{StoreView}
+use Rattle.node_core.proofs.NodeViews.{counts_of}
+use Rattle.node_core.proofs.SetFacts.{put-node}
+use Rattle.node_core.proofs.node.Node.set_object.Goals as goal
+
+pub invariant_of-self : goal.invariant_of-self
+invariant_of-self g c =
+    let i = c.self.inside in
+    let m = g.M.Model.meaning (arc_value i.model) in
+    let H : NodeView g.row.M.Denot → Type 0 = λ n. IsHome (g.M.Model.meaning n.model) (home n) n.number c.args.object in
+    let N : NodeView g.row.M.Denot → Type 0 = λ n. (log_at n.logs c.args.object).done ≡ [] in
+    let L : NodeView g.row.M.Denot → Type 0 = λ n. IsTrue ((g.M.Model.meaning n.model).lawful c.args.object c.args.cells.contents) in
+    let log = c.with.result in
+    let C : LogView → Type 0 = λ l. IsTrue (m.lawful c.args.object l.state.cells) in
+    let S : List MarkView → Type 0 = λ marks. IsNode m i.terms i.number (arc_value i.homes) c.set_log.new.self.logs marks (counts_of i.processed i.undone i.committed) in
+    subst S (sym (ap (λ (s : StoreView). s.marks) c.set_log.ensures.rest))
+    (put-node c.args.object log i.store.logs c.set_log.new.self.logs c.set_log.ensures.logs (c.self.invariant.here c.args.object (subst H (sym c.self.view_is) c.requires.here))
+    (subst N (sym c.self.view_is) c.requires.none) (ap (λ (l : LogView). l.object) c.with.ensures) (ap (λ (l : LogView). l.done) c.with.ensures) i.store.marks i.store.waiting c.tells.ensures
+    m i.terms i.number (arc_value i.homes) (counts_of i.processed i.undone i.committed) c.self.invariant (subst C (sym c.with.ensures) (subst L (sym c.self.view_is) c.requires.lawful)))

@@ -1,0 +1,38 @@
+//! An object between two nodes.
+ghost use Rattle.std.specs.Prelude.{◌≡◌, length};
+
+use event_chain::Chain;
+use model_core::Event;
+use object_log::ObjectLog;
+use std::marker::Model;
+
+/// An object that has left a node: its log, and the events that wait for it in the order of their keys.
+#[derive(Drop)]
+pub struct Moved {
+    pub(crate) log: Box<ObjectLog>,
+    pub(crate) waiting: Chain<Event>,
+}
+
+impl Model for Moved {
+    ghost use Rattle.node_core.specs.Moving.{MovedView};
+
+    ghost Value = { MovedView };
+
+    ghost view = { λ moved. record { log = moved.log.value; waiting = moved.waiting } };
+}
+
+impl Moved {
+    /// Which object it is.
+    pub fn object(&self) -> u32
+        ensures { result ≡ self.now.log.object }
+    {
+        self.log.object()
+    }
+
+    /// How many events it has processed.
+    pub fn processed(&self) -> usize
+        ensures { result ≡ length self.now.log.done }
+    {
+        self.log.len()
+    }
+}

@@ -1,0 +1,4 @@
+pub mod Copies
+pub mod Loads
+pub mod Moves
+pub mod Steps

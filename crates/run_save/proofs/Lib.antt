@@ -1,0 +1,10 @@
+pub mod CheckLemmas
+pub mod RestLemmas
+pub mod InTurnLemmas
+pub mod LineLemmas
+pub mod LawfulLemmas
+pub mod OrderLemmas
+pub mod LawfulLoops
+pub mod ReadLaw
+pub mod WrittenLaw
+pub mod ResultLemmas

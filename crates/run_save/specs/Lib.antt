@@ -1,0 +1,9 @@
+pub mod Causes
+pub mod Checks
+pub mod StateTexts
+pub mod Rests
+pub mod Views
+pub mod Lines
+pub mod LawfulChecks
+pub mod SavedStates
+pub mod SavedLaws

@@ -1,0 +1,12 @@
+//! What a state text says.
+use model_core::{Cells, Event};
+
+/// What the lines of a state text say, with the bytes and the line of its model.
+#[derive(Drop)]
+pub(crate) struct Draft<'a> {
+    pub objects: Vec<(Cells, u64)>,
+    pub pending: Vec<Event>,
+    pub count: u64,
+    pub model: &'a [u8],
+    pub line: u64,
+}

@@ -1,0 +1,108 @@
+//! Reading a state text.
+ghost use Rattle.std.specs.Prelude.{◌≡◌, ℕ, List, IfOk};
+ghost use Rattle.model_text.specs.Meanings.{meaning_of};
+ghost use Rattle.model_text.specs.ModelTexts.{ModelOf, model_of};
+ghost use Rattle.sim_spec.specs.State.{State, Lawful};
+ghost use Rattle.run_save.specs.Checks.{Gives};
+ghost use Rattle.run_save.specs.Lines.{model_bytes, whole_text};
+ghost use Rattle.run_save.specs.SavedLaws.{IsSavable, IsTextOf, saved_with};
+ghost use Rattle.run_save.specs.SavedStates.{read_at, state_of};
+ghost use Rattle.run_save.specs.StateTexts.{state_text};
+ghost use Rattle.run_save.specs.Views.{draft_of, rest_of, saved_of};
+
+use crate::cursor::Cursor;
+use crate::draft::Draft;
+use crate::reading_checks::check_lawful;
+use crate::reading_lines::{events, named, objects};
+use crate::refusal::{StateCause, StateRefusal};
+use crate::saved::Saved;
+use cycle_core::State;
+use model_core::{MOST_OBJECTS, MOST_TEXT_BYTES};
+use model_text::{AnyModel, Refusal, read_model};
+use sim_spec::Terms;
+use std::alloc::Global;
+
+/// How many bytes a state text has at most.
+pub const MOST_STATE_BYTES: usize = 67_108_864;
+
+/// The line of the model's length, and the model's bytes, which are all that is left.
+#[tactic(auto, unfolding(crate::specs::Lines::model_bytes))]
+fn model_bytes(cursor: Cursor<'_>) -> Result<&[u8], StateRefusal>
+    ensures { Gives (λ bytes. bytes.now) result (model_bytes (rest_of cursor.entry)) }
+{
+    let (size, rest) = named(b"model", MOST_TEXT_BYTES as u64, cursor)?;
+    if size == 0 || size != rest.bytes.len() as u64 {
+        return Err(cursor.bad_line());
+    }
+    Ok(rest.bytes)
+}
+
+/// All lines, from the first to the last.
+#[tactic(auto, unfolding(crate::specs::Lines::whole_text))]
+fn whole_text(alloc: Global, cursor: Cursor<'_>) -> Result<Draft<'_>, StateRefusal>
+    ensures { Gives (λ draft. draft_of draft) result (whole_text (rest_of cursor.entry)) }
+{
+    let rest = cursor.after(b"state 1")?.next_line()?;
+    let (count, rest) = named(b"count", u64::MAX, rest)?;
+    let (many, rest) = named(b"objects", u64::from(MOST_OBJECTS), rest)?;
+    let (objects, rest) = objects(alloc, many, rest)?;
+    let (waiting, rest) = named(b"events", u64::MAX, rest)?;
+    let (pending, rest) = events(alloc, waiting, rest)?;
+    let model = model_bytes(rest)?;
+    Ok(Draft {
+        objects,
+        pending,
+        count,
+        model,
+        line: rest.line,
+    })
+}
+
+/// The model that the bytes at a line say.
+fn read_at(alloc: Global, line: u64, bytes: &[u8]) -> Result<(AnyModel, Terms), StateRefusal>
+    ensures { Gives (λ read. record { meaning = meaning_of read.0; terms = read.1 }) result (read_at line (model_of bytes.now)) }
+{
+    match read_model(alloc, bytes) {
+        Ok(read) => Ok(read),
+        Err(Refusal::At { .. }) => Err(StateCause::BadModel.at(line)),
+        Err(Refusal::OutOfMemory) => Err(StateRefusal::OutOfMemory),
+    }
+}
+
+/// The state that a text says, or the first check that fails.
+#[tactic(auto, unfolding(crate::specs::SavedStates::state_of, crate::specs::SavedStates::judged))]
+fn saved_state(alloc: Global, bytes: &[u8]) -> Result<Saved, StateRefusal>
+    ensures { Gives (λ saved. saved_of saved) result (state_of bytes.now) }
+{
+    if bytes.len() > MOST_STATE_BYTES {
+        return Err(StateCause::TooLong.at(0));
+    }
+    let draft = whole_text(alloc, Cursor::new(bytes))?;
+    let (model, terms) = read_at(alloc, draft.line, draft.model)?;
+    check_lawful(&model, &terms, draft.count, &draft.objects, &draft.pending)?;
+    let state = State {
+        objects: draft.objects,
+        pending: draft.pending,
+        count: draft.count,
+    };
+    Ok(Saved {
+        model,
+        terms,
+        state,
+    })
+}
+
+/// The state that a text says, with the model and the terms that its last bytes say, or the code and the line of the first
+/// check that fails. It takes time in proportion to the length of the text.
+pub fn read_state(alloc: Global, bytes: &[u8]) -> Result<Saved, StateRefusal>
+    // Which check it is.
+    ensures exact { Gives (λ saved. saved_of saved) result (state_of bytes.now) }
+    // What is read was written so.
+    ensures read { IfOk result (λ saved. IsTextOf bytes.now (saved_of saved)) }
+    ensures lawful { IfOk result (λ saved. Lawful (meaning_of saved.model) saved.terms saved.state) }
+    // What was written so is read, unless memory runs out.
+    ensures written { (s : State) (model : List ℕ) (read : ModelOf) → IsSavable s model read → bytes.now ≡ state_text s model
+        → Gives (λ saved. saved_of saved) result (Ok (saved_with read s)) }
+{
+    saved_state(alloc, bytes)
+}

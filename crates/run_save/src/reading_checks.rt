@@ -1,0 +1,102 @@
+//! What a simulation asks of a state, line by line of its text.
+ghost use Rattle.std.specs.Prelude.{◌≡◌, ◌<◌, ◌≤◌, map, length};
+ghost use Rattle.cycle_core.specs.States.{object_of};
+ghost use Rattle.run_save.specs.Checks.{Gives};
+ghost use Rattle.run_save.specs.LawfulChecks.{objects_check, is_sent, has_source, is_sound, events_check, lawful_check};
+
+use crate::refusal::{StateCause, StateRefusal};
+use event_key::{INITIAL, Key, MOST_RANK};
+use model_core::model::Model;
+use model_core::{Cells, Event};
+use sim_spec::Terms;
+
+/// How many events may be pending before any is done.
+const MOST_AT_START: u64 = 400_000;
+
+/// How many events an event sends at most.
+const MOST_SENT: u64 = 8;
+
+/// Whether each object has a lawful number of events sent, and lawful cells.
+pub(crate) fn check_objects<M: Model>(
+    model: &M,
+    count: u64,
+    objects: &[(Cells, u64)],
+) -> Result<(), StateRefusal>
+    requires few { count ≤ 1000000000 }
+    requires all { length objects.now ≡ (M.meaning model.now).objects }
+    ensures { Gives (λ x. x) result (objects_check (M.meaning model.now) count 0 (map object_of objects.now)) }
+{
+    for i in 0..model.objects() {
+        let (cells, sent) = &objects[i as usize];
+        if *sent > MOST_SENT * count || !model.is_lawful(i, cells) {
+            return Err(StateCause::Unlawful.at(u64::from(i) + 4));
+        }
+    }
+    Ok(())
+}
+
+/// Whether an event is one that its source has sent.
+fn is_sent(objects: &[(Cells, u64)], key: &Key) -> bool
+    ensures { result ≡ is_sent (map object_of objects.now) key.now }
+{
+    match objects.get(key.src as usize) {
+        Some((_, sent)) => key.serial < *sent,
+        None => false,
+    }
+}
+
+/// Whether an event is an initial one, or one that its source has sent.
+fn has_source<M: Model>(model: &M, objects: &[(Cells, u64)], key: &Key) -> bool
+    ensures { result ≡ has_source (M.meaning model.now) (map object_of objects.now) key.now }
+{
+    let is_initial = key.src == INITIAL && key.serial < u64::from(model.starts());
+    is_initial || is_sent(objects, key)
+}
+
+/// Whether an event has a destination, a rank and a source.
+fn is_sound<M: Model>(model: &M, objects: &[(Cells, u64)], key: &Key) -> bool
+    ensures { result ≡ is_sound (M.meaning model.now) (map object_of objects.now) key.now }
+{
+    key.dest < model.objects() && key.rank <= MOST_RANK && has_source(model, objects, key)
+}
+
+/// Whether each event has a destination, a rank and a source.
+pub(crate) fn check_events<M: Model>(
+    model: &M,
+    objects: &[(Cells, u64)],
+    events: &[Event],
+) -> Result<(), StateRefusal>
+    ensures { Gives (λ x. x) result (events_check (M.meaning model.now) (map object_of objects.now) 0 events.now) }
+{
+    for (i, event) in events.iter().enumerate() {
+        if !is_sound(model, objects, &event.key) {
+            return Err(StateCause::Unlawful.at(objects.len() as u64 + i as u64 + 5));
+        }
+    }
+    Ok(())
+}
+
+/// Whether a state is one that a simulation of the model can meet.
+#[tactic(auto, unfolding(crate::specs::LawfulChecks::lawful_check))]
+pub(crate) fn check_lawful<M: Model>(
+    model: &M,
+    terms: &Terms,
+    count: u64,
+    objects: &[(Cells, u64)],
+    events: &[Event],
+) -> Result<(), StateRefusal>
+    ensures { Gives (λ x. x) result (lawful_check (M.meaning model.now) terms.now
+        (record { objects = map object_of objects.now; pending = events.now; count = count })) }
+{
+    if count > terms.limit {
+        return Err(StateCause::Unlawful.at(2));
+    }
+    if objects.len() != model.objects() as usize {
+        return Err(StateCause::Unlawful.at(3));
+    }
+    check_objects(model, count, objects)?;
+    if events.len() as u64 > MOST_AT_START + MOST_SENT * count {
+        return Err(StateCause::Unlawful.at(objects.len() as u64 + 4));
+    }
+    check_events(model, objects, events)
+}

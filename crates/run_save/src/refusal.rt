@@ -1,0 +1,108 @@
+//! Why a state text is refused.
+ghost use Rattle.std.specs.Prelude.{◌≡◌};
+ghost use Rattle.run_save.specs.declared.refusal.StateRefusal.TheVariants.{At, OutOfMemory};
+
+use delta_exchange::OutOfMemory;
+use std::alloc::{AllocError, AllocFailed};
+use thiserror::Error;
+
+/// What the first check that fails found.
+#[derive(Clone, Copy, Debug, PartialEq, Eq, Error)]
+pub enum StateCause {
+    #[error("the text has more than 67,108,864 bytes")]
+    TooLong,
+    #[error("a line isn't of its form")]
+    BadLine,
+    #[error("the model is refused")]
+    BadModel,
+    #[error("no simulation of the model meets the state")]
+    Unlawful,
+}
+
+/// Why a state text is not read.
+#[derive(Clone, Copy, Debug, PartialEq, Eq, Error)]
+pub enum StateRefusal {
+    /// The code of the first check that fails, from 1 to 4, and the line that it speaks of. Lines are counted from 1,
+    /// and line 0 is the text as a whole.
+    #[error("refused with code {code} at line {line}")]
+    At { code: u8, line: u64 },
+    #[error("out of memory")]
+    OutOfMemory,
+}
+
+impl From<AllocError> for StateRefusal {
+    ghost from_gives = { λ _ refusal. refusal ≡ OutOfMemory };
+
+    fn from(_: AllocError) -> StateRefusal {
+        StateRefusal::OutOfMemory
+    }
+}
+
+impl<T: Drop> From<AllocFailed<T>> for StateRefusal {
+    ghost from_gives = { λ _ refusal. refusal ≡ OutOfMemory };
+
+    fn from(_: AllocFailed<T>) -> StateRefusal {
+        StateRefusal::OutOfMemory
+    }
+}
+
+impl From<OutOfMemory> for StateRefusal {
+    ghost from_gives = { λ _ refusal. refusal ≡ OutOfMemory };
+
+    fn from(_: OutOfMemory) -> StateRefusal {
+        StateRefusal::OutOfMemory
+    }
+}
+
+impl StateCause {
+    ghost use Rattle.std.specs.Prelude.{◌≡◌};
+    ghost use Rattle.run_save.specs.declared.refusal.StateRefusal.TheVariants.{At};
+    ghost use Rattle.run_save.specs.Causes.{cause_code, cause_name, coded_cause};
+
+    /// Its code, from 1 to 4.
+    pub fn code(self) -> u8
+        ensures { result ≡ cause_code self }
+    {
+        match self {
+            StateCause::TooLong => 1,
+            StateCause::BadLine => 2,
+            StateCause::BadModel => 3,
+            StateCause::Unlawful => 4,
+        }
+    }
+
+    /// What it is called.
+    pub fn name(self) -> &'static str
+        ensures { result.now ≡ cause_name self }
+    {
+        match self {
+            StateCause::TooLong => "TooLong",
+            StateCause::BadLine => "BadLine",
+            StateCause::BadModel => "BadModel",
+            StateCause::Unlawful => "Unlawful",
+        }
+    }
+
+    /// The cause with this code.
+    pub fn of_code(code: u8) -> Option<StateCause>
+        ensures { result ≡ coded_cause code }
+    {
+        match code {
+            1 => Some(StateCause::TooLong),
+            2 => Some(StateCause::BadLine),
+            3 => Some(StateCause::BadModel),
+            4 => Some(StateCause::Unlawful),
+            _ => None,
+        }
+    }
+
+    /// The refusal at a line.
+    pub(crate) fn at(self, line: u64) -> StateRefusal
+        ensures { result ≡ At (cause_code self) line }
+    {
+        StateRefusal::At {
+            code: self.code(),
+            line,
+        }
+    }
+}

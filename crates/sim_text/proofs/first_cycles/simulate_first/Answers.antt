@@ -1,0 +1,153 @@
+-- Each turn tells the records of one bucket; the last one finds that so many are done, or that the simulation has ended.
+use Rattle.std.proofs.Common.{ℕ, ◌+◌, ◌++◌, ◌∷◌, [], length-append, refl, sym, ap, ◌∙◌, subst, arith}
+use Rattle.std.proofs.KnownBytes.{Appends-nil, Appends-trans}
+use Rattle.std.specs.Io.KnownBytes.{Appends}
+use Rattle.std.specs.Prelude.{List, None}
+use Rattle.event_key.specs.declared.key.Key.{Key}
+use Rattle.model_core.specs.declared.note.Note.{Note}
+use Rattle.model_core.proofs.Results.{on_err}
+use Rattle.sim_spec.specs.Cycles.{records_of_buckets}
+use Rattle.sim_spec.specs.Standing.{stands}
+use Rattle.sim_io.specs.Texts.{record_lines}
+use Rattle.sim_io.specs.Transfers.{AppendsPrefix}
+use Rattle.sim_text.specs.Rest.{AllAtObjects}
+use Rattle.sim_text.specs.WholeTexts.{first_lines}
+use Rattle.sim_text.proofs.WritingLemmas.{writes_prefix}
+use Rattle.sim_text.proofs.First.{none_first, lines-begin, all-ended, all-done, one_more, at_objects, lines-more, lines-go_on, is_none, is_some_of, stands_so, put_told}
+use Rattle.sim_text.proofs.UnderWay.{held, ended-same, has_done}
+use Rattle.sim_text.proofs.first_cycles.simulate_first.Goals as goal
+
+pub loop-done-init : goal.loop-done-init
+unfolding records_of_buckets record_lines
+loop-done-init g c =
+    let m = g.M.Model.meaning c.args.model.now in
+    record {
+      next = c.law_next.ensures;
+      buckets = c.law_bucket.ensures.next_of_run;
+      meaning = c.requires.meaning;
+      terms = c.requires.terms;
+      so_far = [];
+      first = λ from starts. record { at = stands from None; stands = starts.stands; first = none_first m c.args.terms.now from starts.lawful };
+      numbered = refl;
+      told = Appends-nil (g.K.Sink.told c.args.sink.now);
+      later = omega arith;
+      quiet = refl;
+    }
+
+-- it goes on where the simulation has not ended
+pub cycle-requires : goal.cycle-requires
+cycle-requires g c =
+    let i = c.loop-done.invariant in
+    let r = i.first c.requires.begins.0 c.requires.begins.1 in
+    c.requires.may _ r.at r.stands (sym (c.ended.ensures r.at r.stands) ∙ is_none _ (sym c.if-is_some.ensures))
+
+pub returns-then-is_some-clause-whole : goal.returns-then-is_some-clause-whole
+returns-then-is_some-clause-whole g c = λ from starts.
+    let i = c.loop-done.invariant in
+    let r = i.first from starts in
+    let some = is_some_of _ (sym c.if-is_some.ensures) in
+    let ended = ended-same _ _ _ _ _ _ i.meaning i.terms (sym some.1 ∙ c.ended.ensures r.at r.stands) in
+    let all = all-ended _ _ _ _ i.so_far r.first c.args.most some.0 (omega (arith, i.numbered, c.loop-done-test.true)) ended in
+    subst (Appends (g.K.Sink.told c.args.sink.now) (g.K.Sink.told c.loop-done.sink)) (sym all.lines) i.told
+
+pub returns-then-is_some-clause-state : goal.returns-then-is_some-clause-state
+returns-then-is_some-clause-state g c = λ from starts.
+    let i = c.loop-done.invariant in
+    let r = i.first from starts in
+    let some = is_some_of _ (sym c.if-is_some.ensures) in
+    let ended = ended-same _ _ _ _ _ _ i.meaning i.terms (sym some.1 ∙ c.ended.ensures r.at r.stands) in
+    let all = all-ended _ _ _ _ i.so_far r.first c.args.most some.0 (omega (arith, i.numbered, c.loop-done-test.true)) ended in
+    stands_so g.E.Engine.stands_at c.loop-done.engine r.at r.stands _ r.first.state r.first.fault r.first.at_state all.last
+
+pub returns-in_err-bucket-clause-prefix : goal.returns-in_err-bucket-clause-prefix
+returns-in_err-bucket-clause-prefix g c = λ from starts.
+    let i = c.loop-done.invariant in
+    let r = i.first from starts in
+    let begins = lines-begin _ _ _ _ i.so_far r.first c.args.most (omega (arith, i.numbered, c.loop-done-test.true)) in
+    let m = g.M.Model.meaning c.args.model.now in
+    let part : AppendsPrefix (g.K.Sink.told c.args.sink.now) (g.K.Sink.told c.loop-done.sink) (first_lines m c.args.terms.now c.args.most from) =
+    (record_lines m (records_of_buckets i.so_far), begins.0, begins.1, i.told) in
+    on_err _ part
+
+pub put_records-requires-after_bounds : goal.put_records-requires-after_bounds
+put_records-requires-after_bounds g c κs within =
+    let i = c.loop-done.invariant in
+    let r = i.first c.requires.begins.0 c.requires.begins.1 in
+    let own_none = sym (c.ended.ensures r.at r.stands) ∙ is_none _ (sym c.if-is_some.ensures) in
+    let not_ended = ended-same _ _ _ _ _ _ i.meaning i.terms (sym own_none) in
+    let done = has_done (g.M.Model.meaning c.args.model.now) c.args.terms.now g.E.Engine.meaning g.E.Engine.terms g.E.Engine.stands_at c.loop-done.engine r.at c.cycle.result c.in_ok-bucket.bucket c.cycle.new.arg2 i.meaning i.terms c.in_ok-bucket.was
+    (c.requires.does _ c.cycle.result _ c.cycle.ensures r.at r.stands own_none) in
+    let P : List (Key × Note) → Type 0 = AllAtObjects (g.M.Model.meaning c.args.model.now) in
+    subst P (sym c.as_slice.ensures) (at_objects _ _ _ _ i.so_far r.first i.buckets c.in_ok-bucket.bucket _ not_ended done.cycle i.next)
+
+pub returns-in_err-put_records-clause-prefix : goal.returns-in_err-put_records-clause-prefix
+returns-in_err-put_records-clause-prefix g c = λ from starts.
+    let i = c.loop-done.invariant in
+    let r = i.first from starts in
+    let begins = lines-begin _ _ _ _ i.so_far r.first c.args.most (omega (arith, i.numbered, c.loop-done-test.true)) in
+    let m = g.M.Model.meaning c.args.model.now in
+    let part : AppendsPrefix (g.K.Sink.told c.args.sink.now) (g.K.Sink.told c.loop-done.sink) (first_lines m c.args.terms.now c.args.most from) =
+    (record_lines m (records_of_buckets i.so_far), begins.0, begins.1, i.told) in
+    on_err _ part
+
+pub returns-in_err-write_all-clause-prefix : goal.returns-in_err-write_all-clause-prefix
+returns-in_err-write_all-clause-prefix g c = λ from starts.
+    let i = c.loop-done.invariant in
+    let r = i.first from starts in
+    let own_none = sym (c.ended.ensures r.at r.stands) ∙ is_none _ (sym c.if-is_some.ensures) in
+    let not_ended = ended-same _ _ _ _ _ _ i.meaning i.terms (sym own_none) in
+    let done = has_done (g.M.Model.meaning c.args.model.now) c.args.terms.now g.E.Engine.meaning g.E.Engine.terms g.E.Engine.stands_at c.loop-done.engine r.at c.cycle.result c.in_ok-bucket.bucket c.cycle.new.arg2 i.meaning i.terms c.in_ok-bucket.was
+    (c.requires.does _ c.cycle.result _ c.cycle.ensures r.at r.stands own_none) in
+    let m = g.M.Model.meaning c.args.model.now in
+    let goes = lines-go_on _ _ _ _ i.so_far r.first i.buckets c.in_ok-bucket.bucket _ not_ended done.cycle c.args.most (omega (arith, i.numbered, c.loop-done-test.true)) in
+    let P : List ℕ → Type 0 = AppendsPrefix (g.K.Sink.told c.loop-done.sink) (g.K.Sink.told c.write_all.new.sink) in
+    let lines = held _ _ _ _ c.clear.ensures.items (put_told m _ _ _ _ c.as_slice.ensures c.in_ok-put_records.ensures) c.as_slice-in-loop-done.ensures.value in
+    on_err _ (writes_prefix _ _ _ (first_lines m c.args.terms.now c.args.most from) (record_lines m c.in_ok-bucket.bucket.done ++ goes.0) (record_lines m c.in_ok-bucket.bucket.done) goes.0
+    (record_lines m (records_of_buckets i.so_far), i.told, goes.1) refl (subst P lines c.in_err-write_all.ensures.prefix))
+
+pub loop-done-preserved : goal.loop-done-preserved
+loop-done-preserved g c =
+    let i = c.loop-done.invariant in
+    let m = g.M.Model.meaning c.args.model.now in
+    let t = c.args.terms.now in
+    let b = c.in_ok-bucket.bucket in
+    let some = i.first c.requires.begins.0 c.requires.begins.1 in
+    let some_none = sym (c.ended.ensures some.at some.stands) ∙ is_none _ (sym c.if-is_some.ensures) in
+    let some_ended = ended-same _ _ _ _ _ _ i.meaning i.terms (sym some_none) in
+    let some_done = has_done m t g.E.Engine.meaning g.E.Engine.terms g.E.Engine.stands_at c.loop-done.engine some.at c.cycle.result b c.cycle.new.arg2 i.meaning i.terms c.in_ok-bucket.was
+    (c.requires.does _ c.cycle.result _ c.cycle.ensures some.at some.stands some_none) in
+    let P : List ℕ → Type 0 = Appends (g.K.Sink.told c.loop-done.sink) (g.K.Sink.told c.write_all.new.sink) in
+    let lines = held _ _ _ _ c.clear.ensures.items (put_told m _ _ _ _ c.as_slice.ensures c.in_ok-put_records.ensures) c.as_slice-in-loop-done.ensures.value in
+    record {
+      next = i.next;
+      buckets = i.buckets;
+      meaning = some_done.meaning_is;
+      terms = some_done.terms_is;
+      so_far = i.so_far ++ b ∷ [];
+      first = λ from starts.
+          let r = i.first from starts in
+          let own_none = sym (c.ended.ensures r.at r.stands) ∙ is_none _ (sym c.if-is_some.ensures) in
+          let not_ended = ended-same _ _ _ _ _ _ i.meaning i.terms (sym own_none) in
+          let done = has_done m t g.E.Engine.meaning g.E.Engine.terms g.E.Engine.stands_at c.loop-done.engine r.at c.cycle.result b c.cycle.new.arg2 i.meaning i.terms c.in_ok-bucket.was
+          (c.requires.does _ c.cycle.result _ c.cycle.ensures r.at r.stands own_none) in
+          record { at = done.left; stands = done.stands; first = one_more _ _ _ _ i.so_far r.first i.buckets b _ not_ended done.cycle };
+      numbered = ap (λ n. n + 1) i.numbered ∙ sym (length-append i.so_far (b ∷ []));
+      told = subst (Appends (g.K.Sink.told c.args.sink.now) (g.K.Sink.told c.write_all.new.sink)) (sym (lines-more _ _ _ _ i.so_far some.first i.buckets b _ some_ended some_done.cycle))
+          (Appends-trans _ _ _ (record_lines m (records_of_buckets i.so_far)) (record_lines m b.done) i.told (subst P lines c.in_ok-write_all.ensures.all));
+      later = omega (arith, i.later, c.in_ok-write_all.ensures.cause.later);
+      quiet = c.in_ok-write_all.ensures.quiet ∙ i.quiet;
+    }
+
+pub returns-clause-whole : goal.returns-clause-whole
+returns-clause-whole g c = λ from starts.
+    let i = c.loop-done.invariant in
+    let r = i.first from starts in
+    let all = all-done _ _ _ _ i.so_far r.first c.args.most (omega (arith, i.numbered, c.loop-done-test.false)) in
+    subst (Appends (g.K.Sink.told c.args.sink.now) (g.K.Sink.told c.loop-done.sink)) (sym all.lines) i.told
+
+pub returns-clause-state : goal.returns-clause-state
+returns-clause-state g c = λ from starts.
+    let i = c.loop-done.invariant in
+    let r = i.first from starts in
+    let all = all-done _ _ _ _ i.so_far r.first c.args.most (omega (arith, i.numbered, c.loop-done-test.false)) in
+    stands_so g.E.Engine.stands_at c.loop-done.engine r.at r.stands _ r.first.state r.first.fault r.first.at_state all.last
