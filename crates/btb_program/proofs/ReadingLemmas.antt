@@ -1,0 +1,77 @@
+-- What was read answers for the whole input.
+use Rattle.std.proofs.Common.{◌≡◌, ℕ, ◌+◌, Bool, true, false, List, length, take, drop, Option, Some, None, leb, ltb, ltb-true, lt-ltb, sym, refl, ap, ◌∙◌, subst, arith}
+use Rattle.std.specs.Prelude.{IfSome}
+use Rattle.std.proofs.lemmas.Bool.{ltb-false, leb-true, leb-false, lt-leb}
+use Rattle.std.proofs.lemmas.List.{take_all, length-take}
+use Rattle.model_text.specs.Checks.{Checked}
+use Rattle.model_text.specs.ModelTexts.{ModelOf, model_of}
+use Rattle.sim_io.specs.declared.words.Settings.{Settings}
+use Rattle.sim_io.specs.Transfers.{TakesUpTo}
+use Rattle.run_save.specs.Checks as states
+use Rattle.run_save.specs.SavedStates.{SavedState, state_of}
+use Rattle.run_save.specs.declared.reading.TheConstants.{MOST_STATE_BYTES}
+use Rattle.btb_program.specs.Answer.{Answer, answer_to_model, answer_to_state}
+use Rattle.model_core.specs.declared.limits.TheConstants.{MOST_TEXT_BYTES}
+use Rattle.sim_io.specs.declared.reading.TheConstants.{ENOUGH_BYTES}
+
+-- a text that is too long is so by its first 1,048,577 bytes, so that what comes after them does not matter to the answer
+answer-take : (chosen : Settings) (bytes : List ℕ)
+    → answer_to_model chosen (take ENOUGH_BYTES bytes) (model_of (take ENOUGH_BYTES bytes)) ≡ answer_to_model chosen bytes (model_of bytes)
+unfolding model_of answer_to_model
+answer-take chosen bytes = by_length (ltb MOST_TEXT_BYTES (length bytes)) refl
+  where
+    long : ltb MOST_TEXT_BYTES (length bytes) ≡ true → ltb MOST_TEXT_BYTES (length (take ENOUGH_BYTES bytes)) ≡ true
+    long h = lt-ltb _ _ (omega (arith, ltb-true _ _ h, length-take ENOUGH_BYTES bytes))
+
+    by_length : (b : Bool) → ltb MOST_TEXT_BYTES (length bytes) ≡ b
+        → answer_to_model chosen (take ENOUGH_BYTES bytes) (model_of (take ENOUGH_BYTES bytes)) ≡ answer_to_model chosen bytes (model_of bytes)
+    by_length true h = rw (long h, h) refl
+    by_length false h = ap (λ xs. answer_to_model chosen xs (model_of xs)) (take_all ENOUGH_BYTES bytes (omega (arith, ltb-false _ _ h)))
+
+-- a state text that is too long is so by its first 67,108,865 bytes
+state_of-take : (bytes : List ℕ) → state_of (take (MOST_STATE_BYTES + 1) bytes) ≡ state_of bytes
+unfolding state_of
+state_of-take bytes = by_length (leb (length bytes) MOST_STATE_BYTES) refl
+  where
+    long : leb (length bytes) MOST_STATE_BYTES ≡ false → leb (length (take (MOST_STATE_BYTES + 1) bytes)) MOST_STATE_BYTES ≡ false
+    long h = lt-leb _ _ (omega (arith, leb-false _ _ h, length-take (MOST_STATE_BYTES + 1) bytes))
+
+    by_length : (b : Bool) → leb (length bytes) MOST_STATE_BYTES ≡ b → state_of (take (MOST_STATE_BYTES + 1) bytes) ≡ state_of bytes
+    by_length true h = ap state_of (take_all (MOST_STATE_BYTES + 1) bytes (omega (arith, leb-true _ _ h)))
+    by_length false h = rw (long h, h) refl
+
+module _ (old new : Option (List ℕ)) (taken slice : List ℕ) (chosen : Settings) where
+  -- a fact about the answer to what was read is one about the answer to the input
+  pub answers_all : (Q : Answer → Type 0) (read : Checked ModelOf) → TakesUpTo ENOUGH_BYTES old new taken → slice ≡ taken → model_of slice ≡ read → Q (answer_to_model chosen slice read)
+      → IfSome old (λ bytes. Q (answer_to_model chosen bytes (model_of bytes)))
+  answers_all Q read took is_slice is_read fact = by_left old took
+    where
+      by_left : (left : Option (List ℕ)) → TakesUpTo ENOUGH_BYTES left new taken → IfSome left (λ bytes. Q (answer_to_model chosen bytes (model_of bytes)))
+      by_left None took = tt
+      by_left (Some bytes) took = from_new new took
+        where
+          from_new : (rest : Option (List ℕ)) → TakesUpTo ENOUGH_BYTES (Some bytes) rest taken → Q (answer_to_model chosen bytes (model_of bytes))
+          from_new None took = absurd took
+          from_new (Some rest) took =
+              let R : Checked ModelOf → Type 0 = λ read. Q (answer_to_model chosen slice read) in
+              let S : List ℕ → Type 0 = λ xs. Q (answer_to_model chosen xs (model_of xs)) in
+              subst Q (answer-take chosen bytes) (subst S (is_slice ∙ took.0) (subst R (sym is_read) fact))
+
+module _ (old new : Option (List ℕ)) (taken slice : List ℕ) where
+  -- a fact about the answer to the state text that was read is one about the answer to the input
+  pub states_all : (Q : Answer → Type 0) (read : states.Checked SavedState) → TakesUpTo (MOST_STATE_BYTES + 1) old new taken → slice ≡ taken → state_of slice ≡ read → Q (answer_to_state read)
+      → IfSome old (λ bytes. Q (answer_to_state (state_of bytes)))
+  states_all Q read took is_slice is_read fact = by_left old new took
+    where
+      by_left : (left rest : Option (List ℕ)) → TakesUpTo (MOST_STATE_BYTES + 1) left rest taken → IfSome left (λ bytes. Q (answer_to_state (state_of bytes)))
+      by_left None rest took = tt
+      by_left (Some bytes) None took = absurd took
+      by_left (Some bytes) (Some rest) took =
+          let R : states.Checked SavedState → Type 0 = λ read. Q (answer_to_state read) in
+          subst R (sym is_read ∙ ap state_of (is_slice ∙ took.0) ∙ state_of-take bytes) fact
+
+-- what is left is what comes behind
+pub leaves_rest : (most : ℕ) (old new : Option (List ℕ)) (taken : List ℕ) → TakesUpTo most old new taken → IfSome old (λ bytes. new ≡ Some (drop most bytes))
+leaves_rest most None new taken took = tt
+leaves_rest most (Some bytes) None taken took = absurd took
+leaves_rest most (Some bytes) (Some rest) taken took = ap Some took.1

@@ -1,0 +1,50 @@
+//! How the program ends.
+ghost use Rattle.std.specs.Prelude.{◌≡◌};
+
+use crate::status::{
+    END, EVENT_FAULT, EVENT_LIMIT, MODEL, OUT_OF_MEMORY, READ_FAULT, STATE, WORDS, WRITE_FAULT,
+};
+use sim_io::WordFault;
+use sim_spec::Stop;
+
+/// How the program ends.
+#[derive(Debug, Drop)]
+pub enum Ending {
+    /// The simulation ran until it stopped.
+    Stopped(Stop),
+    /// The simulation was saved.
+    Saved,
+    /// The words were refused.
+    RefusedWords(WordFault),
+    /// The model was refused, which this line tells.
+    RefusedModel { line: Vec<u8> },
+    /// The saved state was refused, or has too long a text, which this line tells.
+    RefusedState { line: Vec<u8> },
+    /// The input could not be read.
+    ReadFault,
+    /// The text could not be written to its end.
+    WriteFault,
+    /// There was no memory left.
+    OutOfMemory,
+}
+
+impl Ending {
+    ghost use Rattle.btb_program.specs.Endings.{status_of_ending};
+
+    /// The exit status.
+    pub fn status(&self) -> u8
+        ensures { result ≡ status_of_ending self.now }
+    {
+        match self {
+            Ending::Stopped(Stop::End) | Ending::Saved => END,
+            Ending::Stopped(Stop::Fault { .. }) => EVENT_FAULT,
+            Ending::Stopped(Stop::Limit) => EVENT_LIMIT,
+            Ending::RefusedWords(_) => WORDS,
+            Ending::RefusedModel { .. } => MODEL,
+            Ending::RefusedState { .. } => STATE,
+            Ending::ReadFault => READ_FAULT,
+            Ending::WriteFault => WRITE_FAULT,
+            Ending::OutOfMemory => OUT_OF_MEMORY,
+        }
+    }
+}
