@@ -4,9 +4,12 @@ use Rattle.std.specs.Io.KnownBytes.{Appends}
 use Rattle.std.specs.declared.alloc.Global.{Global}
 use Rattle.model_text.specs.Causes.{code_name}
 use Rattle.model_text.specs.Checks.{Checked}
+use Rattle.model_text.specs.Meanings.{meaning_of}
 use Rattle.model_text.specs.ModelTexts.{ModelOf, model_of}
+use Rattle.model_text.specs.declared.model.AnyModel.{AnyModel}
 use Rattle.queue_models.specs.Meaning.{network_meaning}
 use Rattle.queue_models.specs.Rings.{ring_parts, ring_terms}
+use Rattle.sim_spec.specs.declared.terms.Terms.{Terms}
 use Rattle.sim_spec.specs.declared.stop.Stop.{Stop}
 use Rattle.sim_spec.specs.declared.stop.Stop.TheVariants.{End, Limit, Fault}
 use Rattle.sim_spec.specs.State.{State, initial_state}
@@ -65,6 +68,10 @@ telling_of Settings.Totals = Telling.Totals
 telling_of (Settings.Demo n) = Telling.Demo n
 telling_of (Settings.Save c) = Telling.Lines false
 telling_of Settings.Resume = Telling.Lines false
+
+-- a model that was read, with its terms: what is answered to is what it means
+abbrev pub as_read : AnyModel → Terms → ModelOf
+as_read model terms = record { meaning = meaning_of model; terms = terms }
 
 -- the answer where a simulation runs from a state until it stops: what is to be told of it, whatever runs it
 abbrev pub answer_from : Telling → ModelOf → State → Answer

@@ -21,12 +21,7 @@ fn program_words<R: AllocGlobal + Env>(rt: &R) -> io::Result<Vec<String>> {
 
 /// Does what `run_program` does with the words of the process, reads the model from `input` and writes to `output`, in
 /// pieces of 16 KiB, and to `notes`. The status is one of those that `btb` lists.
-pub fn run_process<R, I, O, N>(
-    rt: &R,
-    input: I,
-    output: O,
-    notes: N,
-) -> ExitCode
+pub fn run_process<R, I, O, N>(rt: &R, input: I, output: O, notes: N) -> ExitCode
 where
     R: AllocGlobal + Env + Threads + Sync,
     I: Read + Drop,

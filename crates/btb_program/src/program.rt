@@ -44,7 +44,8 @@ pub fn run_program<R: AllocGlobal + Threads + Sync, S: Source, K: Sink, N: Sink,
     ensures known { result ≤ STATE }
 
     // With words that were read: what is written is the answer, or a prefix of it.
-    ensures output { IsAnswering result → IfOk words (λ list. OfAnswer list.items (S.left source.old) (WritesOutput (K.told out.old) (K.told out.new))) }
+    ensures output { IsAnswering result
+        → IfOk words (λ list. OfAnswer list.items (S.left source.old) (WritesOutput (K.told out.old) (K.told out.new))) }
     ensures status { IsAnswering result → IfOk words (λ list. OfAnswer list.items (S.left source.old) (λ answer. result ≡ answer.status)) }
     ensures prefix { IfOk words (λ list. OfAnswer list.items (S.left source.old) (WritesPrefix (K.told out.old) (K.told out.new))) }
 

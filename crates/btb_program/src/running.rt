@@ -3,8 +3,8 @@ ghost use Rattle.std.specs.Prelude.{◌≡◌, ◌≢◌, ◌↔◌, ◌≤◌, 
 ghost use Rattle.std.specs.Io.KnownBytes.{Keeps};
 ghost use Rattle.sim_io.specs.Causes.{Rose};
 ghost use Rattle.sim_io.specs.Words.{AreInBounds, settings, texts_of};
-ghost use Rattle.model_text.specs.Meanings.{meaning_of};
-ghost use Rattle.btb_program.specs.Answer.{refusal_line, answer_of_model, answer_of_run, demo_answer, most_read, takes_input, OfAnswer, OfModelAnswer, WritesOutput, WritesPrefix};
+ghost use Rattle.btb_program.specs.Answer.{as_read, refusal_line, answer_of_model, answer_of_run, demo_answer, most_read, takes_input};
+ghost use Rattle.btb_program.specs.Answer.{OfAnswer, OfModelAnswer, WritesOutput, WritesPrefix};
 ghost use Rattle.btb_program.specs.declared.status.TheConstants.{MODEL};
 ghost use Rattle.btb_program.specs.Endings.{status_of_ending, line_of_ending, IsAnswered, RefusesWords};
 
@@ -47,11 +47,11 @@ fn run_to_the_end<R: Threads + Sync, G: Gate, K: Sink>(
     out: &mut K,
 ) -> Ending
     requires { AreInBounds settings }
-    ensures output { IsAnswered result → WritesOutput (K.told out.old) (K.told out.new) (answer_of_run settings (record { meaning = meaning_of model; terms = terms })) }
-    ensures status { IsAnswered result → status_of_ending result ≡ (answer_of_run settings (record { meaning = meaning_of model; terms = terms })).status }
+    ensures output { IsAnswered result → WritesOutput (K.told out.old) (K.told out.new) (answer_of_run settings (as_read model terms)) }
+    ensures status { IsAnswered result → status_of_ending result ≡ (answer_of_run settings (as_read model terms)).status }
     ensures line { IsAnswered result → line_of_ending result ≡ [] }
     ensures handed { IsAnswered result → Keeps (K.told out.new) (K.handed out.new) }
-    ensures prefix { WritesPrefix (K.told out.old) (K.told out.new) (answer_of_run settings (record { meaning = meaning_of model; terms = terms })) }
+    ensures prefix { WritesPrefix (K.told out.old) (K.told out.new) (answer_of_run settings (as_read model terms)) }
     ensures words { ¬ (RefusesWords result) }
     ensures read { result ≢ Ending.ReadFault }
     ensures write_fault { result ≡ Ending.WriteFault → Rose (K.faults out.old) (K.faults out.new) }
@@ -86,11 +86,11 @@ fn answer_model<R: Threads + Sync, G: Gate, K: Sink>(
     out: &mut K,
 ) -> Ending
     requires { AreInBounds settings }
-    ensures output { IsAnswered result → WritesOutput (K.told out.old) (K.told out.new) (answer_of_model settings bytes.now (record { meaning = meaning_of model; terms = terms })) }
-    ensures status { IsAnswered result → status_of_ending result ≡ (answer_of_model settings bytes.now (record { meaning = meaning_of model; terms = terms })).status }
-    ensures line { IsAnswered result → line_of_ending result ≡ (answer_of_model settings bytes.now (record { meaning = meaning_of model; terms = terms })).notes }
+    ensures output { IsAnswered result → WritesOutput (K.told out.old) (K.told out.new) (answer_of_model settings bytes.now (as_read model terms)) }
+    ensures status { IsAnswered result → status_of_ending result ≡ (answer_of_model settings bytes.now (as_read model terms)).status }
+    ensures line { IsAnswered result → line_of_ending result ≡ (answer_of_model settings bytes.now (as_read model terms)).notes }
     ensures handed { IsAnswered result → Keeps (K.told out.new) (K.handed out.new) }
-    ensures prefix { WritesPrefix (K.told out.old) (K.told out.new) (answer_of_model settings bytes.now (record { meaning = meaning_of model; terms = terms })) }
+    ensures prefix { WritesPrefix (K.told out.old) (K.told out.new) (answer_of_model settings bytes.now (as_read model terms)) }
     ensures words { ¬ (RefusesWords result) }
     ensures read { result ≢ Ending.ReadFault }
     ensures write_fault { result ≡ Ending.WriteFault → Rose (K.faults out.old) (K.faults out.new) }

@@ -7,7 +7,8 @@ ghost use Rattle.sim_io.specs.Transfers.{AppendsPrefix};
 ghost use Rattle.sim_text.specs.declared.telling.Telling.TheVariants.{Lines};
 ghost use Rattle.model_text.specs.Meanings.{meaning_of};
 ghost use Rattle.run_save.specs.declared.reading.TheConstants.{MOST_STATE_BYTES};
-ghost use Rattle.btb_program.specs.Answer.{state_line, answer_from, answer_of_save, answer_of_state, OfStateAnswer, WritesOutput, WritesPrefix};
+ghost use Rattle.btb_program.specs.Answer.{as_read, state_line, answer_from, answer_of_save, answer_of_state};
+ghost use Rattle.btb_program.specs.Answer.{OfStateAnswer, WritesOutput, WritesPrefix};
 ghost use Rattle.btb_program.specs.declared.status.TheConstants.{STATE};
 ghost use Rattle.btb_program.specs.Endings.{status_of_ending, line_of_ending, IsAnswered, RefusesWords};
 
@@ -86,11 +87,11 @@ pub fn save_to_the_end<R: Threads + Sync, G: Gate, K: Sink>(
     cycles: u32,
     out: &mut K,
 ) -> Ending
-    ensures output { IsAnswered result → WritesOutput (K.told out.old) (K.told out.new) (answer_of_save cycles bytes.now (record { meaning = meaning_of model; terms = terms })) }
-    ensures status { IsAnswered result → status_of_ending result ≡ (answer_of_save cycles bytes.now (record { meaning = meaning_of model; terms = terms })).status }
-    ensures line { IsAnswered result → line_of_ending result ≡ (answer_of_save cycles bytes.now (record { meaning = meaning_of model; terms = terms })).notes }
+    ensures output { IsAnswered result → WritesOutput (K.told out.old) (K.told out.new) (answer_of_save cycles bytes.now (as_read model terms)) }
+    ensures status { IsAnswered result → status_of_ending result ≡ (answer_of_save cycles bytes.now (as_read model terms)).status }
+    ensures line { IsAnswered result → line_of_ending result ≡ (answer_of_save cycles bytes.now (as_read model terms)).notes }
     ensures handed { IsAnswered result → Keeps (K.told out.new) (K.handed out.new) }
-    ensures prefix { WritesPrefix (K.told out.old) (K.told out.new) (answer_of_save cycles bytes.now (record { meaning = meaning_of model; terms = terms })) }
+    ensures prefix { WritesPrefix (K.told out.old) (K.told out.new) (answer_of_save cycles bytes.now (as_read model terms)) }
     ensures words { ¬ (RefusesWords result) }
     ensures read { result ≢ Ending.ReadFault }
     ensures write_fault { result ≡ Ending.WriteFault → Rose (K.faults out.old) (K.faults out.new) }
@@ -112,11 +113,12 @@ fn resume_to_the_end<R: Threads + Sync, G: Gate, K: Sink>(
     out: &mut K,
 ) -> Ending
     requires { Lawful (meaning_of saved.model) saved.terms saved.state }
-    ensures output { IsAnswered result → WritesOutput (K.told out.old) (K.told out.new) (answer_from (Lines false) (record { meaning = meaning_of saved.model; terms = saved.terms }) saved.state) }
-    ensures status { IsAnswered result → status_of_ending result ≡ (answer_from (Lines false) (record { meaning = meaning_of saved.model; terms = saved.terms }) saved.state).status }
+    ensures output { IsAnswered result
+        → WritesOutput (K.told out.old) (K.told out.new) (answer_from (Lines false) (as_read saved.model saved.terms) saved.state) }
+    ensures status { IsAnswered result → status_of_ending result ≡ (answer_from (Lines false) (as_read saved.model saved.terms) saved.state).status }
     ensures line { IsAnswered result → line_of_ending result ≡ [] }
     ensures handed { IsAnswered result → Keeps (K.told out.new) (K.handed out.new) }
-    ensures prefix { WritesPrefix (K.told out.old) (K.told out.new) (answer_from (Lines false) (record { meaning = meaning_of saved.model; terms = saved.terms }) saved.state) }
+    ensures prefix { WritesPrefix (K.told out.old) (K.told out.new) (answer_from (Lines false) (as_read saved.model saved.terms) saved.state) }
     ensures words { ¬ (RefusesWords result) }
     ensures read { result ≢ Ending.ReadFault }
     ensures write_fault { result ≡ Ending.WriteFault → Rose (K.faults out.old) (K.faults out.new) }
