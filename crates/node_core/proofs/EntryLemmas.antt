@@ -1,12 +1,12 @@
 -- Entries by their places, and the least stamps that they hold.
-use Rattle.std.proofs.Common.{◌≡◌, ℕ, zero, suc, ◌-◌, ◌<◌, ◌≤◌, min, Bool, true, false, cond, ◌||◌, List, [], ◌∷◌, ◌++◌, length, take, drop, get_or, set, refl, sym, ap, ◌∙◌, subst, arith}
+use Rattle.std.proofs.Common.{◌≡◌, ℕ, zero, suc, ◌+◌, ◌-◌, ◌<◌, ◌≤◌, min, Bool, true, false, cond, ◌||◌, List, [], ◌∷◌, ◌++◌, length, take, drop, get_or, set, refl, sym, ap, ◌∙◌, subst, arith}
 use Rattle.std.specs.List.{list_any}
 use Rattle.std.proofs.Math.Nat.{min-le_left, min-le_right, min-eq_left}
 use Rattle.event_key.specs.declared.key.Key.{Key}
 use Rattle.event_key.specs.declared.stamp.TheConstants.{NO_STAMP}
 use Rattle.event_key.specs.Keys.{key_lt, same_key}
 use Rattle.event_key.proofs.Order.{key_lt-apart, key_lt-trans, same_key-itself, same_key-lt}
-use Rattle.key_order.proofs.AscendingLemmas.{key_lt-turned}
+use Rattle.key_order.proofs.AscendingLemmas.{key_lt-never, key_lt-turned}
 use Rattle.key_order.specs.Ascending.{After, Ascends}
 use Rattle.node_core.specs.declared.entries.Entry.{Entry}
 use Rattle.node_core.specs.Entries.{AreLeast, AreLeastBut, IsLeast, IsLeastBut, first_held, mark_in, marks_of}
@@ -67,6 +67,33 @@ place-most key (f ∷ es) = by_test (key_lt f.key key) (place-most key es)
     by_test true more = omega arith
     by_test false more = omega arith
 
+-- what all others come after
+after-at : (k : Key) (es : Entries) (i : ℕ) (e : Entry) → After (λ (m : MarkView). m.key) k (marks_of es) → i < length es → e ≡ get_or es i e → key_lt k e.key ≡ true
+after-at k [] i e all some at = absurd (omega arith)
+after-at k (f ∷ es) zero e all some at = ap (λ (x : Entry). key_lt k x.key) at ∙ all.0
+after-at k (f ∷ es) (suc i) e all some at = after-at k es i e all.1 (omega arith) at
+
+-- the place of a key that is in
+pub place-same : (e : Entry) (es : Entries) (i : ℕ) → AreInOrder (marks_of es) → i < length es → e ≡ get_or es i e → place_of e.key (marks_of es) ≡ i
+unfolding place_of Ascends
+place-same e [] i up some at = absurd (omega arith)
+place-same e (f ∷ es) zero up some at =
+    let no : key_lt f.key e.key ≡ false = by_test (key_lt f.key e.key) refl in
+    ap (λ b. cond b (suc (place_of e.key (marks_of es))) 0) no
+  where
+    by_test : (b : Bool) → key_lt f.key e.key ≡ b → b ≡ false
+    by_test true h = absurd (key_lt-never e.key (ap (λ (x : Entry). key_lt x.key e.key) at ∙ h))
+    by_test false h = refl
+place-same e (f ∷ es) (suc i) up some at =
+    ap (λ b. cond b (suc (place_of e.key (marks_of es))) 0) (after-at f.key es i e up.0 (omega arith) at)
+    ∙ ap suc (place-same e es i up.1 (omega arith) at)
+
+-- a key behind the last one is behind all
+pub place-behind : (key : Key) (es : Entries) (i : ℕ) (e : Entry) → AreInOrder (marks_of es) → i + 1 ≡ length es → e ≡ get_or es i e → key_lt e.key key ≡ true → place_of key (marks_of es) ≡ length es
+place-behind key es i e up last at lt =
+    let above = place-above key es i e up (omega (arith, last)) at lt in
+    let most = place-most key es in omega (arith, last, above, most)
+
 -- an entry comes to its place
 pub place-put : (e : Entry) (es : Entries) → list_any (same_key e.key) (keys_of (marks_of es)) ≡ false
     → marks_of (take (place_of e.key (marks_of es)) es ++ e ∷ drop (place_of e.key (marks_of es)) es) ≡ put_mark (mark_in e) (marks_of es)
@@ -84,6 +111,17 @@ place-put e (f ∷ es) none = by_test (key_lt f.key e.key) refl (same_key e.key 
         ∙ ap (λ b. cond b (mark_in e ∷ mark_in f ∷ marks_of es) (mark_in f ∷ put_mark (mark_in e) (marks_of es))) (sym (key_lt-turned f.key e.key lt))
     by_test false lt false h other more =
         ap (λ b. cond b (mark_in e ∷ mark_in f ∷ marks_of es) (mark_in f ∷ put_mark (mark_in e) (marks_of es))) (sym (comes_before e.key f.key lt h))
+
+-- what comes behind all others is put at the end
+pub inserted-behind : (n : ℕ) (e : Entry) (es : Entries) → n ≡ length es → take n es ++ e ∷ drop n es ≡ es ++ e ∷ []
+inserted-behind zero e [] is = refl
+inserted-behind zero e (f ∷ es) is = absurd (cc)
+inserted-behind (suc n) e [] is = absurd (cc)
+inserted-behind (suc n) e (f ∷ es) is = ap (λ xs. f ∷ xs) (inserted-behind n e es (omega (arith, is)))
+
+pub put-behind : (e : Entry) (es : Entries) → place_of e.key (marks_of es) ≡ length es → list_any (same_key e.key) (keys_of (marks_of es)) ≡ false
+    → marks_of (es ++ e ∷ []) ≡ put_mark (mark_in e) (marks_of es)
+put-behind e es end none = ap marks_of (sym (inserted-behind (place_of e.key (marks_of es)) e es end)) ∙ place-put e es none
 
 -- an entry in place of the one with its key
 pub place-set : (e : Entry) (es : Entries) → AreInOrder (marks_of es) → list_any (same_key e.key) (keys_of (marks_of es)) ≡ true
@@ -141,6 +179,17 @@ place-absent key (f ∷ es) up away = by_test (key_lt f.key key) refl (same_key 
     by_test false lt false h is more =
         ap (λ ms. mark_in f ∷ ms) (sym (behind_is_apart key (marks_of es) (behind-trans key f.key (marks_of es) (comes_before key f.key lt h) up.0)))
 
+-- the first entry leaves
+pub first-gone : (key : Key) (es : Entries) → is_first key (marks_of es) ≡ true → marks_of (drop 1 es) ≡ without key (marks_of es)
+unfolding without
+first-gone key [] here = absurd (cc)
+first-gone key (f ∷ es) here = ap (λ b. cond b (marks_of es) (mark_in f ∷ without key (marks_of es))) (sym here)
+
+pub least-gone : (es : Entries) → AreLeast es → AreLeast (drop 1 es)
+unfolding AreLeast
+least-gone [] least = tt
+least-gone (e ∷ es) least = least.1
+
 -- what entries hold
 held-most : (es : Entries) → AreLeast es → first_held es ≤ NO_STAMP
 unfolding AreLeast
@@ -162,6 +211,10 @@ held-put : (n : ℕ) (e : Entry) (es : Entries) → e.held ≡ first_held (drop 
 held-put zero e es is = is
 held-put (suc n) e [] is = is
 held-put (suc n) e (f ∷ es) is = refl
+
+pub held-behind : (es : Entries) → NO_STAMP ≡ first_held (drop (length es) es)
+held-behind [] = refl
+held-behind (e ∷ es) = held-behind es
 
 pub least-put : (n : ℕ) (e : Entry) (es : Entries) → e.mark.least ≡ NO_STAMP → e.held ≡ first_held (drop n es) → AreLeast es → AreLeast (take n es ++ e ∷ drop n es)
 unfolding AreLeast

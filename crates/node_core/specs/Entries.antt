@@ -1,5 +1,6 @@
 -- Entries of processed events as a queue keeps them.
-use Rattle.std.specs.Prelude.{◌≡◌, ℕ, zero, suc, min, List, [], ◌∷◌, map}
+use Rattle.std.specs.Prelude.{◌≡◌, ℕ, zero, suc, min, List, [], ◌∷◌, map, None}
+use Rattle.event_key.specs.declared.key.Key.{Key}
 use Rattle.event_key.specs.declared.stamp.TheConstants.{NO_STAMP}
 use Rattle.node_core.specs.declared.entries.Entry.{Entry}
 use Rattle.node_core.specs.Marks.{MarkView}
@@ -9,6 +10,10 @@ mark_in e = record { key = e.key; least = e.mark.least; fault = e.mark.fault }
 
 abbrev pub marks_of : List Entry → List MarkView
 marks_of = map mark_in
+
+-- an event of which nothing more is known yet, before what holds this
+abbrev pub blank_entry : Key → ℕ → Entry
+blank_entry key held = record { key = key; mark = record { least = NO_STAMP; fault = None }; held = held }
 
 -- what the first entry holds
 abbrev pub first_held : List Entry → ℕ

@@ -1,12 +1,12 @@
 //! Processed events in the order of their keys. Each entry has the least stamp that its event and those behind it send, so
 //! that the least of all is known at the first.
-ghost use Rattle.std.specs.Prelude.{◌≡◌, ◌<◌, ◌≤◌, ◌++◌, length, filter, drop, nat_lt, false, true, OnOk, OnErr};
+ghost use Rattle.std.specs.Prelude.{◌≡◌, ◌<◌, ◌≤◌, ◌++◌, length, filter, drop, nat_lt, false, true, IsTrue, OnOk, OnErr};
 ghost use Rattle.std.specs.List.{list_any};
 ghost use Rattle.std.specs.VecDeque.{deque_len, deque_capacity};
 ghost use Rattle.event_key.specs.declared.stamp.TheConstants.{NO_STAMP};
 ghost use Rattle.event_key.specs.Keys.{same_key};
 ghost use Rattle.key_order.specs.Due.{is_due};
-ghost use Rattle.node_core.specs.Entries.{marks_of, AreLeast, AreLeastBut, first_held};
+ghost use Rattle.node_core.specs.Entries.{marks_of, blank_entry, AreLeast, AreLeastBut, first_held};
 ghost use Rattle.node_core.specs.Marks.{blank_at, set_mark, put_mark, without, first_fault, is_first, place_of, AreInOrder};
 ghost use Rattle.node_core.specs.Rows.{keys_of};
 
@@ -142,7 +142,32 @@ fn mend(entries: &mut Entries, place: usize)
     }
 }
 
-/// Puts an event in, of which nothing more is known yet. Moves the shorter side.
+/// Whether a key comes behind all others.
+fn is_behind(entries: &Entries, key: &Key) -> bool
+    requires { AreInOrder (marks_of entries.now.items) }
+    ensures { IsTrue result → place_of key.now (marks_of entries.now.items) ≡ length entries.now.items }
+{
+    match entries.back() {
+        Some(last) => last.key.is_before(key),
+        None => true,
+    }
+}
+
+/// An event of which nothing more is known yet, before events that send this least stamp.
+fn blank(key: Key, held: u64) -> Entry
+    ensures { result ≡ blank_entry key held }
+{
+    Entry {
+        key,
+        mark: Mark {
+            least: NO_STAMP,
+            fault: None,
+        },
+        held,
+    }
+}
+
+/// Puts an event in, of which nothing more is known yet. Constant behind the last one, else it moves the shorter side.
 pub fn put(entries: &mut Entries, key: Key) -> Result<(), OutOfMemory>
     requires order { AreInOrder (marks_of entries.old.items) }
     requires least { AreLeast entries.old.items }
@@ -153,17 +178,26 @@ pub fn put(entries: &mut Entries, key: Key) -> Result<(), OutOfMemory>
     ensures full { OnErr result (deque_capacity entries.old ≤ deque_len entries.old) }
     ensures capacity { deque_capacity entries.old ≤ deque_capacity entries.new }
 {
-    let place = place(entries, &key);
-    let entry = Entry {
-        key,
-        mark: Mark {
-            least: NO_STAMP,
-            fault: None,
-        },
-        held: held_from(entries, place),
-    };
-    entries.insert(place, entry)?;
+    if is_behind(entries, &key) {
+        entries.push_back(blank(key, NO_STAMP))?;
+    } else {
+        let place = place(entries, &key);
+        let held = held_from(entries, place);
+        entries.insert(place, blank(key, held))?;
+    }
     Ok(())
+}
+
+/// The place of an event: constant at either end.
+fn find(entries: &Entries, key: &Key) -> usize
+    requires order { AreInOrder (marks_of entries.now.items) }
+    requires here { list_any (same_key key.now) (keys_of (marks_of entries.now.items)) ≡ true }
+    ensures { result ≡ place_of key.now (marks_of entries.now.items) }
+{
+    match entries.back() {
+        Some(last) if is_same(key, &last.key) => entries.len() - 1,
+        _ => place(entries, key),
+    }
 }
 
 /// Says more of an event, and mends the least stamps before it.
@@ -175,7 +209,7 @@ pub fn set(entries: &mut Entries, key: Key, mark: Mark)
     ensures least { AreLeast entries.new.items }
     ensures capacity { deque_capacity entries.new ≡ deque_capacity entries.old }
 {
-    let place = place(entries, &key);
+    let place = find(entries, &key);
     let behind = held_from(entries, place + 1);
     entries[place] = Entry {
         key,
@@ -201,8 +235,22 @@ pub fn put_known(entries: &mut Entries, key: Key, mark: Mark)
     set(entries, key, mark);
 }
 
-/// Takes an event out, and mends the least stamps before it. Moves the shorter side.
+/// Takes an event out, and mends the least stamps before it. Constant at the first one, else it moves the shorter side.
 pub fn remove(entries: &mut Entries, key: &Key)
+    requires order { AreInOrder (marks_of entries.old.items) }
+    requires least { AreLeast entries.old.items }
+    ensures same { marks_of entries.new.items ≡ without key.now (marks_of entries.old.items) }
+    ensures least { AreLeast entries.new.items }
+{
+    if is_at_place(entries, 0, key) {
+        let _first = entries.pop_front();
+    } else {
+        remove_behind(entries, key);
+    }
+}
+
+/// Takes an event out that isn't the first.
+fn remove_behind(entries: &mut Entries, key: &Key)
     requires order { AreInOrder (marks_of entries.old.items) }
     requires least { AreLeast entries.old.items }
     ensures same { marks_of entries.new.items ≡ without key.now (marks_of entries.old.items) }
