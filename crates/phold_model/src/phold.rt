@@ -1,5 +1,5 @@
 //! The model PHOLD.
-ghost use Rattle.std.specs.Prelude.{◌≡◌, ◌<◌, IsOkAnd};
+ghost use Rattle.std.specs.Prelude.{◌≡◌, ◌<◌, IsOkAnd, max};
 ghost use Rattle.phold_model.specs.Parts.{IsPhold, phold_parts};
 ghost use Rattle.phold_model.specs.Meaning.{phold_meaning, hop_start};
 
@@ -8,7 +8,7 @@ use model_core::model::Model as SimulationModel;
 use model_core::{
     Cells, Effect, Ending, Entry, Event, HOP_WORD, Note, OutOfMemory, Part, Send, Start, keep_place,
 };
-use random_streams::{Law, Stream};
+use random_streams::{Divisor, Law, PreparedLaw, Stream};
 use std::alloc::Global;
 
 /// The kind of a hop's event.
@@ -20,12 +20,15 @@ const HOP_KIND: u32 = 4;
 pub struct Phold {
     seed: u64,
     objects: u32,
-    delay: Law,
+    delay: PreparedLaw,
     uniform: bool,
     each: u32,
     start: Vec<Entry>,
     rank: u32,
+    // the number of objects, which is at least 1 wherever there is an event
+    evenly: Divisor,
     ghost in_range: { IsPhold (phold_parts seed objects delay uniform each start.items rank) },
+    ghost divides: { evenly ≡ max objects 1 },
 }
 
 /// What an event draws at its object: a delay, a destination, and the place of the words after those that were read.
@@ -56,11 +59,12 @@ impl Phold {
         Ok(Phold {
             seed,
             objects,
-            delay,
+            delay: PreparedLaw::new(delay),
             uniform,
             each,
             start,
             rank,
+            evenly: Divisor::new(u64::from(objects.max(1))),
         })
     }
 }
@@ -92,15 +96,15 @@ impl Phold {
         ensures next { result.next ≡ hop_next (parts_of self.now) object place }
     {
         words.move_to(self.seed, object, place);
-        let delay = words.draw(&self.delay);
-        let dest = if self.uniform {
-            words.word() % self.objects
+        let delay = words.draw_prepared(&self.delay);
+        let number = if self.uniform {
+            words.word()
         } else {
-            (object + 1) % self.objects
+            object + 1
         };
         Hop {
             delay,
-            dest,
+            dest: self.evenly.remainder(number) as u32,
             next: words.place(),
         }
     }

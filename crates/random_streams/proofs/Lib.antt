@@ -1,4 +1,5 @@
 pub mod Bounds
 pub mod Firsts
 pub mod Places
+pub mod Reciprocals
 pub mod RowLemmas

@@ -49,6 +49,13 @@ words_read (Uniform low high) words = 1
 words_read (Geometric p cap) words = min (first_trial p cap words) (cap - 1)
 words_read (Choice weights) words = 1
 
+-- how many numbers a uniform law has, by which its word is divided; 1 where a law has no such number
+unfoldable pub span_of : Law → ℕ
+span_of (Fixed value) = 1
+span_of (Uniform low high) = high - low + 1
+span_of (Geometric p cap) = 1
+span_of (Choice weights) = 1
+
 -- the greatest value that a law gives
 unfoldable pub greatest_value : Law → ℕ
 greatest_value (Fixed value) = value

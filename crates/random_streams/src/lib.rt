@@ -7,13 +7,17 @@
 #![tactic(auto)]
 
 mod block;
+mod divisor;
 mod draws;
 mod law;
+mod prepared;
 mod stream;
 mod weights;
 
+pub use divisor::Divisor;
 pub use draws::{choose_by, draw, draw_by};
 pub use law::{Law, MOST_TRIALS, MOST_VALUE};
+pub use prepared::PreparedLaw;
 pub use stream::Stream;
 pub use weights::Weights;
 

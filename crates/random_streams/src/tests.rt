@@ -142,3 +142,36 @@ fn a_law_is_checked_at_its_bounds(rt: HostRuntime) -> Result<(), Fail> {
     }
     Ok(())
 }
+
+#[test]
+fn a_remainder_at_the_bounds_of_words_and_divisors(rt: HostRuntime) {
+    for (divisor, word, want) in [
+        (1, 4294967295, 0),
+        (3, 4294967295, 0),
+        (3, 4294967294, 2),
+        (10, 2917185654, 4),
+        (65536, 65535, 65535),
+        (2147483649, 4294967295, 2147483646),
+        (4294967295, 4294967294, 4294967294),
+        (4294967295, 4294967295, 0),
+        (4294967296, 4294967295, 4294967295),
+    ] {
+        assert_eq!(rt; Divisor::new(divisor).remainder(word), want);
+    }
+}
+
+#[test]
+#[tactic(auto, unfolding(crate::specs::Laws::is_drawable))]
+fn a_prepared_law_draws_as_the_law(rt: HostRuntime) {
+    let prepared = PreparedLaw::new(Law::Uniform { low: 1, high: 10 });
+    let mut words = Stream::new(0, 0, 2);
+    assert_eq!(rt; words.draw_prepared(&prepared), 3);
+    assert_eq!(rt; words.place(), 3);
+    let prepared = PreparedLaw::new(Law::Geometric {
+        p: 2147483648,
+        cap: 5,
+    });
+    words.move_to(0, 0, 0);
+    assert_eq!(rt; words.draw_prepared(&prepared), 4);
+    assert_eq!(rt; words.place(), 4);
+}
