@@ -4,8 +4,7 @@ ghost use Rattle.cycle_core.specs.Blank.{AreBlank, AreBlankLists};
 
 use crate::parcels::no_parcels;
 use event_chain::Chain;
-use event_key::Key;
-use model_core::{Event, Note, OutOfMemory};
+use model_core::{Event, OutOfMemory, RecordBuffer};
 use node_core::Committed;
 use std::alloc::Global;
 
@@ -17,7 +16,7 @@ pub struct Lists {
     /// What arrives at each node.
     pub parcels: Vec<Chain<Event>>,
     /// Where records are merged.
-    pub spare: Vec<(Key, Note)>,
+    pub spare: RecordBuffer,
 }
 
 /// Lists for the commits of so many nodes.
@@ -39,7 +38,7 @@ impl Lists {
         Ok(Lists {
             committed: blank_commits(alloc, nodes)?,
             parcels: no_parcels(alloc, nodes as usize)?,
-            spare: Vec::new(alloc),
+            spare: RecordBuffer::new(alloc),
         })
     }
 }

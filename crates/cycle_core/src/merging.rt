@@ -4,17 +4,16 @@ ghost use Rattle.std.specs.List.{AllByRecursion};
 ghost use Rattle.cycle_core.specs.Ends.{told_by};
 ghost use Rattle.cycle_core.specs.Records.{AreInOrder, RecordsDiffer, HaveGiven, HaveMerged, IsOnlyTold, MergesInto};
 
-use event_key::Key;
-use model_core::{Note, OutOfMemory};
+use model_core::{OutOfMemory, RecordBuffer};
 use node_core::Committed;
 use std::alloc::Global;
 use std::mem;
 
 /// Two lists as one, in time linear in their records. Both are left empty. A list that is alone is handed on as it is.
 fn merge_two(
-    left: &mut Vec<(Key, Note)>,
-    right: &mut Vec<(Key, Note)>,
-    merged: &mut Vec<(Key, Note)>,
+    left: &mut RecordBuffer,
+    right: &mut RecordBuffer,
+    merged: &mut RecordBuffer,
 ) -> Result<(), OutOfMemory>
     requires left { AreInOrder left.old.items }
     requires right { AreInOrder right.old.items }
@@ -36,16 +35,16 @@ fn merge_two(
     merged.reserve(left.len() + right.len())?;
     let (mut i, mut j) = (0, 0);
     'heads: while i < left.len() && j < right.len() {
-        if left[i].0.is_before(&right[j].0) {
-            merged.push(left[i])?;
+        if left.at(i).0.is_before(right.at(j).0) {
+            merged.push_from(left, i);
             i += 1;
         } else {
-            merged.push(right[j])?;
+            merged.push_from(right, j);
             j += 1;
         }
     }
-    merged.extend_from_slice(&left[i..])?;
-    merged.extend_from_slice(&right[j..])?;
+    merged.extend_from(left, i);
+    merged.extend_from(right, j);
     left.clear();
     right.clear();
     Ok(())
@@ -55,7 +54,7 @@ fn merge_two(
 fn merge_into(
     first: &mut Committed,
     second: &mut Committed,
-    spare: &mut Vec<(Key, Note)>,
+    spare: &mut RecordBuffer,
 ) -> Result<(), OutOfMemory>
     requires first { AreInOrder first.old.done.items }
     requires second { AreInOrder second.old.done.items }
@@ -73,7 +72,7 @@ fn merge_into(
 }
 
 /// The records of all these commits in the first one, merged two by two.
-fn merge_all(parts: &mut [Committed], spare: &mut Vec<(Key, Note)>) -> Result<(), OutOfMemory>
+fn merge_all(parts: &mut [Committed], spare: &mut RecordBuffer) -> Result<(), OutOfMemory>
     requires some { 0 < length parts.old }
     requires ordered { AllByRecursion (λ c. AreInOrder c.done.items) parts.old }
     requires differ { RecordsDiffer (told_by parts.old) }
@@ -118,8 +117,8 @@ fn only_told(committed: &[Committed]) -> Option<usize>
 pub fn merge(
     alloc: Global,
     committed: &mut [Committed],
-    spare: &mut Vec<(Key, Note)>,
-) -> Result<Vec<(Key, Note)>, OutOfMemory>
+    spare: &mut RecordBuffer,
+) -> Result<RecordBuffer, OutOfMemory>
     requires ordered { AllByRecursion (λ c. AreInOrder c.done.items) committed.old }
     requires differ { RecordsDiffer (told_by committed.old) }
     requires spare { spare.old.items ≡ [] }
@@ -128,7 +127,7 @@ pub fn merge(
     ensures given { OnOk result (HaveGiven committed.old committed.new) }
     ensures spare { OnOk result (spare.new.items ≡ []) }
 {
-    let mut merged = Vec::new(alloc);
+    let mut merged = RecordBuffer::new(alloc);
     let count = committed.len();
     if count == 0 {
         return Ok(merged);

@@ -10,6 +10,8 @@ pub mod model;
 mod name;
 mod note;
 mod place;
+mod record_head;
+mod records;
 mod sequence;
 mod words;
 
@@ -23,6 +25,7 @@ pub use name::Name;
 pub use note::{Note, Part};
 pub use place::keep_place;
 pub use random_streams::Stream;
+pub use records::{RecordBuffer, Records};
 pub use sequence::Sequence;
 pub use words::{
     DONE_WORD, ENDLESS_CHAIN, HELD_WORD, HOP_WORD, LATE, LEFT_WORD, LEVEL_WORD, LINE_FULL,

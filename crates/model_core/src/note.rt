@@ -1,5 +1,5 @@
 //! What is told of an event: a short list of parts.
-ghost use Rattle.std.specs.Prelude.{◌≡◌, ◌<◌, ◌≤◌, ◌++◌, ◌∷◌, [], length, slice_get, Some};
+ghost use Rattle.std.specs.Prelude.{◌≡◌, ◌<◌, ◌≤◌, ◌++◌, ◌∷◌, ◌+◌, [], length, slice_get, vec_len, vec_capacity, Some};
 
 use std::marker::Model;
 
@@ -72,6 +72,17 @@ impl Note {
             Parts::Three(first, second, third) => Parts::Four(first, second, third, part),
             Parts::Four(..) => unreachable!(),
         };
+    }
+
+    /// Appends its parts to a list that has room for them.
+    pub fn put_into(&self, parts: &mut Vec<Part>)
+        requires { vec_len parts.old + length self.now ≤ vec_capacity parts.old }
+        ensures items { parts.new.items ≡ parts.old.items ++ self.now }
+        ensures capacity { vec_capacity parts.new ≡ vec_capacity parts.old }
+    {
+        for i in 0..self.len() {
+            parts.push_reserved(self.at(i));
+        }
     }
 
     /// How many parts it tells.

@@ -5,7 +5,7 @@ ghost use Rattle.sim_spec.specs.State.{initial_state};
 ghost use Rattle.sim_spec.specs.Standing.{stands};
 ghost use Rattle.model_text.specs.Meanings.{meaning_of};
 
-use model_core::OutOfMemory;
+use model_core::{OutOfMemory, Records};
 use model_text::AnyModel;
 use one_thread::OneThread;
 use sim_spec::{Engine, Stop, Terms};
@@ -43,6 +43,10 @@ impl Engine for OneThreadRun {
     ghost terms = { λ run. run.engine.terms };
 
     ghost stands_at = { λ run at. run.engine.standing ≡ at };
+
+    fn give_back(&mut self, records: Records) {
+        self.engine.give_back(records)
+    }
 
     fn ended(&self) -> Option<Stop> {
         self.engine.ended()

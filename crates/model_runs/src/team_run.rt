@@ -10,7 +10,7 @@ ghost use Rattle.model_text.specs.Meanings.{meaning_of};
 use crate::machine::Spread;
 use crate::moving::Moving;
 use cycle_core::{State, World};
-use model_core::OutOfMemory;
+use model_core::{OutOfMemory, Records};
 use model_text::AnyModel;
 use node_team::{Gate, Team};
 use release_lanes::RingLanes;
@@ -143,6 +143,10 @@ impl Engine for TeamRun {
     ghost terms = { λ run. run.team.world.terms };
 
     ghost stands_at = { λ run. WorldStandsAt meaning_of run.team.world };
+
+    fn give_back(&mut self, records: Records) {
+        let _ = records;
+    }
 
     fn ended(&self) -> Option<Stop> {
         self.team.ended()

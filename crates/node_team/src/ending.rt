@@ -17,7 +17,7 @@ use crate::releasing::release_all;
 use cycle_core::{Cut, Lists, World, know_all, merge};
 use event_key::Key;
 use model_core::model::{Model as SimulationModel, keeps_laws};
-use model_core::{Note, OutOfMemory};
+use model_core::{OutOfMemory, RecordBuffer};
 use node_core::{Committed, Node};
 use parcel_exchange::{Inbox, receive_all};
 use release_lanes::Lanes;
@@ -33,7 +33,7 @@ struct Ended<M: SimulationModel> {
     committed: Vec<Committed>,
     inboxes: Vec<Inbox>,
     /// What is told, in the order of the keys.
-    records: Vec<(Key, Note)>,
+    records: RecordBuffer,
 }
 
 /// Commits what is due at each node, in so many threads at most, releases it through lanes, and hands each node what comes
@@ -45,7 +45,7 @@ fn end_nodes<R: Threads + Sync, M: SimulationModel, L: Lanes>(
     lanes: &mut L,
     due: &Due,
     parts: Parts<M, L::End>,
-    spare: &mut Vec<(Key, Note)>,
+    spare: &mut RecordBuffer,
 ) -> Result<Ended<M>, OutOfMemory>
     requires out { L.are_out lanes.old parts.ends.items }
     requires lanes { L.nodes lanes.old ≡ length parts.nodes.items }
@@ -101,7 +101,7 @@ pub fn end_world<R: Threads + Sync, M: SimulationModel, L: Lanes>(
     kept: &mut Kept,
     bound: u64,
     cut: &Cut,
-) -> Result<Vec<(Key, Note)>, OutOfMemory>
+) -> Result<RecordBuffer, OutOfMemory>
     requires stands { (s : State) × StandsAt (M.meaning world.old.model) world.old s }
     requires closed { IsClosedAt M.meaning world.old world.old.nodes bound }
     requires cut { IsCutOf M.meaning world.old bound cut.now }

@@ -8,16 +8,16 @@ use crate::course::Course;
 use crate::turn::Turn;
 use event_key::Key;
 use model_core::model::{Model, keeps_laws};
-use model_core::{Effect, Note, OutOfMemory, Sequence};
+use model_core::{Effect, OutOfMemory, RecordBuffer, Records};
 use sim_spec::{Bucket, Terms};
 use std::alloc::Global;
 
 /// A whole bucket, up to its horizon.
-fn whole(done: Vec<(Key, Note)>, horizon: u64) -> Bucket
+fn whole(done: RecordBuffer, horizon: u64) -> Bucket
     ensures { result ≡ record { done = done.items; horizon = horizon; fault = None; limited = false } }
 {
     Bucket {
-        done: Sequence::new(done),
+        done: Records::new(done),
         horizon,
         fault: None,
         limited: false,
@@ -25,26 +25,26 @@ fn whole(done: Vec<(Key, Note)>, horizon: u64) -> Bucket
 }
 
 /// A bucket that ended at a fault, or at the limit.
-fn partial(done: Vec<(Key, Note)>, fault: Option<(Key, u32)>) -> Bucket
+fn partial(done: RecordBuffer, fault: Option<(Key, u32)>) -> Bucket
     ensures { result ≡ record { done = done.items; horizon = 0; fault = fault; limited = is_none fault } }
 {
     Bucket {
-        done: Sequence::new(done),
+        done: Records::new(done),
         horizon: 0,
         limited: fault.is_none(),
         fault,
     }
 }
 
-/// Fires the events of one bucket in their order, each over the same sheet. The list of what is done has room for so many
-/// from the start.
+/// Fires the events of one bucket in their order, each over the same sheet. The records are put into this buffer, whatever
+/// it holds.
 pub fn fire_bucket<M: Model>(
     course: &mut Course,
     alloc: Global,
     model: &M,
     terms: &Terms,
     sheet: &mut Effect,
-    room: usize,
+    buffer: RecordBuffer,
 ) -> Result<Bucket, OutOfMemory>
     requires { Lawful (M.meaning model.now) terms.now (state_of course.old) }
     ensures bucket { IfOk result (λ bucket. bucket ≡ cut (M.meaning model.now) terms.now (state_of course.old)) }
@@ -53,10 +53,11 @@ pub fn fire_bucket<M: Model>(
 {
     keeps_laws(model);
     course.merge();
-    let mut done = Vec::with_capacity(alloc, room)?;
+    let mut done = buffer;
+    done.clear();
     'turns: loop {
         match course.turn(alloc, model, terms, sheet)? {
-            Turn::Does(key) => done.push((key, sheet.note))?,
+            Turn::Does(key) => done.push(&key, &sheet.note)?,
             Turn::Ends(horizon) => return Ok(whole(done, horizon)),
             Turn::Limit => return Ok(partial(done, None)),
             Turn::Fault(key, code) => return Ok(partial(done, Some((key, code)))),

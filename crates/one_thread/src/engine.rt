@@ -9,11 +9,12 @@ use crate::bucket::fire_bucket;
 use crate::course::Course;
 use event_key::Key;
 use model_core::model::Model as SimulationModel;
-use model_core::{Effect, OutOfMemory};
+use model_core::{Effect, OutOfMemory, RecordBuffer, Records};
 use sim_spec::laws::law_initial;
 use sim_spec::{Bucket, Stop, Terms};
 use std::alloc::Global;
 use std::marker::Model;
+use std::mem;
 use std::sync::Arc;
 
 /// A model, how far it goes, and the simulation, as far as it has come.
@@ -25,8 +26,8 @@ pub struct OneThread<M: SimulationModel> {
     course: Option<Course>,
     // what the last event did, whose room serves for the next
     sheet: Effect,
-    // how many records the next bucket has room for from the start
-    room: usize,
+    // where the records of the next bucket are put
+    spare: RecordBuffer,
     fault: Option<(Key, u32)>,
 }
 
@@ -40,11 +41,6 @@ impl<M: SimulationModel> Model for OneThread<M> {
     ghost view = { λ e. record { model = arc_value e.model; terms = e.terms; standing = standing_of e.course e.fault } };
 
     ghost invariant = { λ e. IsLawfulStanding (M.meaning (arc_value e.model)) e.terms (standing_of e.course e.fault) };
-}
-
-/// How many records the bucket after one of so many gets room for: few buckets are longer by more than a quarter.
-fn next_room(done: usize) -> usize {
-    done.saturating_add(done / 4).saturating_add(4)
 }
 
 /// Lets a simulation go. It is a function of its own, since each call of a function clears the room of its locals, and
@@ -69,7 +65,7 @@ impl<M: SimulationModel> OneThread<M> {
             terms,
             course: Some(course),
             sheet: Effect::new(alloc)?,
-            room: 0,
+            spare: RecordBuffer::new(alloc),
             fault: None,
         })
     }
@@ -122,16 +118,16 @@ impl<M: SimulationModel> OneThread<M> {
         let Some(course) = &mut self.course else {
             return Err(OutOfMemory);
         };
+        let buffer = mem::replace(&mut self.spare, RecordBuffer::new(alloc));
         match fire_bucket(
             course,
             alloc,
             &*self.model,
             &self.terms,
             &mut self.sheet,
-            self.room,
+            buffer,
         ) {
             Ok(bucket) => {
-                self.room = next_room(bucket.done.as_slice().len());
                 self.fault = bucket.fault;
                 Ok(bucket)
             }
@@ -140,5 +136,12 @@ impl<M: SimulationModel> OneThread<M> {
                 Err(refused)
             }
         }
+    }
+
+    /// Takes back the records of a bucket that nobody reads any more: those of the next one are put where they stood.
+    pub fn give_back(&mut self, records: Records)
+        ensures { self.new ≡ self.old }
+    {
+        self.spare = records.into_buffer();
     }
 }

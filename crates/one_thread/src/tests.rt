@@ -1,7 +1,7 @@
 use super::*;
 use event_key::Key;
 use model_core::model::Model as SimulationModel;
-use model_core::{Entry, Note, Part};
+use model_core::{Entry, Part};
 use phold_model::Phold;
 use random_streams::Law;
 use sim_spec::{Bucket, Stop, Terms};
@@ -20,23 +20,27 @@ fn next_bucket<M: SimulationModel>(
     Ok(engine.bucket(alloc)?)
 }
 
-/// What a bucket tells: stamps, objects and notes.
-fn told(alloc: Global, bucket: &Bucket) -> Result<Vec<(u64, u32, Note)>, Fail> {
+/// What a bucket tells: stamps, objects and parts.
+fn told(alloc: Global, bucket: &Bucket) -> Result<Vec<(u64, u32, Part)>, Fail> {
     let mut told = Vec::new(alloc);
-    for (key, note) in bucket.done.as_slice() {
-        told.push((key.stamp, key.dest, *note))?;
+    let records = bucket.done.as_buffer();
+    for i in 0..records.len() {
+        let (key, parts) = records.at(i);
+        for part in parts {
+            told.push((key.stamp, key.dest, *part))?;
+        }
     }
     Ok(told)
 }
 
 /// A hop at a time and an object.
-fn hop(time: u64, object: u32, delay: u64, dest: u64) -> (u64, u32, Note) {
+fn hop(time: u64, object: u32, delay: u64, dest: u64) -> (u64, u32, Part) {
     let part = Part {
         word: 1,
         a: delay,
         b: dest,
     };
-    (time.wrapping_mul(65536), object, Note::of(part))
+    (time.wrapping_mul(65536), object, part)
 }
 
 /// Three objects in a ring, whose events take five ticks from each to the next.
@@ -123,7 +127,7 @@ fn a_tick_has_no_step_after_the_last(rt: HostRuntime) -> Result<(), Fail> {
     let mut engine = OneThread::new(rt.alloc(), Arc::new(rt.alloc(), model)?, terms)?;
     for step in 0..65535 {
         let bucket = next_bucket(rt.alloc(), &mut engine)?;
-        assert_eq!(rt; bucket.done.as_slice().len(), 1);
+        assert_eq!(rt; bucket.done.as_buffer().len(), 1);
         assert_eq!(rt; bucket.horizon, step + 1);
     }
     let last = next_bucket(rt.alloc(), &mut engine)?;
@@ -134,7 +138,7 @@ fn a_tick_has_no_step_after_the_last(rt: HostRuntime) -> Result<(), Fail> {
         src: 0,
         serial: 65534,
     };
-    assert!(rt; last.done.as_slice().is_empty());
+    assert!(rt; last.done.as_buffer().is_empty());
     assert_eq!(rt; last.horizon, 0);
     assert_eq!(rt; last.fault, Some((key, 1)));
     assert_eq!(rt; engine.ended(), Some(Stop::Fault { key, code: 1 }));

@@ -1,9 +1,7 @@
 -- The text of an event by its parts, and of records one after another.
-use Rattle.std.proofs.Common.{◌≡◌, ℕ, ◌+◌, ◌≤◌, ◌<◌, List, [], ◌∷◌, ◌++◌, length, drop, get_or, Some, refl, sym, ap, ◌∙◌, append_assoc, add-one}
-use Rattle.std.specs.Prelude.{slice_get}
+use Rattle.std.proofs.Common.{◌≡◌, ℕ, ◌+◌, ◌≤◌, ◌<◌, List, [], ◌∷◌, ◌++◌, length, drop, get_or, refl, sym, ap, ◌∙◌, append_assoc, add-one}
 use Rattle.std.proofs.Math.Seq.{drop-cons}
 use Rattle.std.proofs.Math.ListN.{drop_of_length-le}
-use Rattle.std.proofs.lemmas.Option.{slice_get_within, get_or_from_slice_get}
 use Rattle.event_key.specs.declared.key.Key.{Key}
 use Rattle.model_core.specs.declared.note.Note.{Note}
 use Rattle.model_core.specs.declared.note.Part.{Part}
@@ -11,13 +9,10 @@ use Rattle.model_core.specs.Meaning.{Meaning}
 use Rattle.sim_io.specs.Texts.{part_line, event_lines, record_lines}
 
 -- the lines from a part on, by that part
-pub event_lines-drop : (m : Meaning) (key : Key) (parts : List Part) (i : ℕ) (part : Part) → slice_get parts i ≡ Some part
-    → event_lines m key (drop i parts) ≡ part_line m key part ++ event_lines m key (drop (i + 1) parts)
+pub event_lines-drop : (m : Meaning) (key : Key) (parts : List Part) (i : ℕ) (d : Part) → i < length parts
+    → event_lines m key (drop i parts) ≡ part_line m key (get_or parts i d) ++ event_lines m key (drop (i + 1) parts)
 unfolding event_lines
-event_lines-drop m key parts i part is_part =
-    let inside : i < length parts = slice_get_within parts i part is_part in
-    let here : get_or parts i part ≡ part = get_or_from_slice_get parts i part part is_part in
-    rw (add-one, drop-cons parts i part inside, here)
+event_lines-drop m key parts i d inside = rw (add-one, drop-cons parts i d inside)
 
 -- no line comes after the last part
 pub event_lines-past : (m : Meaning) (key : Key) (parts : List Part) (i : ℕ) → length parts ≤ i → event_lines m key (drop i parts) ≡ []

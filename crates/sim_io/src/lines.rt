@@ -9,7 +9,7 @@ use crate::backwards::{SHORT, append_short, write_byte, write_number, write_word
 use crate::text_parts::{put_fault, put_number, put_place, put_stamp};
 use event_key::{Key, step_of, time_of};
 use model_core::model::Model;
-use model_core::{Note, OutOfMemory, Part};
+use model_core::{OutOfMemory, Part};
 use sim_spec::{Bucket, Stop, Terms};
 use std::alloc::Global;
 
@@ -69,15 +69,15 @@ fn put_lines<M: Model>(
     alloc: Global,
     model: &M,
     key: &Key,
-    note: &Note,
+    parts: &[Part],
     into: &mut Vec<u8>,
 ) -> Result<(), OutOfMemory>
     requires { key.now.dest < (M.meaning model.now).objects }
-    ensures ok { OnOk result (into.new.items ≡ into.old.items ++ event_lines (M.meaning model.now) key.now note.now) }
+    ensures ok { OnOk result (into.new.items ≡ into.old.items ++ event_lines (M.meaning model.now) key.now parts.now) }
     ensures prefix { StartsWith into.new.items into.old.items }
 {
-    for i in 0..note.len() {
-        put_line(alloc, model, key, note.at(i), into)?;
+    for part in parts {
+        put_line(alloc, model, key, *part, into)?;
     }
     Ok(())
 }
@@ -103,15 +103,15 @@ pub fn put_done<M: Model>(
     alloc: Global,
     model: &M,
     key: &Key,
-    note: &Note,
+    parts: &[Part],
     into: &mut Vec<u8>,
 ) -> Result<(), OutOfMemory>
     requires { key.now.dest < (M.meaning model.now).objects }
-    ensures ok { OnOk result (into.new.items ≡ into.old.items ++ event_lines (M.meaning model.now) key.now note.now) }
+    ensures ok { OnOk result (into.new.items ≡ into.old.items ++ event_lines (M.meaning model.now) key.now parts.now) }
     ensures err { OnErr result (into.new.items ≡ into.old.items) }
 {
     let before = into.len();
-    let outcome = put_lines(alloc, model, key, note, into);
+    let outcome = put_lines(alloc, model, key, parts, into);
     cut_back(outcome, before, into)
 }
 
@@ -125,7 +125,7 @@ fn put_summary(number: u64, bucket: &Bucket, into: &mut Vec<u8>) -> Result<(), O
     into.extend_from_slice(b" horizon ")?;
     put_stamp(bucket.horizon, into)?;
     into.extend_from_slice(b" events ")?;
-    put_number(bucket.done.as_slice().len() as u64, into)?;
+    put_number(bucket.done.as_buffer().len() as u64, into)?;
     into.push(b'\n')?;
     Ok(())
 }

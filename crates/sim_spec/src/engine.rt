@@ -5,6 +5,7 @@ ghost use Rattle.sim_spec.specs.declared.terms.Terms.{Terms};
 ghost use Rattle.sim_spec.specs.Standing.{Standing, ended, IsCountAt};
 
 use crate::stop::Stop;
+use model_core::Records;
 
 /// An engine that simulates cycle by cycle: a bucket of events below one event horizon, and then the next one.
 ///
@@ -26,4 +27,10 @@ pub trait Engine {
     /// How many events are done. An engine that is spent has no count that is told.
     fn count(&self) -> u64
         ensures { (at : Standing) → stands_at self.now at → IsCountAt at result };
+
+    /// Takes back the records of a bucket that nobody reads any more, so that their room serves a later one.
+    fn give_back(&mut self, records: Records)
+        ensures meaning { meaning self.new ≡ meaning self.old }
+        ensures terms { terms self.new ≡ terms self.old }
+        ensures stands { (at : Standing) → stands_at self.old at → stands_at self.new at };
 }

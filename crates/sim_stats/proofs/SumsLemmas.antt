@@ -1,18 +1,13 @@
 -- The sums with one word more.
-use Rattle.std.proofs.Common.{◌≡◌, ℕ, ◌+◌, ◌-◌, ◌*◌, ◌≤◌, Bool, true, false, List, [], ◌∷◌, ◌++◌, refl, sym, ap, ◌∙◌, arith, cond, take, mul-le-mul_right}
+use Rattle.std.proofs.Common.{◌≡◌, ℕ, ◌+◌, ◌-◌, ◌*◌, ◌≤◌, Bool, true, false, List, [], ◌∷◌, ◌++◌, refl, sym, ap, ◌∙◌, arith, cond, mul-le-mul_right}
 use Rattle.std.specs.Int.{from_bool}
 use Rattle.std.specs.List.{sum_by}
-use Rattle.std.specs.List.{slice_get}
-use Rattle.std.specs.Prelude.{Some}
-use Rattle.std.proofs.lemmas.List.{map_more}
 use Rattle.std.proofs.lemmas.List.Sums.{sum_by-append}
-use Rattle.std.proofs.lemmas.Option.{get_or_from_slice_get, slice_get_within}
-use Rattle.model_core.specs.declared.note.Part.{Part}
 use Rattle.sim_stats.specs.declared.occupancy.Occupancy.{Occupancy}
 use Rattle.sim_stats.specs.declared.sums.Sums.{Sums}
 use Rattle.sim_stats.specs.Occupancies.{nobody, after_word, after_words, Interval, intervals_from, intervals}
 use Rattle.sim_stats.specs.Sums.{count_told, last_told, sums_of, IsWithin}
-use Rattle.sim_stats.specs.Words.{is_arrival, is_service, is_loss, TimedWord, words_at}
+use Rattle.sim_stats.specs.Words.{is_arrival, is_service, is_loss, TimedWord}
 
 after_words-more : (now : Occupancy) (told : List TimedWord) (one : TimedWord) → after_words now (told ++ one ∷ []) ≡ after_word (after_words now told) one.word
 unfolding after_words
@@ -90,10 +85,3 @@ IsWithin-more words more sums le within = record {
   busy_ticks = omega (arith, within.busy_ticks, mul-le-mul_right sums.last le);
   waiting_ticks = omega (arith, within.waiting_ticks, mul-le-mul_right sums.last le);
 }
-
-pub words_at-more : (time : ℕ) (note : List Part) (i : ℕ) (part : Part) → slice_get note i ≡ Some part
-    → words_at time (take (i + 1) note) ≡ words_at time (take i note) ++ record { time = time; word = part.word } ∷ []
-words_at-more time note i part is =
-    let word : Part → TimedWord = λ part. record { time = time; word = part.word } in
-    map_more word note i part (slice_get_within note i part is)
-    ∙ ap (λ (part : Part). words_at time (take i note) ++ word part ∷ []) (get_or_from_slice_get note i part part is)

@@ -1,10 +1,10 @@
 //! The sums of one object.
-ghost use Rattle.std.specs.Prelude.{◌≡◌, ◌≤◌, ◌+◌, ◌^◌, ◌++◌, ◌∷◌, [], ℕ, List, OnOk};
+ghost use Rattle.std.specs.Prelude.{◌≡◌, ◌≤◌, ◌+◌, ◌^◌, ◌++◌, ◌∷◌, [], ℕ, List, OnOk, length};
 ghost use Rattle.sim_stats.specs.Words.{is_arrival, is_service};
 
 use crate::occupancy::Occupancy;
 use model_core::{
-    DONE_WORD, HELD_WORD, HOP_WORD, LEFT_WORD, LOST_WORD, MADE_WORD, Note, OutOfMemory,
+    DONE_WORD, HELD_WORD, HOP_WORD, LEFT_WORD, LOST_WORD, MADE_WORD, OutOfMemory, Part,
     ROUTED_WORD, TAKEN_WORD, WAITING_WORD,
 };
 use std::alloc::Global;
@@ -84,15 +84,16 @@ impl Sums {
     }
 
     /// What a record at this time tells.
-    pub fn add(&mut self, time: u64, note: &Note)
+    pub fn add(&mut self, time: u64, parts: &[Part])
+        requires few { length parts.now ≤ 4 }
         requires time { self.old.last ≤ time }
         requires room { IsWithin (2 ^ 32) self.old }
-        ensures sums { (told : List TimedWord) → self.old ≡ sums_of told → self.new ≡ sums_of (told ++ words_at time note.now) }
+        ensures sums { (told : List TimedWord) → self.old ≡ sums_of told → self.new ≡ sums_of (told ++ words_at time parts.now) }
         ensures last { self.new.last ≤ time }
         ensures within { (words : ℕ) → IsWithin words self.old → IsWithin (words + 4) self.new }
     {
-        for i in 0..note.len() {
-            self.add_word(time, note.at(i).word);
+        for part in parts {
+            self.add_word(time, part.word);
         }
     }
 

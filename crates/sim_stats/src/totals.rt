@@ -7,7 +7,7 @@ ghost use Rattle.model_core.specs.declared.note.Note.{Note};
 use crate::sums::Sums;
 use event_key::{Key, time_of};
 use model_core::model::Model as SimulationModel;
-use model_core::{Note, OutOfMemory};
+use model_core::{OutOfMemory, Part, RecordBuffer};
 use std::alloc::Global;
 use std::marker::Model;
 
@@ -53,35 +53,37 @@ impl Totals {
         })
     }
 
-    /// One record more, at an object that there is, and not before the record that was added last. It takes no memory,
-    /// and time for its own parts alone.
-    pub fn add(&mut self, key: &Key, note: &Note)
+    /// One record more, of at most four parts, at an object that there is, and not before the record that was added last.
+    /// It takes no memory, and time for its own parts alone.
+    pub fn add(&mut self, key: &Key, parts: &[Part])
         requires object { key.now.dest < length self.old.objects }
+        requires few { length parts.now ≤ 4 }
         requires time { self.old.last ≤ time_part key.now.stamp }
         requires room { self.old.records < MOST_RECORDS }
         ensures totals { (objects : ℕ) (records : List (Key × Note)) → self.old ≡ totals_of objects records
-            → self.new ≡ totals_of objects (records ++ (key.now, note.now) ∷ []) }
+            → self.new ≡ totals_of objects (records ++ (key.now, parts.now) ∷ []) }
         ensures objects { length self.new.objects ≡ length self.old.objects }
         ensures records { self.new.records ≡ self.old.records + 1 }
         ensures last { self.new.last ≡ time_part key.now.stamp }
     {
         let time = time_of(key.stamp);
         let sums = &mut self.objects[key.dest as usize];
-        sums.add(time, note);
+        sums.add(time, parts);
         self.records += 1;
         self.last = time;
     }
 
     /// All these records, in order, as `add` takes each.
-    pub fn add_all(&mut self, records: &[(Key, Note)])
-        requires objects { All (λ (told : Key × Note). told.0.dest < length self.old.objects) records.now }
-        requires time { IsInTime self.old.last records.now }
-        requires room { self.old.records + length records.now ≤ MOST_RECORDS }
+    pub fn add_all(&mut self, records: &RecordBuffer)
+        requires objects { All (λ (told : Key × Note). told.0.dest < length self.old.objects) records.now.items }
+        requires time { IsInTime self.old.last records.now.items }
+        requires room { self.old.records + length records.now.items ≤ MOST_RECORDS }
         ensures { (objects : ℕ) (before : List (Key × Note)) → self.old ≡ totals_of objects before
-            → self.new ≡ totals_of objects (before ++ records.now) }
+            → self.new ≡ totals_of objects (before ++ records.now.items) }
     {
-        for (key, note) in records {
-            self.add(key, note);
+        for i in 0..records.len() {
+            let (key, parts) = records.at(i);
+            self.add(key, parts);
         }
     }
 

@@ -1,9 +1,8 @@
 -- The summary with one bucket more.
-use Rattle.std.proofs.Common.{◌≡◌, ℕ, zero, suc, ◌+◌, ◌-◌, Bool, true, false, List, [], ◌∷◌, ◌++◌, length, cond, Some, None, refl, sym, ap, ◌∙◌, arith, append-nil, append_assoc}
+use Rattle.std.proofs.Common.{◌≡◌, ℕ, zero, suc, ◌+◌, ◌-◌, Bool, true, false, List, [], ◌∷◌, ◌++◌, length, cond, Some, refl, sym, ap, ◌∙◌, arith, append-nil, append_assoc}
 use Rattle.std.specs.Int.{from_bool}
 use Rattle.std.specs.List.{slice_get}
 use Rattle.std.proofs.lemmas.List.Sums.{sum_by-append}
-use Rattle.std.proofs.lemmas.Option.{slice_get-get_or}
 use Rattle.event_key.specs.declared.key.Key.{Key}
 use Rattle.model_core.specs.declared.note.Note.{Note}
 use Rattle.sim_spec.specs.declared.bucket.Bucket.{Bucket}
@@ -24,12 +23,10 @@ pub last_stamp-last : (stamp : ℕ) (records : List (Key × Note)) (told : Key �
 last_stamp-last stamp [] told is = cc
 last_stamp-last stamp (first ∷ rest) told is = last_at stamp (first ∷ rest) told (length (first ∷ rest) - 1) (omega arith) is
 
-pub last_stamp-none : (stamp : ℕ) (records : List (Key × Note)) → slice_get records (length records - 1) ≡ None → last_stamp stamp records ≡ stamp
+pub last_stamp-none : (stamp : ℕ) (records : List (Key × Note)) → length records ≡ 0 → last_stamp stamp records ≡ stamp
 unfolding last_stamp
 last_stamp-none stamp [] none = refl
-last_stamp-none stamp (first ∷ rest) none =
-    let some = slice_get-get_or (first ∷ rest) (length (first ∷ rest) - 1) first (omega arith) in
-    cc
+last_stamp-none stamp (first ∷ rest) none = absurd (omega (arith, none))
 
 last_stamp-append : (stamp : ℕ) (records more : List (Key × Note)) → last_stamp stamp (records ++ more) ≡ last_stamp (last_stamp stamp records) more
 unfolding last_stamp

@@ -5,9 +5,8 @@ ghost use Rattle.sim_io.specs.CycleTexts.{told_cycle, bucket_lines};
 ghost use Rattle.sim_text.specs.Rest.{AllAtObjects};
 ghost use Rattle.sim_text.specs.WholeTexts.{is_whole};
 
-use event_key::Key;
 use model_core::model::Model;
-use model_core::{Note, OutOfMemory};
+use model_core::{OutOfMemory, RecordBuffer};
 use sim_io::{put_cycle, put_done};
 use sim_spec::Bucket;
 use std::alloc::Global;
@@ -16,14 +15,15 @@ use std::alloc::Global;
 pub fn put_records<M: Model>(
     alloc: Global,
     model: &M,
-    records: &[(Key, Note)],
+    records: &RecordBuffer,
     into: &mut Vec<u8>,
 ) -> Result<(), OutOfMemory>
-    requires { AllAtObjects (M.meaning model.now) records.now }
-    ensures { OnOk result (into.new.items ≡ into.old.items ++ record_lines (M.meaning model.now) records.now) }
+    requires { AllAtObjects (M.meaning model.now) records.now.items }
+    ensures { OnOk result (into.new.items ≡ into.old.items ++ record_lines (M.meaning model.now) records.now.items) }
 {
-    for (key, note) in records {
-        put_done(alloc, model, key, note, into)?;
+    for i in 0..records.len() {
+        let (key, parts) = records.at(i);
+        put_done(alloc, model, key, parts, into)?;
     }
     Ok(())
 }
@@ -51,20 +51,19 @@ fn put_told_cycle(
     Ok(())
 }
 
-/// Appends what a bucket tells, and lets it go: its records, and the line of its cycle where cycles are told and it is
-/// whole.
+/// Appends what a bucket tells: its records, and the line of its cycle where cycles are told and it is whole.
 #[tactic(auto, unfolding(sim_io::specs::CycleTexts::bucket_lines))]
 pub fn put_bucket<M: Model>(
     alloc: Global,
     model: &M,
     cycles: bool,
     number: u64,
-    bucket: Bucket,
+    bucket: &Bucket,
     into: &mut Vec<u8>,
 ) -> Result<(), OutOfMemory>
-    requires { AllAtObjects (M.meaning model.now) bucket.done }
-    ensures { OnOk result (into.new.items ≡ into.old.items ++ bucket_lines (M.meaning model.now) cycles number bucket) }
+    requires { AllAtObjects (M.meaning model.now) bucket.now.done }
+    ensures { OnOk result (into.new.items ≡ into.old.items ++ bucket_lines (M.meaning model.now) cycles number bucket.now) }
 {
-    put_records(alloc, model, bucket.done.as_slice(), into)?;
-    put_told_cycle(cycles, number, &bucket, into)
+    put_records(alloc, model, bucket.done.as_buffer(), into)?;
+    put_told_cycle(cycles, number, bucket, into)
 }

@@ -62,8 +62,9 @@ pub fn simulate_first<
         }
         text.clear();
         let bucket = cycle(engine, alloc)?;
-        put_records(alloc, model, bucket.done.as_slice(), &mut text)?;
+        put_records(alloc, model, bucket.done.as_buffer(), &mut text)?;
         write_all(sink, text.as_slice())?;
+        engine.give_back(bucket.done);
     }
     Ok(())
 }

@@ -40,30 +40,30 @@ impl Report {
         }
     }
 
-    /// Appends what is told at once of a bucket with this number, keeps of it what is told in the end, and lets it go.
+    /// Appends what is told at once of a bucket with this number, and keeps of it what is told in the end.
     pub fn add<M: Model>(
         &mut self,
         alloc: Global,
         model: &M,
         number: u64,
-        bucket: Bucket,
+        bucket: &Bucket,
         into: &mut Vec<u8>,
     ) -> Result<(), OutOfMemory>
-        requires objects { AllAtObjects (M.meaning model.now) bucket.done }
+        requires objects { AllAtObjects (M.meaning model.now) bucket.now.done }
         requires sums { HasObjects (M.meaning model.now).objects self.old }
-        requires goes_on { CanGoOn self.old bucket.done }
-        ensures told { OnOk result (into.new.items ≡ into.old.items ++ told_at_once (M.meaning model.now) self.old number bucket) }
+        requires goes_on { CanGoOn self.old bucket.now.done }
+        ensures told { OnOk result (into.new.items ≡ into.old.items ++ told_at_once (M.meaning model.now) self.old number bucket.now) }
         ensures kept { (objects : ℕ) (telling : Telling) (bs : List Bucket) → self.old ≡ report_of objects telling bs
-            → self.new ≡ report_of objects telling (bs ++ bucket ∷ []) }
+            → self.new ≡ report_of objects telling (bs ++ bucket.now ∷ []) }
     {
         match self {
             Report::Lines { cycles } => put_bucket(alloc, model, *cycles, number, bucket, into),
             Report::Sums(totals) => {
-                totals.add_all(bucket.done.as_slice());
+                totals.add_all(bucket.done.as_buffer());
                 Ok(())
             }
             Report::Counts(summary) => {
-                summary.add(&bucket);
+                summary.add(bucket);
                 Ok(())
             }
         }

@@ -67,8 +67,9 @@ pub fn simulate<M: Model, E: Engine, F: Fn(&mut E, Global) -> Result<Bucket, Out
             return Ok(stop);
         }
         let bucket = cycle(engine, alloc)?;
-        report.add(alloc, model, number, bucket, &mut text)?;
+        report.add(alloc, model, number, &bucket, &mut text)?;
         write_all(sink, text.as_slice())?;
+        engine.give_back(bucket.done);
         number += 1;
     }
 }

@@ -20,10 +20,12 @@ pub struct Summary {
 fn last_stamp(before: u64, bucket: &Bucket) -> u64
     ensures { result ≡ last_stamp before bucket.now.done }
 {
-    match bucket.done.as_slice().last() {
-        Some((key, _)) => key.stamp,
-        None => before,
+    let records = bucket.done.as_buffer();
+    if records.is_empty() {
+        return before;
     }
+    let (key, _) = records.at(records.len() - 1);
+    key.stamp
 }
 
 impl Summary {

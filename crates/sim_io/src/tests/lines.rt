@@ -3,7 +3,7 @@ ghost use Rattle.std.specs.Prelude.{◌≡◌, ◌<◌, ◌≤◌, ◌^◌};
 use super::named::Named;
 use crate::{put_cycle, put_demo, put_done, put_stop};
 use event_key::{INITIAL, Key, stamp_of};
-use model_core::{Note, Part, Sequence};
+use model_core::{Note, Part, RecordBuffer, Records};
 use sim_spec::{Bucket, Stop, Terms};
 use std::test::Fail;
 
@@ -27,8 +27,8 @@ fn the_lines_of_a_run(rt: HostRuntime) -> Result<(), Fail> {
     let terms = Terms { end: 9, limit: 100 };
     let mut text = Vec::new(alloc);
     for (time, dest, b) in [(0, 1, 2), (5, 0, 1), (5, 2, 0)] {
-        let note = Note::of(Part { word: 1, a: 5, b });
-        put_done(alloc, &Named, &key(time, 0, dest), &note, &mut text)?;
+        let told = [Part { word: 1, a: 5, b }];
+        put_done(alloc, &Named, &key(time, 0, dest), &told, &mut text)?;
     }
     put_stop(alloc, &Named, &terms, 3, &Stop::End, &mut text)?;
     let wanted = "0.0 p1 hop 5 2\n5.0 p0 hop 5 1\n5.0 p2 hop 5 0\nend 9 events 3\n";
@@ -56,8 +56,8 @@ fn each_word_of_a_note(rt: HostRuntime) -> Result<(), Fail> {
         (4294967295, "4294967295"),
     ] {
         let mut text = Vec::new(alloc);
-        let note = Note::of(Part { word, a: 7, b: 0 });
-        put_done(alloc, &Named, &key(4, 0, 1), &note, &mut text)?;
+        let told = [Part { word, a: 7, b: 0 }];
+        put_done(alloc, &Named, &key(4, 0, 1), &told, &mut text)?;
         let wanted = format!(in alloc; "4.0 p1 {name} 7 0\n")?;
         assert_eq!(rt; text.as_slice(), wanted.as_bytes());
     }
@@ -68,23 +68,25 @@ fn each_word_of_a_note(rt: HostRuntime) -> Result<(), Fail> {
 fn a_line_for_each_part(rt: HostRuntime) -> Result<(), Fail> {
     let alloc = rt.alloc();
     let mut text = Vec::new(alloc);
-    put_done(alloc, &Named, &key(1, 0, 1), &Note::none(), &mut text)?;
+    put_done(alloc, &Named, &key(1, 0, 1), &[], &mut text)?;
     assert!(rt; text.is_empty());
-    let mut note = Note::of(Part {
-        word: 4,
-        a: 2,
-        b: 1,
-    });
-    note.add(Part {
-        word: 3,
-        a: 18446744073709551615,
-        b: 0,
-    });
+    let told = [
+        Part {
+            word: 4,
+            a: 2,
+            b: 1,
+        },
+        Part {
+            word: 3,
+            a: 18446744073709551615,
+            b: 0,
+        },
+    ];
     put_done(
         alloc,
         &Named,
         &key(70368744177663, 65535, 8),
-        &note,
+        &told,
         &mut text,
     )?;
     let wanted =
@@ -107,16 +109,16 @@ fn the_counts_of_a_demo(rt: HostRuntime) -> Result<(), Fail> {
 fn the_longest_line(rt: HostRuntime) -> Result<(), Fail> {
     let alloc = rt.alloc();
     let mut text = Vec::new(alloc);
-    let note = Note::of(Part {
+    let told = [Part {
         word: u32::MAX,
         a: u64::MAX,
         b: u64::MAX,
-    });
+    }];
     put_done(
         alloc,
         &Named,
         &key(140737488355327, 65535, 8),
-        &note,
+        &told,
         &mut text,
     )?;
     let wanted = "140737488355327.65535 p8 4294967295 18446744073709551615 18446744073709551615\n";
@@ -132,8 +134,11 @@ fn a_cycle_with_its_horizon(rt: HostRuntime) -> Result<(), Fail> {
         a: 5,
         b: 1,
     });
+    let mut done = RecordBuffer::new(alloc);
+    done.push(&key(5, 0, 0), &told)?;
+    done.push(&key(5, 0, 2), &told)?;
     let bucket = Bucket {
-        done: Sequence::new(vec![in alloc; (key(5, 0, 0), told), (key(5, 0, 2), told)]?),
+        done: Records::new(done),
         horizon: stamp_of(10, 1),
         fault: None,
         limited: false,

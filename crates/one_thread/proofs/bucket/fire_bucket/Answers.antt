@@ -11,15 +11,15 @@ use Rattle.one_thread.proofs.bucket.fire_bucket.Goals as goal
 
 pub turns-init : goal.turns-init
 turns-init g c =
-    starts (g.M.Model.meaning c.args.model.now) c.args.terms.now (state_of c.args.course.now) c.in_ok-done.done.items c.merge.new.self
-    c.in_ok-done.ensures.items c.merge.ensures.state c.merge.ensures.fresh c.requires
+    starts (g.M.Model.meaning c.args.model.now) c.args.terms.now (state_of c.args.course.now) c.clear.new.self.items c.merge.new.self
+    c.clear.ensures c.merge.ensures.state c.merge.ensures.fresh c.requires
 
 pub turns-preserved : goal.turns-preserved
 turns-preserved g c =
     let P : Turn → Type 0 = λ turn. IsTurn (g.M.Model.meaning c.args.model.now) c.args.terms.now c.turns.course turn c.turn.new.sheet.note c.turn.new.self in
     let done : P (Does c.in-Does.key) = subst P c.in-Does.is c.in_ok-key.ensures in
     goes_on (g.M.Model.meaning c.args.model.now) c.args.terms.now (state_of c.args.course.now) c.turns.done.items c.push.new.self.items c.turns.course c.turn.new.self
-    c.in-Does.key c.turn.new.sheet.note c.keeps_laws.ensures c.turns.invariant done c.in_ok-push-in-Does.ensures.items
+    c.in-Does.key c.turn.new.sheet.note c.keeps_laws.ensures c.turns.invariant done c.in_ok-push-in-Does.ensures.ok
 
 pub returns-in-Ends-clause-bucket : goal.returns-in-Ends-clause-bucket
 returns-in-Ends-clause-bucket g c =

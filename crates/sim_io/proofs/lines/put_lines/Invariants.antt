@@ -3,10 +3,10 @@ use Rattle.std.specs.Io.{StartsWith}
 use Rattle.sim_io.specs.Texts.{event_lines}
 use Rattle.sim_io.proofs.lines.put_lines.Given as goal
 
-abbrev pub invariant-loop-i : goal.invariant-loop-i
-invariant-loop-i g l =
+abbrev pub invariant-loop-part : goal.invariant-loop-part
+invariant-loop-part g l =
     let m = g.M.Model.meaning l.model in
     record {
-      lines : l.into.items ++ event_lines m l.key (drop l.i l.note) ≡ l.initial.into.items ++ event_lines m l.key l.note;
+      lines : l.into.items ++ event_lines m l.key (drop l.part-index l.parts) ≡ l.initial.into.items ++ event_lines m l.key l.parts;
       prefix : StartsWith l.into.items l.initial.into.items;
     }

@@ -78,7 +78,7 @@ put_records-requires-after_bounds g c κs within =
     let done = has_done (g.M.Model.meaning c.args.model.now) c.args.terms.now g.E.Engine.meaning g.E.Engine.terms g.E.Engine.stands_at c.loop-done.engine r.at c.cycle.result c.in_ok-bucket.bucket c.cycle.new.arg2 i.meaning i.terms c.in_ok-bucket.was
     (c.requires.does _ c.cycle.result _ c.cycle.ensures r.at r.stands own_none) in
     let P : List (Key × Note) → Type 0 = AllAtObjects (g.M.Model.meaning c.args.model.now) in
-    subst P (sym c.as_slice.ensures) (at_objects _ _ _ _ i.so_far r.first i.buckets c.in_ok-bucket.bucket _ not_ended done.cycle i.next)
+    subst P (sym c.as_buffer.ensures) (at_objects _ _ _ _ i.so_far r.first i.buckets c.in_ok-bucket.bucket _ not_ended done.cycle i.next)
 
 pub returns-in_err-put_records-clause-prefix : goal.returns-in_err-put_records-clause-prefix
 returns-in_err-put_records-clause-prefix g c = λ from starts.
@@ -101,7 +101,7 @@ returns-in_err-write_all-clause-prefix g c = λ from starts.
     let m = g.M.Model.meaning c.args.model.now in
     let goes = lines-go_on _ _ _ _ i.so_far r.first i.buckets c.in_ok-bucket.bucket _ not_ended done.cycle c.args.most (omega (arith, i.numbered, c.loop-done-test.true)) in
     let P : List ℕ → Type 0 = AppendsPrefix (g.K.Sink.told c.loop-done.sink) (g.K.Sink.told c.write_all.new.sink) in
-    let lines = held _ _ _ _ c.clear.ensures.items (put_told m _ _ _ _ c.as_slice.ensures c.in_ok-put_records.ensures) c.as_slice-in-loop-done.ensures.value in
+    let lines = held _ _ _ _ c.clear.ensures.items (put_told m _ _ _ _ c.as_buffer.ensures c.in_ok-put_records.ensures) c.as_slice.ensures.value in
     on_err _ (writes_prefix _ _ _ (first_lines m c.args.terms.now c.args.most from) (record_lines m c.in_ok-bucket.bucket.done ++ goes.0) (record_lines m c.in_ok-bucket.bucket.done) goes.0
     (record_lines m (records_of_buckets i.so_far), i.told, goes.1) refl (subst P lines c.in_err-write_all.ensures.prefix))
 
@@ -117,12 +117,12 @@ loop-done-preserved g c =
     let some_done = has_done m t g.E.Engine.meaning g.E.Engine.terms g.E.Engine.stands_at c.loop-done.engine some.at c.cycle.result b c.cycle.new.arg2 i.meaning i.terms c.in_ok-bucket.was
     (c.requires.does _ c.cycle.result _ c.cycle.ensures some.at some.stands some_none) in
     let P : List ℕ → Type 0 = Appends (g.K.Sink.told c.loop-done.sink) (g.K.Sink.told c.write_all.new.sink) in
-    let lines = held _ _ _ _ c.clear.ensures.items (put_told m _ _ _ _ c.as_slice.ensures c.in_ok-put_records.ensures) c.as_slice-in-loop-done.ensures.value in
+    let lines = held _ _ _ _ c.clear.ensures.items (put_told m _ _ _ _ c.as_buffer.ensures c.in_ok-put_records.ensures) c.as_slice.ensures.value in
     record {
       next = i.next;
       buckets = i.buckets;
-      meaning = some_done.meaning_is;
-      terms = some_done.terms_is;
+      meaning = c.give_back.ensures.meaning ∙ some_done.meaning_is;
+      terms = c.give_back.ensures.terms ∙ some_done.terms_is;
       so_far = i.so_far ++ b ∷ [];
       first = λ from starts.
           let r = i.first from starts in
@@ -130,7 +130,7 @@ loop-done-preserved g c =
           let not_ended = ended-same _ _ _ _ _ _ i.meaning i.terms (sym own_none) in
           let done = has_done m t g.E.Engine.meaning g.E.Engine.terms g.E.Engine.stands_at c.loop-done.engine r.at c.cycle.result b c.cycle.new.arg2 i.meaning i.terms c.in_ok-bucket.was
           (c.requires.does _ c.cycle.result _ c.cycle.ensures r.at r.stands own_none) in
-          record { at = done.left; stands = done.stands; first = one_more _ _ _ _ i.so_far r.first i.buckets b _ not_ended done.cycle };
+          record { at = done.left; stands = c.give_back.ensures.stands done.left done.stands; first = one_more _ _ _ _ i.so_far r.first i.buckets b _ not_ended done.cycle };
       numbered = ap (λ n. n + 1) i.numbered ∙ sym (length-append i.so_far (b ∷ []));
       told = subst (Appends (g.K.Sink.told c.args.sink.now) (g.K.Sink.told c.write_all.new.sink)) (sym (lines-more _ _ _ _ i.so_far some.first i.buckets b _ some_ended some_done.cycle))
           (Appends-trans _ _ _ (record_lines m (records_of_buckets i.so_far)) (record_lines m b.done) i.told (subst P lines c.in_ok-write_all.ensures.all));

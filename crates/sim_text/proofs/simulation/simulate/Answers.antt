@@ -179,8 +179,8 @@ cycles-preserved g c =
     let P : List ℕ → Type 0 = Appends (g.K.Sink.told c.cycles.sink) (g.K.Sink.told c.write_all-in-cycles.new.sink) in
     let lines = held _ _ _ _ c.clear.ensures.items c.in_ok-add.ensures.told c.as_slice-in-cycles.ensures.value in
     record {
-      meaning = some_done.meaning_is;
-      terms = some_done.terms_is;
+      meaning = c.give_back.ensures.meaning ∙ some_done.meaning_is;
+      terms = c.give_back.ensures.terms ∙ some_done.terms_is;
       so_far = i.so_far ++ b ∷ [];
       runs = λ from starts can.
           let r = i.runs from starts can in
@@ -188,7 +188,7 @@ cycles-preserved g c =
           let not_ended = ended-same _ _ _ _ _ _ i.meaning i.terms (sym own_none) in
           let done = has_done m t g.E.Engine.meaning g.E.Engine.terms g.E.Engine.stands_at c.cycles.engine r.at c.cycle.result b c.cycle.new.arg2 i.meaning i.terms c.in_ok-bucket.was
           (c.requires.does _ c.cycle.result _ c.cycle.ensures r.at r.stands own_none) in
-          record { laws = r.laws; at = done.left; stands = done.stands; way = goes_on _ _ _ r.laws _ i.so_far r.way b _ not_ended done.cycle };
+          record { laws = r.laws; at = done.left; stands = c.give_back.ensures.stands done.left done.stands; way = goes_on _ _ _ r.laws _ i.so_far r.way b _ not_ended done.cycle };
       numbered = ap (λ n. n + 1) (i.numbered ∙ sym (length-append i.so_far (b ∷ [])));
       kept = c.add.ensures.kept _ c.args.telling i.so_far i.kept;
       told = bucket-told _ t c.requires.begins.0 c.args.telling _ _ i.so_far i.told c.cycles.report i.kept b c.cycles.number _ i.numbered (subst P lines c.in_ok-write_all-2.ensures.all);

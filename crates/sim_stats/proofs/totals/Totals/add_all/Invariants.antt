@@ -4,10 +4,10 @@ use Rattle.model_core.specs.declared.note.Note.{Note}
 use Rattle.sim_stats.specs.Totals.{IsInTime, totals_of}
 use Rattle.sim_stats.proofs.totals.Totals.add_all.Given as goal
 
-abbrev pub invariant-loop-key : goal.invariant-loop-key
-invariant-loop-key l = record {
-  totals : (objects : ℕ) (before : List (Key × Note)) → l.fn.self ≡ totals_of objects before → l.self ≡ totals_of objects (before ++ take l.key-index l.records);
+abbrev pub invariant-loop-i : goal.invariant-loop-i
+invariant-loop-i l = record {
+  totals : (objects : ℕ) (before : List (Key × Note)) → l.fn.self ≡ totals_of objects before → l.self ≡ totals_of objects (before ++ take l.i l.records.items);
   objects : length l.self.objects ≡ length l.fn.self.objects;
-  counted : l.self.records ≡ l.fn.self.records + l.key-index;
-  in_time : IsInTime l.self.last (drop l.key-index l.records);
+  counted : l.self.records ≡ l.fn.self.records + l.i;
+  in_time : IsInTime l.self.last (drop l.i l.records.items);
 }

@@ -1,0 +1,11 @@
+//! Where a record stands.
+use event_key::Key;
+
+/// The key of an event, and which parts of a list are told of it.
+#[derive(Clone, Copy, Debug, PartialEq, Eq)]
+pub struct RecordHead {
+    pub key: Key,
+    /// The place of its first part.
+    pub start: u32,
+    pub count: u32,
+}
