@@ -1,5 +1,5 @@
 -- The parts of which a PHOLD model is made.
-use Rattle.std.specs.Prelude.{ℕ, ◌^◌, ◌<◌, ◌≤◌, Bool, IsTrue, List, length, All}
+use Rattle.std.specs.Prelude.{ℕ, ◌^◌, ◌<◌, ◌≤◌, Bool, IsTrue, List, length, max, All}
 use Rattle.event_key.specs.declared.key.TheConstants.{MOST_RANK}
 use Rattle.model_core.specs.declared.entry.Entry.{Entry}
 use Rattle.model_core.specs.declared.limits.TheConstants.{MOST_ENTRIES, MOST_OBJECTS}
@@ -20,6 +20,10 @@ pub record PholdParts : Type 0 where
 abbrev pub phold_parts : ℕ → ℕ → Law → Bool → ℕ → List Entry → ℕ → PholdParts
 phold_parts seed objects delay uniform each start rank =
     record { seed = seed; objects = objects; delay = delay; uniform = uniform; each = each; start = start; rank = rank }
+
+-- by what the word of a destination is divided: the number of objects, and 1 where there is none and so no event
+unfoldable pub divisor_of : ℕ → ℕ
+divisor_of objects = max objects 1
 
 -- an initial event at an object that there is
 pub record IsEntry (objects : ℕ) (entry : Entry) : Type 0 where

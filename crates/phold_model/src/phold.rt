@@ -1,6 +1,6 @@
 //! The model PHOLD.
-ghost use Rattle.std.specs.Prelude.{◌≡◌, ◌<◌, IsOkAnd, max};
-ghost use Rattle.phold_model.specs.Parts.{IsPhold, phold_parts};
+ghost use Rattle.std.specs.Prelude.{◌≡◌, ◌<◌, IsOkAnd};
+ghost use Rattle.phold_model.specs.Parts.{IsPhold, divisor_of, phold_parts};
 ghost use Rattle.phold_model.specs.Meaning.{phold_meaning, hop_start};
 
 use itoa::Buffer;
@@ -25,10 +25,10 @@ pub struct Phold {
     each: u32,
     start: Vec<Entry>,
     rank: u32,
-    // the number of objects, which is at least 1 wherever there is an event
+    // the number of objects, by which the word of a destination is divided
     evenly: Divisor,
     ghost in_range: { IsPhold (phold_parts seed objects delay uniform each start.items rank) },
-    ghost divides: { evenly ≡ max objects 1 },
+    ghost divides: { evenly ≡ divisor_of objects },
 }
 
 /// What an event draws at its object: a delay, a destination, and the place of the words after those that were read.
@@ -43,6 +43,7 @@ impl Phold {
     /// The model with these parts: a seed, a number of objects, the law of the delay, whether the destination is drawn
     /// evenly or is the next object, how many events each object has at time 0, further initial events, and the rank
     /// of what is sent and of the events at time 0. It takes no memory, and so is never refused.
+    #[tactic(auto, unfolding(crate::specs::Parts::divisor_of))]
     pub fn make(
         seed: u64,
         objects: u32,
@@ -88,7 +89,7 @@ impl Phold {
     ghost use Rattle.phold_model.specs.Views.{parts_of};
 
     /// What an event draws at an object whose random place is this, by a stream that may have the words at hand.
-    #[tactic(auto, unfolding(crate::specs::Meaning::hop_delay, crate::specs::Meaning::hop_dest, crate::specs::Meaning::hop_next))]
+    #[tactic(auto, unfolding(crate::specs::Meaning::hop_delay, crate::specs::Meaning::hop_dest, crate::specs::Meaning::hop_next, crate::specs::Parts::divisor_of))]
     fn hop(&self, words: &mut Stream, object: u32, place: u64) -> Hop
         requires { object < self.now.objects }
         ensures delay { result.delay ≡ hop_delay (parts_of self.now) object place }
