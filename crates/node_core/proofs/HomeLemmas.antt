@@ -116,15 +116,15 @@ module _ (nodes object node : ℕ) (homes counts : List ℕ) (can : CanRehome no
       let some = was-some in
       ⊎_elim
       (λ (same : number ≡ from).
-          let here = one_if-same (get_or homes object 0) number (from-at ∙ sym same) in
-          let less : get_or (slice_set counts from (was - 1)) number 0 ≡ was - 1
-              = ap (λ n. get_or (slice_set counts from (was - 1)) n 0) same ∙ get_or-set_same counts from (was - 1) 0 in_counts in
-          let had : get_or counts number 0 ≡ was = ap (λ n. get_or counts n 0) same ∙ was-at in
-          omega arith)
+      let here = one_if-same (get_or homes object 0) number (from-at ∙ sym same) in
+      let less : get_or (slice_set counts from (was - 1)) number 0 ≡ was - 1
+      = ap (λ n. get_or (slice_set counts from (was - 1)) n 0) same ∙ get_or-set_same counts from (was - 1) 0 in_counts in
+      let had : get_or counts number 0 ≡ was = ap (λ n. get_or counts n 0) same ∙ was-at in
+      omega arith)
       (λ other.
-          let away = one_if-other (get_or homes object 0) number (λ same. other (sym same ∙ from-at)) in
-          let rest = get_or-set_other counts from number (was - 1) 0 other in
-          omega arith)
+      let away = one_if-other (get_or homes object 0) number (λ same. other (sym same ∙ from-at)) in
+      let rest = get_or-set_other counts from number (was - 1) 0 other in
+      omega arith)
       (cases_eq number from)
 
   module _ (next_is : next ≡ get_or (slice_set counts from (was - 1)) node next) where
@@ -153,12 +153,12 @@ module _ (nodes object node : ℕ) (homes counts : List ℕ) (can : CanRehome no
           each = λ number inside.
               ⊎_elim
               (λ (same : number ≡ node).
-                  ap (λ n. get_or (slice_set less node (next + 1)) n 0) same ∙ get_or-set_same less node (next + 1) 0 (omega arith) ∙ node-count
-                  ∙ ap (λ n. count_of (slice_set homes object node) n) (sym same))
+              ap (λ n. get_or (slice_set less node (next + 1)) n 0) same ∙ get_or-set_same less node (next + 1) 0 (omega arith) ∙ node-count
+              ∙ ap (λ n. count_of (slice_set homes object node) n) (sym same))
               (λ other.
-                  let left = count-left number inside in
-                  let away = one_if-other node number (λ same. other (sym same)) in
-                  let rest = get_or-set_other less node number (next + 1) 0 other in
-                  omega arith)
+              let left = count-left number inside in
+              let away = one_if-other node number (λ same. other (sym same)) in
+              let rest = get_or-set_other less node number (next + 1) 0 other in
+              omega arith)
               (cases_eq number node);
         }
