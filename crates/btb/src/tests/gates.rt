@@ -203,14 +203,7 @@ fn a_node_processes_again_what_a_straggler_undid(rt: HostRuntime) -> Result<(), 
     ];
     for (depth, stamps) in [("0", plain.as_slice()), ("8", ahead.as_slice())] {
         let words = ["run", "--nodes", "1", "--ahead", depth];
-        assert_trace(
-            &rt,
-            words.as_slice(),
-            model.as_str(),
-            FALSE_FAULT_TEXT,
-            0,
-            stamps,
-        )?;
+        assert_trace(&rt, &words, model.as_str(), FALSE_FAULT_TEXT, 0, stamps)?;
     }
     Ok(())
 }
@@ -230,14 +223,7 @@ fn an_object_is_processed_at_the_node_whose_turn_it_was(rt: HostRuntime) -> Resu
         (1, one.as_slice()),
         (2, two.as_slice()),
     ] {
-        assert_trace(
-            &rt,
-            words.as_slice(),
-            shop.as_str(),
-            SHOP_TEXT,
-            node,
-            stamps,
-        )?;
+        assert_trace(&rt, &words, shop.as_str(), SHOP_TEXT, node, stamps)?;
     }
     Ok(())
 }
@@ -264,14 +250,7 @@ fn an_object_goes_to_a_node_that_has_less_to_do(rt: HostRuntime) -> Result<(), F
     let one = [at(0, 0), at(10, 0), at(15, 0), at(20, 0)];
     let words = ["run", "--nodes", "2", "--moves", "load"];
     for (node, stamps) in [(0, zero.as_slice()), (1, one.as_slice())] {
-        assert_trace(
-            &rt,
-            words.as_slice(),
-            model.as_str(),
-            LONGER_TIE_TEXT,
-            node,
-            stamps,
-        )?;
+        assert_trace(&rt, &words, model.as_str(), LONGER_TIE_TEXT, node, stamps)?;
     }
     Ok(())
 }
