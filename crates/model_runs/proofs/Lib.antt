@@ -1,2 +1,1 @@
-pub mod MovingLemmas
 pub mod SavingLemmas

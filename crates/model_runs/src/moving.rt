@@ -16,66 +16,58 @@ use node_team::Team;
 use object_moves::{Move, plan_by_load};
 use release_lanes::RingLanes;
 use sim_io::Moves;
-use sim_spec::Bucket;
 use std::alloc::Global;
 
-/// Which objects move, and how many whole cycles there were. They move after each of these, and never after one that a fault
-/// or the limit cut.
+/// Which objects move, and how many cycles there were. Moves come before the next cycle, so all of these were whole: after
+/// one that a fault or the limit cut there is none.
 #[derive(Clone, Copy, Debug, PartialEq, Eq)]
 pub struct Moving {
     moves: Option<Moves>,
-    whole_cycles: u64,
-    was_whole: bool,
+    cycles: u64,
 }
 
-/// The objects take turns, and so do the nodes: after whole cycle c the one object goes to the one node whose turn it is.
-fn move_in_turn(alloc: Global, homes: &Homes, whole_cycles: u64) -> Result<Vec<Move>, OutOfMemory>
+/// The objects take turns, and so do the nodes: after so many cycles the one object goes to the one node whose turn it is.
+fn move_in_turn(alloc: Global, homes: &Homes, cycles: u64) -> Result<Vec<Move>, OutOfMemory>
     ensures { IfOk result (λ plan. AllByRecursion (Exists homes.now) plan.items) }
 {
     let objects = homes.objects();
     if objects == 0 {
         return Ok(Vec::new(alloc));
     }
-    let object = (whole_cycles.saturating_sub(1) % u64::from(objects)) as u32;
-    let node = (whole_cycles % u64::from(homes.nodes())) as u32;
+    let object = (cycles.saturating_sub(1) % u64::from(objects)) as u32;
+    let node = (cycles % u64::from(homes.nodes())) as u32;
     let mut plan = Vec::new(alloc);
     plan.push(Move { object, node })?;
     Ok(plan)
 }
 
-/// What moves after so many whole cycles.
+/// What moves after so many cycles.
 fn next_moves(
     alloc: Global,
     world: &World<AnyModel>,
     moves: Moves,
-    whole_cycles: u64,
+    cycles: u64,
 ) -> Result<Vec<Move>, OutOfMemory>
     requires { HasNodes world.now }
     ensures { IfOk result (λ plan. AllByRecursion (Exists world.now.homes) plan.items) }
 {
     match moves {
         Moves::Load => plan_by_load(alloc, world),
-        Moves::Turn => move_in_turn(alloc, world.homes(), whole_cycles),
+        Moves::Turn => move_in_turn(alloc, world.homes(), cycles),
     }
 }
 
 impl Moving {
     /// Before the first cycle.
     pub fn new(moves: Option<Moves>) -> Moving {
-        Moving {
-            moves,
-            whole_cycles: 0,
-            was_whole: false,
-        }
+        Moving { moves, cycles: 0 }
     }
 
     /// After one cycle more.
-    pub fn after(self, bucket: &Bucket) -> Moving {
-        let was_whole = bucket.fault.is_none() && !bucket.limited;
+    pub fn after(self) -> Moving {
         Moving {
             moves: self.moves,
-            whole_cycles: self.whole_cycles.saturating_add(u64::from(was_whole)),
-            was_whole,
+            cycles: self.cycles.saturating_add(1),
         }
     }
 
@@ -90,13 +82,13 @@ impl Moving {
         ensures model { team.new.world.model ≡ team.old.world.model }
         ensures terms { team.new.world.terms ≡ team.old.world.terms }
     {
-        if !self.was_whole {
+        if self.cycles == 0 {
             return Ok(());
         }
         let Some(moves) = self.moves else {
             return Ok(());
         };
-        let plan = next_moves(alloc, team.world(), moves, self.whole_cycles)?;
+        let plan = next_moves(alloc, team.world(), moves, self.cycles)?;
         team.move_objects(alloc, plan.as_slice())
     }
 }

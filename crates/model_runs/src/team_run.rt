@@ -77,9 +77,9 @@ impl TeamRun {
         })
     }
 
-    /// Makes the moves that come before the next cycle. After a refusal the world is spent.
+    /// Makes the moves that come before the next cycle, where there is one. After a refusal the world is spent.
     fn make_moves(&mut self, alloc: Global) -> Result<(), OutOfMemory>
-        requires { (at : Standing) × WorldStandsAt meaning_of self.old.team.world at }
+        requires { GoesOn meaning_of self.old.team.world }
         ensures at { OnOk result ((at : Standing) → WorldStandsAt meaning_of self.old.team.world at → WorldStandsAt meaning_of self.new.team.world at) }
         ensures spent { OnErr result (self.new.team.world.is_spent ≡ true) }
         ensures model { self.new.team.world.model ≡ self.old.team.world.model }
@@ -115,7 +115,8 @@ impl TeamRun {
         }
     }
 
-    /// One cycle, by so many workers where there are some. What moves after a whole cycle does so before the next one.
+    /// One cycle, by so many workers where there are some. What moves after a cycle does so before the next one: nothing moves
+    /// after the last.
     pub fn cycle<R: Threads + Sync, G: Gate>(
         &mut self,
         rt: &R,
@@ -129,7 +130,7 @@ impl TeamRun {
     {
         self.make_moves(alloc)?;
         let bucket = self.cycle_team(rt, alloc, workers, gate)?;
-        self.moving = self.moving.after(&bucket);
+        self.moving = self.moving.after();
         Ok(bucket)
     }
 }

@@ -312,7 +312,8 @@ impl<M: SimulationModel> Node<M> {
     }
 
     /// Takes an object out, with its log and the events that wait for it, and has homes under which it is elsewhere. Takes
-    /// no memory, and time linear in how many events wait at the node.
+    /// no memory. It costs a step of the queue for each event that waits at the node, whosever it is: the queue keeps no list
+    /// for each object.
     pub fn take_out(&mut self, object: u32, homes: Arc<Homes>) -> Moved
         requires here { IsHome (M.meaning self.old.model) (home self.old) self.old.number object }
         requires homes { AreAlikeBut object self.old.homes (arc_value homes) }

@@ -3,11 +3,12 @@ ghost use Rattle.std.specs.Prelude.{◌<◌};
 
 use super::networks::SHOP_TEXT;
 use super::nodes::{FALSE_FAULT_TEXT, false_fault, shop};
-use super::{Ended, answer_at, sink_of, source_of};
+use super::{Ended, TIE, answer_at, sink_of, source_of};
 use event_key::Key;
 use node_team::Gate;
 use std::alloc::{AllocGlobal, Global};
 use std::hint;
+use std::process::Abort;
 use std::sync::atomic::{AtomicBool, AtomicU64, Ordering};
 use std::test::Fail;
 use std::thread::Threads;
@@ -147,6 +148,23 @@ impl Gate for Trace {
     }
 }
 
+/// A node processes events of just these stamps, in this order, and the run has this text.
+fn assert_trace<R: Abort + AllocGlobal + Threads + Sync>(
+    rt: &R,
+    words: &[&str],
+    model: &str,
+    text: &str,
+    node: u32,
+    stamps: &[u64],
+) -> Result<(), Fail> {
+    let alloc = rt.alloc();
+    let gate = Trace::new(alloc, node)?;
+    let run = told_at(rt, words, model, &gate)?;
+    assert_eq!(rt; run.text.as_str(), text);
+    assert_eq!(rt; gate.told(alloc)?.as_slice(), stamps);
+    Ok(())
+}
+
 /// The stamp of a tick and a step.
 fn at(tick: u64, step: u64) -> u64
     requires tick { tick < 100 }
@@ -184,11 +202,55 @@ fn a_node_processes_again_what_a_straggler_undid(rt: HostRuntime) -> Result<(), 
         at(18, 1),
     ];
     for (depth, stamps) in [("0", plain.as_slice()), ("8", ahead.as_slice())] {
-        let gate = Trace::new(alloc, 0)?;
         let words = ["run", "--nodes", "1", "--ahead", depth];
-        let run = told_at(&rt, words.as_slice(), model.as_str(), &gate)?;
-        assert_eq!(rt; run.text.as_str(), FALSE_FAULT_TEXT);
-        assert_eq!(rt; gate.told(alloc)?.as_slice(), stamps);
+        assert_trace(&rt, &words, model.as_str(), FALSE_FAULT_TEXT, 0, stamps)?;
+    }
+    Ok(())
+}
+
+// The source goes to node 1 after the first cycle, the station to node 2 after the second, the sink to node 0 after the
+// third.
+#[test]
+fn an_object_is_processed_at_the_node_whose_turn_it_was(rt: HostRuntime) -> Result<(), Fail> {
+    let shop = shop(rt.alloc())?;
+    let zero = [at(1, 0), at(4, 1), at(7, 1), at(10, 1)];
+    let one = [at(1, 1), at(3, 0), at(5, 0)];
+    // what it does at 7.0 it undoes once the third job has come
+    let two = [at(3, 1), at(4, 0), at(7, 0), at(5, 1), at(7, 0), at(10, 0)];
+    let words = ["run", "--nodes", "3", "--moves", "turn"];
+    for (node, stamps) in [
+        (0, zero.as_slice()),
+        (1, one.as_slice()),
+        (2, two.as_slice()),
+    ] {
+        assert_trace(&rt, &words, shop.as_str(), SHOP_TEXT, node, stamps)?;
+    }
+    Ok(())
+}
+
+/// The text of `TIE` up to the tick 20.
+const LONGER_TIE_TEXT: &str = "0.0 p1 hop 5 2
+5.0 p0 hop 5 1
+5.0 p2 hop 5 0
+10.0 p0 hop 5 1
+10.0 p1 hop 5 2
+15.0 p1 hop 5 2
+15.0 p2 hop 5 0
+20.0 p0 hop 5 1
+20.0 p2 hop 5 0
+end 20 events 9
+";
+
+// After the first cycle node 0 has both events and two objects. So p0 goes to node 1, with the event that it has processed at
+// 5, and back after the second cycle; and to node 1 again after the fourth.
+#[test]
+fn an_object_goes_to_a_node_that_has_less_to_do(rt: HostRuntime) -> Result<(), Fail> {
+    let model = TIE.replace(rt.alloc(), "end = 9", "end = 20")?;
+    let zero = [at(5, 0), at(5, 0), at(10, 0), at(15, 0), at(20, 0)];
+    let one = [at(0, 0), at(10, 0), at(15, 0), at(20, 0)];
+    let words = ["run", "--nodes", "2", "--moves", "load"];
+    for (node, stamps) in [(0, zero.as_slice()), (1, one.as_slice())] {
+        assert_trace(&rt, &words, model.as_str(), LONGER_TIE_TEXT, node, stamps)?;
     }
     Ok(())
 }

@@ -6,7 +6,7 @@ use Rattle.delta_exchange.specs.declared.memory.OutOfMemory.{OutOfMemory}
 use Rattle.sim_spec.specs.declared.bucket.Bucket.{Bucket}
 use Rattle.cycle_core.specs.Standings.{HasCycled}
 use Rattle.model_text.specs.Meanings.{meaning_of}
-use Rattle.model_runs.proofs.MovingLemmas.{spent-cycled}
+use Rattle.cycle_core.proofs.SpentCycles.{spent-cycled}
 use Rattle.model_runs.proofs.team_run.TeamRun.cycle.Goals as goal
 
 pub returns-in_err-make_moves : goal.returns-in_err-make_moves

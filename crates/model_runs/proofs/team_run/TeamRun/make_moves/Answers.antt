@@ -7,4 +7,4 @@ use Rattle.model_runs.proofs.team_run.TeamRun.make_moves.Goals as goal
 pub make_next-requires : goal.make_next-requires
 make_next-requires c =
     let awake = sym (c.is_spent.ensures ∙ ap (λ w. w.is_spent) c.world.ensures) ∙ c.if-is_spent.false in
-    state-of meaning_of c.args.self.now.team.world awake c.requires
+    state-of meaning_of c.args.self.now.team.world awake (c.requires.at, c.requires.stands)
