@@ -46,6 +46,8 @@ fn merge_two(
         }
     }
     merged.extend_from(left, i);
+    // takes no memory, since all found room before
+    merged.reserve(right.len() - j)?;
     merged.extend_from(right, j);
     left.clear();
     right.clear();

@@ -10,9 +10,9 @@ heads-preserved-then-is_before c =
     let left = c.args.left.now.items in
     let right = c.args.right.now.items in
     let x : Key × Note = (c.at.result.0.now, c.at.result.1.now) in
-    let y : Key × Note = (c.at-2.result.0.now, c.at-2.result.1.now) in
+    let y : Key × Note = (c.at-in-heads.result.0.now, c.at-in-heads.result.1.now) in
     let more = merging-left left right c.heads.i c.heads.j c.heads.merged.items c.heads.invariant.merging x y x y (omega arith) (omega arith)
-    (sym (get_or_from_slice_get left c.heads.i x x c.at.ensures.told)) (sym (get_or_from_slice_get right c.heads.j y y c.at-2.ensures.told)) (sym c.is_before.ensures ∙ c.if-is_before.true) in
+    (sym (get_or_from_slice_get left c.heads.i x x c.at.ensures.told)) (sym (get_or_from_slice_get right c.heads.j y y c.at-in-heads.ensures.told)) (sym c.is_before.ensures ∙ c.if-is_before.true) in
     let room = c.push_from.ensures.room in
     let before = c.heads.invariant.room in
     record {
@@ -25,12 +25,12 @@ heads-preserved c =
     let left = c.args.left.now.items in
     let right = c.args.right.now.items in
     let x : Key × Note = (c.at.result.0.now, c.at.result.1.now) in
-    let y : Key × Note = (c.at-2.result.0.now, c.at-2.result.1.now) in
+    let y : Key × Note = (c.at-in-heads.result.0.now, c.at-in-heads.result.1.now) in
     let more = merging-right left right c.heads.i c.heads.j c.heads.merged.items c.heads.invariant.merging x y x y (omega arith) (omega arith)
-    (sym (get_or_from_slice_get left c.heads.i x x c.at.ensures.told)) (sym (get_or_from_slice_get right c.heads.j y y c.at-2.ensures.told)) (sym c.is_before.ensures ∙ c.if-is_before.false) c.requires.differ in
-    let room = c.push_from-2.ensures.room in
+    (sym (get_or_from_slice_get left c.heads.i x x c.at.ensures.told)) (sym (get_or_from_slice_get right c.heads.j y y c.at-in-heads.ensures.told)) (sym c.is_before.ensures ∙ c.if-is_before.false) c.requires.differ in
+    let room = c.push_from-else-is_before.ensures.room in
     let before = c.heads.invariant.room in
     record {
-      merging = rw add-one (subst (IsMerging left right c.heads.i (suc c.heads.j)) (sym (c.push_from-2.ensures.items y c.at-2.ensures.told)) more);
+      merging = rw add-one (subst (IsMerging left right c.heads.i (suc c.heads.j)) (sym (c.push_from-else-is_before.ensures.items y c.at-in-heads.ensures.told)) more);
       room = omega (arith, room, before);
     }
