@@ -17,6 +17,8 @@ pub struct Lists {
     pub parcels: Vec<Chain<Event>>,
     /// Where records are merged.
     pub spare: RecordBuffer,
+    /// Where those of all nodes are put, whatever it holds.
+    pub told: RecordBuffer,
 }
 
 /// Lists for the commits of so many nodes.
@@ -39,6 +41,7 @@ impl Lists {
             committed: blank_commits(alloc, nodes)?,
             parcels: no_parcels(alloc, nodes as usize)?,
             spare: RecordBuffer::new(alloc),
+            told: RecordBuffer::new(alloc),
         })
     }
 }

@@ -6,7 +6,6 @@ ghost use Rattle.cycle_core.specs.Records.{AreInOrder, RecordsDiffer, HaveGiven,
 
 use model_core::{OutOfMemory, RecordBuffer};
 use node_core::Committed;
-use std::alloc::Global;
 use std::mem;
 
 /// Two lists as one, in time linear in their records. Both are left empty. A list that is alone is handed on as it is.
@@ -32,7 +31,10 @@ fn merge_two(
         mem::swap(right, merged);
         return Ok(());
     }
-    merged.reserve(left.len() + right.len())?;
+    let Some(records) = left.len().checked_add(right.len()) else {
+        return Err(OutOfMemory);
+    };
+    merged.reserve(records)?;
     let (mut i, mut j) = (0, 0);
     'heads: while i < left.len() && j < right.len() {
         if left.at(i).0.is_before(right.at(j).0) {
@@ -44,6 +46,8 @@ fn merge_two(
         }
     }
     merged.extend_from(left, i);
+    // takes no memory, since all found room before
+    merged.reserve(right.len() - j)?;
     merged.extend_from(right, j);
     left.clear();
     right.clear();
@@ -112,11 +116,11 @@ fn only_told(committed: &[Committed]) -> Option<usize>
 }
 
 /// All records of these commits in the order of their keys, in time linear in their number and logarithmic in that of
-/// the commits. They are taken out of their lists, which keep their room. Where one commit alone tells of something, its
-/// list is handed out as it is.
+/// the commits. They are taken out of their lists and put into `told`, whatever that holds. Where one commit alone tells of
+/// something, its list is handed out as it is, and has the room of `told` then.
 pub fn merge(
-    alloc: Global,
     committed: &mut [Committed],
+    told: RecordBuffer,
     spare: &mut RecordBuffer,
 ) -> Result<RecordBuffer, OutOfMemory>
     requires ordered { AllByRecursion (λ c. AreInOrder c.done.items) committed.old }
@@ -127,7 +131,8 @@ pub fn merge(
     ensures given { OnOk result (HaveGiven committed.old committed.new) }
     ensures spare { OnOk result (spare.new.items ≡ []) }
 {
-    let mut merged = RecordBuffer::new(alloc);
+    let mut merged = told;
+    merged.clear();
     let count = committed.len();
     if count == 0 {
         return Ok(merged);

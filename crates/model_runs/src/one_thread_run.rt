@@ -45,7 +45,7 @@ impl Engine for OneThreadRun {
     ghost stands_at = { λ run at. run.engine.standing ≡ at };
 
     fn give_back(&mut self, records: Records) {
-        self.engine.give_back(records)
+        self.engine.give_back(records);
     }
 
     fn ended(&self) -> Option<Stop> {

@@ -146,7 +146,7 @@ impl Engine for TeamRun {
     ghost stands_at = { λ run. WorldStandsAt meaning_of run.team.world };
 
     fn give_back(&mut self, records: Records) {
-        let _ = records;
+        self.team.give_back(records);
     }
 
     fn ended(&self) -> Option<Stop> {

@@ -7,7 +7,7 @@ mod station;
 use driven::Driven;
 use event_key::{INITIAL, Key, stamp_of};
 use model_core::model::Model as SimulationModel;
-use model_core::{Event, Note};
+use model_core::{Event, Part};
 use model_text::AnyModel;
 use node_core::{Step, Tallies};
 use std::alloc::Global;
@@ -49,26 +49,28 @@ fn assert_step<R: Abort>(
     Ok(())
 }
 
-/// Commits what is below the horizon: this event alone, which sent one event, to this node. Answers what is told of
-/// it, and what it sent.
+/// Commits what is below the horizon: this event alone, of which one part is told and which sent one event, to this node.
+/// Answers that part, and what it sent.
 fn commit_one<R: Abort, M: SimulationModel>(
     rt: &R,
     alloc: Global,
     driven: &mut Driven<M>,
     horizon: u64,
     event: &Event,
-) -> Result<(Note, Event), Fail> {
+) -> Result<(Part, Event), Fail> {
     let mut committed = driven.commit(rt, alloc, horizon, None)?;
     assert!(rt; committed.done.len() == 1);
-    let (key, note) = committed.done[0];
-    assert!(rt; key == event.key);
+    let (key, parts) = committed.done.at(0);
+    assert!(rt; *key == event.key);
+    assert!(rt; parts.len() == 1);
+    let part = parts[0];
     assert!(rt; committed.out.len() == 1);
     let parcel = &mut committed.out[0];
     assert!(rt; parcel.len() == 1);
     let Some(sent) = parcel.pop_front() else {
         return Err(Fail::from("nothing was sent"));
     };
-    Ok((note, sent.into_inner()))
+    Ok((part, sent.into_inner()))
 }
 
 /// What the node counted: how many events it processed, undid and committed, and how many are processed now.

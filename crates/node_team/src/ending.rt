@@ -45,6 +45,7 @@ fn end_nodes<R: Threads + Sync, M: SimulationModel, L: Lanes>(
     lanes: &mut L,
     due: &Due,
     parts: Parts<M, L::End>,
+    told: RecordBuffer,
     spare: &mut RecordBuffer,
 ) -> Result<Ended<M>, OutOfMemory>
     requires out { L.are_out lanes.old parts.ends.items }
@@ -72,7 +73,7 @@ fn end_nodes<R: Threads + Sync, M: SimulationModel, L: Lanes>(
     know_all(&nodes);
     receive_arrived(alloc, nodes.as_mut_slice(), inboxes.as_mut_slice())?;
     know_all(&nodes);
-    let records = merge(alloc, committed.as_mut_slice(), spare)?;
+    let records = merge(committed.as_mut_slice(), told, spare)?;
     Ok(Ended {
         nodes,
         committed,
@@ -127,6 +128,7 @@ pub fn end_world<R: Threads + Sync, M: SimulationModel, L: Lanes>(
         committed,
         parcels,
         mut spare,
+        told,
     } = lists;
     let nodes = world.take_nodes();
     know_all(&nodes);
@@ -143,7 +145,7 @@ pub fn end_world<R: Threads + Sync, M: SimulationModel, L: Lanes>(
         below: cut.below,
     };
     let threads = kept.load.commit_threads();
-    let ended = end_nodes(rt, alloc, threads, lanes, &due, parts, &mut spare)?;
+    let ended = end_nodes(rt, alloc, threads, lanes, &due, parts, told, &mut spare)?;
     let Ended {
         nodes,
         committed,
@@ -155,6 +157,7 @@ pub fn end_world<R: Threads + Sync, M: SimulationModel, L: Lanes>(
         committed,
         parcels,
         spare,
+        told: RecordBuffer::new(alloc),
     });
     kept.inboxes = inboxes;
     kept.load = kept.load.after(processed, records.len() as u64);

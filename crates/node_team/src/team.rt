@@ -12,8 +12,8 @@ use crate::cycling::cycle;
 use crate::gate::Gate;
 use crate::kept::Kept;
 use cycle_core::{State, World};
-use model_core::OutOfMemory;
 use model_core::model::Model as SimulationModel;
+use model_core::{OutOfMemory, Records};
 use object_moves::{Move, move_objects};
 use release_lanes::Lanes;
 use sim_spec::{Bucket, Stop};
@@ -120,6 +120,13 @@ impl<M: SimulationModel, L: Lanes + Drop> Team<M, L> {
         ensures ahead { self.new.ahead ≡ self.old.ahead }
     {
         move_objects(alloc, &mut self.world, moves)
+    }
+
+    /// Takes back the records of a bucket that nobody reads any more: those of a later one are put where they stood.
+    pub fn give_back(&mut self, records: Records)
+        ensures { self.new ≡ self.old }
+    {
+        self.world.give_back(records);
     }
 
     /// Spends the world: no later cycle is answered.

@@ -51,7 +51,7 @@ fn ahead<R: Abort>(rt: &R, alloc: Global) -> Result<Driven<AnyModel>, Fail> {
 fn a_straggler_rolls_back_its_own_object_alone(rt: HostRuntime) -> Result<(), Fail> {
     let alloc = rt.alloc();
     let mut driven = ahead(&rt, alloc)?;
-    let (_note, late) = commit_one(&rt, alloc, &mut driven, at(5), &hop(0, 0, 0))?;
+    let (_part, late) = commit_one(&rt, alloc, &mut driven, at(5), &hop(0, 0, 0))?;
     let key = late.key;
     assert!(rt; key.stamp == at(5) && key.dest == 1);
     let undone = driven.receive(&rt, alloc, late)?;

@@ -2,7 +2,7 @@
 use super::driven::Driven;
 use super::{assert_counts, assert_step, at, commit_one, initial};
 use event_key::{Key, NO_STAMP, stamp_of};
-use model_core::{Event, Note, Part};
+use model_core::{Event, Part};
 use model_text::{AnyModel, read_model};
 use node_core::Step;
 use std::alloc::Global;
@@ -57,12 +57,12 @@ fn first_done() -> Event {
     }
 }
 
-fn told(word: u32, job: u64, waiting: u64) -> Note {
-    Note::of(Part {
+fn told(word: u32, job: u64, waiting: u64) -> Part {
+    Part {
         word,
         a: job,
         b: waiting,
-    })
+    }
 }
 
 /// The node with a job at 5, 10 and 11, all of which it has processed. Without the end of job 1 at 9 job 2 waits, and
@@ -85,8 +85,8 @@ fn a_straggler_takes_back_a_fault(rt: HostRuntime) -> Result<(), Fail> {
     let mut driven = ahead(&rt, alloc)?;
     assert!(rt; driven.node.faulted() == Some((arrival(11, 2).key, 2)));
     assert!(rt; driven.held() == at(9));
-    let (note, sent) = commit_one(&rt, alloc, &mut driven, at(9), &arrival(5, 0))?;
-    assert!(rt; note == told(3, 1, 0));
+    let (part, sent) = commit_one(&rt, alloc, &mut driven, at(9), &arrival(5, 0))?;
+    assert!(rt; part == told(3, 1, 0));
     assert!(rt; sent == first_done());
     let undone = driven.receive(&rt, alloc, sent)?;
     assert!(rt; undone == 2);
@@ -138,8 +138,8 @@ fn a_refused_step_may_be_made_again(rt: HostRuntime) -> Result<(), Fail> {
         assert_eq!(rt; step_to_idle(&rt, alloc, &mut driven)?, 1);
         assert_counts(&rt, &driven, 3, 0, 0, 3);
         assert!(rt; driven.node.faulted() == Some((arrival(11, 2).key, 2)));
-        let (note, sent) = commit_one(&rt, alloc, &mut driven, at(9), &arrival(5, 0))?;
-        assert!(rt; note == told(3, 1, 0));
+        let (part, sent) = commit_one(&rt, alloc, &mut driven, at(9), &arrival(5, 0))?;
+        assert!(rt; part == told(3, 1, 0));
         assert!(rt; sent == first_done());
         let undone = driven.receive(&rt, alloc, sent)?;
         assert!(rt; undone == 2);

@@ -21,9 +21,11 @@ fn put_bucket<R: Abort>(
     bucket: &Bucket,
     text: &mut Vec<u8>,
 ) -> Result<(), Fail> {
-    for (key, note) in bucket.done.as_slice() {
+    let records = bucket.done.as_buffer();
+    for i in 0..records.len() {
+        let (key, parts) = records.at(i);
         assert!(rt; key.dest < names.objects());
-        put_done(alloc, names, key, note, text)?;
+        put_done(alloc, names, key, parts, text)?;
     }
     Ok(())
 }

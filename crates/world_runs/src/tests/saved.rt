@@ -9,8 +9,8 @@ use super::{FALSE_FAULT, PLACEMENTS, SHOP, network_of};
 use cycle_core::{State, World};
 use event_key::{Key, stamp_of};
 use model_core::model::Model as SimulationModel;
-use model_core::{Cells, Event, Note, OutOfMemory};
-use sim_spec::{Placement, Terms};
+use model_core::{Cells, Event, OutOfMemory, Part};
+use sim_spec::{Bucket, Placement, Terms};
 use std::alloc::Global;
 use std::process::Abort;
 use std::sync::Arc;
@@ -75,12 +75,26 @@ struct Nodes {
     ghost high: { count ≤ 64 },
 }
 
+/// Appends the records of a bucket.
+fn put_told(
+    alloc: Global,
+    bucket: &Bucket,
+    into: &mut Vec<(Key, Vec<Part>)>,
+) -> Result<(), OutOfMemory> {
+    let records = bucket.done.as_buffer();
+    for i in 0..records.len() {
+        let (key, parts) = records.at(i);
+        into.push((*key, parts.to_vec(alloc)?))?;
+    }
+    Ok(())
+}
+
 /// Runs a world for at most so many cycles, and appends what it did.
 fn run_on<M: SimulationModel>(
     alloc: Global,
     world: &mut World<M>,
     cycles: usize,
-    done: &mut Vec<(Key, Note)>,
+    done: &mut Vec<(Key, Vec<Part>)>,
 ) -> Result<(), OutOfMemory>
     requires { (s : State) × StandsAt (M.meaning world.old.model) world.old s }
     ensures same { IsSameWorld world.old world.new }
@@ -91,7 +105,7 @@ fn run_on<M: SimulationModel>(
             return Ok(());
         }
         let bucket = world.cycle_alone(alloc)?;
-        done.extend_from_slice(bucket.done.as_slice())?;
+        put_told(alloc, &bucket, done)?;
     }
     Ok(())
 }
@@ -104,7 +118,7 @@ fn done_saved<M: SimulationModel>(
     nodes: Nodes,
     others: Nodes,
     cycles: usize,
-) -> Result<Vec<(Key, Note)>, OutOfMemory> {
+) -> Result<Vec<(Key, Vec<Part>)>, OutOfMemory> {
     let mut done = Vec::new(alloc);
     let mut world = World::begin(
         alloc,
@@ -133,7 +147,7 @@ fn done_whole<M: SimulationModel>(
     model: &Arc<M>,
     terms: Terms,
     nodes: Nodes,
-) -> Result<Vec<(Key, Note)>, OutOfMemory> {
+) -> Result<Vec<(Key, Vec<Part>)>, OutOfMemory> {
     let mut done = Vec::new(alloc);
     let model = Arc::clone(model)?;
     let mut world = World::begin(alloc, model, terms, nodes.count, nodes.placement)?;

@@ -7,8 +7,8 @@ ghost use Rattle.model_text.specs.Meanings.{meaning_of};
 ghost use Rattle.cycle_core.specs.Standings.{WorldStandsAt, GoesOn, HasCycled};
 
 use cycle_core::{Cut, World};
-use model_core::OutOfMemory;
 use model_core::model::Model as SimulationModel;
+use model_core::{OutOfMemory, Records};
 use model_text::AnyModel;
 use node_core::{Node, Tallies};
 use sim_io::MemSink;
@@ -151,6 +151,10 @@ impl Engine for AnyRun {
 
     fn count(&self) -> u64 {
         self.run.count()
+    }
+
+    fn give_back(&mut self, records: Records) {
+        let _ = records;
     }
 }
 

@@ -11,10 +11,10 @@ use Rattle.cycle_core.proofs.SentLemmas.{told_by-none}
 use Rattle.cycle_core.proofs.merging.merge.Goals as goal
 
 pub returns-then-count-eq0-clause-permutes : goal.returns-then-count-eq0-clause-permutes
-returns-then-count-eq0-clause-permutes c = permutes-same _ _ (c.new-merged.ensures.items ∙ sym (told_by-none c.args.committed.now c.if-count-eq0.true))
+returns-then-count-eq0-clause-permutes c = permutes-same _ _ (c.clear.ensures ∙ sym (told_by-none c.args.committed.now c.if-count-eq0.true))
 
 pub returns-then-count-eq0-clause-ordered : goal.returns-then-count-eq0-clause-ordered
-returns-then-count-eq0-clause-ordered c = in-order-none _ c.new-merged.ensures.items
+returns-then-count-eq0-clause-ordered c = in-order-none _ c.clear.ensures
 
 pub returns-in-Some-clause-permutes : goal.returns-in-Some-clause-permutes
 returns-in-Some-clause-permutes c =
@@ -32,7 +32,7 @@ returns-in-Some-clause-given c =
     let is = c.in-Some.ensures.some in
     let one = get_or all only c.index-committed-only.result in
     let at = slice_get-get_or all only c.index-committed-only.result is.within in
-    given-only all only one (record one { done = c.swap.new.x }) at is.others refl (ap (λ v. v.items) c.swap.ensures.x_after ∙ c.new-merged.ensures.items)
+    given-only all only one (record one { done = c.swap.new.x }) at is.others refl (ap (λ v. v.items) c.swap.ensures.x_after ∙ c.clear.ensures)
 
 pub merge_all-requires-clause-differ : goal.merge_all-requires-clause-differ
 merge_all-requires-clause-differ c =

@@ -13,7 +13,7 @@ loop-i-preserved-then-is_empty c =
     let place = c.loop-i.i in
     let x = get_or all place c.index-committed-i.result in
     let none = eqb-true _ 0 (sym c.is_empty.ensures ∙ c.if-is_empty.true) in
-    only-more all place c.loop-i.only c.loop-i.told x c.loop-i.invariant (slice_get-get_or all place c.index-committed-i.result c.loop-i-test.true) (nil_from_length x.done.items (sym x.done.ok.0 ∙ none))
+    only-more all place c.loop-i.only c.loop-i.told x c.loop-i.invariant (slice_get-get_or all place c.index-committed-i.result c.loop-i-test.true) (nil_from_length x.done.items none)
 
 pub loop-i-preserved : goal.loop-i-preserved
 loop-i-preserved c =

@@ -58,7 +58,7 @@ finish-requires-clause-count g c lifetimes outlives =
     c.close_cycle.ensures.world c.close_cycle.ensures.works c.in_ok-bound.ensures.closed (λ s at. c.close_cycle.ensures.stands s at) c.end_world.ensures.laws (λ place x at. c.in_ok-records.ensures.known place x at)
     c.in_ok-cut.cut c.in_ok-cut.ensures c.end_world.new.world records (λ place x at. c.in_ok-records.ensures.known_now place x at) c.in_ok-records.ensures.world c.in_ok-records.ensures.ended c.requires.stands.0 c.requires.stands.1 in
     let fits = cycled.fits in
-    let long : c.len.result ≡ length records = c.len.ensures ∙ c.in_ok-records.records.ok.0 in
+    let long : c.len.result ≡ length records = c.len.ensures in
     omega arith
 
 pub returns-clause-bucket : goal.returns-clause-bucket
@@ -84,7 +84,7 @@ returns-clause-stands g c s stands =
     c.close_cycle.ensures.world c.close_cycle.ensures.works c.in_ok-bound.ensures.closed (λ s at. c.close_cycle.ensures.stands s at) c.end_world.ensures.laws (λ place x at. c.in_ok-records.ensures.known place x at)
     c.in_ok-cut.cut c.in_ok-cut.ensures c.end_world.new.world records (λ place x at. c.in_ok-records.ensures.known_now place x at) c.in_ok-records.ensures.world c.in_ok-records.ensures.ended s stands in
     let w4 = c.end_world.new.world in
-    let long : c.len.result ≡ length records = c.len.ensures ∙ c.in_ok-records.records.ok.0 in
+    let long : c.len.result ≡ length records = c.len.ensures in
     let m = g.M.Model.meaning w0.model in
     let S : ℕ → Type 0 = λ n. StandsAt m (record w4 { count = w4.count + n; fault = c.in_ok-cut.cut.fault }) (after m w0.terms s) in
     rw c.finish.ensures (subst S (sym long) cycled.stands)

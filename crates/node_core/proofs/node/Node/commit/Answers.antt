@@ -41,7 +41,7 @@ invariant_of-self-2 g c =
     let H : HomesView → Type 0 = λ h. HasHandedOut h c.args.horizon c.args.cut i.store c.commit.new.self told out in
     node-committed m i.terms i.number (arc_value i.homes) i.store c.commit.new.self counts (record { laws = subst L c.deref.ensures c.keeps_laws.ensures; node = c.self.invariant; store = c.tells.ensures })
     c.args.horizon c.args.cut told out (subst H c.deref-2.ensures c.in_ok-commit.ensures.ok)
-    c.len.result (c.len.ensures ∙ c.commit.new.into.done.ok.0) _ refl
+    c.len.result c.len.ensures _ refl
 
 pub returns-clause-ok : goal.returns-clause-ok
 returns-clause-ok g c =
@@ -58,4 +58,4 @@ returns-clause-ok g c =
     subst P c.self.view_is
     (committed-whole m i.terms i.number (arc_value i.homes) i.store c.commit.new.self counts (record { laws = subst L c.deref.ensures c.keeps_laws.ensures; node = c.self.invariant; store = c.tells.ensures })
     c.args.horizon c.args.cut told out (subst H c.deref-2.ensures c.in_ok-commit.ensures.ok) c.tells-2.ensures (subst D (sym c.self.view_is) c.requires.done)
-    (arc_value i.model) i.work i.met c.len.result (c.len.ensures ∙ c.commit.new.into.done.ok.0))
+    (arc_value i.model) i.work i.met c.len.result c.len.ensures)

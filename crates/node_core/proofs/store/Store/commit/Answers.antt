@@ -29,8 +29,10 @@ pub add-requires-clause-room : goal.add-requires-clause-room
 add-requires-clause-room c =
     let homes = c.args.homes.now in let old = c.args.self.now in let now = c.steps.self in let next = c.commit_one-done.new.self in
     let told = c.steps.into.done.items in let cap = length told + c.steps.into.done.room in let out = c.steps.into.out.items in let d = c.commit_one-done.result in
+    let below : length told < cap =
     next-room homes c.args.horizon c.args.cut.now old now next told out cap d
-    (next-due homes c.args.horizon c.args.cut.now old now next told out cap c.in-Some.key c.commit_one-done.result d c.steps.invariant c.requires.can c.in-Some.ensures.some.0 c.in-Some.ensures.some.1 c.commit_one-done.ensures refl)
+    (next-due homes c.args.horizon c.args.cut.now old now next told out cap c.in-Some.key c.commit_one-done.result d c.steps.invariant c.requires.can c.in-Some.ensures.some.0 c.in-Some.ensures.some.1 c.commit_one-done.ensures refl) in
+    omega (arith, below)
 
 pub add-requires-clause-long : goal.add-requires-clause-long
 add-requires-clause-long c = c.steps.invariant.tells.long
