@@ -1,5 +1,5 @@
 //! The shared word, and its seats.
-ghost use Rattle.std.specs.Prelude.{◌≡◌, ◌≤◌, All, IfOk, vec_len};
+ghost use Rattle.std.specs.Prelude.{◌≡◌, ◌≤◌, All, IfOk, OnOk, vec_len};
 ghost use Rattle.horizon_word.specs.Views.{IsSeatOf, new_seat, seat_after_lower, seat_after_read};
 
 use crate::note::{Note, Opening};
@@ -69,13 +69,32 @@ impl HorizonWord {
         ensures new { IfOk result (λ made. All (λ seat. seat ≡ new_seat made.0 floor start) made.1.items) }
     {
         let mut all = Vec::with_capacity(alloc, seats)?;
+        let word = HorizonWord::begin_with(alloc, floor, start, seats, &mut all)?;
+        Ok((word, all))
+    }
+
+    /// The same, but the seats come into a list that serves word after word: what stood in it goes, and it takes memory
+    /// only where its room is short.
+    pub fn begin_with(
+        alloc: Global,
+        floor: u64,
+        start: u64,
+        seats: usize,
+        all: &mut Vec<WordSeat>,
+    ) -> Result<HorizonWord, OutOfMemory>
+        requires start { floor ≤ start }
+        requires seats { 1 ≤ seats }
+        ensures count { OnOk result (vec_len all.new ≡ seats) }
+        ensures new { IfOk result (λ word. All (λ seat. seat ≡ new_seat word floor start) all.new.items) }
+    {
         let (table, mut first) = Table::of_words(alloc, &[start], &Opening { floor, start })?;
+        all.clear();
         for _ in 1..seats {
             let seat = table.shared.split_seat::<Copied>(&mut first);
             all.push(WordSeat { seat })?;
         }
         all.push(WordSeat { seat: first })?;
-        Ok((HorizonWord { table }, all))
+        Ok(HorizonWord { table })
     }
 
     /// Offers a stamp, by one fetch-min, and answers the word that it left: the lesser of the word before and the

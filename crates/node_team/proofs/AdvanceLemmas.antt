@@ -1,20 +1,26 @@
 -- An advance, turn by turn.
-use Rattle.std.proofs.Common.{◌≡◌, ◌≢◌, ◌⊎◌, ℕ, ◌+◌, ◌≤◌, min, List, ◌∷◌, length, sym, ◌∙◌, subst, inl, inr, arith}
+use Rattle.std.proofs.Common.{◌≡◌, ◌≢◌, ◌⊎◌, ℕ, ◌+◌, ◌≤◌, min, Bool, true, false, List, [], ◌∷◌, ◌++◌, length, refl, sym, ap, ◌∙◌, subst, inl, inr, arith, append_assoc, eqb, eqb-true}
+use Rattle.std.proofs.lemmas.Bool.{eqb-false}
+use Rattle.std.proofs.lemmas.List.{append-nil}
 use Rattle.event_key.specs.declared.key.Key.{Key}
 use Rattle.event_key.specs.declared.stamp.TheConstants.{NO_STAMP}
 use Rattle.event_key.specs.Stamps.{end_stamp}
 use Rattle.model_core.specs.Meaning.{Meaning}
 use Rattle.model_core.specs.declared.event.Event.{Event}
 use Rattle.sim_spec.specs.declared.terms.Terms.{Terms}
+use Rattle.std.specs.List.{AllByRecursion}
 use Rattle.world_spec.specs.Moves.{IsIdle}
 use Rattle.horizon_word.specs.Views.{SeatView}
+use Rattle.key_order.proofs.EachLemmas.{Each-append}
+use Rattle.object_log.specs.declared.done.Done.{Done}
+use Rattle.object_log.specs.Logs.{LogView}
 use Rattle.node_core.specs.Homes.{HomesView, home_of}
-use Rattle.node_core.specs.Nodes.{NodeView, home, data_of, IsAsBefore}
+use Rattle.node_core.specs.Nodes.{NodeView, log_at, home, data_of, IsAsBefore}
 use Rattle.node_core.specs.Steps.{IsHeldLeast, HasProcessed}
 use Rattle.cycle_core.specs.Known.{IsKnown}
 use Rattle.cycle_core.specs.Works.{IsSmall, WorksOn}
-use Rattle.cycle_core.proofs.WorkLemmas.{as_before, works-none, works-more, works-then, small-stays}
-use Rattle.node_team.specs.Advances.{HasOffered, AreFrom, CanAdvance, HasTurned, IsIdleBelow, IsAdvanced}
+use Rattle.cycle_core.proofs.WorkLemmas.{as_before, works-none, works-more, works-then, small-stays, slot-log}
+use Rattle.node_team.specs.Advances.{HasOffered, HasTold, AreFrom, CanAdvance, HasTurned, IsIdleBelow, IsAdvanced}
 use Rattle.node_team.proofs.FloorLemmas.{one-later, floor-waits, floor-held}
 use Rattle.world_spec.proofs.IdleLemmas.{idle-on}
 
@@ -123,3 +129,33 @@ module _ {M : Type 0} (meaning_of : M → Meaning) (first : NodeView M) (seat : 
         | inr all ↦ inr (let E : Terms → Type 0 = λ t. IsIdleBelow m (end_stamp t.end) n in subst E (sym advancing.works.same.terms) all)
       ];
     }
+
+module _ {M : Type 0} (told : Key → Type 0) where
+  -- a node that has processed nothing has nothing to tell
+  pub told-none : (old new : NodeView M) → new.logs ≡ old.logs → HasTold told old new
+  told-none old new same object = ([], ap (λ logs. (log_at logs object).done) same ∙ sym (append-nil (log_at old.logs object).done), tt)
+
+  pub told-one : (meaning : Meaning) (bound : ℕ) (old new : NodeView M) (key : Key) (least : ℕ) → HasProcessed meaning bound old new key least → told key → HasTold told old new
+  told-one meaning bound old new key least did it_was object = by_test (eqb object key.dest) refl
+    where
+      Tells : ℕ → Type 0
+      Tells place = (more : List Done) × ((log_at new.logs place).done ≡ (log_at old.logs place).done ++ more) × AllByRecursion (λ (d : Done). told d.event.key) more
+
+      here : told did.log.entry.event.key
+      here = let key_is : did.log.entry.event.key ≡ key = ap (λ (e : Event). e.key) did.log.event_is ∙ did.key_is in subst told (sym key_is) it_was
+
+      by_test : (b : Bool) → eqb object key.dest ≡ b → Tells object
+      by_test true h = subst Tells (sym (eqb-true object key.dest h)) (did.log.entry ∷ [], did.log.done, (here, tt))
+      by_test false h =
+          let same = slot-log old new object (did.others object (eqb-false object key.dest h)) in
+          ([], ap (λ (l : LogView). l.done) same ∙ sym (append-nil (log_at old.logs object).done), tt)
+
+  pub told-then : (old mid new : NodeView M) → HasTold told old mid → HasTold told mid new → HasTold told old new
+  told-then old mid new first then object =
+      let a = first object in
+      let b = then object in
+      (a.0 ++ b.0, b.1 ∙ ap (λ xs. xs ++ b.0) a.1 ∙ append_assoc (log_at old.logs object).done a.0 b.0, Each-append (λ (d : Done). told d.event.key) a.0 b.0 a.2 b.2)
+
+-- what the gate is told of a node on its way is told of it from the first on
+pub told-on : {M : Type 0} (saw : ℕ → Key → Type 0) (first n new : NodeView M) → n.number ≡ first.number → HasTold (saw first.number) first n → HasTold (saw n.number) n new → HasTold (saw first.number) first new
+told-on saw first n new same before now = let P : ℕ → Type 0 = λ k. HasTold (saw k) n new in told-then (saw first.number) first n new before (subst P same now)

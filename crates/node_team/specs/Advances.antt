@@ -1,5 +1,5 @@
 -- What a node's advance needs, and what it leaves.
-use Rattle.std.specs.Prelude.{◌≡◌, ◌⊎◌, ℕ, ◌+◌, ◌≤◌, min, List, length, Option, Some, None}
+use Rattle.std.specs.Prelude.{◌≡◌, ◌⊎◌, ℕ, ◌+◌, ◌≤◌, min, List, ◌++◌, length, Option, Some, None}
 use Rattle.std.specs.List.{AllByRecursion}
 use Rattle.event_key.specs.declared.key.Key.{Key}
 use Rattle.event_key.specs.Stamps.{end_stamp}
@@ -7,7 +7,8 @@ use Rattle.model_core.specs.declared.event.Event.{Event}
 use Rattle.model_core.specs.Meaning.{Meaning}
 use Rattle.world_spec.specs.Moves.{IsIdle}
 use Rattle.horizon_word.specs.Views.{SeatView}
-use Rattle.node_core.specs.Nodes.{NodeView, home, data_of, share_of}
+use Rattle.object_log.specs.declared.done.Done.{Done}
+use Rattle.node_core.specs.Nodes.{NodeView, log_at, home, data_of, share_of}
 use Rattle.node_core.specs.Steps.{IsHeldLeast, HasProcessed, IsLeftIdle}
 use Rattle.cycle_core.specs.Works.{IsSmall}
 
@@ -65,3 +66,8 @@ module _ {M : Type 0} where
     pub offered : HasOfferedHeld m seat new later
     pub taken : seat.taken + length new.processed ≤ later.taken + length old.processed
     pub deep : IsDeep m ahead old new
+
+  -- the key of each event that the node has processed since was told
+  abbrev pub HasTold : (Key → Type 0) → NodeView M → NodeView M → Type 0
+  HasTold told old new = (object : ℕ) → (more : List Done) × ((log_at new.logs object).done ≡ (log_at old.logs object).done ++ more)
+      × AllByRecursion (λ (d : Done). told d.event.key) more

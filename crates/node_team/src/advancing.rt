@@ -5,7 +5,7 @@ ghost use Rattle.event_key.specs.Stamps.{end_stamp};
 ghost use Rattle.horizon_word.specs.Views.{IsSeatOf};
 ghost use Rattle.node_core.specs.Nodes.{IsAsBefore};
 ghost use Rattle.cycle_core.specs.Works.{IsSmall, WorksOn};
-ghost use Rattle.node_team.specs.Advances.{AreFrom, CanAdvance, HasOffered, HasOfferedHeld, IsDeep, IsIdleBelow, IsTurn};
+ghost use Rattle.node_team.specs.Advances.{AreFrom, CanAdvance, HasOffered, HasOfferedHeld, HasTold, IsDeep, IsIdleBelow, IsTurn};
 
 use crate::gate::Gate;
 use cycle_core::{know, step_small};
@@ -55,6 +55,7 @@ fn turn<M: SimulationModel, G: Gate>(
     ensures turn { IfOk result (λ answer. IsTurn (M.meaning node.old.model) bound node.old seat.old answer node.new seat.new) }
     ensures offered { seat.new.least ≤ offered.new }
     ensures end { offered.new ≤ offered.old }
+    ensures told { HasTold (G.was_told gate.now node.old.number) node.old node.new }
     ensures refused { OnErr result (IsAsBefore node.old node.new) }
     ensures seat { OnErr result (seat.new ≡ seat.old) }
 {
@@ -73,7 +74,8 @@ fn turn<M: SimulationModel, G: Gate>(
 /// one step on the word, and tells the gate.
 ///
 /// Each clause is one part of a lawful advance: the node stands for what it stood for; nothing waits below the word that
-/// was seen last; just what is held was offered; each event took a step on the word; and the node went `ahead`.
+/// was seen last; just what is held was offered; each event took a step on the word; and the node went `ahead`. The gate was
+/// told of its number, and with that number of each event that it processed.
 pub fn advance<M: SimulationModel, G: Gate>(
     alloc: Global,
     node: &mut Node<M>,
@@ -91,6 +93,8 @@ pub fn advance<M: SimulationModel, G: Gate>(
     ensures offered { OnOk result (HasOfferedHeld (M.meaning node.old.model) seat.old node.new seat.new) }
     ensures taken { OnOk result (seat.old.taken + length node.new.processed ≤ seat.new.taken + length node.old.processed) }
     ensures deep { OnOk result (IsDeep (M.meaning node.old.model) ahead node.old node.new) }
+    ensures entered { G.was_entered gate.now node.old.number }
+    ensures told { HasTold (G.was_told gate.now node.old.number) node.old node.new }
 {
     gate.enter(node.number());
     know(node);

@@ -49,7 +49,7 @@ fn run_cycle<R: Threads + Sync, M: SimulationModel, L: Lanes, G: Gate>(
 {
     let ends = lanes.ready(alloc)?;
     let handing = Handing::of(kept.load.advance_threads(), workers);
-    advance_world(rt, alloc, world, ahead, handing, gate)?;
+    advance_world(rt, alloc, world, ahead, handing, &mut kept.seats, gate)?;
     let bound = world.close_cycle(alloc)?;
     let cut = world.commit_cut(alloc, bound)?;
     let records = end_world(rt, alloc, world, lanes, ends, kept, bound, &cut)?;

@@ -3,14 +3,17 @@ ghost use Rattle.std.specs.Prelude.{IfOk};
 ghost use Rattle.node_team.specs.Releases.{AreClear};
 
 use crate::paying::Load;
+use horizon_word::WordSeat;
 use model_core::OutOfMemory;
 use parcel_exchange::Inbox;
 use std::alloc::Global;
 
-/// An inbox for each node, whose memory serves cycle after cycle, and what the last cycle did.
+/// An inbox for each node and a list for seats, whose memory serves cycle after cycle, and what the last cycle did.
 #[derive(Drop)]
 pub struct Kept {
     pub inboxes: Vec<Inbox>,
+    /// Nothing is said of what is in it between cycles.
+    pub seats: Vec<WordSeat>,
     pub load: Load,
 }
 
@@ -25,6 +28,7 @@ impl Kept {
         }
         Ok(Kept {
             inboxes,
+            seats: Vec::with_capacity(alloc, nodes as usize)?,
             load: Load::unknown(),
         })
     }

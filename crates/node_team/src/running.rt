@@ -27,13 +27,12 @@ fn advance_in_turn<M: SimulationModel, G: Gate>(
     gate: &G,
     ahead: u32,
     nodes: &mut [Node<M>],
-    seats: Vec<WordSeat>,
+    seats: &mut Vec<WordSeat>,
 ) -> Result<(), OutOfMemory>
-    requires many { length nodes.old ≤ length seats.items }
-    requires can { CanAllRun M.meaning word.now nodes.old seats.items }
+    requires many { length nodes.old ≤ length seats.old.items }
+    requires can { CanAllRun M.meaning word.now nodes.old seats.old.items }
     ensures { OnOk result (AllHaveRun M.meaning ahead nodes.old nodes.new) }
 {
-    let mut seats = seats;
     for node in nodes.iter_mut() {
         let Some(mut seat) = seats.pop() else {
             unreachable!()
@@ -52,11 +51,11 @@ fn advance_nodes<R: Threads + Sync, M: SimulationModel, G: Gate>(
     ahead: u32,
     handing: Handing,
     nodes: Vec<Node<M>>,
-    seats: Vec<WordSeat>,
+    seats: &mut Vec<WordSeat>,
 ) -> Result<Vec<Node<M>>, OutOfMemory>
     requires handing { IsHanding handing }
-    requires many { length nodes.items ≤ length seats.items }
-    requires can { CanAllRun M.meaning word.now nodes.items seats.items }
+    requires many { length nodes.items ≤ length seats.old.items }
+    requires can { CanAllRun M.meaning word.now nodes.items seats.old.items }
     ensures { IfOk result (λ now. AllHaveRun M.meaning ahead nodes.items now.items) }
 {
     match handing {
@@ -78,14 +77,15 @@ fn advance_nodes<R: Threads + Sync, M: SimulationModel, G: Gate>(
     }
 }
 
-/// Advances each node of a world below one word, as they are handed out. After a refusal the world may have lost its
-/// nodes.
+/// Advances each node of a world below one word, as they are handed out, each with a seat of the list, whose room serves
+/// cycle after cycle. After a refusal the world may have lost its nodes.
 pub fn advance_world<R: Threads + Sync, M: SimulationModel, G: Gate>(
     rt: &R,
     alloc: Global,
     world: &mut World<M>,
     ahead: u32,
     handing: Handing,
+    seats: &mut Vec<WordSeat>,
     gate: &G,
 ) -> Result<(), OutOfMemory>
     requires handing { IsHanding handing }
@@ -101,7 +101,7 @@ pub fn advance_world<R: Threads + Sync, M: SimulationModel, G: Gate>(
     let nodes = world.take_nodes();
     know_all(&nodes);
     let floor = floor_of(&nodes, end);
-    let (word, seats) = HorizonWord::begin(alloc, floor, end, nodes.len())?;
+    let word = HorizonWord::begin_with(alloc, floor, end, nodes.len(), seats)?;
     let nodes = advance_nodes(rt, alloc, &word, gate, ahead, handing, nodes, seats)?;
     world.put_nodes(nodes);
     Ok(())

@@ -83,17 +83,16 @@ pub fn floor_of<M: SimulationModel>(nodes: &[Node<M>], end: u64) -> u64
     floor
 }
 
-/// Gives each node a seat.
+/// Gives each node a seat, taken from a list.
 pub fn seat_all<M: SimulationModel>(
     alloc: Global,
     nodes: Vec<Node<M>>,
-    seats: Vec<WordSeat>,
+    seats: &mut Vec<WordSeat>,
 ) -> Result<Vec<Seated<M>>, OutOfMemory>
-    requires { length nodes.items ≤ length seats.items }
+    requires { length nodes.items ≤ length seats.old.items }
     ensures nodes { IfOk result (λ all. map node_in all.items ≡ nodes.items) }
-    ensures seats { (seat : SeatView) → All (λ each. each ≡ seat) seats.items → IfOk result (λ all. AreSeatedWith seat all.items) }
+    ensures seats { (seat : SeatView) → All (λ each. each ≡ seat) seats.old.items → IfOk result (λ all. AreSeatedWith seat all.items) }
 {
-    let mut seats = seats;
     let mut all = Vec::with_capacity(alloc, nodes.len())?;
     for node in nodes {
         let Some(seat) = seats.pop() else {

@@ -1,6 +1,6 @@
-use Rattle.std.proofs.Common.{◌≡◌, ◌∙◌, ap, arith}
+use Rattle.std.proofs.Common.{rules, ◌≡◌, refl, ◌∙◌, ap, arith}
 use Rattle.event_key.specs.Stamps.{end_stamp}
-use Rattle.node_team.proofs.AdvanceLemmas.{held-floor, advancing-first, advancing-more, advancing-refused, idle-later}
+use Rattle.node_team.proofs.AdvanceLemmas.{held-floor, advancing-first, advancing-more, advancing-refused, idle-later, told-none, told-on}
 use Rattle.node_team.proofs.advancing.advance.Goals as goal
 
 pub offer-below-requires-clause-floor : goal.offer-below-requires-clause-floor
@@ -17,6 +17,7 @@ near-init g c =
       c.offer-below.ensures.offered,
       c.offer-below.ensures.end,
       omega arith,
+      told-none (g.G.Gate.was_told c.args.gate.now c.args.node.now.number) c.args.node.now c.args.node.now refl,
     )
 
 pub returns-in_err-answer-clause-works : goal.returns-in_err-answer-clause-works
@@ -38,7 +39,12 @@ near-preserved g c =
       c.turn.ensures.offered,
       omega arith,
       omega arith,
+      told-on (g.G.Gate.was_told c.args.gate.now) c.args.node.now c.near.node c.turn.new.node c.near.invariant.0.works.same.number c.near.invariant.5 c.turn.ensures.told,
     )
+
+pub returns-in_err-answer-clause-told : goal.returns-in_err-answer-clause-told
+returns-in_err-answer-clause-told g c =
+    told-on (g.G.Gate.was_told c.args.gate.now) c.args.node.now c.near.node c.turn.new.node c.near.invariant.0.works.same.number c.near.invariant.5 c.turn.ensures.told
 
 pub returns-in_err-turn-clause-works : goal.returns-in_err-turn-clause-works
 returns-in_err-turn-clause-works g c =
@@ -57,4 +63,24 @@ far-preserved g c =
       c.turn-in-far.ensures.offered,
       omega arith,
       omega arith,
+      told-on (g.G.Gate.was_told c.args.gate.now) c.args.node.now c.far.node c.turn-in-far.new.node c.far.invariant.0.works.same.number c.far.invariant.5 c.turn-in-far.ensures.told,
     )
+
+pub returns-in_err-turn-clause-told : goal.returns-in_err-turn-clause-told
+returns-in_err-turn-clause-told g c =
+    told-on (g.G.Gate.was_told c.args.gate.now) c.args.node.now c.far.node c.turn-in-far.new.node c.far.invariant.0.works.same.number c.far.invariant.5 c.turn-in-far.ensures.told
+
+pub far-init : goal.far-init
+far-init g c =
+    let n = c.near.invariant in (
+      search rules,
+      search rules,
+      c.turn.ensures.offered,
+      (let less = c.turn.ensures.end in let end = n.3 in omega arith),
+      search rules,
+      told-on (g.G.Gate.was_told c.args.gate.now) c.args.node.now c.near.node c.turn.new.node n.0.works.same.number n.5 c.turn.ensures.told,
+    )
+
+pub returns-in-None-2-clause-told : goal.returns-in-None-2-clause-told
+returns-in-None-2-clause-told g c =
+    told-on (g.G.Gate.was_told c.args.gate.now) c.args.node.now c.far.node c.turn-in-far.new.node c.far.invariant.0.works.same.number c.far.invariant.5 c.turn-in-far.ensures.told

@@ -1,5 +1,5 @@
 use Rattle.std.proofs.Common.{◌≡◌, ◌≤◌, ◌+◌, length}
-use Rattle.node_team.specs.Advances.{IsIdleBelow}
+use Rattle.node_team.specs.Advances.{HasTold, IsIdleBelow}
 use Rattle.node_team.proofs.AdvanceLemmas.{IsAdvancing}
 use Rattle.node_team.proofs.advancing.advance.Given as goal
 
@@ -10,6 +10,7 @@ invariant-near g l =
     × (l.seat.least ≤ l.offered)
     × (l.offered ≤ l.end)
     × (l.fn.ahead + length l.fn.node.processed ≤ l.left + length l.node.processed)
+    × HasTold (g.G.Gate.was_told l.fn.gate l.fn.node.number) l.fn.node l.node
 
 abbrev pub decreases-near : goal.decreases-near
 decreases-near g l = length l.node.waiting
@@ -21,3 +22,4 @@ invariant-far g l =
     × (l.seat.least ≤ l.offered)
     × (l.offered ≤ l.end)
     × (l.fn.ahead + length l.fn.node.processed + l.counter ≤ l.left + length l.node.processed)
+    × HasTold (g.G.Gate.was_told l.fn.gate l.fn.node.number) l.fn.node l.node

@@ -11,7 +11,7 @@ pub advance_all-requires-clause-can : goal.advance_all-requires-clause-can
 advance_all-requires-clause-can g c lifetimes outlives =
     let can = c.requires.can in
     subst (AllCanGo (g.M.Model.meaning) c.args.word.now) (sym c.as_mut_slice-in-InParts.ensures.value)
-    (all-can-go (g.M.Model.meaning) c.args.word.now c.args.nodes.items c.args.seats.items c.in_ok-all-in-InParts.all.items can c.in_ok-all-in-InParts.ensures.nodes (c.in_ok-all-in-InParts.ensures.seats can.seat can.alike))
+    (all-can-go (g.M.Model.meaning) c.args.word.now c.args.nodes.items c.args.seats.now.items c.in_ok-all-in-InParts.all.items can c.in_ok-all-in-InParts.ensures.nodes (c.in_ok-all-in-InParts.ensures.seats can.seat can.alike))
 
 pub returns-in_ok-all-in-InParts : goal.returns-in_ok-all-in-InParts
 returns-in_ok-all-in-InParts g c =
@@ -29,7 +29,7 @@ pub advance_by-requires-clause-can : goal.advance_by-requires-clause-can
 advance_by-requires-clause-can g c lifetimes outlives =
     let can = c.requires.can in
     let all = c.in_ok-all-in-Stolen in
-    all-can-go (g.M.Model.meaning) c.args.word.now c.args.nodes.items c.args.seats.items all.all.items can all.ensures.nodes (all.ensures.seats can.seat can.alike)
+    all-can-go (g.M.Model.meaning) c.args.word.now c.args.nodes.items c.args.seats.now.items all.all.items can all.ensures.nodes (all.ensures.seats can.seat can.alike)
 
 pub returns-in_ok-all-in-Stolen-2 : goal.returns-in_ok-all-in-Stolen-2
 returns-in_ok-all-in-Stolen-2 g c =

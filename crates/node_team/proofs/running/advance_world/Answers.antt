@@ -17,7 +17,7 @@ advance_nodes-requires-clause-can g c lifetimes outlives =
     let known = subst (AreKnown (g.M.Model.meaning)) nodes (λ place x at. c.know_all.ensures place x at) in
     let floors = subst (λ ns. AtEach (λ number n. IsFloorOf (g.M.Model.meaning n.model) c.floor_of-floor.result n) ns) nodes_2 (λ place x at object home. c.floor_of-floor.ensures.floor place x at object home) in
     let end : c.end_bound-end.result ≡ end_stamp w.terms.end = c.end_bound-end.ensures ∙ ap (λ t. end_stamp t.end) c.terms-terms.ensures in
-    subst (λ ns. CanAllRun (g.M.Model.meaning) c.in_ok-word.word ns c.in_ok-word.seats.items) (sym c.take_nodes-nodes.ensures.nodes)
+    subst (λ ns. CanAllRun (g.M.Model.meaning) c.in_ok-word.word ns c.begin_with.new.all.items) (sym c.take_nodes-nodes.ensures.nodes)
     (record {
       seat = new_seat c.in_ok-word.word c.floor_of-floor.result c.end_bound-end.result;
       alike = c.in_ok-word.ensures.new;

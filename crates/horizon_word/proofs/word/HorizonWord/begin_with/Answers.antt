@@ -1,6 +1,6 @@
 use Rattle.std.proofs.Common.{arith}
 use Rattle.horizon_word.proofs.Moves.{opens, splits}
-use Rattle.horizon_word.proofs.word.HorizonWord.begin.Goals as goal
+use Rattle.horizon_word.proofs.word.HorizonWord.begin_with.Goals as goal
 
 pub of_words-requires : goal.of_words-requires
 of_words-requires c = opens record { floor = c.args.floor; start = c.args.start } c.requires.start

@@ -1,7 +1,7 @@
 use Rattle.std.proofs.Common.{◌≡◌, ◌+◌, All, vec_len}
 use Rattle.horizon_word.specs.Rule.{first_note}
 use Rattle.horizon_word.specs.Views.{new_seat}
-use Rattle.horizon_word.proofs.word.HorizonWord.begin.Given as goal
+use Rattle.horizon_word.proofs.word.HorizonWord.begin_with.Given as goal
 
 abbrev pub invariant-loop : goal.invariant-loop
 invariant-loop l = record {
