@@ -77,7 +77,8 @@ pub fn plan_by_load<M: SimulationModel>(
     if more < 2 {
         return Ok(Vec::new(alloc));
     }
-    if from.objects() < 2 {
+    let objects = from.objects();
+    if objects < 2 {
         return Ok(Vec::new(alloc));
     }
     let Some(object) = from.least_object() else {
