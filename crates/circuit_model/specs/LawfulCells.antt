@@ -2,6 +2,7 @@
 use Rattle.std.proofs.Common.{◌≡◌, ℕ, zero, suc, ◌+◌, ◌≤◌, Bool, true, false, List, [], ◌∷◌, length, drop, get_or, refl, sym, ap, ◌∙◌, arith}
 use Rattle.std.specs.Prelude.{◌==◌, ◌&&◌, IsTrue, slice_index}
 use Rattle.std.specs.List.{list_all}
+use Rattle.std.proofs.lemmas.Bool.{and_parts}
 use Rattle.std.proofs.lemmas.Bool.Decides.{nat_tests}
 use Rattle.std.proofs.lemmas.List.{length-drop, get_or-drop}
 use Rattle.delta_exchange.specs.Changes.{CellData}
@@ -17,15 +18,11 @@ pub record AreGateCells (pins : ℕ) (cells : CellData) : Type 0 where
   pub first : slice_index cells.words 0 ≡ 0
   pub bits : AreBits (drop 1 cells.words)
 
-split : (a b : Bool) → (a && b) ≡ true → (a ≡ true) × (b ≡ true)
-split true b both = (refl, both)
-split false b both = absurd (grind arith)
-
 AreBits-from_list_all : (levels : List ℕ) → list_all is_bit levels ≡ true → AreBits levels
 AreBits-from_list_all [] all i d within = absurd (omega arith)
-AreBits-from_list_all (x ∷ levels) all zero d within = let head = (split (is_bit x) (list_all is_bit levels) all).0 in grind (arith, nat_tests)
+AreBits-from_list_all (x ∷ levels) all zero d within = let head = (and_parts (is_bit x) (list_all is_bit levels) all).0 in grind (arith, nat_tests)
 AreBits-from_list_all (x ∷ levels) all (suc i) d within =
-    AreBits-from_list_all levels (split (is_bit x) (list_all is_bit levels) all).1 i d (omega arith)
+    AreBits-from_list_all levels (and_parts (is_bit x) (list_all is_bit levels) all).1 i d (omega arith)
 
 list_all-from_AreBits : (levels : List ℕ) → AreBits levels → list_all is_bit levels ≡ true
 list_all-from_AreBits [] bits = refl
@@ -36,9 +33,9 @@ list_all-from_AreBits (x ∷ levels) bits =
 
 pub AreGateCells-from_lawful : (gate : LogicGate) (cells : CellData) → IsTrue (is_gate_cells gate cells) → AreGateCells (length gate.from) cells
 AreGateCells-from_lawful gate cells lawful =
-    let last = split (length cells.words == length gate.from + 2 && length cells.lines == 0 && slice_index cells.words 0 == 0) (list_all is_bit (drop 1 cells.words)) lawful in
-    let third = split (length cells.words == length gate.from + 2 && length cells.lines == 0) (slice_index cells.words 0 == 0) last.0 in
-    let second = split (length cells.words == length gate.from + 2) (length cells.lines == 0) third.0 in
+    let last = and_parts (length cells.words == length gate.from + 2 && length cells.lines == 0 && slice_index cells.words 0 == 0) (list_all is_bit (drop 1 cells.words)) lawful in
+    let third = and_parts (length cells.words == length gate.from + 2 && length cells.lines == 0) (slice_index cells.words 0 == 0) last.0 in
+    let second = and_parts (length cells.words == length gate.from + 2) (length cells.lines == 0) third.0 in
     record {
       size = grind (arith, nat_tests, second.0);
       lines = grind (arith, nat_tests, second.1);

@@ -10,7 +10,7 @@ use Rattle.std.proofs.lemmas.Bool.Decides.{nat_tests}
 use Rattle.std.proofs.lemmas.List.Elements.{All-nil, All-append, All-filter, All-map, Contains-append_left, Contains-append_right, filter-append}
 use Rattle.std.proofs.lemmas.List.FromFn.{length-range_with_len, get_or-range_with_len}
 use Rattle.model_core.specs.declared.event.Start.{Start}
-use Rattle.model_core.proofs.Numbers.{numbers_below, numbers-more}
+use Rattle.model_core.proofs.Numbers.{flat_map-numbers-more, numbers_below, numbers-more}
 use Rattle.circuit_model.specs.declared.gate.LogicGate.{LogicGate}
 use Rattle.circuit_model.specs.Gates.{gate_at, is_input, no_gate}
 use Rattle.circuit_model.specs.Starts.{compute_start, flip_start, computes, computes_below, flips_of, flips_below, all_flips, starts_of}
@@ -33,10 +33,7 @@ computes_below-more gates count test is =
 
 pub flips_below-more : (gates : List LogicGate) (count : ℕ) → flips_below gates (count + 1) ≡ flips_below gates count ++ flips_of gates count
 unfolding flips_below
-flips_below-more gates count =
-    ap (flat_map (flips_of gates)) (numbers-more 0 count count (omega arith))
-    ∙ flat_map-append (flips_of gates) (range_with_len 0 count) (count ∷ [])
-    ∙ ap (λ (rest : List Start). flat_map (flips_of gates) (range_with_len 0 count) ++ rest) (append-nil (flips_of gates count))
+flips_below-more gates count = flat_map-numbers-more (flips_of gates) count
 
 All-computes_below : (P : Start → Type 0) (gates : List LogicGate) (count : ℕ) → ((number : ℕ) → number < count → P (compute_start number)) → All P (computes_below gates count)
 unfolding computes_below

@@ -6,7 +6,7 @@ use Rattle.std.proofs.Math.ListN.{length-set}
 use Rattle.std.proofs.lemmas.Bool.Decides.{nat_tests}
 use Rattle.std.proofs.lemmas.Grind.{flat_map-append}
 use Rattle.std.proofs.lemmas.List.Elements.{filter-append}
-use Rattle.model_core.proofs.Numbers.{numbers-more}
+use Rattle.model_core.proofs.Numbers.{flat_map-numbers-more}
 use Rattle.circuit_model.specs.declared.gate.LogicGate.{LogicGate}
 use Rattle.circuit_model.specs.declared.wiring.Pin.{Pin}
 use Rattle.circuit_model.specs.Wiring.{pins_of, pins_below, feeder, fed_among, Lists}
@@ -54,7 +54,4 @@ Lists-more gates feeds pins p source lists fed exists = record { size = rw lengt
 -- the pins of a gate more
 pub pins_below-more : (gates : List LogicGate) (count : ℕ) → pins_below gates (count + 1) ≡ pins_below gates count ++ pins_of gates count
 unfolding pins_below
-pins_below-more gates count =
-    ap (flat_map (pins_of gates)) (numbers-more 0 count count (omega arith))
-    ∙ flat_map-append (pins_of gates) (range_with_len 0 count) (count ∷ [])
-    ∙ ap (λ (rest : List Pin). flat_map (pins_of gates) (range_with_len 0 count) ++ rest) (append-nil (pins_of gates count))
+pins_below-more gates count = flat_map-numbers-more (pins_of gates) count

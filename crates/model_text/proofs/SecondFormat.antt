@@ -5,6 +5,7 @@ use Rattle.std.specs.List.{list_any}
 use Rattle.std.specs.Str.{bytes_eq}
 use Rattle.std.specs.Ordering.{match_ordering}
 use Rattle.std.specs.Cmp.Lexicographic.{slice_cmp, bytes_decides}
+use Rattle.std.proofs.lemmas.Bool.{and_parts, cond-false, cond-true, or_left}
 use Rattle.std.proofs.lemmas.List.Folds.{list_any-append}
 use Rattle.std.proofs.lemmas.Map.Text.{is_eq-slice_cmp}
 use Rattle.toml.specs.Data.{Data, integer, boolean, array, Items, no_items, item, Members, no_members, member, get_member}
@@ -48,16 +49,11 @@ passed : (test : Bool) (cause : Cause) (at : ℕ) (u : Unit {0}) → test ≡ tr
 passed true cause at u is = refl
 passed false cause at u is = cc
 
-both : (a b : Bool) → (a && b) ≡ true → (a ≡ true) × (b ≡ true)
-both true true is = (refl, refl)
-both true false is = cc
-both false b is = cc
-
 -- a key that a table may not have isn't there
 no_key : (known : List (List ℕ)) (key : List ℕ) (ms : Members) → list_any (λ name. bytes_eq name key) known ≡ false → has_only known ms ≡ true → get_member key ms ≡ None
 no_key known key no_members unknown all = refl
 no_key known key (member l d ms) unknown all =
-    let fits = both (list_any (λ name. bytes_eq name l) known) (has_only known ms) all in
+    let fits = and_parts (list_any (λ name. bytes_eq name l) known) (has_only known ms) all in
     by fits.0 (no_key known key ms unknown fits.1) (slice_cmp nat_cmp key l) refl
   where
     by : list_any (λ name. bytes_eq name l) known ≡ true → get_member key ms ≡ None
@@ -70,15 +66,11 @@ no_key known key (member l d ms) unknown all =
     by fits rest Greater is = rest
 
 -- a table that has only some keys has only these and others
-or_more : (a b : Bool) → a ≡ true → (a || b) ≡ true
-or_more true b is = refl
-or_more false b is = cc
-
 more_keys : (known more : List (List ℕ)) (ms : Members) → has_only known ms ≡ true → has_only (known ++ more) ms ≡ true
 more_keys known more no_members all = refl
 more_keys known more (member l d ms) all =
-    let fits = both (list_any (λ name. bytes_eq name l) known) (has_only known ms) all in
-    let here : list_any (λ name. bytes_eq name l) (known ++ more) ≡ true = list_any-append (λ name. bytes_eq name l) known more ∙ or_more _ _ fits.0 in
+    let fits = and_parts (list_any (λ name. bytes_eq name l) known) (has_only known ms) all in
+    let here : list_any (λ name. bytes_eq name l) (known ++ more) ≡ true = list_any-append (λ name. bytes_eq name l) known more ∙ or_left _ _ fits.0 in
     rw (here, more_keys known more ms fits.1)
 
 rank_absent : (at : ℕ) (ms : Members) → get_member (codes "rank") ms ≡ None → rank Two at ms ≡ Ok 0
@@ -231,10 +223,6 @@ phold_grows seed d x gives =
     (each_grows (start_entry One objects.0) (start_entry Two objects.0) (start_grows objects.0) 1 entries.0 start.0 start.1) start.2))))))))
 
 -- a document with another format is the same beside it
-is_not : {X : Type 0} (b : Bool) (x y : X) → b ≡ false → (if b then x else y) ≡ y
-is_not true x y is = cc
-is_not false x y is = refl
-
 other_key : (n : ℕ) (key : List ℕ) (ms : Members) → bytes_eq key (codes "format") ≡ false → get_member key (with_format n ms) ≡ get_member key ms
 other_key n key no_members other = refl
 other_key n key (member l d ms) other = by (other_key n key ms other) (slice_cmp nat_cmp key l) refl
@@ -247,12 +235,8 @@ other_key n key (member l d ms) other = by (other_key n key ms other) (slice_cmp
     by rest Less is = rest
     by rest Equal is =
         let same : key ≡ l = (bytes_decides key l).0 (sym (is_eq-slice_cmp key l) ∙ ap is_eq is) in
-        ap (λ (d : Data). Some d) (is_not (bytes_eq l (codes "format")) (integer (pos n)) d (ap (λ k. bytes_eq k (codes "format")) (sym same) ∙ other))
+        ap (λ (d : Data). Some d) (cond-false (bytes_eq l (codes "format")) (integer (pos n)) d (ap (λ k. bytes_eq k (codes "format")) (sym same) ∙ other))
     by rest Greater is = rest
-
-is_so : {X : Type 0} (b : Bool) (x y : X) → b ≡ true → (if b then x else y) ≡ x
-is_so true x y is = refl
-is_so false x y is = cc
 
 new_format : (n : ℕ) (ms : Members) (old : Data) → get_member (codes "format") ms ≡ Some old → get_member (codes "format") (with_format n ms) ≡ Some (integer (pos n))
 new_format n no_members old has = cc
@@ -268,7 +252,7 @@ new_format n (member l d ms) old has = by (new_format n ms old) (slice_cmp nat_c
     by rest Less is has = rest has
     by rest Equal is has =
         let same : codes "format" ≡ l = (bytes_decides (codes "format") l).0 (sym (is_eq-slice_cmp (codes "format") l) ∙ ap is_eq is) in
-        ap (λ (d : Data). Some d) (is_so (bytes_eq l (codes "format")) (integer (pos n)) d ((bytes_decides l (codes "format")).1 (sym same)))
+        ap (λ (d : Data). Some d) (cond-true (bytes_eq l (codes "format")) (integer (pos n)) d ((bytes_decides l (codes "format")).1 (sym same)))
     by rest Greater is has = rest has
 
 same_keys : (n : ℕ) (known : List (List ℕ)) (ms : Members) → has_only known (with_format n ms) ≡ has_only known ms

@@ -48,14 +48,7 @@ impl Kind {
                 count,
                 next,
                 ..
-            } => {
-                let source = Source {
-                    every,
-                    count: *count,
-                    next: *next,
-                };
-                source.is_lawful(cells)
-            }
+            } => Source::new(every, *count, *next).is_lawful(cells),
             Kind::Station { servers, line, .. } => station::is_lawful(*servers, *line, cells),
             Kind::Delay { .. } | Kind::Router { .. } | Kind::Sink { .. } => site::is_lawful(cells),
         }
@@ -81,14 +74,7 @@ impl Kind {
                 count,
                 next,
                 ..
-            } => {
-                let source = Source {
-                    every,
-                    count: *count,
-                    next: *next,
-                };
-                source.react(words, site, cells, event, sheet)
-            }
+            } => Source::new(every, *count, *next).react(words, site, cells, event, sheet),
             Kind::Station {
                 servers,
                 service,
@@ -96,27 +82,16 @@ impl Kind {
                 strict,
                 next,
             } => {
-                let station = Station {
-                    servers: *servers,
-                    service,
-                    line: *line,
-                    strict: *strict,
-                    next: *next,
-                };
+                let station = Station::new(*servers, service, *line, *strict, *next);
                 station.react(words, site, cells, event, sheet)
             }
             Kind::Delay { delay, next } => {
-                let delay = Delay { delay, next: *next };
-                delay.react(words, site, cells, event, sheet)
+                Delay { delay, next: *next }.react(words, site, cells, event, sheet)
             }
             Kind::Router { next, weights } => {
-                let router = Router { next, weights };
-                router.react(words, site, cells, event, sheet)
+                Router { next, weights }.react(words, site, cells, event, sheet)
             }
-            Kind::Sink { due } => {
-                let sink = Sink { due: *due };
-                sink.react(event, sheet)
-            }
+            Kind::Sink { due } => Sink { due: *due }.react(event, sheet),
         }
     }
 }

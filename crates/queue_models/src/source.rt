@@ -26,6 +26,17 @@ pub struct Source<'a> {
     pub next: u32,
 }
 
+impl<'a> Source<'a> {
+    /// A source that makes a job `every` so many ticks, `count` of them, and sends each to `next`.
+    pub fn new(every: &'a Law, count: u32, next: u32) -> Source<'a>
+        ensures every { result.every.now ≡ every.now }
+        ensures count { result.count ≡ count }
+        ensures next { result.next ≡ next }
+    {
+        Source { every, count, next }
+    }
+}
+
 impl Source<'_> {
     /// Whether the jobs that are made and those that are left are all.
     pub fn is_lawful(&self, cells: &Cells) -> bool

@@ -70,6 +70,23 @@ fn done_after(site: &Site, service: u64, job: u64, birth: u64) -> Send
     }
 }
 
+impl<'a> Station<'a> {
+    /// A station with so many servers, each of which serves a job for as long as `service` gives and sends it to `next`,
+    /// and with a line of so many places.
+    pub fn new(servers: u32, service: &'a Law, line: u32, strict: bool, next: u32) -> Station<'a>
+        ensures { station_of result
+            ≡ record { servers = servers; service = service.now; line = line; strict = strict; next = next } }
+    {
+        Station {
+            servers,
+            service,
+            line,
+            strict,
+            next,
+        }
+    }
+}
+
 impl Station<'_> {
     /// A service is done, or a job arrives, whatever else the kind of the event.
     #[tactic(auto, unfolding(crate::specs::Stations::station_effect))]
