@@ -73,9 +73,11 @@ fn save_after<R: Threads + Sync, G: Gate, K: Sink>(
     cycles: u32,
     out: &mut K,
 ) -> Result<State, Unfinished>
-    ensures whole { OnOk result (Appends (K.told out.old) (K.told out.new) (first_lines (meaning_of model) terms cycles (initial_state (meaning_of model)))) }
+    ensures whole { OnOk result
+        (Appends (K.told out.old) (K.told out.new) (first_lines (meaning_of model) terms cycles (initial_state (meaning_of model)))) }
     ensures state { IfOk result (λ state. state ≡ (cycles_for cycles (meaning_of model) terms (initial_state (meaning_of model))).last) }
-    ensures prefix { OnErr result (AppendsPrefix (K.told out.old) (K.told out.new) (first_lines (meaning_of model) terms cycles (initial_state (meaning_of model)))) }
+    ensures prefix { OnErr result
+        (AppendsPrefix (K.told out.old) (K.told out.new) (first_lines (meaning_of model) terms cycles (initial_state (meaning_of model)))) }
     ensures fault { IsErrOf result WriteFault → Rose (K.faults out.old) (K.faults out.new) }
     ensures later { K.faults out.old ≤ K.faults out.new }
     ensures quiet { OnOk result (K.faults out.new ≡ K.faults out.old) }
@@ -102,10 +104,12 @@ pub fn save_model<R: Threads + Sync, G: Gate, K: Sink>(
     cycles: u32,
     out: &mut K,
 ) -> Result<State, Unfinished>
-    ensures whole { OnOk result (Appends (K.told out.old) (K.told out.new) (first_lines (meaning_of model) terms cycles (initial_state (meaning_of model)))) }
+    ensures whole { OnOk result
+        (Appends (K.told out.old) (K.told out.new) (first_lines (meaning_of model) terms cycles (initial_state (meaning_of model)))) }
     ensures handed { OnOk result (Keeps (K.told out.new) (K.handed out.new)) }
     ensures state { IfOk result (λ state. state ≡ (cycles_for cycles (meaning_of model) terms (initial_state (meaning_of model))).last) }
-    ensures prefix { OnErr result (AppendsPrefix (K.told out.old) (K.told out.new) (first_lines (meaning_of model) terms cycles (initial_state (meaning_of model)))) }
+    ensures prefix { OnErr result
+        (AppendsPrefix (K.told out.old) (K.told out.new) (first_lines (meaning_of model) terms cycles (initial_state (meaning_of model)))) }
     ensures fault { IsErrOf result WriteFault → Rose (K.faults out.old) (K.faults out.new) }
     ensures later { K.faults out.old ≤ K.faults out.new }
     ensures quiet { OnOk result (K.faults out.new ≡ K.faults out.old) }
