@@ -3,7 +3,7 @@
 ghost use Rattle.std.specs.Prelude.{◌≡◌, [], ◌∷◌};
 ghost use Rattle.circuit_model.specs.Gates.{HasPins};
 ghost use Rattle.circuit_model.specs.Parts.{IsCircuit};
-ghost use Rattle.circuit_model.specs.declared.gate.LogicKind.TheVariants.{Input, Buf, Not, And, Or, Xor, Nand, Nor, Dff};
+ghost use Rattle.circuit_model.specs.declared.gate.LogicKind.TheVariants.{Buf, Not, And, Or, Xor, Nand, Nor, Dff};
 ghost use Rattle.circuit_laws.specs.Examples.{outputs, summary, gates_in_line, line_told, to_five};
 ghost use Rattle.circuit_laws.specs.Examples.{flip_flop, flip_flop_told, to_nine, ring, ring_told, to_three_events, nine_fed};
 ghost use Rattle.circuit_laws.specs.Examples.{fires_last};

@@ -1,10 +1,9 @@
 -- How the lists of the pins that gates feed grow, pin by pin and gate by gate.
 use Rattle.std.proofs.Common.{◌≡◌, ◌≢◌, ℕ, zero, suc, ◌+◌, ◌<◌, Bool, true, false, cond, List, [], ◌∷◌, ◌++◌, length, refl, sym, ap, ◌∙◌, append-nil, arith, get_or-set_other, get_or-set_same}
-use Rattle.std.specs.Prelude.{◌==◌, slice_index_or, slice_set, flat_map}
-use Rattle.std.specs.List.{filter, range_with_len}
+use Rattle.std.specs.Prelude.{◌==◌, slice_index_or, slice_set}
+use Rattle.std.specs.List.{filter}
 use Rattle.std.proofs.Math.ListN.{length-set}
 use Rattle.std.proofs.lemmas.Bool.Decides.{nat_tests}
-use Rattle.std.proofs.lemmas.Grind.{flat_map-append}
 use Rattle.std.proofs.lemmas.List.Elements.{filter-append}
 use Rattle.model_core.proofs.Numbers.{flat_map-numbers-more}
 use Rattle.circuit_model.specs.declared.gate.LogicGate.{LogicGate}

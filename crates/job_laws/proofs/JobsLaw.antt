@@ -9,7 +9,7 @@ use Rattle.sim_spec.specs.declared.terms.Terms.{Terms}
 use Rattle.sim_spec.specs.State.{State}
 use Rattle.sim_spec.specs.Run.{Next, stops, does, next}
 use Rattle.queue_models.specs.Kinds.{is_source}
-use Rattle.queue_models.specs.Meaning.{plain_meaning, network_meaning}
+use Rattle.queue_models.specs.Meaning.{plain_meaning}
 use Rattle.queue_models.specs.Objects.{NetworkParts, object_at}
 use Rattle.queue_models.specs.Parts.{IsNetwork}
 use Rattle.queue_models.specs.Sources.{made_of}

@@ -19,14 +19,13 @@ use Rattle.queue_models.specs.declared.kind.KindOver.{KindOver}
 use Rattle.queue_models.specs.declared.kind.KindOver.TheVariants.{Source, Station, Delay, Router, Sink}
 use Rattle.queue_models.specs.declared.site.Site.{Site}
 use Rattle.queue_models.specs.Kinds.{is_lawful, is_source, first_cells_of}
-use Rattle.queue_models.specs.Meaning.{plain_meaning, network_meaning, site_of}
+use Rattle.queue_models.specs.Meaning.{plain_meaning, site_of}
 use Rattle.queue_models.specs.Objects.{NetworkParts, object_at, source_numbers}
-use Rattle.queue_models.specs.Sources.{made_of, left_of, idle_effect, last_effect, make_effect}
-use Rattle.queue_models.specs.Sites.{place_of}
+use Rattle.queue_models.specs.Sources.{made_of, idle_effect, last_effect, make_effect}
 use Rattle.run_laws.proofs.Steps.{first_firing}
 use Rattle.queue_laws.specs.Stations.{cells_at}
 use Rattle.queue_laws.proofs.Cases.{EventDoes, idles, makes_last, makes}
-use Rattle.queue_laws.proofs.Leaves.{source_cells, source_shape, last_leaves, make_leaves}
+use Rattle.queue_laws.proofs.Leaves.{source_shape, last_leaves, make_leaves}
 use Rattle.queue_laws.proofs.NetworkStarts.{cells_at_start, source_exists}
 use Rattle.queue_laws.proofs.NetworkSteps.{IsNetworkStep, cells_here, cells_elsewhere}
 use Rattle.job_laws.specs.Places.{Place, at_event, word_told, job_told, place_after}

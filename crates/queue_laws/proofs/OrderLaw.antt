@@ -20,7 +20,7 @@ use Rattle.key_order.proofs.ShareLemmas.{filter-enqueue_all}
 use Rattle.queue_models.specs.declared.kind.KindOver.{KindOver}
 use Rattle.queue_models.specs.declared.site.Site.{Site}
 use Rattle.queue_models.specs.Kinds.{kind_of_station}
-use Rattle.queue_models.specs.Meaning.{plain_meaning, network_meaning, site_of}
+use Rattle.queue_models.specs.Meaning.{plain_meaning, site_of}
 use Rattle.queue_models.specs.ModelLaws.{plain_laws}
 use Rattle.queue_models.specs.Objects.{NetworkParts, object_at}
 use Rattle.queue_models.specs.Parts.{IsNetwork}

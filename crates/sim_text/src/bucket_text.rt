@@ -1,5 +1,5 @@
 //! What a bucket tells.
-ghost use Rattle.std.specs.Prelude.{◌≡◌, ◌++◌, OnOk, All, ◌<◌};
+ghost use Rattle.std.specs.Prelude.{◌≡◌, ◌++◌, OnOk, ◌<◌};
 ghost use Rattle.sim_io.specs.Texts.{record_lines};
 ghost use Rattle.sim_io.specs.CycleTexts.{told_cycle, bucket_lines};
 ghost use Rattle.sim_text.specs.Rest.{AllAtObjects};

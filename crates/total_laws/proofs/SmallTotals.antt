@@ -1,6 +1,6 @@
 -- Totals, computed: those of the counter of the small shop after eleven events, in which four jobs came, of which two were
 -- served, one is in service and one waits.
-use Rattle.std.proofs.Common.{◌≡◌, ℕ, refl}
+use Rattle.std.proofs.Common.{◌≡◌, refl}
 use Rattle.event_key.specs.Keys.{key_lt, key_cmp}
 use Rattle.event_key.specs.Stamps.{next_stamp, has_no_step}
 use Rattle.delta_exchange.specs.Changes.{cells_after_all, inverses_of}

@@ -27,7 +27,7 @@ use Rattle.sim_stats.proofs.TotalsLemmas.{words_told-here, words_told-elsewhere}
 use Rattle.queue_models.specs.declared.kind.KindOver.{KindOver}
 use Rattle.queue_models.specs.declared.site.Site.{Site}
 use Rattle.queue_models.specs.Kinds.{kind_of_station}
-use Rattle.queue_models.specs.Meaning.{plain_meaning, network_meaning, site_of}
+use Rattle.queue_models.specs.Meaning.{plain_meaning, site_of}
 use Rattle.queue_models.specs.ModelLaws.{plain_laws}
 use Rattle.queue_models.specs.Objects.{NetworkParts}
 use Rattle.queue_models.specs.Parts.{IsNetwork}

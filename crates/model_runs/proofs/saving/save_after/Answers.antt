@@ -1,15 +1,12 @@
 -- The nodes stand at the state after the first cycles, and that is what is taken out of them.
-use Rattle.std.proofs.Common.{◌≡◌, ℕ, List, [], ◌++◌, sym, ap, ◌∙◌, subst, append-nil}
-use Rattle.std.specs.Prelude.{Option}
+use Rattle.std.proofs.Common.{◌∙◌, subst}
 use Rattle.std.specs.Io.KnownBytes.{Appends}
 use Rattle.model_core.proofs.Results.{on_err}
 use Rattle.sim_spec.specs.Cycles.{cycles_for}
 use Rattle.sim_spec.specs.State.{State, Lawful, initial_state}
-use Rattle.sim_io.specs.Transfers.{AppendsPrefix}
 use Rattle.sim_text.specs.Rest.{BeginsAt, StandsAtState}
 use Rattle.sim_text.specs.WholeTexts.{first_lines}
 use Rattle.cycle_core.specs.Standings.{WorldStandsAt}
-use Rattle.cycle_core.specs.Worlds.{StandsAt}
 use Rattle.model_text.specs.declared.model.AnyModel.{AnyModel}
 use Rattle.model_text.specs.Meanings.{meaning_of}
 use Rattle.model_runs.specs.declared.team_run.TeamRun.{TeamRun}

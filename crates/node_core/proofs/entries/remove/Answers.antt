@@ -1,5 +1,5 @@
 -- The first entry leaves.
-use Rattle.std.proofs.Common.{drop, sym, ap, ◌∙◌, subst}
+use Rattle.std.proofs.Common.{sym, ap, ◌∙◌, subst}
 use Rattle.node_core.specs.Entries.{AreLeast, marks_of}
 use Rattle.node_core.proofs.EntryLemmas.{first-gone, least-gone}
 use Rattle.node_core.proofs.entries.remove.Goals as goal
