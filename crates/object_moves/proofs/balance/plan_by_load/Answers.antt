@@ -32,7 +32,7 @@ pub returns-then-objects-lt2 : goal.returns-then-objects-lt2
 returns-then-objects-lt2 g c =
     let w = c.args.world.now in
     let is = c.requires.nodes.each c.fullest.result c.node-from.result.now c.node-from.ensures in
-    let at = c.objects-objects.ensures ∙ (λ i. objects_of (is.homes_is i) (is.number_is i)) in
+    let at = c.objects.ensures ∙ (λ i. objects_of (is.homes_is i) (is.number_is i)) in
     let low = c.if-objects-lt2.true in
     record {
       full = c.fullest.result;
@@ -49,14 +49,14 @@ unreachable-requires g c =
     let n = c.node-from.result.now in
     let P : Option ℕ → Type 0 = λ o. IsLeastObject n.homes n.number o in
     let none : P None = subst P c.in_default.is c.least_object.ensures in
-    some-object n.homes n.number none (let two = c.if-objects-lt2.false in let at = c.objects-objects.ensures in omega arith)
+    some-object n.homes n.number none (let two = c.if-objects-lt2.false in let at = c.objects.ensures in omega arith)
 
 pub returns : goal.returns
 returns g c =
     let w = c.args.world.now in
     let n = c.node-from.result.now in
     let is = c.requires.nodes.each c.fullest.result n c.node-from.ensures in
-    let at = c.objects-objects.ensures ∙ (λ i. objects_of (is.homes_is i) (is.number_is i)) in
+    let at = c.objects.ensures ∙ (λ i. objects_of (is.homes_is i) (is.number_is i)) in
     let full = ap (λ (n : NodeView g.row.M.Denot). load n) (same-some c.fullest.ensures.node n (sym c.fullest.ensures.at ∙ c.node-from.ensures)) in
     let empty = ap (λ (n : NodeView g.row.M.Denot). load n) (same-some c.emptiest-node.ensures.node c.node.result.now (sym c.emptiest-node.ensures.at ∙ c.node.ensures)) in
     let a = c.pending.ensures in let b = c.pending-2.ensures in let d = c.saturating_sub-more.ensures in let high = c.if-more-lt2.false in let two = c.if-objects-lt2.false in
