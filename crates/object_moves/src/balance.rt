@@ -77,8 +77,7 @@ pub fn plan_by_load<M: SimulationModel>(
     if more < 2 {
         return Ok(Vec::new(alloc));
     }
-    let objects = from.objects();
-    if objects < 2 {
+    if from.objects() < 2 {
         return Ok(Vec::new(alloc));
     }
     let Some(object) = from.least_object() else {
