@@ -5,13 +5,11 @@
 /// four processors to themselves.
 const MOST_THREADS: usize = 4;
 
-/// From so many events on, which all nodes together processed in the last cycle, the advance forks. A new thread pulls the
-/// data of its nodes to another processor; with that a fork is paid back by 500 events where they are cold in memory, and by
-/// 1,300 where they are warm.
-const MANY_PROCESSED: u64 = 1_024;
-
-/// The same for events that were committed, of which each takes two fifths of the instructions.
-const MANY_COMMITTED: u64 = 2_560;
+/// From so many events on, which all nodes together processed in the last cycle, the advance forks, and from so many that
+/// they committed, the commit. A new thread pulls the data of its nodes to another processor, where the commit then finds
+/// them as little as the advance does. So it is both forks together that are paid back: by 560 events where these are cold
+/// in memory, and by 1,340 where they are warm. It takes more with two nodes, and on a busy machine.
+const MANY_EVENTS: u64 = 1_536;
 
 /// What the nodes of a team did together in their last cycle. It stands for what they will do in the next one.
 #[derive(Clone, Copy, Debug, PartialEq, Eq)]
@@ -43,12 +41,12 @@ impl Load {
 
     /// In how many threads the nodes advance.
     pub fn advance_threads(&self) -> usize {
-        threads(self.processed >= MANY_PROCESSED)
+        threads(self.processed >= MANY_EVENTS)
     }
 
     /// In how many threads they commit.
     pub fn commit_threads(&self) -> usize {
-        threads(self.committed >= MANY_COMMITTED)
+        threads(self.committed >= MANY_EVENTS)
     }
 }
 

@@ -197,16 +197,16 @@ fn a_turn_that_waits_behind_another_is_stolen(rt: HostRuntime) -> Result<(), Fai
 fn an_advance_forks_where_enough_was_processed(rt: HostRuntime) {
     let first = Load::unknown();
     assert_eq!(rt; first.advance_threads(), 4);
-    let wide = first.after(1_024, 0);
+    let wide = first.after(1_536, 0);
     assert_eq!(rt; wide.advance_threads(), 4);
-    assert_eq!(rt; wide.after(2_048, 0).advance_threads(), 4);
-    assert_eq!(rt; wide.after(2_047, 0).advance_threads(), 1);
+    assert_eq!(rt; wide.after(3_072, 0).advance_threads(), 4);
+    assert_eq!(rt; wide.after(3_071, 0).advance_threads(), 1);
 }
 
 #[test]
 fn a_release_forks_where_enough_was_committed(rt: HostRuntime) {
     let first = Load::unknown();
     assert_eq!(rt; first.commit_threads(), 4);
-    assert_eq!(rt; first.after(10_000, 2_560).commit_threads(), 4);
-    assert_eq!(rt; first.after(10_000, 2_559).commit_threads(), 1);
+    assert_eq!(rt; first.after(10_000, 1_536).commit_threads(), 4);
+    assert_eq!(rt; first.after(10_000, 1_535).commit_threads(), 1);
 }
