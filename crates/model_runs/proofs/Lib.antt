@@ -1,1 +1,2 @@
+pub mod MovedCycles
 pub mod SavingLemmas

@@ -63,7 +63,7 @@ impl Moving {
         Moving { moves, cycles: 0 }
     }
 
-    /// After one cycle more.
+    /// With one cycle more.
     pub fn after(self) -> Moving {
         Moving {
             moves: self.moves,

@@ -129,9 +129,8 @@ impl TeamRun {
         ensures { HasCycled meaning_of self.old.team.world result self.new.team.world }
     {
         self.make_moves(alloc)?;
-        let bucket = self.cycle_team(rt, alloc, workers, gate)?;
         self.moving = self.moving.after();
-        Ok(bucket)
+        self.cycle_team(rt, alloc, workers, gate)
     }
 }
 
