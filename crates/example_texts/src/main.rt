@@ -2,7 +2,7 @@
 //! simulator wrote.
 #![tactic(auto)]
 
-ghost use Rattle.std.specs.Prelude.{◌≡◌, IfOk, IfSome};
+ghost use Rattle.std.specs.Prelude.{◌≡◌, false, IfOk, IfSome};
 ghost use Rattle.model_text.specs.Meanings.{meaning_of};
 ghost use Rattle.model_text.specs.ModelTexts.{model_of};
 ghost use Rattle.model_runs.specs.Machines.{IsMachine};
