@@ -1,5 +1,5 @@
 -- How the lists of the pins that gates feed grow, pin by pin and gate by gate.
-use Rattle.std.proofs.Common.{◌≡◌, ◌≢◌, ℕ, zero, suc, ◌+◌, ◌<◌, Bool, true, false, cond, List, [], ◌∷◌, ◌++◌, length, refl, sym, ap, ◌∙◌, append-nil, arith, get_or-set_other, get_or-set_same}
+use Rattle.std.proofs.Common.{◌≡◌, ◌≢◌, ℕ, ◌+◌, ◌<◌, Bool, true, false, cond, List, [], ◌∷◌, ◌++◌, length, refl, sym, ap, ◌∙◌, append-nil, arith, get_or-set_other, get_or-set_same}
 use Rattle.std.specs.Prelude.{◌==◌, slice_index_or, slice_set}
 use Rattle.std.specs.List.{filter}
 use Rattle.std.proofs.Math.ListN.{length-set}
@@ -9,13 +9,6 @@ use Rattle.model_core.proofs.Numbers.{flat_map-numbers-more}
 use Rattle.circuit_model.specs.declared.gate.LogicGate.{LogicGate}
 use Rattle.circuit_model.specs.declared.wiring.Pin.{Pin}
 use Rattle.circuit_model.specs.Wiring.{pins_of, pins_below, feeder, fed_among, Lists}
-
--- an empty list more
-pub all_empty-more : (feeds : List (List Pin)) → ((k : ℕ) → slice_index_or feeds k [] ≡ []) → (k : ℕ) → slice_index_or (feeds ++ [] ∷ []) k [] ≡ []
-all_empty-more [] empty zero = refl
-all_empty-more [] empty (suc k) = refl
-all_empty-more (pins ∷ feeds) empty zero = empty 0
-all_empty-more (pins ∷ feeds) empty (suc k) = all_empty-more feeds (λ j. empty (suc j)) k
 
 pub Lists-empty : (gates : List LogicGate) (feeds : List (List Pin)) → length feeds ≡ length gates → ((k : ℕ) → slice_index_or feeds k [] ≡ []) → Lists gates feeds []
 unfolding fed_among

@@ -1,5 +1,5 @@
 //! The model of a circuit.
-ghost use Rattle.std.specs.Prelude.{◌≡◌, ◌<◌, IfOk, length};
+ghost use Rattle.std.specs.Prelude.{◌≡◌, ◌<◌, IfOk};
 ghost use Rattle.circuit_model.specs.Parts.{IsCircuit};
 ghost use Rattle.circuit_model.specs.PartsProps.{IsCircuit-prop};
 ghost use Rattle.circuit_model.specs.Meaning.{circuit_meaning};

@@ -1,5 +1,5 @@
 //! What an event does at a gate.
-ghost use Rattle.std.specs.Prelude.{◌≡◌, ◌+◌, ◌<◌, ◌≤◌, ◌++◌, ◌∷◌, [], length, map, drop, IsTrue, slice_index};
+ghost use Rattle.std.specs.Prelude.{◌≡◌, ◌+◌, ◌<◌, ◌≤◌, [], length, map, drop, IsTrue};
 ghost use Rattle.std.specs.List.{list_all};
 ghost use Rattle.circuit_model.specs.Events.{is_bit, is_gate_cells, is_level, levels_of, output_of, output_on, output_after};
 ghost use Rattle.circuit_model.specs.Events.{pin_changes, level_to, rises, told};

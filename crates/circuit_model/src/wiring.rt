@@ -1,5 +1,5 @@
 //! Which pins a gate feeds.
-ghost use Rattle.std.specs.Prelude.{◌≡◌, ◌+◌, ◌<◌, ◌≤◌, [], ◌∷◌, ◌++◌, length, All, IfOk};
+ghost use Rattle.std.specs.Prelude.{◌≡◌, ◌+◌, ◌<◌, [], ◌∷◌, ◌++◌, length, IfOk};
 ghost use Rattle.circuit_model.specs.Gates.{gate_at};
 ghost use Rattle.circuit_model.specs.Parts.{AreLinked};
 ghost use Rattle.circuit_model.specs.Wiring.{Lists, pins_below, all_pins};

@@ -18,14 +18,13 @@ use Rattle.sim_spec.specs.State.{State, Lawful}
 use Rattle.sim_spec.proofs.BucketLaw.{bucket_law}
 use Rattle.key_order.proofs.EnqueueLemmas.{length-enqueue_all, Each-enqueued_all}
 use Rattle.sim_spec.proofs.PartLemmas.{IsAscending-events_at, events_at-enqueue_all}
-use Rattle.world_spec.proofs.CommitLaw.{commit_law}
 use Rattle.key_order.proofs.FilterLemmas.{length-filter_le}
 use Rattle.world_spec.proofs.NextWorld.{arrived, next_ordered, next_homed, world_law}
 use Rattle.world_spec.specs.Closed.{cut_key}
 use Rattle.key_order.specs.Due.{is_due}
-use Rattle.world_spec.specs.Moves.{IsCommit, IsDueDone, committed, committed_ahead}
+use Rattle.world_spec.specs.Moves.{IsDueDone, committed, committed_ahead}
 use Rattle.world_spec.specs.Parcels.{IsHandedOut, done_of, parcel, parcels, records_by_node}
-use Rattle.world_spec.specs.Share.{IsAtHome, IsHome, NodeData, Share, StandsFor, is_at}
+use Rattle.world_spec.specs.Share.{IsAtHome, IsHome, NodeData, Share, is_at}
 use Rattle.world_spec.specs.World.{WorldIsClosed}
 use Rattle.world_spec.specs.WorldLaws.{IsCycle}
 use Rattle.node_core.specs.declared.committed.Committed.{Committed}
@@ -168,16 +167,6 @@ module _ {M : Type 0} (meaning_of : M → Meaning) (w : WorldView M) (laws : Mea
 
     pub mid_record : (number : ℕ) (below : number < w.homes.nodes) → Stands m (middle number below).mid (left_share number) (left_ahead number)
     mid_record number below = let p = middle number below in p.commits.stands (stands.shares number) stands.ahead (node-stands m w s stands number p.x p.at_old)
-
-    pub mid_stands : (number : ℕ) (below : number < w.homes.nodes) → StandsFor m w.terms home_in number (left_share number) (left_ahead number) (data_of (middle number below).mid)
-    mid_stands number below =
-        let p = middle number below in
-        let one = p.commits.commit (stands.shares number) stands.ahead (node-stands m w s stands number p.x p.at_old) in
-        let F : M → Terms → HomesView → ℕ → Type 0 = λ v t h k. IsCommit m (home_of h) k bound cut_at (stands.shares number) (data_of p.x) (data_of p.mid) in
-        let two = to-world w.model w.terms w.homes number F p.x p.is one in
-        let P : NodeData → Type 0 = λ d. IsCommit m home_in number bound cut_at (stands.shares number) d (data_of p.mid) in
-        commit_law m w.terms laws home_in number bound cut_at (stands.shares number) stands.ahead (data_at w.nodes number) (data_of p.mid) (stands.stands.stands number below) (the-cycle.due number below)
-        (subst P (sym (data-is w.nodes number p.x p.at_old)) two)
 
     parcels-few : (number : ℕ) → number < w.homes.nodes → length (parcels home_in happened number w.homes.nodes) ≤ 400000 + 8 * 1000000000
     parcels-few number below =

@@ -1,5 +1,5 @@
 -- Where processed events are cut, from the keys and the faults of the nodes.
-use Rattle.std.proofs.Common.{◌≡◌, ◌≢◌, ℕ, zero, suc, ◌+◌, ◌<◌, ◌≤◌, Bool, true, false, cond, List, [], ◌∷◌, ◌++◌, length, drop, refl, sym, ap, ◌∙◌, subst, arith, ltb, ltb-true, ltb-false, lt-ltb, nat_lt, ◌==◌, ◌&&◌, ◌||◌, append-nil, map, le-ltb}
+use Rattle.std.proofs.Common.{◌≡◌, ◌≢◌, ℕ, zero, suc, ◌+◌, ◌≤◌, Bool, true, false, cond, List, [], ◌∷◌, ◌++◌, length, drop, refl, sym, ap, ◌∙◌, subst, arith, ltb, ltb-true, ltb-false, lt-ltb, nat_lt, ◌==◌, ◌&&◌, ◌||◌, append-nil, map, le-ltb}
 use Rattle.std.proofs.lemmas.Bool.{and_right}
 use Rattle.std.proofs.lemmas.List.{length-append, drop_all, append_assoc}
 use Rattle.std.proofs.lemmas.List.Elements.{filter-append}
@@ -229,19 +229,13 @@ module _ {N X : Type 0} (key : X → Key) (Has May : N → X → Type 0) where
       )
 
 module _ {M : Type 0} (meaning_of : M → Meaning) (bound : ℕ) where
-  -- what a node tells of its least fault
-  pub fault-here : (n : NodeView M) (fault : Key × ℕ) → IsLeastFaultOf (meaning_of n.model) n (Some fault) → fault.0.stamp < bound → IsLeastAt fault_key (IsFaultBelow meaning_of bound) (MayFaultBelow meaning_of bound) n (Some fault)
-  fault-here n fault is low = (((is.0, is.1), low), λ met may. is.2 may.0.0 may.0.1 met may.0.2)
-
+  -- a node's least fault, where it isn't due
   pub fault-late : (n : NodeView M) (fault : Key × ℕ) → IsLeastFaultOf (meaning_of n.model) n (Some fault) → bound ≤ fault.0.stamp → IsLeastAt fault_key (IsFaultBelow meaning_of bound) (MayFaultBelow meaning_of bound) n None
   fault-late n fault is late met may =
       let low = may.1 in
       let yes = key_lt-stamp met.0 fault.0 (omega arith) in
       let no = is.2 may.0.0 may.0.1 met may.0.2 in
       absurd (cc)
-
-  pub fault-none : (n : NodeView M) → IsLeastFaultOf (meaning_of n.model) n None → IsLeastAt fault_key (IsFaultBelow meaning_of bound) (MayFaultBelow meaning_of bound) n None
-  fault-none n none met may = let no = none may.0.0 may.0.1 in let yes = may.0.2 in absurd (cc)
 
   pub least-faults : (nodes : List (NodeView M)) (fault : Option (Key × ℕ)) → IsLeastUpto fault_key (IsFaultBelow meaning_of bound) (MayFaultBelow meaning_of bound) (length nodes) nodes fault → IsLeastFaultIn meaning_of bound nodes fault
   least-faults nodes None least = λ number n at object here met is. by_test number n at object here met is (ltb met.0.stamp bound) refl

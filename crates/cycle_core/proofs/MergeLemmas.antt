@@ -1,11 +1,9 @@
 -- Two lists in the order of their keys, merged.
 use Rattle.std.proofs.Common.{◌≡◌, ◌≢◌, ℕ, suc, ◌<◌, ◌≤◌, true, false, List, [], ◌∷◌, ◌++◌, length, drop, get_or, append_assoc, sym, ap, ◌∙◌, subst, arith}
 use Rattle.std.proofs.Math.Seq.{drop-cons}
-use Rattle.std.proofs.lemmas.Option.{slice_get-get_or}
 use Rattle.std.proofs.lemmas.List.Sorted.{IsPermutation-trans, IsPermutation-middle, IsPermutation-append_right}
 use Rattle.std.proofs.lemmas.List.Sums.{sum_by-append}
 use Rattle.std.specs.Prelude.{IsPermutation}
-use Rattle.cycle_core.proofs.PlaceLemmas.{same-some}
 use Rattle.event_key.specs.declared.key.Key.{Key}
 use Rattle.event_key.specs.Keys.{key_lt}
 use Rattle.model_core.specs.declared.note.Note.{Note}
@@ -103,7 +101,3 @@ module _ (left right : List (Key × Note)) (i j : ℕ) (merged : List (Key × No
 pub in-order-none : (records : List (Key × Note)) → records ≡ [] → AreInOrder records
 unfolding Ascends
 in-order-none records none = subst AreInOrder (sym none) tt
-
--- what is read twice at a place
-pub same-read : {X : Type 0} (xs : List X) (i : ℕ) (x y : X) → i < length xs → x ≡ get_or xs i x → y ≡ get_or xs i y → x ≡ y
-same-read xs i x y below x_is y_is = x_is ∙ same-some (get_or xs i x) (get_or xs i y) (sym (slice_get-get_or xs i x below) ∙ slice_get-get_or xs i y below) ∙ sym y_is

@@ -12,7 +12,6 @@ use Rattle.model_core.specs.Meaning.{Meaning}
 use Rattle.model_core.specs.declared.event.Event.{Event}
 use Rattle.sim_spec.specs.declared.terms.Terms.{Terms}
 use Rattle.sim_spec.specs.Cut.{emissions_of}
-use Rattle.sim_spec.specs.Firing.{ObjectState}
 use Rattle.sim_spec.specs.Replay.{Replay, replay}
 use Rattle.key_order.proofs.EachLemmas.{Each-append, Each-map}
 use Rattle.object_log.specs.declared.done.Done.{Done}
@@ -25,7 +24,7 @@ use Rattle.node_core.specs.Homes.{home_of}
 use Rattle.node_core.specs.Nodes.{NodeView, log_at, log_or, slot_at, base_at, pending_at, home, ahead_of, data_of, IsSameNode, IsAsBefore}
 use Rattle.node_core.specs.Shares.{AreProcessedKeys}
 use Rattle.node_core.specs.Steps.{HoldsMessageAt, HasProcessed, IsLeftIdle, raised}
-use Rattle.cycle_core.specs.Works.{IsSmall, HasFault, IsFull, WorksOn, IsHeldFrom, IsSettled}
+use Rattle.cycle_core.specs.Works.{HasFault, IsFull, WorksOn, IsHeldFrom, IsSettled}
 
 pub raised-cases : (n : ℕ) → (raised n ≡ n + 1) ⊎ ((raised n ≡ n) × IsFull n)
 raised-cases n = by_test (ltb n 18446744073709551615) refl
@@ -269,16 +268,6 @@ module _ {M : Type 0} (m : Meaning) where
         ]
       ];
     }
-
-  -- a node that works on stays small
-  pub small-stays : (old new : NodeView M) → WorksOn m old new → IsSmall m old → IsSmall m new
-  small-stays old new works small = record {
-    sent = λ object at.
-        let same : (base_at new.logs object).sent ≡ (base_at old.logs object).sent = ap (λ (s : ObjectState). s.sent) (works.base object) in
-        let low = small.sent object (home-before m old new works.same object at) in
-        omega arith;
-    few = (let a = works.processed in let b = works.waiting in let c = small.few in omega arith);
-  }
 
 -- a node that is idle below a bound is idle below a lower one
 pub idle-lower : (m : Meaning) (home : ℕ → ℕ) (node g h : ℕ) (held : NodeData) → g ≤ h → IsIdle m home node h held → IsIdle m home node g held

@@ -1,10 +1,9 @@
 //! How a cycle is closed.
-ghost use Rattle.std.specs.Prelude.{◌≡◌, ◌⊎◌, ◌<◌, ◌≤◌, ◌^◌, ℕ, IfOk, OnErr, length, slice_get, Some};
+ghost use Rattle.std.specs.Prelude.{◌≡◌, ◌<◌, ◌≤◌, ◌^◌, IfOk, OnErr};
 ghost use Rattle.event_key.specs.Stamps.{end_stamp};
-ghost use Rattle.node_core.specs.Nodes.{NodeView, IsAsBefore};
+ghost use Rattle.node_core.specs.Nodes.{IsAsBefore};
 ghost use Rattle.node_core.specs.Steps.{HasStepped};
 ghost use Rattle.cycle_core.specs.Works.{IsSmall, WorksOn, IsHeldFrom, IsSettled, IsOpened, AreIdle, AllWorkOn, AreSmall, HaveTerms};
-ghost use Rattle.cycle_core.specs.Places.{EachPair, AtEach};
 
 use model_core::OutOfMemory;
 use model_core::model::Model as SimulationModel;

@@ -1,5 +1,5 @@
 //! What is told of events, one after another.
-ghost use Rattle.std.specs.Prelude.{◌≡◌, ◌+◌, ◌-◌, ◌*◌, ◌<◌, ◌≤◌, ◌==◌, [], ◌∷◌, ◌++◌, ℕ, length, drop, slice_get, vec_len, vec_capacity, Some, OnOk, OnErr};
+ghost use Rattle.std.specs.Prelude.{◌≡◌, ◌+◌, ◌-◌, ◌*◌, ◌<◌, ◌≤◌, ◌==◌, [], ◌∷◌, ◌++◌, length, drop, slice_get, vec_len, vec_capacity, Some, OnOk, OnErr};
 ghost use Rattle.event_key.specs.declared.key.Key.{Key};
 ghost use Rattle.model_core.specs.declared.note.Note.{Note};
 

@@ -1,11 +1,10 @@
 -- Reading elements one after the other, as a loop does.
 use Rattle.std.proofs.Common.{◌≡◌, ℕ, zero, suc, ◌+◌, ◌<◌, List, [], ◌∷◌, ◌++◌, length, drop, get_or, Ok, Err, refl, sym, ap, ◌∙◌, append_assoc, arith}
-use Rattle.std.proofs.lemmas.List.{append-nil, drop_more}
-use Rattle.std.proofs.Math.Seq.{drop-length}
+use Rattle.std.proofs.lemmas.List.{drop_more}
 use Rattle.model_text.specs.Checks.{Checked, Refused, ◌>>=◌, Fails}
 use Rattle.model_text.specs.declared.refusal.Refusal.{Refusal}
 use Rattle.model_text.specs.declared.refusal.Refusal.TheVariants.{At, OutOfMemory}
-use Rattle.model_text.specs.Fields.{each_from, each_after, each_of, all_of, item_count}
+use Rattle.model_text.specs.Fields.{each_after, each_of, all_of, item_count}
 use Rattle.toml.specs.Data.{Data, item}
 use Rattle.toml.specs.View.{view, items_view}
 use Rattle.toml.specs.declared.value.Value.{Value}
@@ -19,28 +18,6 @@ regroup : {A : Type 0} (front : List A) (x : A) (check : Checked (List A)) → w
 regroup front x (Ok xs) = ap (λ ys. Ok ys) (simp append_assoc)
 regroup front x (Err f) = refl
 
-pub goes_on : {A : Type 0} (read : ℕ → Data → Checked A) (front : List A) (k i : ℕ) (vs : List Value) (v : Value) (x : A) (total : Checked (List A))
-    → i < length vs → v ≡ get_or vs i v → read k (view v) ≡ Ok x
-    → with_front front (each_from read k (items_view (drop i vs))) ≡ total → with_front (front ++ x ∷ []) (each_from read (k + 1) (items_view (drop (i + 1) vs))) ≡ total
-goes_on read front k i vs v x total lt same h so_far =
-    let split : items_view (drop i vs) ≡ item (view v) (items_view (drop (i + 1) vs)) = items_view-drop vs i v lt ∙ ap (λ w. item (view w) (items_view (drop (i + 1) vs))) (sym same) in
-    let one : with_front front (each_from read k (items_view (drop i vs))) ≡ with_front (front ++ x ∷ []) (each_from read (k + 1) (items_view (drop (i + 1) vs))) = rw (split, h) (regroup front x (each_from read (k + 1) (items_view (drop (i + 1) vs)))) in
-    sym one ∙ so_far
-
-pub ends : {A : Type 0} (read : ℕ → Data → Checked A) (e : Refusal) (front : List A) (k i : ℕ) (vs : List Value) (v : Value) (total : Checked (List A))
-    → i < length vs → v ≡ get_or vs i v → Fails e (read k (view v))
-    → with_front front (each_from read k (items_view (drop i vs))) ≡ total → Fails e total
-ends read OutOfMemory front k i vs v total lt same h so_far = tt
-ends read (At code place) front k i vs v total lt same h so_far =
-    let split : items_view (drop i vs) ≡ item (view v) (items_view (drop (i + 1) vs)) = items_view-drop vs i v lt ∙ ap (λ w. item (view w) (items_view (drop (i + 1) vs))) (sym same) in
-    let one : with_front front (each_from read k (items_view (drop i vs))) ≡ Err (record { code = code; item = place }) = rw (split, h) refl in
-    sym so_far ∙ one
-
-pub is_done : {A : Type 0} (read : ℕ → Data → Checked A) (front : List A) (k : ℕ) (vs : List Value) (total : Checked (List A))
-    → with_front front (each_from read k (items_view (drop (length vs) vs))) ≡ total → total ≡ Ok front
-is_done read front k vs total so_far =
-    sym so_far ∙ rw drop-length (ap (λ ys. Ok ys) (append-nil front))
-
 pub item_count-items : (vs : List Value) → length vs ≡ item_count (items_view vs)
 item_count-items [] = refl
 item_count-items (v ∷ vs) = rw (← item_count-items vs) (grind arith)
@@ -53,20 +30,6 @@ list_goes_on read front k i xs x a total lt same h so_far =
     let split : drop i xs ≡ x ∷ drop (i + 1) xs = drop_more xs i x lt ∙ ap (λ y. y ∷ drop (i + 1) xs) (sym same) in
     let one : with_front front (each_of read k (drop i xs)) ≡ with_front (front ++ a ∷ []) (each_of read (k + 1) (drop (i + 1) xs)) = rw (split, h) (regroup front a (each_of read (k + 1) (drop (i + 1) xs))) in
     sym one ∙ so_far
-
-pub list_ends : {X A : Type 0} (read : ℕ → X → Checked A) (e : Refusal) (front : List A) (k i : ℕ) (xs : List X) (x : X) (total : Checked (List A))
-    → i < length xs → x ≡ get_or xs i x → Fails e (read k x)
-    → with_front front (each_of read k (drop i xs)) ≡ total → Fails e total
-list_ends read OutOfMemory front k i xs x total lt same h so_far = tt
-list_ends read (At code place) front k i xs x total lt same h so_far =
-    let split : drop i xs ≡ x ∷ drop (i + 1) xs = drop_more xs i x lt ∙ ap (λ y. y ∷ drop (i + 1) xs) (sym same) in
-    let one : with_front front (each_of read k (drop i xs)) ≡ Err (record { code = code; item = place }) = rw (split, h) refl in
-    sym so_far ∙ one
-
-pub list_is_done : {X A : Type 0} (read : ℕ → X → Checked A) (front : List A) (k : ℕ) (xs : List X) (total : Checked (List A))
-    → with_front front (each_of read k (drop (length xs) xs)) ≡ total → total ≡ Ok front
-list_is_done read front k xs total so_far =
-    sym so_far ∙ rw drop-length (ap (λ ys. Ok ys) (append-nil front))
 
 -- the same, where the check knows the elements before
 after_next : {A : Type 0} (check : List A → Data → Checked A) (before : List A) (i : ℕ) (vs : List Value) (v : Value) → i < length vs → v ≡ get_or vs i v

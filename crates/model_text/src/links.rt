@@ -1,5 +1,5 @@
 //! Pass two: the names to which objects send become numbers of objects.
-ghost use Rattle.std.specs.Prelude.{◌≡◌, ◌≤◌, length};
+ghost use Rattle.std.specs.Prelude.{◌≤◌, length};
 ghost use Rattle.model_core.specs.declared.limits.TheConstants.{MOST_OBJECTS};
 ghost use Rattle.model_text.specs.Checks.{Gives};
 ghost use Rattle.model_text.specs.Directories.{finder};

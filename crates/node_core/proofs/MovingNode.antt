@@ -12,7 +12,7 @@ use Rattle.object_log.specs.Replays.{IsLogOf, IsReplayed}
 use Rattle.world_spec.specs.Share.{IsHome}
 use Rattle.node_core.specs.Homes.{HomesView, home_of}
 use Rattle.node_core.specs.Marks.{MarkView}
-use Rattle.node_core.specs.Moving.{AreAlikeBut, CanCome, CanTakeIn, HasCome, HasLeft, HasTakenOut, IsMovable, KeepObjects, MovedView}
+use Rattle.node_core.specs.Moving.{AreAlikeBut, CanCome, CanTakeIn, HasCome, HasLeft, HasTakenOut, IsMovable, MovedView}
 use Rattle.node_core.specs.Nodes.{Counts, IsHere, NodeView, base_at, log_at, no_log, slot_at}
 use Rattle.node_core.specs.Rows.{keys_of}
 use Rattle.node_core.specs.Sound.{IsNode, IsStore}
@@ -159,17 +159,3 @@ module _ {M : Type 0} (m : Meaning) (n : NodeView M) (s : StoreView) (logs_are :
         };
         balance = more-processed n.counts.processed n.counts.committed n.counts.undone (length s.marks) count (length s'.marks) node.balance (let all = came.count in omega arith);
       }
-
--- the same objects under other homes
-pub node-kept : (m : Meaning) (t : Terms) (number : ℕ) (homes homes' : HomesView) (s : StoreView) (counts : Counts) → IsNode m t number homes s.logs s.marks counts → KeepObjects number homes homes' → IsNode m t number homes' s.logs s.marks counts
-node-kept m t number homes homes' s counts node keep =
-    let nodes = keep.nodes in
-    let low = node.exists in
-    record {
-      exists = omega arith;
-      objects = keep.objects ∙ node.objects;
-      here = λ o home. node.here o (home.0, keep.was o home.1);
-      only = λ o here. keep.stays o (node.only o here);
-      lawful = node.lawful;
-      balance = node.balance;
-    }

@@ -1,5 +1,5 @@
 -- An advance, turn by turn.
-use Rattle.std.proofs.Common.{◌≡◌, ◌≢◌, ◌⊎◌, ℕ, ◌+◌, ◌≤◌, min, Bool, true, false, List, [], ◌∷◌, ◌++◌, length, refl, sym, ap, ◌∙◌, subst, inl, inr, arith, append_assoc, eqb, eqb-true}
+use Rattle.std.proofs.Common.{◌≡◌, ◌≢◌, ℕ, ◌+◌, ◌≤◌, min, Bool, true, false, List, [], ◌∷◌, ◌++◌, length, refl, sym, ap, ◌∙◌, subst, inl, inr, arith, append_assoc, eqb, eqb-true}
 use Rattle.std.proofs.lemmas.Bool.{eqb-false}
 use Rattle.std.proofs.lemmas.List.{append-nil}
 use Rattle.event_key.specs.declared.key.Key.{Key}
@@ -7,7 +7,6 @@ use Rattle.event_key.specs.declared.stamp.TheConstants.{NO_STAMP}
 use Rattle.event_key.specs.Stamps.{end_stamp}
 use Rattle.model_core.specs.Meaning.{Meaning}
 use Rattle.model_core.specs.declared.event.Event.{Event}
-use Rattle.sim_spec.specs.declared.terms.Terms.{Terms}
 use Rattle.std.specs.List.{AllByRecursion}
 use Rattle.world_spec.specs.Moves.{IsIdle}
 use Rattle.horizon_word.specs.Views.{SeatView}
@@ -18,9 +17,9 @@ use Rattle.node_core.specs.Homes.{HomesView, home_of}
 use Rattle.node_core.specs.Nodes.{NodeView, log_at, home, data_of, IsAsBefore}
 use Rattle.node_core.specs.Steps.{IsHeldLeast, HasProcessed}
 use Rattle.cycle_core.specs.Known.{IsKnown}
-use Rattle.cycle_core.specs.Works.{IsSmall, WorksOn}
-use Rattle.cycle_core.proofs.WorkLemmas.{as_before, works-none, works-more, works-then, small-stays, slot-log}
-use Rattle.node_team.specs.Advances.{HasOffered, HasTold, AreFrom, CanAdvance, HasTurned, IsIdleBelow, IsAdvanced}
+use Rattle.cycle_core.specs.Works.{WorksOn}
+use Rattle.cycle_core.proofs.WorkLemmas.{as_before, works-none, works-more, works-then, slot-log}
+use Rattle.node_team.specs.Advances.{HasOffered, HasTold, AreFrom, CanAdvance, HasTurned}
 use Rattle.node_team.proofs.FloorLemmas.{one-later, floor-waits, floor-held}
 use Rattle.world_spec.proofs.IdleLemmas.{idle-on}
 
@@ -74,12 +73,6 @@ module _ {M : Type 0} (meaning_of : M → Meaning) (first : NodeView M) (seat : 
     pub model-is : n.model ≡ first.model
     model-is = advancing.works.same.model
 
-    pub small-is : IsSmall m first → IsSmall (meaning_of n.model) n
-    small-is small = let P : M → Type 0 = λ v. IsSmall (meaning_of v) n in subst P (sym model-is) (small-stays m first n advancing.works small)
-
-    pub end-is : (bound : ℕ) → bound ≤ end_stamp first.terms.end → bound ≤ end_stamp n.terms.end
-    end-is bound le = let P : Terms → Type 0 = λ t. bound ≤ end_stamp t.end in subst P (sym advancing.works.same.terms) le
-
     pub advancing-refused : (new : NodeView M) → IsAsBefore n new → WorksOn m first new
     advancing-refused new un = works-then m first n new advancing.works (works-none m n new un)
 
@@ -117,18 +110,6 @@ module _ {M : Type 0} (meaning_of : M → Meaning) (first : NodeView M) (seat : 
           let P : NodeView M → Type 0 = λ v. IsIdle m (home v) n.number later.seen (data_of new) in
           let H : HomesView → ℕ → Type 0 = λ h k. IsIdle m (home_of h) k later.seen (data_of new) in
           subst (λ k. H new.homes k) (sym did.same.number) (subst (λ h. H h n.number) (sym did.same.homes) on)
-
-    -- an idle node has advanced
-    pub advanced : (ahead : ℕ) → IsIdleBelow m now.seen n → (ahead + length first.processed ≤ length n.processed) ⊎ IsIdleBelow m (end_stamp first.terms.end) n → IsAdvanced m ahead first seat n now
-    advanced ahead idle deep = record {
-      idle = idle;
-      offered = record { held = advancing.held; held_is = advancing.held_is; least = advancing.least };
-      taken = advancing.taken;
-      deep = elim deep [
-        | inl far ↦ inl far
-        | inr all ↦ inr (let E : Terms → Type 0 = λ t. IsIdleBelow m (end_stamp t.end) n in subst E (sym advancing.works.same.terms) all)
-      ];
-    }
 
 module _ {M : Type 0} (told : Key → Type 0) where
   -- a node that has processed nothing has nothing to tell

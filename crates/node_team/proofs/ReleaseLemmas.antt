@@ -1,7 +1,7 @@
 -- Nodes that release one after another, and receive one after another.
-use Rattle.std.proofs.Common.{◌≡◌, ℕ, zero, suc, ◌+◌, ◌<◌, ◌≤◌, Bool, true, false, List, [], ◌∷◌, ◌++◌, length, map, get_or, refl, sym, ap, ◌∙◌, subst, arith, eqb, eqb-true, slice_set}
+use Rattle.std.proofs.Common.{◌≡◌, ℕ, zero, suc, ◌+◌, ◌<◌, ◌≤◌, Bool, true, false, List, [], ◌∷◌, length, map, get_or, refl, sym, ap, ◌∙◌, subst, arith, eqb, eqb-true, slice_set}
 use Rattle.std.proofs.lemmas.Bool.{eqb-false}
-use Rattle.std.proofs.lemmas.List.{get_or-map, length-append, length-map, length-set}
+use Rattle.std.proofs.lemmas.List.{get_or-map, length-map, length-set}
 use Rattle.std.proofs.lemmas.List.FromFn.{length-range_with_len, get_or-range_with_len}
 use Rattle.std.proofs.lemmas.Option.{get_or_from_slice_get, slice_get_within}
 use Rattle.std.specs.Prelude.{slice_get, Some}
@@ -15,9 +15,9 @@ use Rattle.node_core.specs.declared.committed.Committed.{Committed}
 use Rattle.cycle_core.specs.Ends.{sent_in}
 use Rattle.cycle_core.specs.Places.{AtEach}
 use Rattle.cycle_core.specs.Sendings.{HasSent, HaveSent}
-use Rattle.cycle_core.proofs.PlaceLemmas.{at-push, at-set, at-other, at-some, same-some}
+use Rattle.cycle_core.proofs.PlaceLemmas.{at-set, at-other, at-some, same-some}
 use Rattle.node_team.proofs.SeatingLemmas.{at-each-place}
-use Rattle.node_team.specs.Releases.{arrived_in, AreClear, AreFree, HasPosted, HavePosted}
+use Rattle.node_team.specs.Releases.{arrived_in, AreFree, HasPosted, HavePosted}
 
 module _ {E : Type 0} (lanes : NodeEnd E) where
   -- the ends of the first so many nodes have posted, and the others wait
@@ -31,17 +31,6 @@ module _ {E : Type 0} (lanes : NodeEnd E) where
     pub same_commits : (number : ℕ) → place ≤ number → slice_get commits number ≡ slice_get handed number
     pub same_inboxes : (number : ℕ) → place ≤ number → slice_get inboxes number ≡ slice_get befores number
     pub same_ends : (number : ℕ) → place ≤ number → slice_get new number ≡ slice_get old number
-
-  pub posted-none : (handed : List Committed) (befores : List Inbox) (old : List E) → HavePostedUpto 0 handed handed befores befores old old
-  posted-none handed befores old = record {
-    as_many_commits = refl;
-    as_many_inboxes = refl;
-    as_many_ends = refl;
-    each = λ number c d a b x y below at_c at_d at_a at_b at_x at_y. absurd (omega arith);
-    same_commits = λ number from. refl;
-    same_inboxes = λ number from. refl;
-    same_ends = λ number from. refl;
-  }
 
   -- one more
   pub posted-more : (place : ℕ) (handed commits : List Committed) (befores inboxes : List Inbox) (old new : List E) (c d : Committed) (a b : Inbox) (x y : E)
@@ -200,13 +189,3 @@ pub at-mapped : {A B : Type 0} (f : A → B) (xs : List A) (k : ℕ) (x : A) →
 at-mapped f [] k x at = absurd (cc)
 at-mapped f (y ∷ ys) zero x at = ap (λ z. Some (f z)) (same-some y x at)
 at-mapped f (y ∷ ys) (suc k) x at = at-mapped f ys k x at
-
-pub clear-none : AreClear 0 []
-clear-none = record { many = refl; early = λ place inbox at. absurd (cc); arrived = λ place inbox at. absurd (cc) }
-
-pub clear-more : (nodes : ℕ) (inboxes : List Inbox) (inbox : Inbox) → AreClear nodes inboxes → inbox.early.items ≡ [] → inbox.arrived ≡ [] → AreClear (nodes + 1) (inboxes ++ inbox ∷ [])
-clear-more nodes inboxes inbox clear early arrived = record {
-  many = (let many = clear.many in omega (arith, length-append inboxes (inbox ∷ [])));
-  early = at-push (λ (i : Inbox). early_in i ≡ []) inboxes inbox clear.early early;
-  arrived = at-push (λ (i : Inbox). arrived_in i ≡ []) inboxes inbox clear.arrived arrived;
-}

@@ -15,7 +15,6 @@ use crate::kept::Kept;
 use crate::parts::{Due, Parts};
 use crate::releasing::release_all;
 use cycle_core::{Cut, Lists, World, know_all, merge};
-use event_key::Key;
 use model_core::model::{Model as SimulationModel, keeps_laws};
 use model_core::{OutOfMemory, RecordBuffer};
 use node_core::{Committed, Node};

@@ -1,5 +1,5 @@
 //! In how many threads the cycles of a team run.
-ghost use Rattle.std.specs.Prelude.{◌≡◌, ◌≤◌, IfOk};
+ghost use Rattle.std.specs.Prelude.{◌≤◌, IfOk};
 ghost use Rattle.sim_spec.specs.Standing.{Standing};
 ghost use Rattle.cycle_core.specs.Standings.{WorldStandsAt};
 

@@ -1,5 +1,5 @@
 //! Processed events in a pile.
-ghost use Rattle.std.specs.Prelude.{◌≡◌, ◌+◌, ◌<◌, ◌≤◌, [], ◌∷◌, ◌++◌, length, reverse, map, slice_get, Some, OnOk, OnErr};
+ghost use Rattle.std.specs.Prelude.{◌≡◌, ◌+◌, ◌<◌, ◌≤◌, [], ◌∷◌, ◌++◌, length, reverse, map, slice_get, Some, OnOk};
 ghost use Rattle.event_key.specs.declared.stamp.TheConstants.{NO_STAMP};
 ghost use Rattle.key_order.specs.Stamps.{least_stamp};
 ghost use Rattle.object_log.specs.Logs.{held_of};

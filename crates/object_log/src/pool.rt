@@ -1,5 +1,5 @@
 //! What processed events leave to be used again.
-ghost use Rattle.std.specs.Prelude.{◌≡◌, ◌+◌, ◌≤◌, ◌^◌, [], min, length, OnOk, IfOk};
+ghost use Rattle.std.specs.Prelude.{◌≡◌, ◌+◌, ◌≤◌, ◌^◌, min, length, OnOk, IfOk};
 
 use crate::done::{Done, Verdict};
 use crate::lists::UndoLists;

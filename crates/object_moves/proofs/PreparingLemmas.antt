@@ -7,7 +7,7 @@ use Rattle.key_order.proofs.EachLemmas.{Each-map}
 use Rattle.model_core.specs.Meaning.{Meaning}
 use Rattle.sim_spec.specs.Standing.{Standing, stands, spent}
 use Rattle.sim_spec.specs.State.{State}
-use Rattle.node_core.specs.Homes.{HomesView, home_of, rehomed}
+use Rattle.node_core.specs.Homes.{HomesView, rehomed}
 use Rattle.cycle_core.specs.Standings.{WorldStandsAt}
 use Rattle.cycle_core.specs.Worlds.{StandsAt, WorldView}
 use Rattle.object_moves.specs.declared.moves.Move.{Move}
@@ -37,10 +37,6 @@ set-same [] i v d below is = refl
 set-same (x ∷ xs) zero v d below is = ap (λ y. y ∷ xs) (sym is)
 set-same (x ∷ xs) (suc i) v d below is = ap (λ ys. x ∷ ys) (set-same xs i v d (omega arith) is)
 
--- a move to where the object is changes no home
-pub rehomed-same : (h : HomesView) (object node : ℕ) → object < length h.homes → home_of h object ≡ node → rehomed h object node ≡ h
-rehomed-same h object node below is = λ i. record { nodes = h.nodes; homes = set-same h.homes object node h.nodes below is i }
-
 pub exist-after : (h : HomesView) (object node : ℕ) (xs : List Move) → Each (Exists h) xs → Each (Exists (rehomed h object node)) xs
 exist-after h object node xs all = Each-map (Exists h) (Exists (rehomed h object node)) xs (λ x e. (let long = length-set h.homes object node in let low = e.0 in omega arith, e.1)) all
 
@@ -62,10 +58,6 @@ next-move : (xs : List Move) (i : ℕ) (d : Move) → i < length xs → drop i x
 next-move [] i d below = absurd (omega arith)
 next-move (x ∷ xs) zero d below = refl
 next-move (x ∷ xs) (suc i) d below = let same : suc (i + 1) ≡ suc i + 1 = omega arith in next-move xs i d (omega arith) ∙ ap (λ n. get_or xs i d ∷ drop n (x ∷ xs)) same
-
--- one move more is prepared
-pub next-exists : (h : HomesView) (moves : List Move) (i : ℕ) (d : Move) → i < length moves → Each (Exists h) (drop i moves) → Exists h (get_or moves i d)
-next-exists h moves i d below all = (subst (Each (Exists h)) (next-move moves i d below) all).0
 
 pub next-prepared : (all places : ℕ) (first h after end : HomesView) (moves : List Move) (i : ℕ) (d : Move) (old new : List Step) → i < length moves → places ≡ all
     → AreSteps all first old h → homes_after h (drop i moves) ≡ end → Each (Exists h) (drop i moves)

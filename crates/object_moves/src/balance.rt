@@ -1,5 +1,5 @@
 //! Which object goes where, so that nodes have as much to do as each other.
-ghost use Rattle.std.specs.Prelude.{◌≡◌, ◌<◌, ◌≤◌, IfOk};
+ghost use Rattle.std.specs.Prelude.{◌<◌, IfOk};
 ghost use Rattle.cycle_core.specs.Worlds.{HasNodes};
 ghost use Rattle.object_moves.specs.Loads.{IsFirstLoad, IsPlanByLoad, Picks, fewer_of, least_of, more_of, most_of};
 

@@ -1,5 +1,5 @@
 //! What an event sends, on its way to the queue.
-ghost use Rattle.std.specs.Prelude.{◌≡◌, ◌<◌, ◌≤◌, ◌+◌, ◌++◌, ◌^◌, length, OnOk, false};
+ghost use Rattle.std.specs.Prelude.{◌≡◌, ◌<◌, ◌+◌, ◌++◌, ◌^◌, length, OnOk, false};
 ghost use Rattle.event_key.specs.Stamps.{time_part};
 ghost use Rattle.model_core.specs.Meaning.{SendsInRange};
 ghost use Rattle.sim_spec.specs.Firing.{has_endless_chain, emissions};

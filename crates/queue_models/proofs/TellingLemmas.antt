@@ -1,10 +1,9 @@
 -- What an object tells: a traced one is a station, whose load can be counted.
-use Rattle.std.proofs.Common.{◌≡◌, ℕ, ◌<◌, Bool, true, false, List, length, subst, sym, ap, ◌∙◌, arith}
+use Rattle.std.proofs.Common.{◌≡◌, ℕ, ◌<◌, Bool, true, false, List, length, subst, sym, arith}
 use Rattle.std.specs.Prelude.{IsTrue, not, ◌||◌}
 use Rattle.std.proofs.lemmas.Bool.Decides.{nat_tests}
 use Rattle.delta_exchange.specs.Changes.{CellData}
 use Rattle.model_core.specs.declared.effect.Effect.{Effect}
-use Rattle.model_core.specs.declared.effect.Outcome.{Outcome}
 use Rattle.model_core.specs.declared.effect.Outcome.TheVariants.{Goes}
 use Rattle.model_core.specs.declared.event.Event.{Event}
 use Rattle.queue_models.specs.declared.kind.KindOver.{KindOver}
@@ -16,7 +15,6 @@ use Rattle.queue_models.specs.Meaning.{site_of}
 use Rattle.queue_models.specs.ModelLaws.{object_fine, object_keeps}
 use Rattle.queue_models.specs.Objects.{Item, NetworkParts, object_at}
 use Rattle.queue_models.specs.Parts.{IsKind, IsLink, IsNetwork}
-use Rattle.queue_models.specs.Telling.{note_told, as_told}
 
 station_load : (objects : List Item) (kind : KindOver ℕ) (cells : CellData) (x : Effect) → is_station kind ≡ true → IsKind (IsLink objects) kind → IsTrue (is_lawful kind cells)
     → EffectKeeps (length objects) (λ c. is_lawful kind c) cells x → HasLoad cells x.changes
@@ -51,9 +49,3 @@ has_load p fine object cells event x exists lawful goes traced =
 pub one_part : (p : NetworkParts) → IsNetwork p → (object : ℕ) (cells : CellData) (event : Event) (x : Effect) → object < length p.objects → IsTrue (is_lawful (object_at p.objects object).kind cells)
     → Goes x ≡ effect_at (site_of p object) (object_at p.objects object).kind cells event → length x.note ≡ 1
 one_part p fine object cells event x exists lawful goes = (effect_keeps p fine object cells event x exists lawful goes).one_part
-
--- an effect whose note is made what the object tells
-pub goes_as_told : (object : Item) (cells : CellData) (x y : Effect) (outcome : Outcome) → Goes x ≡ outcome → y.changes ≡ x.changes → y.sends ≡ x.sends
-    → y.note ≡ note_told object.quiet object.trace cells x → Goes y ≡ as_told object cells outcome
-goes_as_told object cells x y outcome is changes sends note =
-    (λ i. Goes (record { changes = changes i; sends = sends i; note = note i })) ∙ ap (as_told object cells) is

@@ -1,5 +1,5 @@
 //! The model of a queueing network.
-ghost use Rattle.std.specs.Prelude.{◌≡◌, ◌<◌, ◌≤◌, IfOk, map, length};
+ghost use Rattle.std.specs.Prelude.{◌≡◌, ◌<◌, ◌≤◌, IfOk, length};
 ghost use Rattle.model_core.specs.declared.limits.TheConstants.{MOST_OBJECTS};
 ghost use Rattle.queue_models.specs.Objects.{object_at, network_of, source_numbers};
 ghost use Rattle.queue_models.specs.Parts.{IsNetwork};

@@ -1,5 +1,5 @@
 //! A large network from a number.
-ghost use Rattle.std.specs.Prelude.{◌≡◌, ◌≤◌, ◌<◌, ◌*◌, ◌/◌, IfOk, map};
+ghost use Rattle.std.specs.Prelude.{◌≡◌, ◌≤◌, ◌<◌, ◌*◌, ◌/◌, IfOk};
 ghost use Rattle.queue_models.specs.Rings.{ring_station, ring_delay, ring_object, ring_objects, ring_jobs, ring_parts, ring_terms};
 ghost use Rattle.queue_models.specs.Meaning.{network_meaning};
 

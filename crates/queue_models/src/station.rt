@@ -3,7 +3,7 @@ ghost use Rattle.std.specs.Prelude.{◌≡◌, ◌<◌, IfOk, IsTrue};
 ghost use Rattle.random_streams.specs.Laws.{is_drawable};
 ghost use Rattle.model_core.specs.Effects.{blank, outcome_by};
 ghost use Rattle.queue_models.specs.Views.{station_of};
-ghost use Rattle.queue_models.specs.Stations.{is_station_cells, first_station_cells, busy_servers, waiting_jobs, done_after, take_effect, wait_effect, lose_effect, arrival_outcome, serve_effect, free_effect, done_effect, station_effect};
+ghost use Rattle.queue_models.specs.Stations.{is_station_cells, first_station_cells, waiting_jobs, done_after, take_effect, wait_effect, lose_effect, arrival_outcome, serve_effect, free_effect, done_effect, station_effect};
 
 use crate::site::{DONE, Site, told};
 use model_core::{

@@ -1,6 +1,6 @@
 //! The hold model: each step takes the least of the pending events and puts in another one, a random delay
 //! later (Jones, "An Empirical Comparison of Priority-Queue and Event-Set Implementations", 1986).
-ghost use Rattle.std.specs.Prelude.{◌≡◌, ◌+◌, ◌<◌, ◌^◌, OnOk, IfSome};
+ghost use Rattle.std.specs.Prelude.{◌≡◌, ◌+◌, ◌<◌, ◌^◌, OnOk};
 ghost use Rattle.speedes_queue.specs.Serials.{HasSerialsBelow};
 
 use event_chain::Cell;

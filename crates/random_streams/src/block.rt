@@ -1,5 +1,5 @@
 //! One block of the cipher, by the rows of its state: the block function of RFC 8439, 2.3.
-ghost use Rattle.std.specs.Prelude.{◌≡◌, ℕ, ◌+◌, ◌/◌, ◌%◌, ◌^◌, ◌<◌, slice_index};
+ghost use Rattle.std.specs.Prelude.{◌≡◌, ℕ, ◌+◌, ◌%◌, ◌^◌, ◌<◌, slice_index};
 ghost use Rattle.rand_chacha.specs.Block.{add32, xor_rotate, quarter_round, column_round, diagonal_round, initial_state, block_word};
 ghost use Rattle.rand_chacha.specs.ChaCha.{key_of};
 ghost use Rattle.random_streams.specs.Rows.{row_of, state_of};

@@ -95,10 +95,6 @@ back_after nodes served first next sent ends later back outlines falls searched 
       (cases_lt i first);
 }
 
--- another node is served from the first node on
-pub back_anew : (nodes served next to : ℕ) (sent ends : List PlainEnd) → AreBack nodes served next sent ends → AreBack nodes to 0 sent ends
-back_anew nodes served next to sent ends back = record { team = back.team; left = back.left; taken = λ from less. absurd (omega arith) }
-
 pub same_delivered : (sent ends later : List PlainEnd) (i j : ℕ) → standing later i j ≡ standing ends i j → delivered sent later i j ≡ delivered sent ends i j
 same_delivered sent ends later i j e = ap (λ l. take (length (standing sent i j) - length l) (standing sent i j)) e
 

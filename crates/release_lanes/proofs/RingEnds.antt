@@ -113,10 +113,6 @@ pub back_rested : (nodes served next : ℕ) (ends : List RingEnd) → AreBack no
 back_rested nodes served next ends back none i j first second =
     sym (append-nil (received_on ends i j)) ∙ ap (λ l. received_on ends i j ++ l) (sym (none i j first second)) ∙ back.meets i j first second
 
--- another node is served from the first node on
-pub back_anew : (nodes served next to : ℕ) (ends : List RingEnd) → AreBack nodes served next ends → AreBack nodes to 0 ends
-back_anew nodes served next to ends back = record { connected = back.connected; meets = back.meets; taken = λ from less. absurd (omega arith) }
-
 -- one end changes
 
 module _ {T : Type 0} (f : RingEnd → List (List T)) (ends : List RingEnd) (t : ℕ) where

@@ -156,7 +156,7 @@ impl PlainLanes {
 }
 
 impl Lanes for PlainLanes {
-    ghost use Rattle.std.specs.Prelude.{◌≡◌, ◌<◌, ℕ, [], ◌⊎◌, length};
+    ghost use Rattle.std.specs.Prelude.{◌≡◌, ◌<◌, ℕ, [], length};
     ghost use Rattle.release_lanes.specs.Plain.{outline, posted, standing, delivered, IsTeam, AreBack, AreAtRest};
 
     type End = PlainEnd;

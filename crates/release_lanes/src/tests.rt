@@ -1,5 +1,5 @@
 //! What no clause says: that calls succeed, and what threads see of one another.
-ghost use Rattle.std.specs.Prelude.{◌≡◌, ◌<◌, IfOk, vec_len};
+ghost use Rattle.std.specs.Prelude.{◌≡◌, ◌<◌, IfOk};
 
 use crate::{Lanes, NodeEnd, OutOfMemory, Parcel, PlainEnd, PlainLanes, RingEnd, RingLanes};
 use event_chain::{Cell, Chain};

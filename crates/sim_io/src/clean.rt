@@ -1,5 +1,5 @@
 //! A source and a sink that never fail.
-ghost use Rattle.std.specs.Prelude.{◌≡◌, Option, None, Some, List, [], ℕ, ◌<◌, Ok, IfOk, OnOk, length, min};
+ghost use Rattle.std.specs.Prelude.{◌≡◌, None, Some, List, [], ℕ, ◌<◌, Ok, IfOk, OnOk, length, min};
 ghost use Rattle.std.specs.Io.{ReadsAtMost, WritesAtMost};
 ghost use Rattle.std.specs.Io.KnownBytes.{Keeps, ReadConsumes, WriteAppends};
 ghost use Rattle.sim_io.specs.Causes.{CountsIdle, HasCause};

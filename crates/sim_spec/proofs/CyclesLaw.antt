@@ -9,7 +9,7 @@ use Rattle.sim_spec.specs.declared.terms.Terms.{Terms}
 use Rattle.sim_spec.specs.State.{State, Lawful}
 use Rattle.sim_spec.specs.Run.{Next, stops, does, next, Run, run, after_records}
 use Rattle.sim_spec.specs.Cut.{records_of, state_with_done, committed_events, cut, after}
-use Rattle.sim_spec.specs.Cycles.{Cycles, no_cycles, after_bucket, cycles_behind, cycles_with, cycles_on, cycles_for, cycles, records_of_buckets, run_of}
+use Rattle.sim_spec.specs.Cycles.{Cycles, after_bucket, cycles_behind, cycles_with, cycles_on, cycles_for, cycles, records_of_buckets, run_of}
 use Rattle.sim_spec.specs.HorizonLaws.{IsNextOfRun, CyclesLaw, EndsLaw}
 use Rattle.sim_spec.proofs.RunEndsLemma.{run-ends}
 use Rattle.sim_spec.proofs.RunLemmas.{run-stops}

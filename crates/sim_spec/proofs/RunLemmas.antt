@@ -1,5 +1,5 @@
 -- A run by its first event, and by the events that lead to a state.
-use Rattle.std.proofs.Common.{◌≡◌, ℕ, suc, ◌+◌, ◌-◌, ◌<◌, ◌≤◌, ◌≢◌, Bool, true, false, cond, List, [], ◌∷◌, sym, refl, ap, ◌∙◌, subst, arith, eqb, ltb, eq-eqb, ne_eqb, lt-ltb, le-ltb, length}
+use Rattle.std.proofs.Common.{◌≡◌, suc, ◌+◌, ◌-◌, ◌<◌, ◌≤◌, ◌≢◌, Bool, true, false, cond, List, [], ◌∷◌, refl, ap, ◌∙◌, subst, arith, eqb, ltb, eq-eqb, ne_eqb, lt-ltb, le-ltb, length}
 use Rattle.std.specs.Prelude.{slice_set}
 use Rattle.event_key.specs.declared.key.Key.{Key}
 use Rattle.event_key.specs.Stamps.{end_stamp}
@@ -8,12 +8,11 @@ use Rattle.model_core.specs.declared.note.Note.{Note}
 use Rattle.model_core.specs.Meaning.{Meaning}
 use Rattle.sim_spec.specs.declared.terms.Terms.{Terms}
 use Rattle.sim_spec.specs.declared.stop.Stop.{Stop}
-use Rattle.sim_spec.specs.declared.stop.Stop.TheVariants.{End, Limit, Fault}
+use Rattle.sim_spec.specs.declared.stop.Stop.TheVariants.{End, Limit}
 use Rattle.model_core.specs.declared.effect.Effect.{Effect}
-use Rattle.model_core.specs.declared.effect.Outcome.TheVariants.{Goes, Fails}
-use Rattle.delta_exchange.specs.Changes.{cells_after_all, inverses_of}
+use Rattle.delta_exchange.specs.Changes.{cells_after_all}
 use Rattle.key_order.specs.Pending.{enqueue_all}
-use Rattle.sim_spec.specs.Firing.{Fired, Firing, goes, fails, fire, fired_by, has_endless_chain, emissions}
+use Rattle.sim_spec.specs.Firing.{Fired, goes, fails, fire, emissions}
 use Rattle.sim_spec.specs.State.{State, object_at, Lawful, IsSound, AllSound}
 use Rattle.sim_spec.specs.Run.{Next, stops, does, next, next_of, next_fired, run, run_for, run_on, after_records, Leads}
 
@@ -110,29 +109,6 @@ state_after s e rest x =
       pending = enqueue_all (emissions e.key.stamp e.key.dest o.sent x.sends) rest;
       count = s.count + 1;
     }
-
-next-goes : (m : Meaning) (t : Terms) (s : State) (e : Event) (rest : List Event) (x : Effect) (chain : Bool) → s.pending ≡ e ∷ rest → e.key.stamp < end_stamp t.end → s.count ≢ t.limit
-    → Goes x ≡ m.effect e.key.dest (object_at s.objects e.key.dest).cells e → has_endless_chain e.key.stamp x.sends ≡ chain
-    → next m t s ≡ cond chain (stops (Fault e.key 1)) (does (e.key, x.note) (state_after s e rest x))
-unfolding fire fired_by next_fired
-next-goes m t s e rest x chain is_pending due free is_outcome is_chain =
-    next-fires m t s e rest is_pending due free
-    ∙ ap (λ o. next_fired s e rest (fired_by e.key.dest (object_at s.objects e.key.dest) e o)) (sym is_outcome)
-    ∙ by_chain (has_endless_chain e.key.stamp x.sends) chain is_chain
-  where
-    firing : Firing
-    firing = let o = object_at s.objects e.key.dest in record {
-      state = record { cells = cells_after_all x.changes o.cells; sent = o.sent + length x.sends };
-      events = emissions e.key.stamp e.key.dest o.sent x.sends;
-      undo = inverses_of x.changes o.cells;
-      note = x.note;
-    }
-
-    by_chain : (b c : Bool) → b ≡ c → next_fired s e rest (cond b (fails 1) (goes firing)) ≡ cond c (stops (Fault e.key 1)) (does (e.key, x.note) (state_after s e rest x))
-    by_chain true true h = refl
-    by_chain false false h = refl
-    by_chain true false h = absurd (cc)
-    by_chain false true h = absurd (cc)
 
 -- what is known of the first event of a lawful state
 pub first_sound : (m : Meaning) (t : Terms) (s : State) (e : Event) (rest : List Event) → Lawful m t s → s.pending ≡ e ∷ rest → IsSound m s.objects e

@@ -1,5 +1,5 @@
 -- What is done of the tasks that were taken.
-use Rattle.std.proofs.Common.{◌≡◌, ◌+◌, ℕ, List, [], ◌∷◌, ◌++◌, refl, sym, ap, ◌∙◌, subst, arith, cond, eqb}
+use Rattle.std.proofs.Common.{◌≡◌, ◌+◌, ℕ, List, [], ◌∷◌, ◌++◌, sym, ap, ◌∙◌, subst, arith, cond, eqb}
 use Rattle.std.specs.Prelude.{All, Contains, slice_get, IsSomeAnd, sum_by}
 use Rattle.std.proofs.lemmas.List.Elements.{All-head, All-push, All-contains}
 use Rattle.std.proofs.lemmas.List.Sums.{sum_by_push}
@@ -9,9 +9,6 @@ use Rattle.steal_pool.specs.Tallies.{IsNext}
 use Rattle.steal_pool.specs.Turns.{Does, IsOf, IsDoneOf, times}
 
 module _ {T : Type 0} (turned : T → T → Type 0) where
-  pub does-none : (v : Tally T) (kept : List (Task T)) → Does turned v v kept kept
-  does-none v kept = record { parts = refl; put = refl; counted = λ number. refl; of = λ turns from done. done }
-
   pub does-over : (before now after : Tally T) (kept done all : List (Task T)) → after ≡ now → all ≡ done → Does turned before now kept done → Does turned before after kept all
   does-over before now after kept done all one two does = subst (λ v. Does turned before v kept all) (sym one) (subst (Does turned before now kept) (sym two) does)
 

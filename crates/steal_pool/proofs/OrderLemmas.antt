@@ -35,9 +35,6 @@ module _ {T : Type 0} (turned : T → T → Type 0) where
     pub filled : (number : ℕ) → 0 < times number tasks → IsFilled now number
     pub right : (turns : List T) → AreRight turned turns old → All (IsDoneOf turned turns) tasks → AreRight turned turns now
 
-  pub filling-none : (places : List (Option T)) → Filling [] places places
-  filling-none places = record { many = refl; stay = λ number there. there; filled = λ number some. absurd (omega arith); right = λ turns before done. before }
-
   -- a place is filled where it was, or where a turn is put there
   filled-more : (now : List (Option T)) (task : Task T) → task.number < length now → (number : ℕ) → (number ≢ task.number → IsFilled now number) → IsFilled (set now task.number (Some task.turn)) number
   filled-more now task inside number before = by number before (eqb number task.number) refl

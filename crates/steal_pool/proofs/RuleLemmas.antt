@@ -2,7 +2,7 @@
 use Rattle.std.proofs.Common.{◌≡◌, ◌+◌, ◌-◌, ◌<◌, ℕ, zero, suc, List, [], ◌∷◌, ◌++◌, length, get_or, set, refl, sym, ap, subst, arith}
 use Rattle.std.specs.Prelude.{All, Contains, sum_by}
 use Rattle.std.proofs.lemmas.List.{get_or-set_same, length-set}
-use Rattle.std.proofs.lemmas.List.Elements.{All-nil, All-cons, All-set, All-push, All-take, All-drop, All-weaker, Contains-append_left, Contains-push}
+use Rattle.std.proofs.lemmas.List.Elements.{All-set, All-push, All-take, All-drop, All-weaker, Contains-append_left, Contains-push}
 use Rattle.std.proofs.lemmas.List.Sums.{sum_by-set, sum_by-append, sum_by_push, sum_by-le, get_or-le-sum_by}
 use mathlib.Core.Option.{some, some-injective, some-ne-none}
 use lib.ListN.{get_elem?}
@@ -50,15 +50,6 @@ module _ {T : Type 0} where
       let sum = moved (λ (one : Tally T). one.parts) all port v (tally 0 [] []) at in
       let one = get_or-le-sum_by (λ (one : Tally T). one.parts) (set all port (tally 0 [] [])) k d inside in
       omega arith
-
-  pub begins : Counted {T = T} [] (tally WHOLE [] [] ∷ [])
-  begins = record {
-    put = [];
-    whole = refl;
-    counted = λ weight. refl;
-    known = All-nil (Contains []);
-    agreed = All-cons (Agrees []) (tally WHOLE [] []) [] (record { knows = λ some. refl; spent = λ none. refl }) (All-nil (Agrees []));
-  }
 
   pub puts : (port : ℕ) (v : Tally T) (task : Task T) → v.parts ≡ WHOLE → Pushes Counted port v (task ∷ []) (λ w. w ≡ tally v.parts (v.put ++ task ∷ []) v.taken)
   puts port v task has items all rule at =

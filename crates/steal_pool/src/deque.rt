@@ -1,5 +1,5 @@
 //! The deque of a worker, whose tasks thieves may take.
-ghost use Rattle.std.specs.Prelude.{◌≡◌, ◌+◌, ◌-◌, ◌<◌, ◌≤◌, [], ◌∷◌, ◌++◌, All, IfOk, OnOk};
+ghost use Rattle.std.specs.Prelude.{◌≡◌, ◌+◌, ◌-◌, ◌<◌, [], ◌∷◌, ◌++◌, All, IfOk, OnOk};
 ghost use Rattle.steal_pool.specs.Tallies.{tally, IsEmptied, WHOLE};
 ghost use Rattle.steal_pool.specs.Ends.{IsFresh, mark, with_part_of, without_part};
 ghost use Rattle.steal_pool.specs.Turns.{Does};

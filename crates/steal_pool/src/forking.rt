@@ -1,5 +1,5 @@
 //! The fork in which workers work, by halves of halves.
-ghost use Rattle.std.specs.Prelude.{◌≡◌, ◌<◌, ◌≤◌, All, IsOk, OnOk, length, map};
+ghost use Rattle.std.specs.Prelude.{◌<◌, ◌≤◌, All, IsOk, OnOk, length, map};
 ghost use Rattle.std.specs.List.{AllZip};
 ghost use Rattle.std.specs.Thread.{IsSend, IsSync};
 ghost use Rattle.steal_pool.specs.Workers.{AllReady, AreHired, AreReady, Can, CanAll, HasDone, HaveWorked, own_mark};

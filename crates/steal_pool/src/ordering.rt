@@ -1,5 +1,5 @@
 //! Turns that are done, in the order in which they were given.
-ghost use Rattle.std.specs.Prelude.{◌≡◌, ◌<◌, ◌⊎◌, ℕ, List, All, IsNone, length, map, sum_by, IfOk, Some};
+ghost use Rattle.std.specs.Prelude.{◌≡◌, ◌<◌, ℕ, List, All, IsNone, length, map, sum_by, IfOk, Some};
 ghost use Rattle.std.specs.List.{AllZip};
 ghost use Rattle.steal_pool.specs.Turns.{IsDoneOf, IsFilled, AreRight, times};
 ghost use Rattle.steal_pool.specs.Workers.{done_by};

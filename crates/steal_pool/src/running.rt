@@ -1,5 +1,5 @@
 //! The run of turns by workers.
-ghost use Rattle.std.specs.Prelude.{◌≡◌, ◌≤◌, All, IfOk, length};
+ghost use Rattle.std.specs.Prelude.{◌≤◌, All, IfOk};
 ghost use Rattle.std.specs.List.{AllZip};
 
 use crate::dealing::deal;

@@ -1,5 +1,5 @@
 //! The rule of a deque, and what each step on it tells.
-ghost use Rattle.std.specs.Prelude.{◌≡◌, ◌+◌, ◌-◌, [], ◌++◌, ◌≤◌, All, Contains};
+ghost use Rattle.std.specs.Prelude.{◌≡◌, ◌+◌, ◌-◌, [], ◌++◌};
 ghost use Rattle.steal_pool.specs.Tallies.{tally, IsEmptied, IsNext};
 
 use crate::task::Task;

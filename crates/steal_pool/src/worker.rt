@@ -1,5 +1,5 @@
 //! One worker: its own deque, and its passes to those of all.
-ghost use Rattle.std.specs.Prelude.{◌≡◌, ◌≢◌, ◌<◌, ◌≤◌, length, OnOk};
+ghost use Rattle.std.specs.Prelude.{◌≢◌, ◌<◌, ◌≤◌, OnOk};
 ghost use Rattle.steal_pool.specs.Workers.{AllReady, Can, HasWorked};
 
 use crate::deque::{Deque, Victim};

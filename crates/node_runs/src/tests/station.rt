@@ -1,7 +1,7 @@
 //! A node with a station whose line is strict.
 use super::driven::Driven;
 use super::{assert_counts, assert_step, at, commit_one, initial};
-use event_key::{Key, NO_STAMP, stamp_of};
+use event_key::{Key, NO_STAMP};
 use model_core::{Event, Part};
 use model_text::{AnyModel, read_model};
 use node_core::Step;

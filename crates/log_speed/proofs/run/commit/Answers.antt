@@ -1,5 +1,5 @@
 -- Where none of all has faulted, none of those that are due has, and no more are due than there are.
-use Rattle.std.proofs.Common.{◌≡◌, ◌+◌, ◌<◌, ◌^◌, length, ap, rules, arith}
+use Rattle.std.proofs.Common.{◌≡◌, length, ap, rules, arith}
 use Rattle.std.specs.Prelude.{None}
 use Rattle.event_key.specs.declared.stamp.TheConstants.{NO_STAMP}
 use Rattle.key_order.specs.Due.{is_due}

@@ -1,4 +1,4 @@
-use Rattle.std.proofs.Common.{◌≡◌, ◌++◌, ◌∷◌, [], length, refl, sym, ap, ◌∙◌, arith}
+use Rattle.std.proofs.Common.{◌++◌, ◌∷◌, [], length, refl, sym, ap, ◌∙◌, arith}
 use Rattle.std.proofs.lemmas.Option.{same_Some}
 use Rattle.event_key.specs.declared.key.Key.{Key}
 use Rattle.model_core.specs.declared.note.Note.{Note}
