@@ -1,6 +1,7 @@
 //! The commands that run a model.
 ghost use Rattle.std.specs.Prelude.{◌≡◌, ◌≢◌, ◌↔◌, ◌≤◌, [], true, false, IfSome, IsErr, Some, drop};
 ghost use Rattle.std.specs.Io.KnownBytes.{Keeps};
+ghost use Rattle.model_core.specs.declared.limits.TheConstants.{MOST_DEMO_STATIONS};
 ghost use Rattle.sim_io.specs.Causes.{Rose};
 ghost use Rattle.sim_io.specs.Words.{AreInBounds, settings, texts_of};
 ghost use Rattle.btb_program.specs.Answer.{as_read, refusal_line, answer_of_model, answer_of_run, demo_answer, most_read, takes_input};
@@ -146,7 +147,7 @@ fn run_demo<R: AllocGlobal + Threads + Sync, G: Gate, K: Sink>(
     out: &mut K,
 ) -> Ending
     requires some { 1 ≤ n }
-    requires few { n ≤ 256 }
+    requires few { n ≤ MOST_DEMO_STATIONS }
     ensures output { IsAnswered result → WritesOutput (K.told out.old) (K.told out.new) (demo_answer n) }
     ensures status { IsAnswered result → status_of_ending result ≡ (demo_answer n).status }
     ensures line { IsAnswered result → line_of_ending result ≡ [] }

@@ -1,6 +1,7 @@
 -- Gates, and the values that they compute.
 use Rattle.std.specs.Prelude.{◌≡◌, ℕ, ◌-◌, ◌≤◌, ◌%◌, ◌==◌, Bool, true, false, if◌then◌else◌, List, [], length, slice_index, slice_index_or, All}
 use Rattle.std.specs.List.{filter, list_all, list_any}
+use Rattle.circuit_model.specs.declared.limits.TheConstants.{MOST_PINS}
 use Rattle.circuit_model.specs.declared.gate.LogicGate.{LogicGate}
 use Rattle.circuit_model.specs.declared.gate.LogicKind.{LogicKind}
 use Rattle.circuit_model.specs.declared.gate.LogicKind.TheVariants.{Input, Buf, Not, And, Or, Xor, Nand, Nor, Dff}
@@ -65,11 +66,11 @@ abbrev pub HasPins : LogicKind → ℕ → Type 0
 HasPins Input pins = pins ≡ 0
 HasPins Buf pins = pins ≡ 1
 HasPins Not pins = pins ≡ 1
-HasPins And pins = (1 ≤ pins) × (pins ≤ 8)
-HasPins Or pins = (1 ≤ pins) × (pins ≤ 8)
-HasPins Xor pins = (1 ≤ pins) × (pins ≤ 8)
-HasPins Nand pins = (1 ≤ pins) × (pins ≤ 8)
-HasPins Nor pins = (1 ≤ pins) × (pins ≤ 8)
+HasPins And pins = (1 ≤ pins) × (pins ≤ MOST_PINS)
+HasPins Or pins = (1 ≤ pins) × (pins ≤ MOST_PINS)
+HasPins Xor pins = (1 ≤ pins) × (pins ≤ MOST_PINS)
+HasPins Nand pins = (1 ≤ pins) × (pins ≤ MOST_PINS)
+HasPins Nor pins = (1 ≤ pins) × (pins ≤ MOST_PINS)
 HasPins Dff pins = pins ≡ 2
 
 -- what stands for a gate where there is none

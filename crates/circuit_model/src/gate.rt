@@ -2,6 +2,7 @@
 ghost use Rattle.std.specs.Prelude.{IsTrue, ◌↔◌, ◌≡◌, ◌≤◌, ℕ, List, length};
 ghost use Rattle.circuit_model.specs.Gates.{is_input, is_flip_flop, value_of, toggled, delay_of, HasPins, AreBits, ones_in};
 
+use crate::limits::MOST_PINS;
 use model_core::{Name, Sequence};
 
 /// What a gate computes of its pins.
@@ -68,7 +69,7 @@ impl LogicKind {
             LogicKind::Buf | LogicKind::Not => pins == 1,
             LogicKind::Dff => pins == 2,
             LogicKind::And | LogicKind::Or | LogicKind::Xor | LogicKind::Nand | LogicKind::Nor => {
-                1 <= pins && pins <= 8
+                1 <= pins && pins <= MOST_PINS
             }
         }
     }

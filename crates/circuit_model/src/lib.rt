@@ -17,4 +17,4 @@ mod wiring;
 pub use circuit::Circuit;
 pub use fan_out::first_overloaded;
 pub use gate::{LogicGate, LogicKind};
-pub use limits::{MOST_DELAY, MOST_FED, MOST_FLIPS};
+pub use limits::{MOST_DELAY, MOST_FED, MOST_FLIPS, MOST_PINS};

@@ -8,3 +8,6 @@ pub const MOST_FLIPS: usize = 300_000;
 
 /// How many pins a gate feeds at most.
 pub const MOST_FED: usize = 8;
+
+/// How many pins a gate has at most.
+pub const MOST_PINS: usize = 8;

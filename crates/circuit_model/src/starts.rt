@@ -1,5 +1,6 @@
 //! The events with which a circuit begins.
 ghost use Rattle.std.specs.Prelude.{◌≡◌, ◌+◌, ◌<◌, ◌≤◌, ◌++◌, length, IfOk};
+ghost use Rattle.model_core.specs.declared.limits.TheConstants.{MOST_OBJECTS};
 ghost use Rattle.circuit_model.specs.Gates.{gate_at};
 ghost use Rattle.circuit_model.specs.Starts.{compute_start, flip_start, computes_below, flips_of, starts_of};
 
@@ -47,7 +48,7 @@ fn flip_start(number: u32, time: u64) -> Start
 
 /// The initial events: first every gate that is no input computes, and then every input turns at its flips.
 pub fn starts_of(alloc: Global, gates: &[LogicGate]) -> Result<Vec<Start>, OutOfMemory>
-    requires { length gates.now ≤ 65536 }
+    requires { length gates.now ≤ MOST_OBJECTS }
     ensures { IfOk result (λ starts. starts.items ≡ starts_of gates.now) }
 {
     let mut starts = computes(alloc, gates)?;
@@ -59,7 +60,7 @@ pub fn starts_of(alloc: Global, gates: &[LogicGate]) -> Result<Vec<Start>, OutOf
 
 /// The events at which gates compute.
 fn computes(alloc: Global, gates: &[LogicGate]) -> Result<Vec<Start>, OutOfMemory>
-    requires { length gates.now ≤ 65536 }
+    requires { length gates.now ≤ MOST_OBJECTS }
     ensures { IfOk result (λ starts. starts.items ≡ computes_below gates.now (length gates.now)) }
 {
     let mut starts = Vec::new(alloc);

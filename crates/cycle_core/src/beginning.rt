@@ -2,6 +2,7 @@
 ghost use Rattle.std.specs.Prelude.{◌≡◌, ◌<◌, ◌≤◌, ◌+◌, ◌++◌, ◌∷◌, ◌^◌, [], List, length, map, slice_index_or, slice_set, IfOk, OnOk};
 ghost use Rattle.std.specs.List.{AllByRecursion};
 ghost use Rattle.std.specs.Arc.{arc_value};
+ghost use Rattle.model_core.specs.declared.limits.TheConstants.{MOST_NODES};
 ghost use Rattle.model_core.specs.Meaning.{MeaningLaws};
 ghost use Rattle.model_core.specs.declared.event.Event.{Event};
 ghost use Rattle.sim_spec.specs.declared.terms.Terms.{Terms};
@@ -26,7 +27,7 @@ pub fn placed_homes<M: SimulationModel>(
     placement: Placement,
 ) -> Result<Arc<Homes>, OutOfMemory>
     requires low { 1 ≤ nodes }
-    requires high { nodes ≤ 64 }
+    requires high { nodes ≤ MOST_NODES }
     ensures nodes { IfOk result (λ homes. (arc_value homes).nodes ≡ nodes) }
     ensures placed { IfOk result (λ homes. ArePlaced (M.meaning model.now) (arc_value homes)) }
 {

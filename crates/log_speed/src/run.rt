@@ -7,7 +7,7 @@ ghost use Rattle.object_log.specs.Logs.{keys_of};
 use event_chain::{Cell, CellPool, Chain};
 use event_key::{INITIAL, Key, NO_STAMP, stamp_of, time_of};
 use model_core::model::Model;
-use model_core::{Effect, Event, OutOfMemory};
+use model_core::{Effect, Event, MOST_OBJECTS, OutOfMemory};
 use object_log::{Done, LogPool, ObjectLog, Released};
 use phold_model::Phold;
 use random_streams::Law;
@@ -40,7 +40,7 @@ struct Shared {
 /// The model whose events draw a delay of 1 to 10 ticks and an object.
 fn model_of(alloc: Global, objects: u32) -> Result<Phold, Stopped> {
     let delay = Law::Uniform { low: 1, high: 10 };
-    if objects == 0 || objects > 65536 || !delay.is_delay() {
+    if objects == 0 || objects > MOST_OBJECTS || !delay.is_delay() {
         return Err(Stopped::Refused);
     }
     match Phold::make(0, objects, delay, true, 0, Vec::new(alloc), 0) {

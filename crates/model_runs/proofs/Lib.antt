@@ -1,2 +1,1 @@
-pub mod MovedCycles
 pub mod SavingLemmas

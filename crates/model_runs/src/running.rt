@@ -3,6 +3,7 @@ ghost use Rattle.std.specs.Prelude.{◌≡◌, ◌≤◌, IfOk, OnOk, OnErr, IsE
 ghost use Rattle.std.specs.Arc.{arc_value};
 ghost use Rattle.std.specs.Io.KnownBytes.{Appends, Keeps};
 ghost use Rattle.std.specs.Thread.{IsSync};
+ghost use Rattle.model_core.specs.declared.limits.TheConstants.{MOST_NODES};
 ghost use Rattle.sim_spec.specs.Run.{run};
 ghost use Rattle.sim_spec.specs.Standing.{stands};
 ghost use Rattle.sim_spec.specs.State.{initial_state};
@@ -53,7 +54,7 @@ fn on_nodes(
     spread: Spread,
 ) -> Result<(Arc<AnyModel>, TeamRun), OutOfMemory>
     requires low { 1 ≤ spread.nodes }
-    requires high { spread.nodes ≤ 64 }
+    requires high { spread.nodes ≤ MOST_NODES }
     ensures named { IfOk result (λ both. arc_value both.0 ≡ model) }
     ensures model { IfOk result (λ both. both.1.team.world.model ≡ model) }
     ensures terms { IfOk result (λ both. both.1.team.world.terms ≡ terms) }

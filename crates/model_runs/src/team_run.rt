@@ -1,6 +1,7 @@
 //! The engine on nodes, on a model of any kind.
 ghost use Rattle.std.specs.Prelude.{◌≡◌, ◌≤◌, true, IfOk, OnOk, OnErr, None};
 ghost use Rattle.std.specs.Arc.{arc_value};
+ghost use Rattle.model_core.specs.declared.limits.TheConstants.{MOST_NODES};
 ghost use Rattle.sim_spec.specs.State.{Lawful, initial_state};
 ghost use Rattle.sim_spec.specs.Standing.{Standing, stands};
 ghost use Rattle.cycle_core.specs.Standings.{GoesOn, HasCycled, WorldStandsAt};
@@ -35,7 +36,7 @@ impl TeamRun {
         spread: Spread,
     ) -> Result<TeamRun, OutOfMemory>
         requires low { 1 ≤ spread.nodes }
-        requires high { spread.nodes ≤ 64 }
+        requires high { spread.nodes ≤ MOST_NODES }
         ensures model { IfOk result (λ run. run.team.world.model ≡ arc_value model) }
         ensures terms { IfOk result (λ run. run.team.world.terms ≡ terms) }
         ensures begins { IfOk result (λ run. WorldStandsAt meaning_of run.team.world (stands (initial_state (meaning_of (arc_value model))) None)) }
@@ -53,7 +54,7 @@ impl TeamRun {
         state: State,
     ) -> Result<TeamRun, OutOfMemory>
         requires low { 1 ≤ spread.nodes }
-        requires high { spread.nodes ≤ 64 }
+        requires high { spread.nodes ≤ MOST_NODES }
         requires lawful { Lawful (meaning_of (arc_value model)) terms state }
         ensures model { IfOk result (λ run. run.team.world.model ≡ arc_value model) }
         ensures terms { IfOk result (λ run. run.team.world.terms ≡ terms) }
@@ -67,7 +68,7 @@ impl TeamRun {
     fn of(alloc: Global, world: World<AnyModel>, spread: Spread) -> Result<TeamRun, OutOfMemory>
         requires nodes { world.homes.nodes ≡ spread.nodes }
         requires low { 1 ≤ spread.nodes }
-        requires high { spread.nodes ≤ 64 }
+        requires high { spread.nodes ≤ MOST_NODES }
         ensures { IfOk result (λ run. run.team.world ≡ world) }
     {
         let lanes = RingLanes::new(alloc, spread.nodes)?;

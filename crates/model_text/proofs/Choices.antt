@@ -5,9 +5,10 @@ use Rattle.std.specs.List.{list_all}
 use Rattle.std.proofs.lemmas.List.{length-replicate}
 use Rattle.std.proofs.lemmas.List.Folds.{sum_by-replicate}
 use Rattle.std.proofs.lemmas.Bool.Decides.{nat_tests}
+use Rattle.random_streams.specs.declared.weights.TheConstants.{MOST_WEIGHT}
 use Rattle.random_streams.specs.Laws.{is_choice}
 
-ones_small : (n : ℕ) → list_all (λ weight. nat_le weight 65535) (replicate n 1) ≡ true
+ones_small : (n : ℕ) → list_all (λ weight. nat_le weight MOST_WEIGHT) (replicate n 1) ≡ true
 ones_small zero = refl
 ones_small (suc n) = ones_small n
 

@@ -12,7 +12,7 @@ use Rattle.toml.specs.Data.{Data, integer, boolean, array, Items, no_items, item
 use Rattle.event_key.specs.declared.key.TheConstants.{MOST_RANK}
 use Rattle.event_key.specs.declared.stamp.TheConstants.{LAST_TICK}
 use Rattle.model_core.specs.declared.entry.Entry.{Entry}
-use Rattle.model_core.specs.declared.limits.TheConstants.{MOST_ENTRIES, MOST_OBJECTS}
+use Rattle.model_core.specs.declared.limits.TheConstants.{MOST_ENTRIES, MOST_EVENTS, MOST_OBJECTS}
 use Rattle.model_core.specs.Meaning.{Meaning}
 use Rattle.queue_models.specs.declared.kind.KindOver.TheVariants.{Source, Station, Delay, Router, Sink}
 use Rattle.model_text.specs.declared.formats.Format.TheVariants.{One, Two}
@@ -302,7 +302,7 @@ first_is_second ms x has gives =
     let kind = bound (kind_of format.0 name.0) _ x name.2 in
     let end = bound (required 0 (codes "end") ms >>= number 0 0 LAST_TICK) _ x kind.2 in
     let seed = bound (number 0 0 9223372036854775807 (optional (integer (pos 0)) (codes "seed") ms)) _ x end.2 in
-    let limit = bound (number 0 1 1000000000 (optional (integer (pos 10000000)) (codes "limit") ms)) _ x seed.2 in
+    let limit = bound (number 0 1 MOST_EVENTS (optional (integer (pos 10000000)) (codes "limit") ms)) _ x seed.2 in
     let known = bound (only 0 (top_keys kind.0) ms) _ x limit.2 in
     let meaning = bound (body format.0 kind.0 seed.0 ms) _ x known.2 in
     let kind_is : kind_of Two name.0 ≡ Ok kind.0 = kind_grows name.0 kind.0 (ap (λ f. kind_of f name.0) (sym one) ∙ kind.1) in
@@ -316,8 +316,8 @@ first_is_second ms x has gives =
     (ap (λ (o : Option Data). present 0 o >>= number 0 0 LAST_TICK) (other_key 2 (codes "end") ms refl) ∙ end.1)
     (joined (number 0 0 9223372036854775807 (optional (integer (pos 0)) (codes "seed") (with_format 2 ms))) _ seed.0 x
     (ap (λ (o : Option Data). number 0 0 9223372036854775807 (or_default (integer (pos 0)) o)) (other_key 2 (codes "seed") ms refl) ∙ seed.1)
-    (joined (number 0 1 1000000000 (optional (integer (pos 10000000)) (codes "limit") (with_format 2 ms))) _ limit.0 x
-    (ap (λ (o : Option Data). number 0 1 1000000000 (or_default (integer (pos 10000000)) o)) (other_key 2 (codes "limit") ms refl) ∙ limit.1)
+    (joined (number 0 1 MOST_EVENTS (optional (integer (pos 10000000)) (codes "limit") (with_format 2 ms))) _ limit.0 x
+    (ap (λ (o : Option Data). number 0 1 MOST_EVENTS (or_default (integer (pos 10000000)) o)) (other_key 2 (codes "limit") ms refl) ∙ limit.1)
     (joined (only 0 (top_keys kind.0) (with_format 2 ms)) _ known.0 x
     (ap (λ b. refusal_where (not b) Unknown 0) (same_keys 2 (top_keys kind.0) ms) ∙ known.1)
     (joined (body Two kind.0 seed.0 (with_format 2 ms)) _ meaning.0 x body_is meaning.2)))))))

@@ -4,7 +4,7 @@ use Rattle.std.specs.Str.{bytes_eq}
 use Rattle.toml.specs.Data.{Data, integer, boolean, array, Members, no_items}
 use Rattle.circuit_model.specs.declared.gate.LogicKind.{LogicKind}
 use Rattle.circuit_model.specs.declared.gate.LogicKind.TheVariants.{Input, Buf, Not, And, Or, Xor, Nand, Nor, Dff}
-use Rattle.circuit_model.specs.declared.limits.TheConstants.{MOST_DELAY, MOST_FLIPS}
+use Rattle.circuit_model.specs.declared.limits.TheConstants.{MOST_DELAY, MOST_FLIPS, MOST_PINS}
 use Rattle.event_key.specs.declared.stamp.TheConstants.{LAST_TICK}
 use Rattle.model_text.specs.declared.named_gate.NamedGate.{NamedGate}
 use Rattle.model_text.specs.declared.refusal.Cause.TheVariants.{BadValue}
@@ -29,11 +29,11 @@ abbrev pub takes : LogicKind → ℕ → Bool
 takes Input pins = pins == 0
 takes Buf pins = pins == 1
 takes Not pins = pins == 1
-takes And pins = nat_le 1 pins && nat_le pins 8
-takes Or pins = nat_le 1 pins && nat_le pins 8
-takes Xor pins = nat_le 1 pins && nat_le pins 8
-takes Nand pins = nat_le 1 pins && nat_le pins 8
-takes Nor pins = nat_le 1 pins && nat_le pins 8
+takes And pins = nat_le 1 pins && nat_le pins MOST_PINS
+takes Or pins = nat_le 1 pins && nat_le pins MOST_PINS
+takes Xor pins = nat_le 1 pins && nat_le pins MOST_PINS
+takes Nand pins = nat_le 1 pins && nat_le pins MOST_PINS
+takes Nor pins = nat_le 1 pins && nat_le pins MOST_PINS
 takes Dff pins = pins == 2
 
 -- when an input turns, where the gates before it turn so often

@@ -6,7 +6,7 @@ use Rattle.toml.specs.Parse.{parse_document}
 use Rattle.model_core.specs.Meaning.{Meaning}
 use Rattle.sim_spec.specs.declared.terms.Terms.{Terms}
 use Rattle.event_key.specs.declared.stamp.TheConstants.{LAST_TICK}
-use Rattle.model_core.specs.declared.limits.TheConstants.{MOST_TEXT_BYTES}
+use Rattle.model_core.specs.declared.limits.TheConstants.{MOST_EVENTS, MOST_TEXT_BYTES}
 use Rattle.model_text.specs.declared.formats.Format.{Format}
 use Rattle.model_text.specs.declared.top.ModelKind.{ModelKind}
 use Rattle.model_text.specs.declared.top.ModelKind.TheVariants.{Phold, Network, Circuit}
@@ -54,7 +54,7 @@ top ms = do
   kind ← kind_of format name
   end ← required 0 (codes "end") ms >>= number 0 0 LAST_TICK
   seed ← number 0 0 9223372036854775807 (optional (integer (pos 0)) (codes "seed") ms)
-  limit ← number 0 1 1000000000 (optional (integer (pos 10000000)) (codes "limit") ms)
+  limit ← number 0 1 MOST_EVENTS (optional (integer (pos 10000000)) (codes "limit") ms)
   known ← only 0 (top_keys kind) ms
   meaning ← body format kind seed ms
   Ok (record { meaning = meaning; terms = terms_of end limit })

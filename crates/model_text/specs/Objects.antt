@@ -4,7 +4,8 @@ use Rattle.std.specs.Str.{bytes_eq}
 use Rattle.toml.specs.Data.{Data, integer, boolean, Items, no_items, item, Members, get_member}
 use Rattle.event_key.specs.declared.stamp.TheConstants.{LAST_TICK}
 use Rattle.queue_models.specs.declared.kind.KindOver.TheVariants.{Source, Station, Delay, Router, Sink}
-use Rattle.queue_models.specs.declared.station.TheConstants.{MOST_WAITING}
+use Rattle.queue_models.specs.declared.source.TheConstants.{MOST_JOBS}
+use Rattle.queue_models.specs.declared.station.TheConstants.{MOST_SERVERS, MOST_WAITING}
 use Rattle.queue_models.specs.Kinds.{is_station}
 use Rattle.model_text.specs.declared.formats.Format.{Format}
 use Rattle.model_text.specs.declared.refusal.Cause.TheVariants.{BadValue}
@@ -19,13 +20,13 @@ unfoldable pub source : ℕ → Members → Checked NamedKind
 source at ms = do
   first ← required at (codes "first") ms >>= number at 0 LAST_TICK
   every ← required at (codes "every") ms >>= law at
-  count ← required at (codes "count") ms >>= number at 1 1000000
+  count ← required at (codes "count") ms >>= number at 1 MOST_JOBS
   next ← required at (codes "next") ms >>= text at
   Ok (Source first every count next)
 
 unfoldable pub station : ℕ → Members → Checked NamedKind
 station at ms = do
-  servers ← number at 1 1024 (optional (integer (pos 1)) (codes "servers") ms)
+  servers ← number at 1 MOST_SERVERS (optional (integer (pos 1)) (codes "servers") ms)
   service ← required at (codes "service") ms >>= law at
   line ← number at 0 MOST_WAITING (optional (integer (pos MOST_WAITING)) (codes "line") ms)
   strict ← truth at (optional (boolean false) (codes "strict") ms)

@@ -1,5 +1,6 @@
 -- The check of a router's arrays: the objects to which it sends, and their weights.
 use Rattle.std.specs.Prelude.{ℕ, ◌==◌, not, List, sum, replicate, Option, Some, None, Ok}
+use Rattle.random_streams.specs.declared.weights.TheConstants.{MOST_WEIGHT, MOST_WEIGHTS}
 use Rattle.toml.specs.Data.{Data}
 use Rattle.model_text.specs.declared.refusal.Cause.TheVariants.{BadValue}
 use Rattle.model_text.specs.Checks.{Checked, refusal_where, ◌>>=◌}
@@ -8,7 +9,7 @@ use Rattle.model_text.specs.Fields.{number, text, item_count, entries_of, array_
 -- 1 to 64 texts
 unfoldable pub ways : ℕ → Data → Checked (List (List ℕ))
 ways at d = do
-  ds ← array_of at 64 d
+  ds ← array_of at MOST_WEIGHTS d
   some ← refusal_where (item_count ds == 0) BadValue at
   each (text at) ds
 
@@ -17,7 +18,7 @@ unfoldable pub weights : ℕ → ℕ → Data → Checked (List ℕ)
 weights at count d = do
   ds ← entries_of at d
   matched ← refusal_where (not (item_count ds == count)) BadValue at
-  numbers ← each (number at 0 65535) ds
+  numbers ← each (number at 0 MOST_WEIGHT) ds
   some ← refusal_where (sum numbers == 0) BadValue at
   Ok numbers
 

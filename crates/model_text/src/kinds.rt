@@ -17,7 +17,7 @@ use crate::named::NamedKind;
 use crate::refusal::{Cause, Refusal};
 use crate::routers::{optional_weights, ways};
 use event_key::LAST_TICK;
-use queue_models::MOST_WAITING;
+use queue_models::{MOST_JOBS, MOST_SERVERS, MOST_WAITING};
 use std::alloc::Global;
 use toml::{Table, Value};
 
@@ -29,7 +29,7 @@ fn source(alloc: Global, table: &Table, item: u32) -> Result<NamedKind, Refusal>
 {
     let first = number(required(table, "first", item)?, item, 0, LAST_TICK)?;
     let every = law(required(table, "every", item)?, item)?;
-    let count = number(required(table, "count", item)?, item, 1, 1_000_000)?;
+    let count = number(required(table, "count", item)?, item, 1, u64::from(MOST_JOBS))?;
     let next = text(required(table, "next", item)?, item)?;
     Ok(NamedKind::Source {
         first,
@@ -49,7 +49,7 @@ fn station(alloc: Global, table: &Table, item: u32) -> Result<NamedKind, Refusal
         optional(table, "servers", &Value::Integer(1)),
         item,
         1,
-        1024,
+        u64::from(MOST_SERVERS),
     )?;
     let service = law(required(table, "service", item)?, item)?;
     let most = Value::Integer(i64::from(MOST_WAITING));

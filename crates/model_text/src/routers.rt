@@ -1,6 +1,7 @@
 //! The arrays of a router.
-ghost use Rattle.std.specs.Prelude.{◌≡◌, ◌≤◌, nat_le, length, sum, IfOk, IsTrue};
+ghost use Rattle.std.specs.Prelude.{◌≡◌, ◌≤◌, nat_le, length, IfOk, IsTrue};
 ghost use Rattle.std.specs.List.{list_all};
+ghost use Rattle.random_streams.specs.declared.weights.TheConstants.{MOST_WEIGHT, MOST_WEIGHTS};
 ghost use Rattle.toml.specs.Data.{get_member};
 ghost use Rattle.toml.specs.View.{view, items_view, table_view};
 ghost use Rattle.random_streams.specs.Laws.{is_choice};
@@ -12,15 +13,9 @@ use crate::fields::{array_of, entries_of, field, item_count, number, text};
 use crate::label::Label;
 use crate::refusal::{Cause, Refusal};
 use model_core::Sequence;
-use random_streams::Weights;
+use random_streams::{MOST_WEIGHT, MOST_WEIGHTS, Weights, total_weight};
 use std::alloc::Global;
 use toml::{Table, Value};
-
-/// To how many objects a router sends at most.
-const MOST_WAYS: usize = 64;
-
-/// The greatest weight.
-const MOST_WEIGHT: u64 = 65_535;
 
 /// The texts of an array.
 pub(crate) fn labels(alloc: Global, values: &[Value], item: u32) -> Result<Vec<Label>, Refusal>
@@ -39,9 +34,9 @@ pub(crate) fn labels(alloc: Global, values: &[Value], item: u32) -> Result<Vec<L
 pub(crate) fn ways(alloc: Global, value: &Value, item: u32) -> Result<Sequence<Label>, Refusal>
     ensures read { Gives (λ names. names) result (ways item (view value.now)) }
     ensures some { IfOk result (λ names. 1 ≤ length names) }
-    ensures few { IfOk result (λ names. length names ≤ 64) }
+    ensures few { IfOk result (λ names. length names ≤ MOST_WEIGHTS) }
 {
-    let values = array_of(value, item, MOST_WAYS)?;
+    let values = array_of(value, item, MOST_WEIGHTS)?;
     if item_count(values) == 0 {
         return Err(Cause::BadValue.at(item));
     }
@@ -50,30 +45,22 @@ pub(crate) fn ways(alloc: Global, value: &Value, item: u32) -> Result<Sequence<L
 
 /// The weights of an array.
 fn numbers(alloc: Global, values: &[Value], item: u32) -> Result<Vec<u32>, Refusal>
-    ensures read { Gives (λ numbers. numbers.items) result (each (number item 0 65535) (items_view values.now)) }
+    ensures read { Gives (λ numbers. numbers.items) result (each (number item 0 MOST_WEIGHT) (items_view values.now)) }
     ensures count { IfOk result (λ numbers. length numbers.items ≡ length values.now) }
-    ensures small { IfOk result (λ numbers. IsTrue (list_all (λ n. nat_le n 65535) numbers.items)) }
+    ensures small { IfOk result (λ numbers. IsTrue (list_all (λ n. nat_le n MOST_WEIGHT) numbers.items)) }
 {
     let mut numbers = Vec::new(alloc);
     for value in values {
-        numbers.push(number(value, item, 0, MOST_WEIGHT)? as u32)?;
+        numbers.push(number(value, item, 0, u64::from(MOST_WEIGHT))? as u32)?;
     }
     Ok(numbers)
-}
-
-/// The sum of the weights.
-fn total(weights: &[u32]) -> u64
-    requires { length weights.now ≤ 64 }
-    ensures { result ≡ sum weights.now }
-{
-    weights.iter().map(|weight| u64::from(*weight)).sum()
 }
 
 /// As many weights as there are ways, not all of them 0.
 #[tactic(auto, unfolding(crate::specs::Routers::weights, random_streams::specs::Laws::is_choice))]
 fn weights(alloc: Global, value: &Value, item: u32, count: usize) -> Result<Weights, Refusal>
     requires some { 1 ≤ count }
-    requires few { count ≤ 64 }
+    requires few { count ≤ MOST_WEIGHTS }
     ensures read { Gives (λ list. list) result (weights item count (view value.now)) }
     ensures count { IfOk result (λ list. length list ≡ count) }
     ensures choice { IfOk result (λ list. IsTrue (is_choice list)) }
@@ -83,7 +70,7 @@ fn weights(alloc: Global, value: &Value, item: u32, count: usize) -> Result<Weig
         return Err(Cause::BadValue.at(item));
     }
     let list = numbers(alloc, values, item)?;
-    if total(&list) == 0 {
+    if total_weight(&list) == 0 {
         return Err(Cause::BadValue.at(item));
     }
     Ok(Weights::new(list))
@@ -98,7 +85,7 @@ pub(crate) fn optional_weights(
     count: usize,
 ) -> Result<Weights, Refusal>
     requires some { 1 ≤ count }
-    requires few { count ≤ 64 }
+    requires few { count ≤ MOST_WEIGHTS }
     ensures read { Gives (λ list. list) result (weights_or_ones item count (get_member key.now (table_view table.now))) }
     ensures count { IfOk result (λ list. length list ≡ count) }
     ensures choice { IfOk result (λ list. IsTrue (is_choice list)) }

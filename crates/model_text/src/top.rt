@@ -1,5 +1,6 @@
 //! The top table, and the whole text.
 ghost use Rattle.std.specs.Prelude.{◌≡◌, ◌<◌, ◌≤◌, ◌^◌, IfOk, IfErr};
+ghost use Rattle.model_core.specs.declared.limits.TheConstants.{MOST_EVENTS};
 ghost use Rattle.toml.specs.View.{table_view};
 ghost use Rattle.model_text.specs.Checks.{Gives, Fails};
 ghost use Rattle.model_text.specs.Fields.{only};
@@ -15,7 +16,7 @@ use crate::network::network;
 use crate::phold::phold;
 use crate::refusal::{Cause, Refusal};
 use event_key::LAST_TICK;
-use model_core::MOST_TEXT_BYTES;
+use model_core::{MOST_EVENTS, MOST_TEXT_BYTES};
 use model_core::model::Model as SimulationModel;
 use sim_spec::Terms;
 use std::alloc::Global;
@@ -25,7 +26,7 @@ use toml::{Table, Value};
 fn terms_of(end: u64, limit: u64) -> Terms
     requires end { end < 2 ^ 46 }
     requires some_event { 1 ≤ limit }
-    requires limit { limit ≤ 1000000000 }
+    requires limit { limit ≤ MOST_EVENTS }
     ensures { result ≡ terms_of end limit }
 {
     Terms { end, limit }
@@ -106,7 +107,7 @@ fn top(alloc: Global, table: &Table) -> Result<(AnyModel, Terms), Refusal>
     let seed = optional(table, "seed", &Value::Integer(0));
     let seed = number(seed, 0, 0, 9_223_372_036_854_775_807)?;
     let limit = optional(table, "limit", &Value::Integer(10_000_000));
-    let limit = number(limit, 0, 1, 1_000_000_000)?;
+    let limit = number(limit, 0, 1, MOST_EVENTS)?;
     only_known(table, kind)?;
     let model = body(alloc, table, format, kind, seed)?;
     Ok((model, terms_of(end, limit)))

@@ -1,6 +1,7 @@
 //! Nodes whose turns workers take and steal.
 ghost use Rattle.std.specs.Prelude.{◌≤◌, IfOk};
 ghost use Rattle.std.specs.Thread.{IsSend, IsSync};
+ghost use Rattle.steal_pool.specs.declared.worker.TheConstants.{MOST_WORKERS};
 ghost use Rattle.node_team.specs.Forks.{AllCanGo, AllHaveGone, CanGo, HasGone};
 
 use crate::gate::Gate;
@@ -23,7 +24,7 @@ pub fn advance_by<R: Threads + Sync, M: SimulationModel, G: Gate>(
     workers: u32,
     all: Vec<Seated<M>>,
 ) -> Result<Vec<Seated<M>>, OutOfMemory>
-    requires workers { (1 ≤ workers) × (workers ≤ 64) }
+    requires workers { (1 ≤ workers) × (workers ≤ MOST_WORKERS) }
     requires can { AllCanGo M.meaning word.now all.items }
     ensures { IfOk result (λ now. AllHaveGone M.meaning word.now ahead all.items now.items) }
 {

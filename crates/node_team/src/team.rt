@@ -1,6 +1,7 @@
 //! The team.
 ghost use Rattle.std.specs.Prelude.{◌≡◌, ◌≤◌, true, IfOk, OnOk, OnErr};
 ghost use Rattle.std.specs.List.{AllByRecursion};
+ghost use Rattle.steal_pool.specs.declared.worker.TheConstants.{MOST_WORKERS};
 ghost use Rattle.sim_spec.specs.Standing.{Standing, ended, IsCountAt};
 ghost use Rattle.sim_spec.specs.State.{State};
 ghost use Rattle.cycle_core.specs.Standings.{WorldStandsAt};
@@ -169,7 +170,7 @@ impl<M: SimulationModel, L: Lanes + Drop> Team<M, L> {
         workers: u32,
         gate: &G,
     ) -> Result<Bucket, OutOfMemory>
-        requires workers { (1 ≤ workers) × (workers ≤ 64) }
+        requires workers { (1 ≤ workers) × (workers ≤ MOST_WORKERS) }
         requires can { CanCycle (M.meaning self.old.world.model) self.old.world }
         ensures { HasDoneCycle M.meaning self.old result self.new }
     {

@@ -1,5 +1,6 @@
 //! In how many threads the cycles of a team run.
 ghost use Rattle.std.specs.Prelude.{◌≤◌, IfOk};
+ghost use Rattle.steal_pool.specs.declared.worker.TheConstants.{MOST_WORKERS};
 ghost use Rattle.sim_spec.specs.Standing.{Standing};
 ghost use Rattle.cycle_core.specs.Standings.{WorldStandsAt};
 
@@ -173,7 +174,7 @@ fn cycle_by<R: Threads + Sync, M: SimulationModel, G: Gate>(
     gate: &G,
 ) -> Result<(), Fail>
     requires stands { (at : Standing) × WorldStandsAt M.meaning team.old.world at }
-    requires workers { (1 ≤ workers) × (workers ≤ 64) }
+    requires workers { (1 ≤ workers) × (workers ≤ MOST_WORKERS) }
 {
     let None = team.ended() else {
         return Err(Fail::from("the team has ended"));

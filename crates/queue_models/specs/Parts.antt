@@ -9,7 +9,8 @@ use Rattle.random_streams.specs.declared.law.Law.{Law}
 use Rattle.random_streams.specs.Laws.{is_choice, is_delay}
 use Rattle.queue_models.specs.declared.kind.KindOver.{KindOver}
 use Rattle.queue_models.specs.declared.kind.KindOver.TheVariants.{Source, Station, Delay, Router, Sink}
-use Rattle.queue_models.specs.declared.station.TheConstants.{MOST_WAITING}
+use Rattle.queue_models.specs.declared.source.TheConstants.{MOST_JOBS}
+use Rattle.queue_models.specs.declared.station.TheConstants.{MOST_SERVERS, MOST_WAITING}
 use Rattle.queue_models.specs.Kinds.{is_source, is_station}
 use Rattle.queue_models.specs.Objects.{Item, NetworkParts, object_at}
 
@@ -27,11 +28,11 @@ pub record IsSource (first : ℕ) (every : Law) (count : ℕ) : Type 0 where
   pub starts : first < 2 ^ 46
   pub law : IsTrue (is_delay every)
   pub some : 1 ≤ count
-  pub few : count ≤ 1000000
+  pub few : count ≤ MOST_JOBS
 
 pub record IsStation (servers : ℕ) (service : Law) (line : ℕ) : Type 0 where
   pub some : 1 ≤ servers
-  pub few : servers ≤ 1024
+  pub few : servers ≤ MOST_SERVERS
   pub law : IsTrue (is_delay service)
   pub short : line ≤ MOST_WAITING
 

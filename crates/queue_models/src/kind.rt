@@ -9,7 +9,7 @@ use random_streams::{Law, Weights};
 /// in a network, and their names in a text. An object to which others send is never a source.
 #[derive(Debug, Drop)]
 pub enum KindOver<L> {
-    /// Makes `count` jobs, 1 to 1,000,000 of them, the first at time `first`, which is below 2^46, and each further one
+    /// Makes `count` jobs, 1 to `MOST_JOBS` of them, the first at time `first`, which is below 2^46, and each further one
     /// `every` so many ticks after the one before. Each goes to `next`.
     Source {
         first: u64,
@@ -17,7 +17,7 @@ pub enum KindOver<L> {
         count: u32,
         next: L,
     },
-    /// Has `servers`, 1 to 1024 of them, each of which serves one job at a time for as long as `service` gives, and then
+    /// Has `servers`, 1 to `MOST_SERVERS` of them, each of which serves one job at a time for as long as `service` gives, and then
     /// sends it to `next`. A job that finds no free server waits in a line, in order of arrival, for at most `line` jobs,
     /// at most `MOST_WAITING`. One that finds the line full is lost, or fails with code 2 where the station is `strict`.
     Station {

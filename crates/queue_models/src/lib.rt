@@ -20,4 +20,5 @@ mod telling;
 pub use kind::{Item, ItemOver, Kind, KindOver};
 pub use network::Network;
 pub use rings::ring;
-pub use station::MOST_WAITING;
+pub use source::MOST_JOBS;
+pub use station::{MOST_SERVERS, MOST_WAITING};

@@ -1,5 +1,6 @@
 //! A large network from a number.
 ghost use Rattle.std.specs.Prelude.{◌≡◌, ◌≤◌, ◌<◌, ◌*◌, ◌/◌, IfOk};
+ghost use Rattle.model_core.specs.declared.limits.TheConstants.{MOST_DEMO_STATIONS};
 ghost use Rattle.queue_models.specs.Rings.{ring_station, ring_delay, ring_object, ring_objects, ring_jobs, ring_parts, ring_terms};
 ghost use Rattle.queue_models.specs.Meaning.{network_meaning};
 
@@ -14,7 +15,7 @@ use std::alloc::Global;
 /// The station with this number, 0 to n - 1.
 #[tactic(auto, unfolding(crate::specs::Rings::ring_station))]
 fn ring_station(alloc: Global, number: u32) -> Result<Item, OutOfMemory>
-    requires { number < 256 }
+    requires { number < MOST_DEMO_STATIONS }
     ensures { IfOk result (λ item. item ≡ ring_station number) }
 {
     let name = format!(in alloc; "q{number}")?;
@@ -40,7 +41,7 @@ fn ring_station(alloc: Global, number: u32) -> Result<Item, OutOfMemory>
 #[tactic(auto, unfolding(crate::specs::Rings::ring_delay))]
 fn ring_delay(alloc: Global, n: u32, number: u32) -> Result<Item, OutOfMemory>
     requires some { number < n }
-    requires few { n ≤ 256 }
+    requires few { n ≤ MOST_DEMO_STATIONS }
     ensures { IfOk result (λ item. item ≡ ring_delay n number) }
 {
     let name = format!(in alloc; "d{number}")?;
@@ -62,7 +63,7 @@ fn ring_delay(alloc: Global, n: u32, number: u32) -> Result<Item, OutOfMemory>
 /// The object with this number.
 fn ring_object(alloc: Global, n: u32, number: u32) -> Result<Item, OutOfMemory>
     requires some { number < 2 * n }
-    requires few { n ≤ 256 }
+    requires few { n ≤ MOST_DEMO_STATIONS }
     ensures { IfOk result (λ item. item ≡ ring_object n number) }
 {
     if number % 2 == 0 {
@@ -74,7 +75,7 @@ fn ring_object(alloc: Global, n: u32, number: u32) -> Result<Item, OutOfMemory>
 
 /// The objects of a ring of `n` stations: each station and the delay behind it, in turn.
 fn ring_objects(alloc: Global, n: u32) -> Result<Vec<Item>, OutOfMemory>
-    requires { n ≤ 256 }
+    requires { n ≤ MOST_DEMO_STATIONS }
     ensures { IfOk result (λ objects. objects.items ≡ ring_objects n) }
 {
     let mut objects = Vec::new(alloc);
@@ -86,7 +87,7 @@ fn ring_objects(alloc: Global, n: u32) -> Result<Vec<Item>, OutOfMemory>
 
 /// Its jobs: one at each station, at time 0.
 fn ring_jobs(alloc: Global, n: u32) -> Result<Vec<Entry>, OutOfMemory>
-    requires { n ≤ 256 }
+    requires { n ≤ MOST_DEMO_STATIONS }
     ensures { IfOk result (λ jobs. jobs.items ≡ ring_jobs n) }
 {
     let mut jobs = Vec::new(alloc);
@@ -104,7 +105,7 @@ fn ring_jobs(alloc: Global, n: u32) -> Result<Vec<Entry>, OutOfMemory>
 /// terms of its simulation, which ends with the tick 1,000.
 pub fn ring(alloc: Global, n: u32) -> Result<(Network, Terms), OutOfMemory>
     requires some { 1 ≤ n }
-    requires few { n ≤ 256 }
+    requires few { n ≤ MOST_DEMO_STATIONS }
     ensures network { IfOk result (λ both. ⟦<Network as SimulationModel>⟧.meaning both.0 ≡ network_meaning (ring_parts n)) }
     ensures terms { IfOk result (λ both. both.1 ≡ ring_terms) }
 {

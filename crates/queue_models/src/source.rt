@@ -10,6 +10,9 @@ use model_core::{Cells, Change, Effect, Ending, Event, MADE_WORD, OutOfMemory, S
 use random_streams::{Law, Stream, draw_by};
 use std::alloc::Global;
 
+/// How many jobs a source makes at most.
+pub const MOST_JOBS: u32 = 1_000_000;
+
 /// The cells at the start: none of `count` jobs is made, and all are left.
 pub fn first_cells(alloc: Global, count: u32) -> Result<Cells, OutOfMemory>
     ensures { IfOk result (λ cells. cells.contents ≡ first_source_cells count) }

@@ -21,6 +21,9 @@ pub const JOBS: u32 = 0;
 
 const BIRTHS: u32 = 1;
 
+/// How many servers a station has at most.
+pub const MOST_SERVERS: u32 = 1_024;
+
 /// How many jobs wait at a station at most.
 pub const MOST_WAITING: u32 = 65_536;
 

@@ -1,6 +1,7 @@
 -- Laws: where one can be drawn, its value, and how many words it reads.
 use Rattle.std.specs.Prelude.{ℕ, ◌+◌, ◌-◌, ◌%◌, ◌^◌, min, Bool, false, ◌&&◌, List, sum, length, take, nat_lt, nat_le}
 use Rattle.std.specs.List.{list_all, position_or_len, range_with_len}
+use Rattle.random_streams.specs.declared.weights.TheConstants.{MOST_WEIGHT, MOST_WEIGHTS}
 use Rattle.random_streams.specs.Words.{words_from}
 use Rattle.random_streams.specs.declared.law.Law.{Law}
 use Rattle.random_streams.specs.declared.law.TheConstants.{MOST_TRIALS, MOST_VALUE}
@@ -9,8 +10,8 @@ use Rattle.random_streams.specs.declared.law.Law.TheVariants.{Fixed, Uniform, Ge
 -- 1 to 64 weights, each at most 65535, with a sum of at least 1
 unfoldable pub is_choice : List ℕ → Bool
 is_choice weights =
-    nat_le 1 (length weights) && nat_le (length weights) 64
-    && list_all (λ weight. nat_le weight 65535) weights && nat_le 1 (sum weights)
+    nat_le 1 (length weights) && nat_le (length weights) MOST_WEIGHTS
+    && list_all (λ weight. nat_le weight MOST_WEIGHT) weights && nat_le 1 (sum weights)
 
 -- the numbers of the law lie within its bounds
 unfoldable pub is_drawable : Law → Bool

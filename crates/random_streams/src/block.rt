@@ -100,28 +100,28 @@ fn diagonal_round(rows: Rows) -> Rows
 
 /// A row turned left by one word.
 #[inline(always)]
-fn left_by_one(row: u32x4) -> u32x4
-    ensures { result ≡ row_of (slice_index row 1) (slice_index row 2) (slice_index row 3) (slice_index row 0) }
+fn left_by_one(words: u32x4) -> u32x4
+    ensures { result ≡ row_of (slice_index words 1) (slice_index words 2) (slice_index words 3) (slice_index words 0) }
 {
-    let [w, x, y, z] = row.to_array();
+    let [w, x, y, z] = words.to_array();
     u32x4::from_array([x, y, z, w])
 }
 
 /// A row turned left by two words.
 #[inline(always)]
-fn left_by_two(row: u32x4) -> u32x4
-    ensures { result ≡ row_of (slice_index row 2) (slice_index row 3) (slice_index row 0) (slice_index row 1) }
+fn left_by_two(words: u32x4) -> u32x4
+    ensures { result ≡ row_of (slice_index words 2) (slice_index words 3) (slice_index words 0) (slice_index words 1) }
 {
-    let [w, x, y, z] = row.to_array();
+    let [w, x, y, z] = words.to_array();
     u32x4::from_array([y, z, w, x])
 }
 
 /// A row turned left by three words.
 #[inline(always)]
-fn left_by_three(row: u32x4) -> u32x4
-    ensures { result ≡ row_of (slice_index row 3) (slice_index row 0) (slice_index row 1) (slice_index row 2) }
+fn left_by_three(words: u32x4) -> u32x4
+    ensures { result ≡ row_of (slice_index words 3) (slice_index words 0) (slice_index words 1) (slice_index words 2) }
 {
-    let [w, x, y, z] = row.to_array();
+    let [w, x, y, z] = words.to_array();
     u32x4::from_array([z, w, x, y])
 }
 

@@ -6,7 +6,7 @@ ghost use Rattle.random_streams.specs.declared.law.Law.TheVariants.{Choice};
 
 use crate::law::Law;
 use crate::stream::Stream;
-use crate::weights::{Weights, chosen, total};
+use crate::weights::{Weights, chosen, total_weight};
 
 /// The value of a law at a place of an object's words, and the place after the words that it reads.
 pub fn draw(seed: u64, object: u32, place: u64, law: &Law) -> (u64, u64)
@@ -83,7 +83,7 @@ impl Stream {
         // A place is below 2^64.
         let _ = &self.place;
         let weights = weights.as_slice();
-        let share = u64::from(self.word()) % total(weights);
+        let share = u64::from(self.word()) % total_weight(weights);
         chosen(weights, share) as u64
     }
 

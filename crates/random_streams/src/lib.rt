@@ -19,7 +19,7 @@ pub use draws::{choose_by, draw, draw_by};
 pub use law::{Law, MOST_TRIALS, MOST_VALUE};
 pub use prepared::PreparedLaw;
 pub use stream::Stream;
-pub use weights::Weights;
+pub use weights::{MOST_WEIGHT, MOST_WEIGHTS, Weights, total_weight};
 
 #[cfg(test)]
 mod tests;

@@ -1,15 +1,16 @@
 //! The weights of a choice.
 ghost use Rattle.std.specs.Prelude.{◌≡◌, ◌≤◌, length, sum, nat_le};
 ghost use Rattle.std.specs.List.{list_all};
+ghost use Rattle.random_streams.specs.declared.weights.TheConstants.{MOST_WEIGHT, MOST_WEIGHTS};
 ghost use Rattle.random_streams.specs.Laws.{is_choice, chosen_place};
 
 use std::marker::Model;
 
 /// How many weights a choice has at most.
-const MOST_WEIGHTS: usize = 64;
+pub const MOST_WEIGHTS: usize = 64;
 
 /// The greatest weight.
-const MOST_WEIGHT: u32 = 65535;
+pub const MOST_WEIGHT: u32 = 65_535;
 
 /// A list of weights.
 #[derive(Debug, Drop)]
@@ -46,19 +47,19 @@ impl Weights {
 pub(crate) fn is_choice(weights: &[u32]) -> bool
     ensures { result ≡ is_choice weights.now }
 {
-    !weights.is_empty() && weights.len() <= MOST_WEIGHTS && all_fit(weights) && total(weights) >= 1
+    !weights.is_empty() && weights.len() <= MOST_WEIGHTS && all_fit(weights) && total_weight(weights) >= 1
 }
 
 /// Whether no weight is too great.
 fn all_fit(weights: &[u32]) -> bool
-    ensures { result ≡ list_all (λ weight. nat_le weight 65535) weights.now }
+    ensures { result ≡ list_all (λ weight. nat_le weight MOST_WEIGHT) weights.now }
 {
     weights.iter().all(|weight| *weight <= MOST_WEIGHT)
 }
 
-/// The sum of a list of at most 64 weights.
-pub(crate) fn total(weights: &[u32]) -> u64
-    requires { length weights.now ≤ 64 }
+/// The sum of the weights of a choice.
+pub fn total_weight(weights: &[u32]) -> u64
+    requires { length weights.now ≤ MOST_WEIGHTS }
     ensures { result ≡ sum weights.now }
 {
     weights.iter().map(|weight| u64::from(*weight)).sum()

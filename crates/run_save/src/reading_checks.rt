@@ -1,5 +1,6 @@
 //! What a simulation asks of a state, line by line of its text.
 ghost use Rattle.std.specs.Prelude.{◌≡◌, ◌<◌, ◌≤◌, map, length};
+ghost use Rattle.model_core.specs.declared.limits.TheConstants.{MOST_EVENTS};
 ghost use Rattle.cycle_core.specs.States.{object_of};
 ghost use Rattle.run_save.specs.Checks.{Gives};
 ghost use Rattle.run_save.specs.LawfulChecks.{objects_check, is_sent, has_source, is_sound, events_check, lawful_check};
@@ -22,7 +23,7 @@ pub(crate) fn check_objects<M: Model>(
     count: u64,
     objects: &[(Cells, u64)],
 ) -> Result<(), StateRefusal>
-    requires few { count ≤ 1000000000 }
+    requires few { count ≤ MOST_EVENTS }
     requires all { length objects.now ≡ (M.meaning model.now).objects }
     ensures { Gives (λ x. x) result (objects_check (M.meaning model.now) count 0 (map object_of objects.now)) }
 {

@@ -4,6 +4,8 @@ use Rattle.std.specs.Char.{is_ascii_digit}
 use Rattle.std.specs.List.{list_all, starts_with}
 use Rattle.std.specs.Str.Parse.{digits_value}
 use Rattle.std.specs.declared.alloc.Global.{Global}
+use Rattle.sim_io.specs.declared.words.TheConstants.{DEFAULT_AHEAD, DEFAULT_NODES}
+use Rattle.model_core.specs.declared.limits.TheConstants.{MOST_AHEAD, MOST_DEMO_STATIONS, MOST_NODES}
 use Rattle.sim_io.specs.declared.options.Command.{Command}
 use Rattle.sim_io.specs.declared.options.CommandOption.{CommandOption}
 use Rattle.sim_io.specs.declared.moves.Moves.{Moves}
@@ -85,11 +87,11 @@ takes_value CommandOption.Workers = true
 takes_value CommandOption.Moves = true
 
 abbrev pub is_value : CommandOption → List ℕ → Bool
-is_value CommandOption.Nodes word = is_some (number_within 1 64 word)
-is_value CommandOption.Ahead word = is_some (number_within 0 1024 word)
+is_value CommandOption.Nodes word = is_some (number_within 1 MOST_NODES word)
+is_value CommandOption.Ahead word = is_some (number_within 0 MOST_AHEAD word)
 is_value CommandOption.Placement word = is_some (placement_named word)
 is_value CommandOption.Cycles word = false
-is_value CommandOption.Workers word = is_some (number_within 1 64 word)
+is_value CommandOption.Workers word = is_some (number_within 1 MOST_NODES word)
 is_value CommandOption.Moves word = is_some (moves_named word)
 
 -- a word that stands for nothing
@@ -145,11 +147,11 @@ value_if read (Some word) = read word
 -- what the options of a run set
 abbrev pub run_settings : List (List ℕ) → Settings
 run_settings words = Settings.Run
-    (value_or 4 (number_within 1 64) (value_after (codes "--nodes") words))
-    (value_or 8 (number_within 0 1024) (value_after (codes "--ahead") words))
+    (value_or DEFAULT_NODES (number_within 1 MOST_NODES) (value_after (codes "--nodes") words))
+    (value_or DEFAULT_AHEAD (number_within 0 MOST_AHEAD) (value_after (codes "--ahead") words))
     (value_or Placement.Round placement_named (value_after (codes "--placement") words))
     (is_among words (codes "--cycles"))
-    (value_if (number_within 1 64) (value_after (codes "--workers") words))
+    (value_if (number_within 1 MOST_NODES) (value_after (codes "--workers") words))
     (value_if moves_named (value_after (codes "--moves") words))
 
 abbrev pub one_settings : List (List ℕ) → Settings
@@ -169,10 +171,10 @@ only_number least most (word ∷ rest) = number_alone (number_within least most 
 -- and at most 9,999,999 cycles come before a saved state
 abbrev pub AreInBounds : Settings → Type 0
 AreInBounds (Settings.Run nodes ahead placement cycles workers moves) =
-    (1 ≤ nodes) × (nodes ≤ 64) × (ahead ≤ 1024) × IfSome workers (λ many. (1 ≤ many) × (many ≤ 64))
+    (1 ≤ nodes) × (nodes ≤ MOST_NODES) × (ahead ≤ MOST_AHEAD) × IfSome workers (λ many. (1 ≤ many) × (many ≤ MOST_NODES))
 AreInBounds (Settings.One cycles) = Unit {0}
 AreInBounds Settings.Totals = Unit {0}
-AreInBounds (Settings.Demo n) = (1 ≤ n) × (n ≤ 256)
+AreInBounds (Settings.Demo n) = (1 ≤ n) × (n ≤ MOST_DEMO_STATIONS)
 AreInBounds (Settings.Save c) = c ≤ 9999999
 AreInBounds Settings.Resume = Unit {0}
 
@@ -181,7 +183,7 @@ abbrev pub command_settings : Command → List (List ℕ) → Result Settings Wo
 command_settings Command.Run words = and_then (judged Command.Run [] None words) (λ _. Ok (run_settings words))
 command_settings Command.One words = and_then (judged Command.One [] None words) (λ _. Ok (one_settings words))
 command_settings Command.Totals words = and_then (judged Command.Totals [] None words) (λ _. Ok Settings.Totals)
-command_settings Command.Demo words = and_then (only_number 1 256 words) (λ n. Ok (Settings.Demo n))
+command_settings Command.Demo words = and_then (only_number 1 MOST_DEMO_STATIONS words) (λ n. Ok (Settings.Demo n))
 command_settings Command.Save words = and_then (only_number 0 9999999 words) (λ c. Ok (Settings.Save c))
 command_settings Command.Resume words = and_then (judged Command.Resume [] None words) (λ _. Ok Settings.Resume)
 

@@ -5,6 +5,7 @@ ghost use Rattle.std.specs.List.{list_all};
 ghost use Rattle.sim_io.specs.Words.{command_named, has_zero_first, is_number, is_value, moves_named, number_within, option_named, option_of, placement_named, takes, takes_value};
 
 use crate::moves::Moves;
+use model_core::{MOST_AHEAD, MOST_NODES};
 use sim_spec::Placement;
 
 /// A command.
@@ -95,11 +96,11 @@ impl CommandOption {
         ensures { result ≡ is_value self word.now }
     {
         match self {
-            CommandOption::Nodes => number_within(1, 64, word).is_some(),
-            CommandOption::Ahead => number_within(0, 1024, word).is_some(),
+            CommandOption::Nodes => number_within(1, MOST_NODES, word).is_some(),
+            CommandOption::Ahead => number_within(0, MOST_AHEAD, word).is_some(),
             CommandOption::Placement => placement_named(word).is_some(),
             CommandOption::Cycles => false,
-            CommandOption::Workers => number_within(1, 64, word).is_some(),
+            CommandOption::Workers => number_within(1, MOST_NODES, word).is_some(),
             CommandOption::Moves => moves_named(word).is_some(),
         }
     }

@@ -1,9 +1,11 @@
 //! The words of the command line.
 ghost use Rattle.std.specs.Prelude.{◌≡◌, ◌≤◌, IfOk, IfSome, [], None, codes, slice_get, string_bytes};
+ghost use Rattle.model_core.specs.declared.limits.TheConstants.{MOST_NODES};
 ghost use Rattle.sim_io.specs.Words.{AreInBounds, command_settings, is_among, judged, moves_named, number_within, only_number, placement_named, run_settings, settings, stray_word, texts_of, value_after, value_if, value_or, word_meant};
 
 use crate::moves::Moves;
 use crate::options::{Command, CommandOption, moves_named, number_within, placement_named};
+use model_core::{MOST_AHEAD, MOST_DEMO_STATIONS, MOST_NODES};
 use sim_spec::Placement;
 use thiserror::Error;
 
@@ -191,11 +193,11 @@ fn placement_given(words: &[String]) -> Placement
 
 /// How many workers are asked for, where they are.
 fn workers_given(words: &[String]) -> Option<u32>
-    ensures value { result ≡ value_if (number_within 1 64) (value_after (codes "--workers") (texts_of words.now)) }
-    ensures bounds { IfSome result (λ many. (1 ≤ many) × (many ≤ 64)) }
+    ensures value { result ≡ value_if (number_within 1 MOST_NODES) (value_after (codes "--workers") (texts_of words.now)) }
+    ensures bounds { IfSome result (λ many. (1 ≤ many) × (many ≤ MOST_NODES)) }
 {
     let value = words.get(place_after(words, "--workers"))?;
-    number_within(1, 64, value.as_str())
+    number_within(1, MOST_NODES, value.as_str())
 }
 
 /// Which objects are to move, where some are.
@@ -212,8 +214,8 @@ fn run_settings(words: &[String]) -> Settings
     ensures bounds { AreInBounds result }
 {
     Settings::Run {
-        nodes: number_given(words, "--nodes", 1, 64, DEFAULT_NODES),
-        ahead: number_given(words, "--ahead", 0, 1024, DEFAULT_AHEAD),
+        nodes: number_given(words, "--nodes", 1, MOST_NODES, DEFAULT_NODES),
+        ahead: number_given(words, "--ahead", 0, MOST_AHEAD, DEFAULT_AHEAD),
         placement: placement_given(words),
         cycles: is_among(words, "--cycles"),
         workers: workers_given(words),
@@ -258,7 +260,7 @@ fn command_settings(command: Command, words: &[String]) -> Result<Settings, Word
             Ok(Settings::Totals)
         }
         Command::Demo => Ok(Settings::Demo {
-            n: only_number(words, 1, 256)?,
+            n: only_number(words, 1, MOST_DEMO_STATIONS)?,
         }),
         Command::Save => Ok(Settings::Save {
             c: only_number(words, 0, 9_999_999)?,

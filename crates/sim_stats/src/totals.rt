@@ -11,9 +11,6 @@ use model_core::{OutOfMemory, Part, RecordBuffer};
 use std::alloc::Global;
 use std::marker::Model;
 
-/// How many records are added to totals at most.
-pub const MOST_RECORDS: u64 = 1_000_000_000;
-
 /// The sums of each object of a model over the records of a simulation, kept as the records come.
 #[derive(Debug, Drop)]
 pub struct Totals {
@@ -37,7 +34,7 @@ impl Model for Totals {
 
 impl Totals {
     ghost use Rattle.sim_stats.specs.Totals.{IsInTime, totals_of, lines_of_sums};
-    ghost use Rattle.sim_stats.specs.declared.totals.TheConstants.{MOST_RECORDS};
+    ghost use Rattle.model_core.specs.declared.limits.TheConstants.{MOST_EVENTS};
 
     /// The totals of no record, for a model with so many objects.
     pub fn new(alloc: Global, objects: u32) -> Result<Totals, OutOfMemory>
@@ -59,7 +56,7 @@ impl Totals {
         requires object { key.now.dest < length self.old.objects }
         requires few { length parts.now ≤ 4 }
         requires time { self.old.last ≤ time_part key.now.stamp }
-        requires room { self.old.records < MOST_RECORDS }
+        requires room { self.old.records < MOST_EVENTS }
         ensures totals { (objects : ℕ) (records : List (Key × Note)) → self.old ≡ totals_of objects records
             → self.new ≡ totals_of objects (records ++ (key.now, parts.now) ∷ []) }
         ensures objects { length self.new.objects ≡ length self.old.objects }
@@ -77,7 +74,7 @@ impl Totals {
     pub fn add_all(&mut self, records: &RecordBuffer)
         requires objects { All (λ (told : Key × Note). told.0.dest < length self.old.objects) records.now.items }
         requires time { IsInTime self.old.last records.now.items }
-        requires room { self.old.records + length records.now.items ≤ MOST_RECORDS }
+        requires room { self.old.records + length records.now.items ≤ MOST_EVENTS }
         ensures { (objects : ℕ) (before : List (Key × Note)) → self.old ≡ totals_of objects before
             → self.new ≡ totals_of objects (before ++ records.now.items) }
     {

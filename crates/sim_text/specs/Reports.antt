@@ -5,7 +5,7 @@ use Rattle.model_core.specs.declared.note.Note.{Note}
 use Rattle.model_core.specs.Meaning.{Meaning}
 use Rattle.sim_spec.specs.declared.bucket.Bucket.{Bucket}
 use Rattle.sim_spec.specs.Cycles.{records_of_buckets}
-use Rattle.sim_stats.specs.declared.totals.TheConstants.{MOST_RECORDS}
+use Rattle.model_core.specs.declared.limits.TheConstants.{MOST_EVENTS}
 use Rattle.sim_stats.specs.Totals.{IsInTime, totals_of, lines_of_sums}
 use Rattle.sim_io.specs.CycleTexts.{bucket_lines, demo_line}
 use Rattle.sim_text.specs.declared.telling.Telling.{Telling}
@@ -26,7 +26,7 @@ report_of objects (Telling.Demo n) bs = Counts (summary_of n bs)
 -- it can go on with these records
 abbrev pub CanGoOn : Report → List (Key × Note) → Type 0
 CanGoOn (Lines cycles) done = Unit {0}
-CanGoOn (Sums totals) done = IsInTime totals.last done × (totals.records + length done ≤ MOST_RECORDS)
+CanGoOn (Sums totals) done = IsInTime totals.last done × (totals.records + length done ≤ MOST_EVENTS)
 CanGoOn (Counts summary) done = summary.cycles < 2 ^ 63
 
 -- its sums are those of the objects of the model

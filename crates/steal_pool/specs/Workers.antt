@@ -1,5 +1,6 @@
 -- Workers: what they can do, and what they have done.
 use Rattle.std.specs.Prelude.{◌≡◌, ◌+◌, ◌-◌, ◌<◌, ◌≤◌, ℕ, List, [], All, length, map, nat_lt, sum_by, if◌then◌else◌, OnOk}
+use Rattle.steal_pool.specs.declared.worker.TheConstants.{MOST_WORKERS}
 use Rattle.steal_pool.specs.declared.task.Task.{Task}
 use Rattle.steal_pool.specs.declared.worker.Worker.{Worker}
 use Rattle.steal_pool.specs.Tallies.{WHOLE, IsEmptied}
@@ -53,7 +54,7 @@ module _ {T : Type 0} where
   -- a worker has a part of each deque's count, and its own place among all
   pub record Can (worker : Worker T) : Type 0 where
     pub place : worker.number < length worker.victims.items
-    pub few : length worker.victims.items ≤ 64
+    pub few : length worker.victims.items ≤ MOST_WORKERS
     pub owner : 0 < worker.deque.knows.parts
     pub thief : All (λ many. many ≡ 1) (map parts worker.victims.items)
 

@@ -1,6 +1,7 @@
 //! The same work on each of many values, as turns.
 ghost use Rattle.std.specs.Prelude.{◌≡◌, ◌≤◌, All, IfOk, map};
 ghost use Rattle.std.specs.List.{AllZip};
+ghost use Rattle.steal_pool.specs.declared.worker.TheConstants.{MOST_WORKERS};
 ghost use Rattle.steal_pool.specs.Works.{Accepts, AreWith, Changes, item_in};
 
 use crate::running::run_turns;
@@ -59,7 +60,7 @@ fn items_of<'a, T: Drop, F: Fn(&mut T) + Sync>(
     Ok(items)
 }
 
-/// Does the work on each value once, by so many workers, from 1 to 64, as `run_turns` does turns. Answers the values in the
+/// Does the work on each value once, by so many workers, from 1 to `MOST_WORKERS`, as `run_turns` does turns. Answers the values in the
 /// order in which they were given. Where memory runs out they are gone.
 pub fn run_each<R: Threads + Sync, T: Send + Drop, F: Fn(&mut T) + Sync>(
     rt: &R,
@@ -69,7 +70,7 @@ pub fn run_each<R: Threads + Sync, T: Send + Drop, F: Fn(&mut T) + Sync>(
     work: &F,
 ) -> Result<Vec<T>, OutOfMemory>
     requires accepts { All (Accepts F.Fn work.now) items.items }
-    requires workers { (1 ≤ workers) × (workers ≤ 64) }
+    requires workers { (1 ≤ workers) × (workers ≤ MOST_WORKERS) }
     ensures { IfOk result (λ done. AllZip (Changes F.Fn work.now) items.items done.items) }
 {
     let jobs = jobs_of(alloc, items, work)?;

@@ -2,6 +2,7 @@
 ghost use Rattle.std.specs.Prelude.{◌<◌, ◌≤◌, All, IsOk, OnOk, length, map};
 ghost use Rattle.std.specs.List.{AllZip};
 ghost use Rattle.std.specs.Thread.{IsSend, IsSync};
+ghost use Rattle.steal_pool.specs.declared.worker.TheConstants.{MOST_WORKERS};
 ghost use Rattle.steal_pool.specs.Workers.{AllReady, AreHired, AreReady, Can, CanAll, HasDone, HaveWorked, own_mark};
 
 use crate::turn::Turn;
@@ -71,7 +72,7 @@ pub fn work_together<R: Threads + Sync, T: Turn>(
     workers: &mut [Worker<T>],
 ) -> Result<(), OutOfMemory>
     requires hired { AreHired (map own_mark workers.old) workers.old }
-    requires few { length workers.old ≤ 64 }
+    requires few { length workers.old ≤ MOST_WORKERS }
     requires ready { AreReady T.ready (map own_mark workers.old) }
     ensures { OnOk result (HaveWorked T.turned (map own_mark workers.old) workers.new) }
 {

@@ -1,6 +1,7 @@
 //! What is done once the workers have joined: what is left in their deques.
 ghost use Rattle.std.specs.Prelude.{◌≡◌, ◌-◌, ◌<◌, ◌≤◌, ℕ, All, length, map, sum_by, OnOk};
 ghost use Rattle.std.specs.List.{AllZip};
+ghost use Rattle.steal_pool.specs.declared.worker.TheConstants.{MOST_WORKERS};
 ghost use Rattle.steal_pool.specs.Tallies.{WHOLE};
 ghost use Rattle.steal_pool.specs.Workers.{AreReady, ArePasses, HasEnded, HasGotBack, HaveEnded, HaveLearnt, HaveWorked};
 ghost use Rattle.steal_pool.specs.Workers.{done_of, own_mark, own_taken, taken_by};
@@ -26,7 +27,7 @@ fn give_back<T: Turn>(workers: &mut Vec<Worker<T>>, victims: Vec<Victim<T>>)
 
 /// Gives each deque back the passes of all workers, so that its owner knows of all that was taken.
 fn give_all_back<T: Turn>(alloc: Global, workers: &mut Vec<Worker<T>>)
-    requires few { length workers.old.items ≤ 64 }
+    requires few { length workers.old.items ≤ MOST_WORKERS }
     requires passes { All (λ worker. ArePasses (map own_mark workers.old.items) worker.victims.items) workers.old.items }
     requires parts { All (λ worker. worker.deque.knows.parts ≡ WHOLE - length workers.old.items) workers.old.items }
     ensures marks { map own_mark workers.new.items ≡ map own_mark workers.old.items }
@@ -54,7 +55,7 @@ fn do_rest<T: Turn>(workers: &mut [Worker<T>]) -> Result<(), OutOfMemory>
 
 /// Does what the workers have left.
 pub fn gather<T: Turn>(alloc: Global, workers: &mut Vec<Worker<T>>) -> Result<(), OutOfMemory>
-    requires few { length workers.old.items ≤ 64 }
+    requires few { length workers.old.items ≤ MOST_WORKERS }
     requires worked { HaveWorked T.turned (map own_mark workers.old.items) workers.old.items }
     requires ready { AreReady T.ready (map own_mark workers.old.items) }
     ensures { OnOk result (HaveEnded T.turned (map own_mark workers.old.items) workers.new.items) }

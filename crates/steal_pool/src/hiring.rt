@@ -1,5 +1,6 @@
 //! A worker for each deque, with a pass to each deque.
 ghost use Rattle.std.specs.Prelude.{◌≡◌, ◌+◌, ◌-◌, ◌<◌, ◌≤◌, ℕ, All, length, map, IfOk, OnOk};
+ghost use Rattle.steal_pool.specs.declared.worker.TheConstants.{MOST_WORKERS};
 ghost use Rattle.steal_pool.specs.Tallies.{WHOLE};
 ghost use Rattle.steal_pool.specs.Ends.{IsFresh, mark};
 ghost use Rattle.steal_pool.specs.Workers.{AreHired, AreNew};
@@ -29,7 +30,7 @@ fn all_passes<T: Turn>(
     alloc: Global,
     deques: &mut [Deque<T>],
 ) -> Result<Vec<Vec<Victim<T>>>, OutOfMemory>
-    requires few { length deques.old ≤ 64 }
+    requires few { length deques.old ≤ MOST_WORKERS }
     requires fresh { All (IsFresh WHOLE) deques.old }
     ensures marks { map mark deques.new ≡ map mark deques.old }
     ensures many { IfOk result (λ lists. length lists.items ≡ length deques.old) }
@@ -74,7 +75,7 @@ fn seat<T: Turn>(
 
 /// A worker for each deque, with a pass to each deque.
 pub fn hire<T: Turn>(alloc: Global, deques: Vec<Deque<T>>) -> Result<Vec<Worker<T>>, OutOfMemory>
-    requires few { length deques.items ≤ 64 }
+    requires few { length deques.items ≤ MOST_WORKERS }
     requires fresh { All (IsFresh WHOLE) deques.items }
     ensures { IfOk result (λ workers. AreHired (map mark deques.items) workers.items) }
 {

@@ -18,6 +18,7 @@ pub use delta_exchange::OutOfMemory;
 pub use each::run_each;
 pub use running::run_turns;
 pub use turn::Turn;
+pub use worker::MOST_WORKERS;
 
 #[cfg(test)]
 mod tests;

@@ -1,6 +1,7 @@
 //! The run of turns by workers.
 ghost use Rattle.std.specs.Prelude.{◌≤◌, All, IfOk};
 ghost use Rattle.std.specs.List.{AllZip};
+ghost use Rattle.steal_pool.specs.declared.worker.TheConstants.{MOST_WORKERS};
 
 use crate::dealing::deal;
 use crate::forking::work_together;
@@ -12,7 +13,7 @@ use delta_exchange::OutOfMemory;
 use std::alloc::Global;
 use std::thread::Threads;
 
-/// Does each turn once, by so many workers, from 1 to 64, each in a thread of its own, the calling one among them. Answers
+/// Does each turn once, by so many workers, from 1 to `MOST_WORKERS`, each in a thread of its own, the calling one among them. Answers
 /// the turns in the order in which they were given. Which worker does which turn is left open.
 ///
 /// Turn after turn begins in the deque of one worker after another, in a round. A worker takes its own turns until there are
@@ -25,7 +26,7 @@ pub fn run_turns<R: Threads + Sync, T: Turn>(
     workers: u32,
 ) -> Result<Vec<T>, OutOfMemory>
     requires ready { All T.ready turns.items }
-    requires workers { (1 ≤ workers) × (workers ≤ 64) }
+    requires workers { (1 ≤ workers) × (workers ≤ MOST_WORKERS) }
     ensures { IfOk result (λ done. AllZip T.turned turns.items done.items) }
 {
     let count = turns.len();

@@ -1,11 +1,15 @@
 //! One worker: its own deque, and its passes to those of all.
 ghost use Rattle.std.specs.Prelude.{◌≢◌, ◌<◌, ◌≤◌, OnOk};
+ghost use Rattle.steal_pool.specs.declared.worker.TheConstants.{MOST_WORKERS};
 ghost use Rattle.steal_pool.specs.Workers.{AllReady, Can, HasWorked};
 
 use crate::deque::{Deque, Victim};
 use crate::task::Task;
 use crate::turn::Turn;
 use delta_exchange::OutOfMemory;
+
+/// How many workers there are at most.
+pub const MOST_WORKERS: usize = 64;
 
 /// A worker: its number, its deque, a pass to the deque of each worker in the order of their numbers, and what it did.
 #[derive(Drop)]
@@ -22,7 +26,7 @@ pub struct Worker<T> {
 fn other_in_round(number: usize, step: usize, count: usize) -> usize
     requires number { number < count }
     requires step { (0 < step) × (step < count) }
-    requires count { count ≤ 64 }
+    requires count { count ≤ MOST_WORKERS }
     ensures within { result < count }
     ensures other { result ≢ number }
 {

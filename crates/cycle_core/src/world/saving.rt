@@ -1,6 +1,7 @@
 //! The state of a world, taken out and put in.
 ghost use Rattle.std.specs.Prelude.{◌≡◌, ◌≤◌, [], None, IfOk};
 ghost use Rattle.std.specs.Arc.{arc_value};
+ghost use Rattle.model_core.specs.declared.limits.TheConstants.{MOST_NODES};
 ghost use Rattle.sim_spec.specs.Standing.{stands};
 ghost use Rattle.sim_spec.specs.State.{State, Lawful};
 ghost use Rattle.cycle_core.specs.Places.{AtEach};
@@ -28,7 +29,7 @@ impl<M: SimulationModel> World<M> {
         state: State,
     ) -> Result<World<M>, OutOfMemory>
         requires low { 1 ≤ nodes }
-        requires high { nodes ≤ 64 }
+        requires high { nodes ≤ MOST_NODES }
         requires lawful { Lawful (M.meaning (arc_value model)) terms state }
         ensures model { IfOk result (λ world. world.model ≡ arc_value model) }
         ensures terms { IfOk result (λ world. world.terms ≡ terms) }

@@ -1,5 +1,6 @@
 //! Worlds whose state is taken out, and put in on other nodes.
 ghost use Rattle.std.specs.Prelude.{◌≤◌, OnOk};
+ghost use Rattle.model_core.specs.declared.limits.TheConstants.{MOST_NODES};
 ghost use Rattle.sim_spec.specs.State.{State};
 ghost use Rattle.cycle_core.specs.Worlds.{IsSameWorld, StandsAt};
 
@@ -71,7 +72,7 @@ struct Nodes {
     count: u32,
     placement: Placement,
     ghost low: { 1 ≤ count },
-    ghost high: { count ≤ 64 },
+    ghost high: { count ≤ MOST_NODES },
 }
 
 /// Appends the records of a bucket.

@@ -1,5 +1,6 @@
 //! A team, driven cycle by cycle.
 ghost use Rattle.std.specs.Prelude.{◌≤◌};
+ghost use Rattle.model_core.specs.declared.limits.TheConstants.{MOST_NODES};
 
 use cycle_core::World;
 use model_core::OutOfMemory;
@@ -40,7 +41,7 @@ impl<M: SimulationModel> TeamRun<M> {
         ahead: u32,
     ) -> Result<TeamRun<M>, OutOfMemory>
         requires low { 1 ≤ nodes }
-        requires high { nodes ≤ 64 }
+        requires high { nodes ≤ MOST_NODES }
     {
         let world = World::begin(alloc, model, terms, nodes, Placement::Round)?;
         let lanes = RingLanes::new(alloc, nodes)?;

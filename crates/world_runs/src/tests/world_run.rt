@@ -1,6 +1,7 @@
 //! A world, as an engine.
 ghost use Rattle.std.specs.Prelude.{◌≡◌, ◌≤◌, None, IfOk};
 ghost use Rattle.std.specs.Arc.{arc_value};
+ghost use Rattle.model_core.specs.declared.limits.TheConstants.{MOST_NODES};
 ghost use Rattle.sim_spec.specs.Standing.{Standing, stands, ended, IsCountAt};
 ghost use Rattle.sim_spec.specs.State.{initial_state};
 ghost use Rattle.model_text.specs.Meanings.{meaning_of};
@@ -59,7 +60,7 @@ impl<M: SimulationModel> WorldRun<M> {
         placement: Placement,
     ) -> Result<WorldRun<M>, OutOfMemory>
         requires low { 1 ≤ nodes }
-        requires high { nodes ≤ 64 }
+        requires high { nodes ≤ MOST_NODES }
         ensures model { IfOk result (λ run. run.model ≡ arc_value model) }
         ensures terms { IfOk result (λ run. run.terms ≡ terms) }
         ensures begins { IfOk result (λ run. WorldStandsAt M.meaning run (stands (initial_state (M.meaning (arc_value model))) None)) }
@@ -167,7 +168,7 @@ fn run_of(
     placement: Placement,
 ) -> Result<(Arc<AnyModel>, AnyRun), OutOfMemory>
     requires low { 1 ≤ nodes }
-    requires high { nodes ≤ 64 }
+    requires high { nodes ≤ MOST_NODES }
     ensures named { IfOk result (λ both. arc_value both.0 ≡ model) }
     ensures model { IfOk result (λ both. both.1.run.model ≡ model) }
     ensures terms { IfOk result (λ both. both.1.run.terms ≡ terms) }
@@ -189,7 +190,7 @@ pub fn run_world(
     out: &mut MemSink,
 ) -> Result<Stop, Unfinished>
     requires low { 1 ≤ nodes }
-    requires high { nodes ≤ 64 }
+    requires high { nodes ≤ MOST_NODES }
 {
     let (model, mut run) = run_of(alloc, model, terms, nodes, placement)?;
     law_initial(&*model, &terms);

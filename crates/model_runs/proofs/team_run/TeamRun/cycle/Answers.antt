@@ -7,7 +7,7 @@ use Rattle.sim_spec.specs.declared.bucket.Bucket.{Bucket}
 use Rattle.cycle_core.specs.Standings.{HasCycled}
 use Rattle.model_text.specs.Meanings.{meaning_of}
 use Rattle.cycle_core.proofs.SpentCycles.{spent-cycled}
-use Rattle.model_runs.proofs.MovedCycles.{cycled-from}
+use Rattle.cycle_core.proofs.MovedCycles.{cycled-from}
 use Rattle.model_runs.proofs.team_run.TeamRun.cycle.Goals as goal
 
 pub returns-in_err-make_moves : goal.returns-in_err-make_moves
