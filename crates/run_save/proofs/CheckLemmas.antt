@@ -1,6 +1,5 @@
 -- Checks one after another.
 use Rattle.std.proofs.Common.{◌≡◌, ℕ, Bool, true, false, Ok, Err, refl, ap, ◌∙◌}
-use Rattle.std.specs.Prelude.{◌&&◌}
 use Rattle.run_save.specs.declared.refusal.StateCause.{StateCause}
 use Rattle.run_save.specs.Checks.{Checked, wanted, ◌>>=◌}
 
@@ -20,16 +19,6 @@ passes false cause line u gives = absurd cc
 pub passed : (test : Bool) (cause : StateCause) (line : ℕ) → test ≡ true → wanted test cause line ≡ Ok tt
 passed true cause line is = refl
 passed false cause line is = absurd cc
-
-pub both : (a b : Bool) → (a && b) ≡ true → (a ≡ true) × (b ≡ true)
-both true true is = (refl, refl)
-both true false is = absurd cc
-both false b is = absurd cc
-
-pub both_hold : (a b : Bool) → a ≡ true → b ≡ true → (a && b) ≡ true
-both_hold true true first second = refl
-both_hold true false first second = second
-both_hold false b first second = first
 
 abbrev given : {A : Type 0} → A → Checked A
 given a = Ok a

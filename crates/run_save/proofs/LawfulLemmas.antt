@@ -2,7 +2,7 @@
 use Rattle.std.proofs.Common.{◌≡◌, ◌⊎◌, inl, inr, ℕ, zero, suc, ◌+◌, ◌*◌, ◌^◌, ◌<◌, Bool, true, false, List, [], ◌∷◌, length, Ok, refl, sym, ap, ◌∙◌, arith}
 use Rattle.std.specs.Prelude.{◌&&◌, ◌||◌, ◌==◌, nat_lt, nat_le}
 use Rattle.std.specs.List.{AllByRecursion}
-use Rattle.std.proofs.lemmas.Bool.{leb-true, le-leb, ltb-true, lt-ltb, eqb-true, eq-eqb}
+use Rattle.std.proofs.lemmas.Bool.{and_from, and_parts, or_cases, or_left, or_right, leb-true, le-leb, ltb-true, lt-ltb, eqb-true, eq-eqb}
 use Rattle.event_key.specs.declared.key.TheConstants.{INITIAL, MOST_RANK}
 use Rattle.event_key.specs.Stamps.{time_part}
 use Rattle.model_core.specs.declared.event.Event.{Event}
@@ -14,7 +14,7 @@ use Rattle.sim_spec.specs.State.{State, object_at, IsSound, AllSound, Lawful}
 use Rattle.run_save.specs.declared.refusal.StateCause.TheVariants.{Unlawful}
 use Rattle.run_save.specs.Checks.{wanted}
 use Rattle.run_save.specs.LawfulChecks.{is_lawful_object, objects_check, is_sent, is_sound, events_check, lawful_check}
-use Rattle.run_save.proofs.CheckLemmas.{bound, joined, passes, passed, both, both_hold}
+use Rattle.run_save.proofs.CheckLemmas.{bound, joined, passes, passed}
 
 -- ---- objects
 
@@ -56,39 +56,27 @@ events_pass m objects i [] hold = refl
 events_pass m objects i (e ∷ es) hold =
     joined (wanted (is_sound m objects e.key) Unlawful (length objects + i + 5)) _ tt _ (passed _ _ _ hold.0) (events_pass m objects (i + 1) es hold.1)
 
-either : (a b : Bool) → (a || b) ≡ true → (a ≡ true) ⊎ (b ≡ true)
-either true b is = inl refl
-either false b is = inr is
-
-first_holds : (a b : Bool) → a ≡ true → (a || b) ≡ true
-first_holds true b is = refl
-first_holds false b is = absurd cc
-
-second_holds : (a b : Bool) → b ≡ true → (a || b) ≡ true
-second_holds true b is = refl
-second_holds false b is = is
-
 sound_by : (m : Meaning) (objects : List ObjectState) (e : Event) → length objects ≡ m.objects → time_part e.key.stamp < 2 ^ 47 → is_sound m objects e.key ≡ true → IsSound m objects e
 sound_by m objects e all early holds =
-    let whole = both (nat_lt e.key.dest m.objects && nat_le e.key.rank MOST_RANK) _ holds in
-    let front = both (nat_lt e.key.dest m.objects) _ whole.0 in
+    let whole = and_parts (nat_lt e.key.dest m.objects && nat_le e.key.rank MOST_RANK) _ holds in
+    let front = and_parts (nat_lt e.key.dest m.objects) _ whole.0 in
     record {
       dest = ltb-true _ _ front.0;
       time = early;
       rank = leb-true _ _ front.1;
-      source = elim (either (e.key.src == INITIAL && nat_lt e.key.serial m.starts) _ whole.1) [
-        | inl initial ↦ (let parts = both (e.key.src == INITIAL) _ initial in inl (eqb-true _ _ parts.0, ltb-true _ _ parts.1))
-        | inr sent ↦ (let parts = both (nat_lt e.key.src (length objects)) _ sent in let there = ltb-true _ _ parts.0 in inr (omega (arith, there, all), ltb-true _ _ parts.1))
+      source = elim (or_cases (e.key.src == INITIAL && nat_lt e.key.serial m.starts) _ whole.1) [
+        | inl initial ↦ (let parts = and_parts (e.key.src == INITIAL) _ initial in inl (eqb-true _ _ parts.0, ltb-true _ _ parts.1))
+        | inr sent ↦ (let parts = and_parts (nat_lt e.key.src (length objects)) _ sent in let there = ltb-true _ _ parts.0 in inr (omega (arith, there, all), ltb-true _ _ parts.1))
       ];
     }
 
 sound_holds : (m : Meaning) (objects : List ObjectState) (e : Event) → length objects ≡ m.objects → IsSound m objects e → is_sound m objects e.key ≡ true
 sound_holds m objects e all sound =
-    both_hold (nat_lt e.key.dest m.objects && nat_le e.key.rank MOST_RANK) _
-    (both_hold (nat_lt e.key.dest m.objects) _ (lt-ltb _ _ sound.dest) (le-leb _ _ sound.rank))
+    and_from (nat_lt e.key.dest m.objects && nat_le e.key.rank MOST_RANK) _
+    (and_from (nat_lt e.key.dest m.objects) _ (lt-ltb _ _ sound.dest) (le-leb _ _ sound.rank))
     (elim sound.source as (λ _. ((e.key.src == INITIAL && nat_lt e.key.serial m.starts) || is_sent objects e.key) ≡ true) [
-      | inl initial ↦ first_holds _ _ (both_hold (e.key.src == INITIAL) _ (eq-eqb _ _ initial.0) (lt-ltb _ _ initial.1))
-      | inr sent ↦ second_holds (e.key.src == INITIAL && nat_lt e.key.serial m.starts) _ (both_hold (nat_lt e.key.src (length objects)) _ (lt-ltb _ _ (let there = sent.0 in omega (arith, there, all))) (lt-ltb _ _ sent.1))
+      | inl initial ↦ or_left _ _ (and_from (e.key.src == INITIAL) _ (eq-eqb _ _ initial.0) (lt-ltb _ _ initial.1))
+      | inr sent ↦ or_right (e.key.src == INITIAL && nat_lt e.key.serial m.starts) _ (and_from (nat_lt e.key.src (length objects)) _ (lt-ltb _ _ (let there = sent.0 in omega (arith, there, all))) (lt-ltb _ _ sent.1))
     ])
 
 all_sound : (m : Meaning) (objects : List ObjectState) (es : List Event) → length objects ≡ m.objects → AllByRecursion (λ e. time_part e.key.stamp < 2 ^ 47) es → AllByRecursion (λ e. is_sound m objects e.key ≡ true) es → AllSound m objects es
@@ -120,7 +108,7 @@ check_is_lawful m t s u early ascends gives =
     let hold : (i : ℕ) → i < m.objects → (nat_le (object_at s.objects i).sent (8 * s.count) ≡ true) × (m.lawful i (object_at s.objects i).cells ≡ true) = λ i inside.
     let own = objects_hold m s.count 0 s.objects objects.0 objects.1 i (omega (arith, is_all)) in
     let here : 0 + i ≡ i = omega arith in
-    both _ _ (ap (λ n. is_lawful_object m s.count n (object_at s.objects i)) (sym here) ∙ own) in
+    and_parts _ _ (ap (λ n. is_lawful_object m s.count n (object_at s.objects i)) (sym here) ∙ own) in
     record {
       objects = is_all;
       cells = λ i inside. (hold i inside).1;
@@ -140,6 +128,6 @@ lawful_passes m t s lawful =
     (joined (objects_check m s.count 0 s.objects) _ tt _ (objects_pass m s.count 0 s.objects (λ k within.
     let inside : k < m.objects = omega (arith, is_all) in
     let here : 0 + k ≡ k = omega arith in
-    ap (λ n. is_lawful_object m s.count n (object_at s.objects k)) here ∙ both_hold _ _ (le-leb _ _ (lawful.sent k inside)) (lawful.cells k inside)))
+    ap (λ n. is_lawful_object m s.count n (object_at s.objects k)) here ∙ and_from _ _ (le-leb _ _ (lawful.sent k inside)) (lawful.cells k inside)))
     (joined (wanted (nat_le (length s.pending) (400000 + 8 * s.count)) Unlawful (length s.objects + 4)) _ tt _ (passed _ _ _ (le-leb _ _ lawful.few))
     (events_pass m s.objects 0 s.pending (all_hold m s.objects s.pending is_all lawful.sound)))))

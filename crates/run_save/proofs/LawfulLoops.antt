@@ -2,8 +2,8 @@
 use Rattle.std.proofs.Common.{◌≡◌, ℕ, ◌+◌, ◌*◌, ◌<◌, ◌≤◌, Bool, true, false, List, length, map, drop, get_or, Ok, refl, sym, ap, ◌∙◌, add-one, arith}
 use Rattle.std.proofs.Math.Seq.{drop-cons}
 use Rattle.std.proofs.Math.ListN.{drop_of_length-le}
-use Rattle.std.specs.Prelude.{◌&&◌, nat_le}
-use Rattle.std.proofs.lemmas.Bool.{le-leb, leb-true}
+use Rattle.std.specs.Prelude.{nat_le}
+use Rattle.std.proofs.lemmas.Bool.{and_from, and_left, and_right, le-leb, leb-true}
 use Rattle.std.proofs.lemmas.List.{get_or-map}
 use Rattle.cycle_core.specs.States.{object_of}
 use Rattle.delta_exchange.specs.Views.{CellsView}
@@ -13,7 +13,6 @@ use Rattle.sim_spec.specs.Firing.{ObjectState}
 use Rattle.sim_spec.specs.State.{object_at, no_object}
 use Rattle.run_save.specs.declared.refusal.StateCause.TheVariants.{Unlawful}
 use Rattle.run_save.specs.Checks.{Checked, refusal, wanted, ◌>>=◌}
-use Rattle.run_save.proofs.CheckLemmas.{both_hold}
 use Rattle.run_save.specs.LawfulChecks.{is_lawful_object, objects_check, is_sound, events_check}
 
 objects_step : (m : Meaning) (count i : ℕ) (os : List ObjectState) → i < length os
@@ -69,20 +68,11 @@ lt-leb a b less = by_test (nat_le a b) refl
     by_test false is = refl
     by_test true is = (let within : a ≤ b = leb-true a b is in absurd (omega arith))
 
--- where a test fails, so do both
-pub fails_first : (a b : Bool) → a ≡ false → (a && b) ≡ false
-fails_first false b is = refl
-fails_first true b is = absurd cc
-
-pub fails_second : (a b : Bool) → b ≡ false → (a && b) ≡ false
-fails_second false b is = refl
-fails_second true b is = is
-
 pub sent_too_much : (m : Meaning) (count i : ℕ) (o : ObjectState) → 8 * count < o.sent → is_lawful_object m count i o ≡ false
-sent_too_much m count i o much = fails_first (nat_le o.sent (8 * count)) _ (lt-leb o.sent (8 * count) much)
+sent_too_much m count i o much = and_left (nat_le o.sent (8 * count)) _ (lt-leb o.sent (8 * count) much)
 
 pub cells_unlawful : (m : Meaning) (count i : ℕ) (o : ObjectState) → m.lawful i o.cells ≡ false → is_lawful_object m count i o ≡ false
-cells_unlawful m count i o unlawful = fails_second (nat_le o.sent (8 * count)) _ unlawful
+cells_unlawful m count i o unlawful = and_right (nat_le o.sent (8 * count)) _ unlawful
 
 pub object_lawful : (m : Meaning) (count i : ℕ) (o : ObjectState) → o.sent ≤ 8 * count → m.lawful i o.cells ≡ true → is_lawful_object m count i o ≡ true
-object_lawful m count i o few lawful = both_hold (nat_le o.sent (8 * count)) _ (le-leb o.sent (8 * count) few) lawful
+object_lawful m count i o few lawful = and_from (nat_le o.sent (8 * count)) _ (le-leb o.sent (8 * count) few) lawful

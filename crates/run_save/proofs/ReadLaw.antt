@@ -2,7 +2,7 @@
 use Rattle.std.proofs.Common.{◌≡◌, ℕ, ◌-◌, ◌^◌, ◌<◌, ◌≤◌, List, ◌++◌, length, None, Ok, Err, sym, ap, subst, ◌∙◌, arith}
 use Rattle.std.specs.Prelude.{codes, nat_le, nat_lt, ◌&&◌, ◌==◌}
 use Rattle.std.specs.List.{flat_map}
-use Rattle.std.proofs.lemmas.Bool.{leb-true, ltb-true, eqb-true}
+use Rattle.std.proofs.lemmas.Bool.{and_parts, leb-true, ltb-true, eqb-true}
 use Rattle.model_core.specs.declared.limits.TheConstants.{MOST_OBJECTS, MOST_TEXT_BYTES}
 use Rattle.model_text.specs.Checks as models
 use Rattle.model_text.specs.ModelTexts.{ModelOf, model_of}
@@ -15,7 +15,7 @@ use Rattle.run_save.specs.Rests.{Rest, formed, after, next_line, in_turn, each}
 use Rattle.run_save.specs.SavedLaws.{FitsObject, FitsTypes, IsTextOf, ReadIsWritten, saved_with}
 use Rattle.run_save.specs.SavedStates.{SavedState, read_at, judged, state_of}
 use Rattle.run_save.specs.StateTexts.{named_text, object_text, event_text, state_text}
-use Rattle.run_save.proofs.CheckLemmas.{bound, passes, both, same_given}
+use Rattle.run_save.proofs.CheckLemmas.{bound, passes, same_given}
 use Rattle.run_save.proofs.InTurnLemmas.{FitInTurn, each_from_turn, IsTaken, in_turn-takes}
 use Rattle.run_save.proofs.LawfulLemmas.{check_is_lawful}
 use Rattle.run_save.proofs.LineLemmas.{named-takes, object-takes}
@@ -37,7 +37,7 @@ model-takes rest model reads =
     let size = bound (named (codes "model") MOST_TEXT_BYTES rest) _ model reads in
     let whole = bound (formed (nat_lt 0 size.0.0 && size.0.0 == length size.0.1.bytes) rest) _ model size.2 in
     let own = named-takes (codes "model") MOST_TEXT_BYTES rest size.0 (omega arith) size.1 in
-    let holds = both _ _ (passes _ _ _ _ whole.1) in
+    let holds = and_parts _ _ (passes _ _ _ _ whole.1) in
     let some : 0 < size.0.0 = ltb-true _ _ holds.0 in
     let all : size.0.0 ≡ length size.0.1.bytes = eqb-true _ _ holds.1 in
     let made : IsModelText rest size.0.1.bytes = record {

@@ -4,7 +4,7 @@ use Rattle.std.specs.Prelude.{codes, decimal, nat_le, nat_eq, ◌&&◌}
 use Rattle.std.specs.Char.{is_ascii_digit}
 use Rattle.std.specs.List.{starts_with, take_while}
 use Rattle.std.specs.Str.Parse.{AllDigits, digits_value}
-use Rattle.std.proofs.lemmas.Bool.{leb-true, le-leb, ltb-true}
+use Rattle.std.proofs.lemmas.Bool.{and_from, and_parts, leb-true, le-leb, ltb-true}
 use Rattle.std.proofs.lemmas.Bool.Decides.{Decides-eqb}
 use Rattle.std.proofs.lemmas.Fmt.{decimal-digits_value, decimal_is_IsNumeral, first_decimal, decimal_digit}
 use Rattle.std.proofs.lemmas.Grind.{common_steps}
@@ -16,7 +16,7 @@ use Rattle.std.proofs.lemmas.Str.{digit_value_digit}
 use Rattle.std.proofs.lemmas.Int.Digits.{digits_value_more}
 use Rattle.run_save.specs.StateTexts.{field_text}
 use Rattle.run_save.specs.Rests.{Rest, formed, after, next_line, digit_count, digits_of, is_decimal, number, field}
-use Rattle.run_save.proofs.CheckLemmas.{bound, joined, passes, passed, both, both_hold, same_given}
+use Rattle.run_save.proofs.CheckLemmas.{bound, joined, passes, passed, same_given}
 
 -- bytes that are left at a line
 abbrev pub at : List ℕ → ℕ → Rest
@@ -95,7 +95,7 @@ one_zero (c ∷ []) is first = refl
 one_zero (c ∷ d ∷ ds) is first = grind (arith, common_steps, is, first)
 
 some_digits : (digits : List ℕ) → is_decimal digits ≡ true → 0 < length digits
-some_digits digits is = ltb-true _ _ (both _ _ is).0
+some_digits digits is = ltb-true _ _ (and_parts _ _ is).0
 
 -- the number is written with these digits
 pub decimal-digits : (digits : List ℕ) → AllDigits 10 digits → is_decimal digits ≡ true → digits_value 10 digits < 2 ^ 64 → decimal (digits_value 10 digits) ≡ digits
@@ -114,7 +114,7 @@ unfolding number
 number-takes most rest x small reads =
     let digits = digits_of rest.bytes in
     let test = bound (formed (is_decimal digits && nat_le (digits_value 10 digits) most) rest) _ x reads in
-    let holds = both _ _ (passes _ _ _ _ test.1) in
+    let holds = and_parts _ _ (passes _ _ _ _ test.1) in
     let within : digits_value 10 digits ≤ most = leb-true _ _ holds.1 in
     let written : decimal (digits_value 10 digits) ≡ digits = decimal-digits digits (digits_of-AllDigits rest.bytes) holds.0 (omega arith) in
     let parts : rest.bytes ≡ decimal (digits_value 10 digits) ++ drop (digit_count rest.bytes) rest.bytes =
@@ -132,7 +132,7 @@ number-reads most n more line within fits plain =
     let is : is_decimal (digits_of (decimal n ++ more)) ≡ true = ap (λ (ds : List ℕ). is_decimal ds) digits ∙ decimal-is_decimal n fits in
     let small : nat_le (digits_value 10 (digits_of (decimal n ++ more))) most ≡ true = ap (λ k. nat_le k most) value ∙ le-leb _ _ within in
     joined (formed (is_decimal (digits_of (decimal n ++ more)) && nat_le (digits_value 10 (digits_of (decimal n ++ more))) most) (at (decimal n ++ more) line)) _ tt _
-    (passed _ _ _ (both_hold _ _ is small))
+    (passed _ _ _ (and_from _ _ is small))
     (ap (λ (k : ℕ). Ok (k, at (drop (digit_count (decimal n ++ more)) (decimal n ++ more)) line)) value ∙ ap (λ (bytes : List ℕ). Ok (n, at bytes line)) rest)
 
 pub field-takes : (most : ℕ) (rest : Rest) (x : ℕ × Rest) → most < 2 ^ 64 → field most rest ≡ Ok x → (rest.bytes ≡ field_text x.0 ++ x.1.bytes) × (x.0 ≤ most)

@@ -2,7 +2,7 @@
 use Rattle.std.proofs.Common.{◌≡◌, ℕ, ◌+◌, ◌-◌, ◌^◌, ◌<◌, ◌≤◌, List, ◌++◌, length, None, Ok, refl, ap, arith}
 use Rattle.std.specs.Prelude.{codes, nat_le, nat_lt, ◌&&◌, ◌==◌}
 use Rattle.std.specs.List.{flat_map}
-use Rattle.std.proofs.lemmas.Bool.{le-leb, lt-ltb, eq-eqb}
+use Rattle.std.proofs.lemmas.Bool.{and_from, le-leb, lt-ltb, eq-eqb}
 use Rattle.model_core.specs.declared.limits.TheConstants.{MOST_OBJECTS, MOST_TEXT_BYTES}
 use Rattle.model_text.specs.ModelTexts.{ModelOf, model_of}
 use Rattle.sim_spec.specs.State.{State}
@@ -15,7 +15,7 @@ use Rattle.run_save.specs.Rests.{formed, after, next_line, in_turn, each}
 use Rattle.run_save.specs.SavedLaws.{FitsObject, IsSavable, WrittenIsRead}
 use Rattle.run_save.specs.SavedStates.{read_at, judged, state_of}
 use Rattle.run_save.specs.StateTexts.{named_text, object_text, event_text, state_text}
-use Rattle.run_save.proofs.CheckLemmas.{joined, passed, both_hold}
+use Rattle.run_save.proofs.CheckLemmas.{joined, passed}
 use Rattle.run_save.proofs.InTurnLemmas.{turn_from_each, IsRead, in_turn-reads}
 use Rattle.run_save.proofs.LawfulLemmas.{lawful_passes, times_told}
 use Rattle.run_save.proofs.LineLemmas.{named-reads, object-reads, object_text-IsPlain, event_text-IsPlain}
@@ -31,7 +31,7 @@ model-reads model line some few =
     joined (named (codes "model") MOST_TEXT_BYTES (at (named_text (codes "model") (length model) ++ model) line)) _ (length model, at model (line + 1)) _
     (named-reads (codes "model") MOST_TEXT_BYTES (length model) model line few (omega arith))
     (joined (formed (nat_lt 0 (length model) && length model == length model) (at (named_text (codes "model") (length model) ++ model) line)) _ tt _
-    (passed _ _ _ (both_hold _ _ (lt-ltb _ _ some) (eq-eqb _ _ refl))) refl)
+    (passed _ _ _ (and_from _ _ (lt-ltb _ _ some) (eq-eqb _ _ refl))) refl)
 
 -- the draft of what was written, at some line of its model
 text-reads : (s : State) (model : List ℕ) (read : ModelOf) → IsSavable s model read
