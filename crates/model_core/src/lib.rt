@@ -20,7 +20,10 @@ pub use effect::{Effect, Ending, Outcome};
 pub use entry::Entry;
 pub use event::{Event, Send, Start};
 pub use few::Few;
-pub use limits::{MOST_AHEAD, MOST_DEMO_STATIONS, MOST_ENTRIES, MOST_EVENTS, MOST_NODES, MOST_OBJECTS, MOST_TEXT_BYTES};
+pub use limits::{
+    MOST_AHEAD, MOST_DEMO_STATIONS, MOST_ENTRIES, MOST_EVENTS, MOST_NODES, MOST_OBJECTS,
+    MOST_TEXT_BYTES,
+};
 pub use name::Name;
 pub use note::{Note, Part};
 pub use place::keep_place;

@@ -29,7 +29,12 @@ fn source(alloc: Global, table: &Table, item: u32) -> Result<NamedKind, Refusal>
 {
     let first = number(required(table, "first", item)?, item, 0, LAST_TICK)?;
     let every = law(required(table, "every", item)?, item)?;
-    let count = number(required(table, "count", item)?, item, 1, u64::from(MOST_JOBS))?;
+    let count = number(
+        required(table, "count", item)?,
+        item,
+        1,
+        u64::from(MOST_JOBS),
+    )?;
     let next = text(required(table, "next", item)?, item)?;
     Ok(NamedKind::Source {
         first,

@@ -47,7 +47,10 @@ impl Weights {
 pub(crate) fn is_choice(weights: &[u32]) -> bool
     ensures { result ≡ is_choice weights.now }
 {
-    !weights.is_empty() && weights.len() <= MOST_WEIGHTS && all_fit(weights) && total_weight(weights) >= 1
+    !weights.is_empty()
+        && weights.len() <= MOST_WEIGHTS
+        && all_fit(weights)
+        && total_weight(weights) >= 1
 }
 
 /// Whether no weight is too great.
