@@ -1,5 +1,5 @@
 -- Remainders by multiplication with a reciprocal.
-use Rattle.std.proofs.Common.{◌≡◌, ℕ, ◌+◌, ◌-◌, ◌*◌, ◌/◌, ◌%◌, ◌<◌, ◌≤◌, arith, mul-le-mul_left, mul-le-mul_right, mul-lt-mul_of_pos_right, le_of_mul-le-mul_right, lt_of_mul-lt-mul_right, ap, ◌∙◌}
+use Rattle.std.proofs.Common.{◌≡◌, ℕ, ◌+◌, ◌*◌, ◌/◌, ◌%◌, ◌<◌, ◌≤◌, arith, mul-le-mul_left, mul-le-mul_right, mul-lt-mul_of_pos_right, le_of_mul-le-mul_right, lt_of_mul-lt-mul_right, ap, ◌∙◌}
 use Rattle.std.proofs.lemmas.Nat.{div-add-mod', mod_below, mod-mul-add}
 
 -- where w is m times d and less than d more, and x times m is q times w and less than w more, q is x divided by d or one less
