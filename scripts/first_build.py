@@ -4,8 +4,10 @@
     scripts/first_build.py
 
 On copies of the repository in which nothing is built: each library is built once, over those below it, some side by side;
-a second run builds nothing; a failed build names its crate and its log; what a failed or an interrupted build has built or
-begun is used by the next one; without rt the script says so. It stands outside the gate: it takes two or three minutes.
+a second run builds nothing, nor does a copy of the built tree; a failed build names its crate and its log; what a failed
+or an interrupted build has built or begun is used by the next one; a signal ends a build and nothing beside it; of two
+builds at once the second waits; and without rt, or where nothing can be written, the script says so. It stands outside the
+gate: it takes two or three minutes.
 """
 import os
 import pathlib
@@ -19,18 +21,22 @@ import time
 TOP = pathlib.Path(__file__).resolve().parent.parent
 PARTS = ("src", "specs", "proofs")
 FAILED, NO_TOOLCHAIN = 126, 127
+NOBODY = 65534
 STAND_IN = r"""#!/usr/bin/env bash
 # Stands for rt: a library takes a third of a second, and needs those below it; the program prints its words.
 set -eu
-notes=NOTES
+notes="NOTES"
 crate=$(basename "$PWD")
 if [ "$1" = run ]; then
-    mkdir -p out
+    [ "$*" = "run -- demo 1" ]
+    [ ! -f "$notes/refuses_$crate" ]
+    mkdir -p out/incremental
     printf '#!/bin/sh\necho ran "$@"\n' >out/btb
     chmod +x out/btb
     touch out/btb.stamp
-    exit 3
+    exit 0
 fi
+[ "$1 $2" = "lib --jobs" ]
 needs=$(grep -E "^$crate[ :]" ../../crates.txt)
 [ "$(wc -l <../../crates.txt)" = "$(ls .. | wc -l)" ]
 for lower in ${needs#*:}; do
@@ -48,36 +54,53 @@ mkdir -p out/rlib
 touch "out/rlib/$crate"
 echo "$crate $(date +%s%N)" >>"$notes/built"
 """
+# Starts the script, ends it once something is built, and says that it is still there.
+PARENT = """
+"$1" one &
+job=$!
+until [ -f "$2/built" ]; do sleep 0.1; done
+kill -TERM "$job"
+wait "$job"
+echo "status $?, parent lives"
+"""
 
 
 class Tree:
-    """A copy of the repository in which nothing is built, with a stand-in for rt."""
+    """A copy of the repository in which nothing is built, with a stand-in for rt, at a path with a space."""
 
     def __init__(self, room):
-        self.top, self.notes, tools = room / "tree", room / "notes", room / "tools"
+        self.top, self.notes, tools = room / "a tree", room / "notes", room / "tools"
         for folder in (self.top, self.notes, tools):
             folder.mkdir()
         for name in ("btb", "crates.txt", "HANDLES"):
             shutil.copy2(TOP / name, self.top)
+        (self.top / "scripts").mkdir()
+        shutil.copy2(TOP / "scripts/build", self.top / "scripts")
         for crate in (TOP / "crates").iterdir():
             for part in PARTS:
                 if (crate / part).is_dir():
                     shutil.copytree(crate / part, self.top / "crates" / crate.name / part)
+        self.out = self.top / "crates/btb/out"
         (tools / "rt").write_text(STAND_IN.replace("NOTES", str(self.notes)))
         (tools / "rt").chmod(0o755)
-        self.path = f"{tools}:/usr/bin:/bin"
+        self.environment = {"PATH": f"{tools}:{os.environ['PATH']}"}
 
-    def start(self, path=None):
+    def start(self, script=None, environment=None, **how):
         """The script, begun as a job of its own."""
         return subprocess.Popen(
-            [self.top / "btb", "one"], env={"PATH": path or self.path}, stdin=subprocess.DEVNULL,
-            stdout=subprocess.PIPE, stderr=subprocess.PIPE, text=True, start_new_session=True)
+            [script or self.top / "btb", "one"], env=environment or self.environment, stdin=subprocess.DEVNULL,
+            stdout=subprocess.PIPE, stderr=subprocess.PIPE, text=True, start_new_session=True, **how)
 
-    def run(self, path=None):
+    def run(self, script=None, environment=None, **how):
         """The script, run to its end: its status, and what it wrote."""
-        job = self.start(path)
-        out, err = job.communicate(timeout=120)
-        return job.returncode, out, err
+        return ended(self.start(script, environment, **how))
+
+    def wait_for(self, name, most_seconds=60):
+        """Waits until something is noted."""
+        for _ in range(10 * most_seconds):
+            if (self.notes / name).exists():
+                return
+            time.sleep(0.1)
 
     def noted(self, name):
         """The crates of a note and their times, in order; the note is taken away."""
@@ -85,6 +108,11 @@ class Tree:
         lines = note.read_text().splitlines() if note.exists() else []
         note.unlink(missing_ok=True)
         return [line.split() for line in lines]
+
+
+def ended(job):
+    out, err = job.communicate(timeout=120)
+    return job.returncode, out, err
 
 
 def check(holds, what):
@@ -103,9 +131,11 @@ def whole_build(tree):
         for at, (crate, start) in enumerate(begun) for other, other_start in begun[:at])
     check((status, out) == (0, "ran one\n"), "a first run builds, and then runs the program")
     check(len(crates) == len(set(crates)) and "btb_program" in crates, f"each of {len(crates)} libraries is built once, over those below it")
-    check(os.cpu_count() == 1 or together, "some are built side by side")
-    check(err.count("\n") == len(crates) + 1, "a line for each crate says how far it is")
-    check(not (tree.top / "crates/btb/out/rooms").exists(), "no room is left")
+    check(len(os.sched_getaffinity(0)) == 1 or together, "some are built side by side")
+    check(err.count("\n") == len(crates) + 2, "a line for each crate says how far it is, one what is begun and one what is done")
+    check(not (tree.out / "rooms").exists(), "no room is left")
+    left = [it for it in (tree.top / "crates").glob("*/out/*") if it.name == "incremental"]
+    check(not left, "and none of what serves only a next check")
 
 
 def second_run(tree):
@@ -113,47 +143,148 @@ def second_run(tree):
     check((status, out, err) == (0, "ran one\n", "") and not tree.noted("begun"), "a second run builds nothing, and says nothing")
 
 
+def by_a_link(tree):
+    link, second = tree.top.parent / "link", tree.top.parent / "second link"
+    link.symlink_to(tree.top / "btb")
+    second.symlink_to(link)
+    status, out, err = tree.run(script=second)
+    check((status, out, err) == (0, "ran one\n", ""), "a link to a link runs the same program")
+
+
+def copied_tree(tree):
+    other = tree.top.parent / "copy"
+    subprocess.run(["cp", "-r", tree.top, other], check=True)
+    status, out, err = tree.run(script=other / "btb")
+    check((status, out, err) == (0, "ran one\n", ""), "a copy of a built tree, with other times of its files, builds nothing")
+
+
 def changed_source(tree):
-    time.sleep(1.1)
-    (tree.top / "crates/sim_io/src/lib.rt").touch()
     tree.noted("current")
+    source = tree.top / "crates/sim_io/src/lib.rt"
+    source.touch()
+    status, _, err = tree.run()
+    check((status, err) == (0, ""), "a source with a new time and the same text builds nothing")
+    source.write_text(source.read_text() + "// changed\n")
     status, out, _ = tree.run()
     check((status, out) == (0, "ran one\n") and tree.noted("current") and not tree.noted("begun"), "where a source changed, rt is asked again about each library")
+    test = next((tree.top / "crates").glob("worked_examples/src/*.rt"))
+    test.write_text(test.read_text() + "// changed\n")
+    status, _, err = tree.run()
+    check((status, err) == (0, ""), "a source on which the program doesn't stand builds nothing")
+
+
+def kept_work(tree):
+    """What an author's own checks left stays."""
+    works = [tree.top / "crates" / crate / "out/incremental" for crate in ("event_key", "btb")]
+    for work in works:
+        work.mkdir(parents=True)
+        (work / "own").touch()
+    tree.run()
+    check(all((work / "own").exists() for work in works), "what an author's own checks have kept stays")
 
 
 def failed_build(tree):
     refusal = tree.notes / "refuses_sim_spec"
     refusal.touch()
     status, out, err = tree.run()
-    log = tree.top / "crates/btb/out/logs/sim_spec.log"
+    log = tree.out / "logs/sim_spec.log"
     check(status == FAILED and out == "" and err.endswith(f"btb: the build of sim_spec failed (log: {log})\n") and log.exists(), "a failed build names its crate and its log")
     built = {crate for crate, _ in tree.noted("built")}
     refusal.unlink()
     status, out, _ = tree.run()
     later = {crate for crate, _ in tree.noted("built")}
     check((status, out) == (0, "ran one\n") and not built & later, "the next run builds what is left")
-    check([["sim_spec"]] == tree.noted("went_on"), "and goes on where the failed crate stood")
+    check(["sim_spec"] in tree.noted("went_on"), "and goes on where the failed crate stood")
+
+
+def failed_program(tree):
+    refusal = tree.notes / "refuses_btb"
+    refusal.touch()
+    status, out, err = tree.run()
+    check(status == FAILED and out == "" and "the build of btb failed" in err, "a program that isn't linked is a failed build")
+    refusal.unlink()
+    check(tree.run()[:2] == (0, "ran one\n"), "and is built by the next run")
 
 
 def interrupted_build(tree):
-    job = tree.start()
-    time.sleep(2)
-    os.killpg(job.pid, signal.SIGINT)
-    job.communicate(timeout=60)
-    built = {crate for crate, _ in tree.noted("built")}
-    check(job.returncode == -signal.SIGTERM and built, "an interrupted build ends, and with it what it runs")
+    for number in (signal.SIGINT, signal.SIGTERM):
+        job = tree.start()
+        tree.wait_for("built")
+        os.killpg(job.pid, number)
+        job.communicate(timeout=60)
+        built = {crate for crate, _ in tree.noted("built")}
+        check(job.returncode == -number and built, f"a build that gets {number.name} ends by it, and with it what it runs")
+    check(nothing_is_left(tree), "and nothing of it is left")
     status, out, _ = tree.run()
     later = {crate for crate, _ in tree.noted("built")}
     check((status, out) == (0, "ran one\n") and not built & later, "the next run builds what is left")
 
 
+def ended_by_its_parent(tree):
+    parent = subprocess.run(
+        ["bash", "-c", PARENT, "parent", tree.top / "btb", tree.notes], env=tree.environment, stdin=subprocess.DEVNULL,
+        capture_output=True, text=True, start_new_session=True, timeout=60)
+    check(parent.stdout == "status 143, parent lives\n", "whoever ends a build that it runs lives on")
+    check(nothing_is_left(tree), "and nothing of the build is left")
+
+
+def killed_build(tree):
+    job = tree.start()
+    tree.wait_for("built")
+    tree.noted("built")
+    job.kill()
+    status, out, err = tree.run()
+    job.communicate()
+    check((status, out) == (0, "ran one\n"), "after a build that was killed the next one builds")
+
+
+def two_builds(tree):
+    first = tree.start()
+    tree.wait_for("begun")
+    second = tree.start()
+    results = [ended(it) for it in (first, second)]
+    built = [crate for crate, _ in tree.noted("built")]
+    check([it[:2] for it in results] == 2 * [(0, "ran one\n")], "two builds at once both end with the program")
+    check(len(built) == len(set(built)), "each library is built once")
+    check(results[1][2] == "btb: another build of this tree is under way: waiting for it\n", "the second says that it waits")
+
+
 def no_toolchain(tree):
-    status, out, err = tree.run(path="/usr/bin:/bin")
-    check(status == NO_TOOLCHAIN and out == "" and "'rt'" in err, "without rt, the script says so")
+    status, out, err = tree.run(environment={"PATH": "/usr/bin:/bin"})
+    check(status == NO_TOOLCHAIN and out == "" and err.count("\n") == 1 and "'rt'" in err, "without rt, the script says so")
+
+
+def read_only_tree(tree):
+    how = {"user": NOBODY} if os.geteuid() == 0 else {}
+    tree.top.parent.chmod(0o755)
+    for folder in (tree.top, tree.top / "crates/btb"):
+        folder.chmod(0o555)
+    status, out, err = tree.run(**how)
+    check(status == FAILED and out == "" and err.count("\n") == 1 and str(tree.out) in err, "where nothing can be written, the script says so in a line")
+    (tree.top / "crates/btb").chmod(0o755)
+
+
+def nothing_is_left(tree):
+    """Whether soon no process works in the tree or runs a file of it."""
+    for _ in range(50):
+        if not any(works_in(it, str(tree.top)) for it in pathlib.Path("/proc").glob("[0-9]*")):
+            return True
+        time.sleep(0.1)
+    return False
+
+
+def works_in(process, folder):
+    try:
+        return folder in f"{os.readlink(process / 'cwd')} {(process / 'cmdline').read_text()}"
+    except OSError:
+        return False
 
 
 def main():
-    for cases in ((no_toolchain, whole_build, second_run, changed_source), (failed_build,), (interrupted_build,)):
+    for cases in (
+        (no_toolchain, read_only_tree, whole_build, second_run, by_a_link, copied_tree, changed_source), (failed_build,),
+        (kept_work,), (failed_program,), (interrupted_build,), (ended_by_its_parent, killed_build), (two_builds,),
+    ):
         with tempfile.TemporaryDirectory() as room:
             tree = Tree(pathlib.Path(room))
             for case in cases:
