@@ -1,6 +1,6 @@
 # Compares the sums of the adder with arithmetic, at the end of each 50 ticks:
 #
-#   ./btb run < examples/adder.toml | awk -f examples/adder.awk
+#   ./btb one < examples/adder.toml | awk -f examples/adder.awk
 
 # The number whose bits are the levels of these gates, from the lowest on.
 function number_of(letter, bits,    bit, number) {

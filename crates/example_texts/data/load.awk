@@ -1,7 +1,7 @@
 # Draws the load of a traced station over time: a line for each piece of time, with an '#' for each busy server and a '.'
 # for each job that waits, as the last event of the piece leaves them.
 #
-#   ./btb run < examples/traced.toml | awk -v station=counter -v every=60 -f examples/load.awk
+#   ./btb one < examples/traced.toml | awk -v station=counter -v every=60 -f examples/load.awk
 
 $2 == station && $3 == "load" {
     while (int($1) >= from + every) { draw(); from += every }
