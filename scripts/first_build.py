@@ -20,6 +20,7 @@ import time
 
 TOP = pathlib.Path(__file__).resolve().parent.parent
 PARTS = ("src", "specs", "proofs")
+STORED_RUN = ("args", "stdin", "status")
 FAILED, NO_TOOLCHAIN = 126, 127
 NOBODY = 65534
 STAND_IN = r"""#!/usr/bin/env bash
@@ -28,12 +29,14 @@ set -eu
 notes="NOTES"
 crate=$(basename "$PWD")
 if [ "$1" = run ]; then
-    [ "$*" = "run -- demo 1" ]
+    [ "$*" = "run -- $(tr '\n' ' ' <args | sed 's/ $//')" ]
+    cmp -s - stdin
     [ ! -f "$notes/refuses_$crate" ]
     mkdir -p out/incremental
-    printf '#!/bin/sh\necho ran "$@"\n' >out/btb
-    chmod +x out/btb
-    touch out/btb.stamp
+    printf '#!/bin/sh\necho ran "$@"\n' >"out/$crate"
+    chmod +x "out/$crate"
+    touch "out/$crate.stamp"
+    if [ -f status ]; then exit "$(cat status)"; fi
     exit 0
 fi
 [ "$1 $2" = "lib --jobs" ]
@@ -80,6 +83,9 @@ class Tree:
             for part in PARTS:
                 if (crate / part).is_dir():
                     shutil.copytree(crate / part, self.top / "crates" / crate.name / part)
+            for file in STORED_RUN:
+                if (crate / file).is_file():
+                    shutil.copy2(crate / file, self.top / "crates" / crate.name)
         self.out = self.top / "crates/btb/out"
         (tools / "rt").write_text(STAND_IN.replace("NOTES", str(self.notes)))
         (tools / "rt").chmod(0o755)
@@ -156,6 +162,15 @@ def copied_tree(tree):
     subprocess.run(["cp", "-r", tree.top, other], check=True)
     status, out, err = tree.run(script=other / "btb")
     check((status, out, err) == (0, "ran one\n", ""), "a copy of a built tree, with other times of its files, builds nothing")
+
+
+def another_program(tree):
+    tree.noted("current")
+    tree.noted("built")
+    other = tree.top / "btb_limit"
+    shutil.copy2(tree.top / "btb", other)
+    status, out, err = tree.run(script=other)
+    check((status, out) == (0, "ran one\n") and "building btb_limit" in err and not tree.noted("built"), "under another name the script builds that program, over the same libraries")
 
 
 def changed_source(tree):
@@ -282,7 +297,7 @@ def works_in(process, folder):
 
 def main():
     for cases in (
-        (no_toolchain, read_only_tree, whole_build, second_run, by_a_link, copied_tree, changed_source), (failed_build,),
+        (no_toolchain, read_only_tree, whole_build, second_run, by_a_link, copied_tree, another_program, changed_source), (failed_build,),
         (kept_work,), (failed_program,), (interrupted_build,), (ended_by_its_parent, killed_build), (two_builds,),
     ):
         with tempfile.TemporaryDirectory() as room:
