@@ -287,7 +287,8 @@ def gantt(records, stations, ax=None, unit="tick"):
 def told(found):
     """A summary as a table for people: without rows where nothing happened."""
     found = found[found.drop(columns="replications").fillna(0).ne(0).any(axis=1)]
-    return found.to_string(float_format=lambda number: f"{number:.5g}")
+    lines = found.to_string(float_format=lambda number: f"{number:.5g}").splitlines()
+    return "\n".join(line.rstrip() for line in lines)
 
 
 def main():
