@@ -188,11 +188,13 @@ class Reader:
 
     def value(self, depth):
         at = self.at
-        if depth > 0 and self.eat(b"["):
+        if depth == 0 and self.byte() in (b"[", b"{"):
+            self.fail(f"arrays and tables in braces stand at most {DEEPEST} deep in one another")
+        if self.eat(b"["):
             items = []
             self.until(b"]", lambda: items.append(self.value(depth - 1)), "array")
             return Value(items, at)
-        if depth > 0 and self.eat(b"{"):
+        if self.eat(b"{"):
             table = OpenTable("braces", at)
             self.until(b"}", lambda: self.pair(table, depth - 1), "table")
             return table.close()
@@ -202,7 +204,8 @@ class Reader:
         try:
             return Value(scalar(word), at)
         except ValueError as why:
-            self.fail(f"`{word}` is no value: {why}", at)
+            told = word if len(word) <= 40 else word[:40] + ".."
+            self.fail(f"`{told}` is no value: {why}", at)
 
     def until(self, closing, read, what):
         line = self.lines.place(self.at)[0]
