@@ -1,16 +1,18 @@
 #!/usr/bin/env python3
-"""Refuses each allocation of a few runs in turn, and looks at what the program makes of it.
+"""Refuses memory in two ways, and looks at what the program makes of it.
 
-    scripts/refused_memory.py [--btb PROGRAM]
+    scripts/refused_memory.py [--btb PROGRAM] [--part allocations|spaces] [--spaces COUNT]
 
-For each number N the run is done again, and the C library's N-th call for memory answers that there is none. Then the
-program answers either as it would have, or status 6, the note for it, and a prefix of the text. Anything else is printed,
-and fails. It stands outside the gate: it takes some minutes.
+allocations: for each number N a run is done again, and the C library's N-th call for memory answers that there is none.
+spaces: wide runs with many threads are done in a small address space, 300 sizes of it each, so that also a new thread's
+stack can't be had, and no stack can grow. Each time the program answers either as it would have, or status 6, the note
+for it, and a prefix of the text. Anything else is printed, and fails. It stands outside the gate: it takes half an hour.
 """
 import argparse
 import collections
 import os
 import pathlib
+import resource
 import subprocess
 import sys
 import tempfile
@@ -20,6 +22,7 @@ EXAMPLES = TOP / "examples"
 SHOP = (TOP / "crates/btb/stdin").read_bytes()
 NO_MEMORY = (6, b"out of memory\n")
 LONGEST = 60  # seconds
+LEAST_SPACE, MOST_SPACE = 4_000_000, 2_200_000_000  # bytes; with less the loader ends before the program begins
 
 
 def cases():
@@ -73,19 +76,78 @@ def refuse_each(preload, program, words, data):
             wrong.append((number, got))
 
 
+def wide(objects, limit):
+    """PHOLD with four events an object, all of one tick: cycles of all events, so that all threads get work."""
+    return f"""
+format = 1
+model = "phold"
+end = 70368744177663
+limit = {limit}
+[phold]
+objects = {objects}
+each = 4
+to = "uniform"
+delay = {{ law = "fixed", value = 1099511627776 }}
+""".encode()
+
+
+def wide_cases():
+    yield "16 workers on 64 nodes", ["run", "--nodes", "64", "--workers", "16"], wide(65536, 600_000)
+    yield "64 workers on 64 nodes", ["run", "--nodes", "64", "--workers", "64"], wide(65536, 300_000)
+    yield "64 nodes", ["run", "--nodes", "64"], wide(65536, 300_000)
+    yield "16 workers, fewer objects", ["run", "--nodes", "64", "--workers", "16"], wide(8192, 100_000)
+
+
+def run_within(program, words, data, space):
+    """The status, the text and the notes of a run within so many bytes of address space; 0: as many as it takes."""
+
+    def confine():
+        if space:
+            resource.setrlimit(resource.RLIMIT_AS, (space, space))
+
+    done = subprocess.run([program, *words], input=data, capture_output=True, preexec_fn=confine, timeout=LONGEST)
+    return done.returncode, done.stdout, done.stderr, 0
+
+
+def refuse_spaces(program, words, data, count):
+    """As refuse_each, of runs in this many sizes of the address space, each larger by the same factor."""
+    whole = run_within(program, words, data, 0)
+    statuses, wrong = collections.Counter(), []
+    for number in range(count):
+        space = int(LEAST_SPACE * (MOST_SPACE / LEAST_SPACE) ** (number / max(count - 1, 1)))
+        got = run_within(program, words, data, space)
+        statuses[got[0]] += 1
+        if not is_lawful(got, whole):
+            wrong.append((space, got))
+    return statuses, wrong
+
+
+def tell(name, what, statuses, wrong):
+    """Prints how the runs of a case ended, and the first that ended against the rule."""
+    told = ", ".join(f"status {status}: {count}" for status, count in sorted(statuses.items()))
+    print(f"{name}: {sum(statuses.values())} {what}; {told}", flush=True)
+    for number, got in wrong[:5]:
+        print(f"  number {number}: status {got[0]}, text {got[1][-60:]!r}, notes {got[2]!r}")
+
+
 def main():
     parser = argparse.ArgumentParser(description=__doc__.splitlines()[0])
     parser.add_argument("--btb", default=str(TOP / "crates/btb/out/btb"), help="the built program")
-    program = parser.parse_args().btb
+    parser.add_argument("--part", choices=["allocations", "spaces"], help="one of the two parts alone")
+    parser.add_argument("--spaces", type=int, default=300, help="how many sizes of the address space")
+    given = parser.parse_args()
     failed = False
-    with tempfile.TemporaryDirectory() as folder:
-        preload = Preload(folder)
-        for name, words, data in cases():
-            statuses, wrong = refuse_each(preload, program, words, data)
-            told = ", ".join(f"status {status}: {count}" for status, count in sorted(statuses.items()))
-            print(f"{name}: {sum(statuses.values())} allocations refused; {told}")
-            for number, got in wrong[:5]:
-                print(f"  number {number}: status {got[0]}, text {got[1][-60:]!r}, notes {got[2]!r}")
+    if given.part != "spaces":
+        with tempfile.TemporaryDirectory() as folder:
+            preload = Preload(folder)
+            for name, words, data in cases():
+                statuses, wrong = refuse_each(preload, given.btb, words, data)
+                tell(name, "allocations refused", statuses, wrong)
+                failed |= bool(wrong)
+    if given.part != "allocations":
+        for name, words, data in wide_cases():
+            statuses, wrong = refuse_spaces(given.btb, words, data, given.spaces)
+            tell(name, "sizes of the address space", statuses, wrong)
             failed |= bool(wrong)
     sys.exit(failed)
 

@@ -31,8 +31,10 @@ impl From<AllocError> for ReadEnd {
 /// How many bytes of a model text are read at most: one more than it may have, so that a longer one is known.
 pub const ENOUGH_BYTES: usize = MOST_TEXT_BYTES + 1;
 
-/// How many bytes one read asks for at most.
-const PIECE: usize = 8192;
+/// How many bytes one read asks for at most. A piece stands on the stack, so the first thread's stack has grown by as much
+/// before any other thread begins: later, where those have taken the address space, it might not grow any more, and
+/// the process would be ended. In all, runs were seen to take 168 KiB of it.
+const PIECE: usize = 262_144;
 
 /// Reads one piece to the end of what was read, of which there is not enough yet, and answers how long it is.
 fn read_piece<S: Source>(
