@@ -16,7 +16,7 @@ use Rattle.model_core.specs.declared.event.Event.{Event}
 use Rattle.sim_spec.specs.declared.terms.Terms.{Terms}
 use Rattle.key_order.specs.Ascending.{Ascends, key_of}
 use Rattle.key_order.specs.Due.{is_uncut}
-use Rattle.key_order.specs.Keys.{Differ, at_key, times}
+use Rattle.key_order.specs.Keys.{Differ, at_key, lesser, times}
 use Rattle.key_order.specs.Pending.{in_order}
 use Rattle.key_order.proofs.AscendingLemmas.{Ascends-filter, Ascends-map, key_lt-turned}
 use Rattle.key_order.proofs.FilterLemmas.{filter-all, filter-passes, filter-swap, length-filter_le}
@@ -200,6 +200,16 @@ module _ {X : Type 0} (key : X → Key) (found next : Option X) (x y : X) (found
 
   pub lesser-first : key_lt (key y) (key x) ≡ false → Some x ≡ lesser_by key found next
   lesser-first lt = ap (λ b. cond b (Some y) (Some x)) (sym lt) ∙ ap (λ f. lesser_by key f (Some y)) (sym found_is) ∙ ap (lesser_by key found) (sym next_is)
+
+-- the lesser of two keys is the one whose key is the lesser
+pub lesser-itself : (found next : Option Key) → lesser found next ≡ lesser_by itself found next
+lesser-itself None next = refl
+lesser-itself (Some x) None = refl
+lesser-itself (Some x) (Some y) = by_test (key_lt y x)
+  where
+    by_test : (t : Bool) → Some (cond t y x) ≡ cond t (Some y) (Some x)
+    by_test true = refl
+    by_test false = refl
 
 module _ {N X : Type 0} (key : X → Key) (Has May : N → X → Type 0) where
   pub least-more : (place : ℕ) (nodes : List N) (n : N) (found next : Option X) → slice_get nodes place ≡ Some n → IsLeastUpto key Has May place nodes found → IsLeastAt key Has May n next

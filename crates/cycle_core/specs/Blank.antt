@@ -1,8 +1,7 @@
 -- Lists that a cycle fills, before it does.
-use Rattle.std.specs.Prelude.{◌≡◌, ℕ, List, [], length, slice_index_or}
-use Rattle.model_core.specs.declared.event.Event.{Event}
+use Rattle.std.specs.Prelude.{◌≡◌, ℕ, List, [], length}
 use Rattle.node_core.specs.declared.committed.Committed.{Committed}
-use Rattle.node_core.specs.Blank.{IsBlank}
+use Rattle.node_core.specs.Blank.{AreEmpty, IsBlank}
 use Rattle.cycle_core.specs.declared.lists.Lists.{Lists}
 use Rattle.cycle_core.specs.Places.{AtEach}
 
@@ -10,11 +9,6 @@ use Rattle.cycle_core.specs.Places.{AtEach}
 pub record AreBlank (nodes : ℕ) (committed : List Committed) : Type 0 where
   pub many : length committed ≡ nodes
   pub each : AtEach (λ number c. IsBlank nodes c) committed
-
--- an empty chain for each of so many nodes
-pub record AreEmpty (nodes : ℕ) (parcels : List (List Event)) : Type 0 where
-  pub many : length parcels ≡ nodes
-  pub empty : (to : ℕ) → slice_index_or parcels to [] ≡ []
 
 -- all lists of a cycle of so many nodes, to be filled
 pub record AreBlankLists (nodes : ℕ) (lists : Lists) : Type 0 where

@@ -2,7 +2,7 @@
 use Rattle.std.specs.Prelude.{◌≡◌, ℕ, ◌+◌, ◌<◌, ◌^◌, List, [], ◌++◌, length, slice_index_or}
 use Rattle.model_core.specs.declared.event.Event.{Event}
 use Rattle.node_core.specs.declared.committed.Committed.{Committed}
-use Rattle.cycle_core.specs.Blank.{AreEmpty}
+use Rattle.node_core.specs.Blank.{AreEmpty}
 use Rattle.cycle_core.specs.Places.{EachPair}
 
 -- each of these chains has room for what is sent there

@@ -9,12 +9,11 @@ ghost use Rattle.sim_spec.specs.declared.terms.Terms.{Terms};
 ghost use Rattle.cycle_core.specs.Starts.{AreAllNew, ArePartsOf, ArePlaced, CanSet, HaveStatesFrom, first_events};
 ghost use Rattle.cycle_core.specs.States.{object_of};
 
-use crate::parcels::no_parcels;
 use event_chain::{Cell, Chain};
 use event_firing::first_event;
 use model_core::model::Model as SimulationModel;
 use model_core::{Cells, Event, OutOfMemory};
-use node_core::{Homes, Node};
+use node_core::{Homes, Node, empty_parcels};
 use sim_spec::{Placement, Terms};
 use std::alloc::Global;
 use std::sync::Arc;
@@ -73,7 +72,7 @@ pub fn first_parcels<M: SimulationModel>(
     requires objects { length homes.now.homes ≡ (M.meaning model.now).objects }
     ensures { IfOk result (λ parcels. ArePartsOf homes.now (first_events (M.meaning model.now) (M.meaning model.now).starts) parcels.items) }
 {
-    let mut parcels = no_parcels(alloc, homes.nodes() as usize)?;
+    let mut parcels = empty_parcels(alloc, homes.nodes())?;
     for i in 0..model.starts() {
         put_home(alloc, homes, first_event(model, i), &mut parcels)?;
     }
@@ -90,7 +89,7 @@ pub fn parcels_of(
     requires few { length events.now < 2 ^ 60 }
     ensures { IfOk result (λ parcels. ArePartsOf homes.now events.now parcels.items) }
 {
-    let mut parcels = no_parcels(alloc, homes.nodes() as usize)?;
+    let mut parcels = empty_parcels(alloc, homes.nodes())?;
     for event in events {
         put_home(alloc, homes, *event, &mut parcels)?;
     }
@@ -128,7 +127,7 @@ pub fn set_objects<M: SimulationModel>(
 {
     let mut objects = objects;
     let mut object = homes.objects();
-    'objects: while let Some(state) = objects.pop() {
+    while let Some(state) = objects.pop() {
         let (cells, sent) = state;
         object -= 1;
         let home = homes.home(object);

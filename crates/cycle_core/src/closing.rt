@@ -40,7 +40,7 @@ pub fn settle<M: SimulationModel>(
     ensures works { WorksOn (M.meaning node.old.model) node.old node.new }
 {
     let mut fallen = bound;
-    'steps: loop {
+    loop {
         match step_small(alloc, node, fallen)? {
             Step::Did { key: _, least } => fallen = fallen.min(least),
             Step::Idle => return Ok(fallen),

@@ -21,15 +21,9 @@ fn lesser_fault(found: Option<(Key, u32)>, next: Option<(Key, u32)>) -> Option<(
     ensures { result ≡ lesser_by fault_key found next }
 {
     match (found, next) {
-        (Some(first), Some(second)) => {
-            if second.0.is_before(&first.0) {
-                Some(second)
-            } else {
-                Some(first)
-            }
-        }
-        (None, next) => next,
-        (found, None) => found,
+        (Some(first), Some(second)) if second.0.is_before(&first.0) => next,
+        (Some(_), _) => found,
+        (None, _) => next,
     }
 }
 

@@ -2,10 +2,9 @@
 ghost use Rattle.std.specs.Prelude.{IfOk};
 ghost use Rattle.cycle_core.specs.Blank.{AreBlank, AreBlankLists};
 
-use crate::parcels::no_parcels;
 use event_chain::Chain;
 use model_core::{Event, OutOfMemory, RecordBuffer};
-use node_core::Committed;
+use node_core::{Committed, empty_parcels};
 use std::alloc::Global;
 
 /// Lists that a cycle fills and leaves blank, with their room.
@@ -39,7 +38,7 @@ impl Lists {
     {
         Ok(Lists {
             committed: blank_commits(alloc, nodes)?,
-            parcels: no_parcels(alloc, nodes as usize)?,
+            parcels: empty_parcels(alloc, nodes)?,
             spare: RecordBuffer::new(alloc),
             told: RecordBuffer::new(alloc),
         })

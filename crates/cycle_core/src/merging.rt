@@ -36,7 +36,7 @@ fn merge_two(
     };
     merged.reserve(records)?;
     let (mut i, mut j) = (0, 0);
-    'heads: while i < left.len() && j < right.len() {
+    while i < left.len() && j < right.len() {
         if left.at(i).0.is_before(right.at(j).0) {
             merged.push_from(left, i);
             i += 1;

@@ -1,28 +1,12 @@
 //! Where nodes stand in a simulation.
 ghost use Rattle.std.specs.Prelude.{◌≡◌, length};
 ghost use Rattle.cycle_core.specs.Gathered.{itself, HasKeyOf, MayKeyOf};
-ghost use Rattle.cycle_core.specs.Leasts.{IsLeastUpto, lesser_by};
+ghost use Rattle.cycle_core.specs.Leasts.{IsLeastUpto};
 
 use event_key::Key;
 use model_core::model::Model as SimulationModel;
 use node_core::Node;
-
-/// The lesser key, as far as they are there.
-fn lesser(found: Option<Key>, next: Option<Key>) -> Option<Key>
-    ensures { result ≡ lesser_by itself found next }
-{
-    match (found, next) {
-        (Some(first), Some(second)) => {
-            if second.is_before(&first) {
-                Some(second)
-            } else {
-                Some(first)
-            }
-        }
-        (None, next) => next,
-        (found, None) => found,
-    }
-}
+use speedes_queue::lesser;
 
 /// The least key of all events of these nodes.
 pub fn least_key<M: SimulationModel>(nodes: &[Node<M>]) -> Option<Key>

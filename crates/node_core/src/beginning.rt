@@ -23,7 +23,7 @@ pub fn first_logs<M: SimulationModel>(
     keeps_laws(model);
     let objects = model.objects();
     let mut logs = Logs::with_capacity(alloc, objects as usize)?;
-    'steps: for object in 0..objects {
+    for object in 0..objects {
         if homes.home(object) == number {
             let cells = model.first_cells(alloc, object)?;
             logs.push(alloc, ObjectLog::new(object, cells))?;

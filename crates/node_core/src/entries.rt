@@ -10,9 +10,10 @@ ghost use Rattle.node_core.specs.Entries.{marks_of, blank_entry, AreLeast, AreLe
 ghost use Rattle.node_core.specs.Marks.{blank_at, set_mark, put_mark, without, first_fault, is_first, place_of, AreInOrder};
 ghost use Rattle.node_core.specs.Rows.{keys_of};
 
-use crate::marks::{Mark, is_due_at, is_same};
+use crate::marks::{Mark, is_same};
 use event_key::{Key, NO_STAMP};
 use model_core::OutOfMemory;
+use object_log::is_due_at;
 use std::alloc::Global;
 use std::collections::VecDeque;
 
@@ -83,7 +84,7 @@ fn search(entries: &Entries, key: &Key) -> usize
     let len = entries.len();
     let mut low = 0;
     let mut high = len;
-    'steps: while low < high {
+    while low < high {
         let past = len - high;
         let half = (high - low - 1) / 2;
         let middle = high - 1 - past.min(half);
@@ -130,7 +131,7 @@ fn mend(entries: &mut Entries, place: usize)
     ensures capacity { deque_capacity entries.new ≡ deque_capacity entries.old }
 {
     let mut place = place;
-    'steps: while place > 0 {
+    while place > 0 {
         let held = held_from(entries, place);
         place -= 1;
         let entry = entries[place];

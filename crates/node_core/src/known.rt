@@ -46,7 +46,7 @@ pub fn put_all(entries: &mut Entries, log: &ObjectLog)
     ensures count { length entries.new.items ≡ length entries.old.items + length log.now.done }
 {
     log.tells();
-    'steps: for place in 0..log.len() {
+    for place in 0..log.len() {
         let entry = entry_at(log, place);
         put_known(entries, entry.key, entry.mark);
     }

@@ -16,7 +16,7 @@ pub fn take_events(queue: &mut Queue, object: u32) -> Chain<Event>
     let _orderly = queue.len();
     let mut own = Chain::new();
     let mut others = Chain::new();
-    'steps: while let Some(event) = queue.pop() {
+    while let Some(event) = queue.pop() {
         if event.get().key.dest == object {
             own.push_back(event);
         } else {
@@ -37,7 +37,7 @@ pub fn put_all(queue: &mut Queue, into: &mut Vec<Event>) -> Result<(), OutOfMemo
 {
     into.reserve(queue.len())?;
     let mut hand = Chain::new();
-    'steps: while let Some(event) = queue.pop() {
+    while let Some(event) = queue.pop() {
         into.push_reserved(*event.get());
         hand.push_back(event);
     }

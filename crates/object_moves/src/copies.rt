@@ -36,7 +36,7 @@ impl Copies {
     {
         let one = Arc::new(alloc, homes)?;
         let mut more = Vec::with_capacity(alloc, count)?;
-        'steps: for _ in 0..count {
+        for _ in 0..count {
             more.push(Arc::clone(&one)?)?;
         }
         Ok(Copies { one, more })

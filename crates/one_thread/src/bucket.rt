@@ -55,7 +55,7 @@ pub fn fire_bucket<M: Model>(
     course.merge();
     let mut done = buffer;
     done.clear();
-    'turns: loop {
+    loop {
         match course.turn(alloc, model, terms, sheet)? {
             Turn::Does(key) => done.push(&key, &sheet.note)?,
             Turn::Ends(horizon) => return Ok(whole(done, horizon)),

@@ -18,6 +18,7 @@ mod slots;
 mod threads;
 
 pub use delta_exchange::OutOfMemory;
+pub use least::lesser;
 pub use queue::Queue;
 
 #[cfg(test)]

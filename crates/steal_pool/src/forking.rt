@@ -10,8 +10,8 @@ use crate::worker::Worker;
 use delta_exchange::OutOfMemory;
 use std::thread::{Threads, join_mut};
 
-/// Lets one worker work.
-fn go<T: Turn>(worker: &mut Worker<T>)
+/// Lets one worker do turns until there are none left, and keeps its answer.
+fn do_turns<T: Turn>(worker: &mut Worker<T>)
     requires can { Can worker.old }
     requires ready { AllReady T.ready worker.old }
     ensures { HasDone T.turned worker.old worker.new }
@@ -29,7 +29,7 @@ fn work_all<R: Threads + Sync, T: Turn>(rt: &R, all: &mut [Worker<T>])
         return;
     }
     if all.len() == 1 {
-        go(&mut all[0]);
+        do_turns(&mut all[0]);
         return;
     }
     let (front, back) = all.split_at_mut(all.len() / 2);

@@ -13,13 +13,13 @@ set_object-requires-clause-here g c lifetimes outlives =
     let model = c.requires.0 in
     let terms = c.requires.1 in
     let can = c.requires.2 in
-    let rest = c.objects.invariant.rest in
-    let so_far = c.objects.invariant.set model terms can in
+    let rest = c.loop-state.invariant.rest in
+    let so_far = c.loop-state.invariant.set model terms can in
     let many = so_far.many in
-    let at = slice_get-get_or c.objects.nodes c.home-home.result c.index-nodes-home.result (let lt = c.home-home.ensures.node in omega arith) in
-    let next = next-of of model terms c.args.homes.now c.args.objects.items c.objects.objects.items c.pop.new.self.items rest.0 c.in-Some.state c.args.nodes.now c.objects.nodes c.objects.object c.home-home.result _
-    rest.1 c.in-Some.ensures.items can c.objects.invariant.left so_far at c.home-home.ensures.home in
-    next-here of model terms c.args.homes.now (map object_of c.args.objects.items) c.objects.nodes (c.objects.object - 1) c.home-home.result (object_of c.in-Some.state) _ next
+    let at = slice_get-get_or c.loop-state.nodes c.home-home.result c.index-nodes-home.result (let lt = c.home-home.ensures.node in omega arith) in
+    let next = next-of of model terms c.args.homes.now c.args.objects.items c.loop-state.objects.items c.pop.new.self.items rest.0 c.in-Some.state c.args.nodes.now c.loop-state.nodes c.loop-state.object c.home-home.result _
+    rest.1 c.in-Some.ensures.items can c.loop-state.invariant.left so_far at c.home-home.ensures.home in
+    next-here of model terms c.args.homes.now (map object_of c.args.objects.items) c.loop-state.nodes (c.loop-state.object - 1) c.home-home.result (object_of c.in-Some.state) _ next
 
 pub set_object-requires-clause-none : goal.set_object-requires-clause-none
 set_object-requires-clause-none g c lifetimes outlives =
@@ -27,13 +27,13 @@ set_object-requires-clause-none g c lifetimes outlives =
     let model = c.requires.0 in
     let terms = c.requires.1 in
     let can = c.requires.2 in
-    let rest = c.objects.invariant.rest in
-    let so_far = c.objects.invariant.set model terms can in
+    let rest = c.loop-state.invariant.rest in
+    let so_far = c.loop-state.invariant.set model terms can in
     let many = so_far.many in
-    let at = slice_get-get_or c.objects.nodes c.home-home.result c.index-nodes-home.result (let lt = c.home-home.ensures.node in omega arith) in
-    let next = next-of of model terms c.args.homes.now c.args.objects.items c.objects.objects.items c.pop.new.self.items rest.0 c.in-Some.state c.args.nodes.now c.objects.nodes c.objects.object c.home-home.result _
-    rest.1 c.in-Some.ensures.items can c.objects.invariant.left so_far at c.home-home.ensures.home in
-    next-none of model terms c.args.homes.now (map object_of c.args.objects.items) c.objects.nodes (c.objects.object - 1) c.home-home.result (object_of c.in-Some.state) _ next
+    let at = slice_get-get_or c.loop-state.nodes c.home-home.result c.index-nodes-home.result (let lt = c.home-home.ensures.node in omega arith) in
+    let next = next-of of model terms c.args.homes.now c.args.objects.items c.loop-state.objects.items c.pop.new.self.items rest.0 c.in-Some.state c.args.nodes.now c.loop-state.nodes c.loop-state.object c.home-home.result _
+    rest.1 c.in-Some.ensures.items can c.loop-state.invariant.left so_far at c.home-home.ensures.home in
+    next-none of model terms c.args.homes.now (map object_of c.args.objects.items) c.loop-state.nodes (c.loop-state.object - 1) c.home-home.result (object_of c.in-Some.state) _ next
 
 pub set_object-requires-clause-lawful : goal.set_object-requires-clause-lawful
 set_object-requires-clause-lawful g c lifetimes outlives =
@@ -41,34 +41,34 @@ set_object-requires-clause-lawful g c lifetimes outlives =
     let model = c.requires.0 in
     let terms = c.requires.1 in
     let can = c.requires.2 in
-    let rest = c.objects.invariant.rest in
-    let so_far = c.objects.invariant.set model terms can in
+    let rest = c.loop-state.invariant.rest in
+    let so_far = c.loop-state.invariant.set model terms can in
     let many = so_far.many in
-    let at = slice_get-get_or c.objects.nodes c.home-home.result c.index-nodes-home.result (let lt = c.home-home.ensures.node in omega arith) in
-    let next = next-of of model terms c.args.homes.now c.args.objects.items c.objects.objects.items c.pop.new.self.items rest.0 c.in-Some.state c.args.nodes.now c.objects.nodes c.objects.object c.home-home.result _
-    rest.1 c.in-Some.ensures.items can c.objects.invariant.left so_far at c.home-home.ensures.home in
-    next-lawful of model terms c.args.homes.now (map object_of c.args.objects.items) c.objects.nodes (c.objects.object - 1) c.home-home.result (object_of c.in-Some.state) _ next can.cells
+    let at = slice_get-get_or c.loop-state.nodes c.home-home.result c.index-nodes-home.result (let lt = c.home-home.ensures.node in omega arith) in
+    let next = next-of of model terms c.args.homes.now c.args.objects.items c.loop-state.objects.items c.pop.new.self.items rest.0 c.in-Some.state c.args.nodes.now c.loop-state.nodes c.loop-state.object c.home-home.result _
+    rest.1 c.in-Some.ensures.items can c.loop-state.invariant.left so_far at c.home-home.ensures.home in
+    next-lawful of model terms c.args.homes.now (map object_of c.args.objects.items) c.loop-state.nodes (c.loop-state.object - 1) c.home-home.result (object_of c.in-Some.state) _ next can.cells
 
-pub objects-preserved : goal.objects-preserved
-objects-preserved g c =
-    let rest = c.objects.invariant.rest in
+pub loop-state-preserved : goal.loop-state-preserved
+loop-state-preserved g c =
+    let rest = c.loop-state.invariant.rest in
     record {
       set = λ model terms can.
           let of = g.M.Model.meaning in
-          let so_far = c.objects.invariant.set model terms can in
+          let so_far = c.loop-state.invariant.set model terms can in
           let many = so_far.many in
-          let at = slice_get-get_or c.objects.nodes c.home-home.result c.index-nodes-home.result (let lt = c.home-home.ensures.node in omega arith) in
-          let next = next-of of model terms c.args.homes.now c.args.objects.items c.objects.objects.items c.pop.new.self.items rest.0 c.in-Some.state c.args.nodes.now c.objects.nodes c.objects.object c.home-home.result _
-          rest.1 c.in-Some.ensures.items can c.objects.invariant.left so_far at c.home-home.ensures.home in
-          next-set of model terms c.args.homes.now (map object_of c.args.objects.items) c.objects.nodes (c.objects.object - 1) c.home-home.result (object_of c.in-Some.state) _ next c.set_object.new.self c.set_object.ensures;
-      left = (let counted = c.objects.invariant.left in let long = ap length c.in-Some.ensures.items ∙ length-append c.pop.new.self.items (c.in-Some.state ∷ []) in omega arith);
-      rest = (c.in-Some.state ∷ rest.0, split-more c.args.objects.items c.objects.objects.items c.pop.new.self.items rest.0 c.in-Some.state rest.1 c.in-Some.ensures.items);
+          let at = slice_get-get_or c.loop-state.nodes c.home-home.result c.index-nodes-home.result (let lt = c.home-home.ensures.node in omega arith) in
+          let next = next-of of model terms c.args.homes.now c.args.objects.items c.loop-state.objects.items c.pop.new.self.items rest.0 c.in-Some.state c.args.nodes.now c.loop-state.nodes c.loop-state.object c.home-home.result _
+          rest.1 c.in-Some.ensures.items can c.loop-state.invariant.left so_far at c.home-home.ensures.home in
+          next-set of model terms c.args.homes.now (map object_of c.args.objects.items) c.loop-state.nodes (c.loop-state.object - 1) c.home-home.result (object_of c.in-Some.state) _ next c.set_object.new.self c.set_object.ensures;
+      left = (let counted = c.loop-state.invariant.left in let long = ap length c.in-Some.ensures.items ∙ length-append c.pop.new.self.items (c.in-Some.state ∷ []) in omega arith);
+      rest = (c.in-Some.state ∷ rest.0, split-more c.args.objects.items c.loop-state.objects.items c.pop.new.self.items rest.0 c.in-Some.state rest.1 c.in-Some.ensures.items);
     }
 
 pub returns : goal.returns
 returns g c model terms can =
-    let left = c.objects.invariant.left in
+    let left = c.loop-state.invariant.left in
     let empty = c.in_default.ensures.cases.0 in
-    let long = c.objects.objects.ok.0 in
-    let none : c.objects.object ≡ 0 = omega arith in
-    subst (λ k. HaveStatesFrom (g.M.Model.meaning) model terms c.args.homes.now k (map object_of c.args.objects.items) c.objects.nodes) none (c.objects.invariant.set model terms can)
+    let long = c.loop-state.objects.ok.0 in
+    let none : c.loop-state.object ≡ 0 = omega arith in
+    subst (λ k. HaveStatesFrom (g.M.Model.meaning) model terms c.args.homes.now k (map object_of c.args.objects.items) c.loop-state.nodes) none (c.loop-state.invariant.set model terms can)

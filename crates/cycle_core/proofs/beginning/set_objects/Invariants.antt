@@ -5,13 +5,13 @@ use Rattle.cycle_core.specs.Starts.{CanSet, HaveStatesFrom}
 use Rattle.cycle_core.specs.States.{object_of}
 use Rattle.cycle_core.proofs.beginning.set_objects.Given as goal
 
-abbrev pub invariant-objects : goal.invariant-objects
-invariant-objects g l = record {
+abbrev pub invariant-loop-state : goal.invariant-loop-state
+invariant-loop-state g l = record {
   set : (model : g.row.M.Denot) (terms : Terms) → CanSet (g.M.Model.meaning) model terms l.fn.homes (map object_of l.fn.objects.items) l.initial.nodes
       → HaveStatesFrom (g.M.Model.meaning) model terms l.fn.homes l.object (map object_of l.fn.objects.items) l.nodes;
   left : l.object ≡ length l.objects.items;
   rest : (more : List (CellsView × ℕ)) × (l.fn.objects.items ≡ l.objects.items ++ more);
 }
 
-abbrev pub decreases-objects : goal.decreases-objects
-decreases-objects g l = vec_len l.objects
+abbrev pub decreases-loop-state : goal.decreases-loop-state
+decreases-loop-state g l = vec_len l.objects

@@ -9,16 +9,16 @@ pub put_known-requires-clause-new : goal.put_known-requires-clause-new
 put_known-requires-clause-new c =
     let e = c.entry_at-entry.result in
     let x : MarkView = record { key = e.key; least = e.mark.least; fault = e.mark.fault } in
-    learn-new c.args.log.now.object c.args.log.now.done c.steps.place (marks_of c.args.entries.now.items) (marks_of c.steps.entries.items) x c.steps.invariant.marks c.tells.ensures.ordered c.requires.own c.entry_at-entry.ensures
+    learn-new c.args.log.now.object c.args.log.now.done c.loop-place.place (marks_of c.args.entries.now.items) (marks_of c.loop-place.entries.items) x c.loop-place.invariant.marks c.tells.ensures.ordered c.requires.own c.entry_at-entry.ensures
 
-pub steps-preserved : goal.steps-preserved
-steps-preserved c =
+pub loop-place-preserved : goal.loop-place-preserved
+loop-place-preserved c =
     let e = c.entry_at-entry.result in
     let x : MarkView = record { key = e.key; least = e.mark.least; fault = e.mark.fault } in
     record {
-      marks = learn-next c.args.log.now.object c.args.log.now.done c.steps.place (marks_of c.args.entries.now.items) (marks_of c.steps.entries.items) x c.steps.invariant.marks c.tells.ensures.ordered c.requires.own c.entry_at-entry.ensures
+      marks = learn-next c.args.log.now.object c.args.log.now.done c.loop-place.place (marks_of c.args.entries.now.items) (marks_of c.loop-place.entries.items) x c.loop-place.invariant.marks c.tells.ensures.ordered c.requires.own c.entry_at-entry.ensures
           (marks_of c.put_known.new.entries.items) c.put_known.ensures.same;
       least = c.put_known.ensures.least;
-      capacity = omega (arith, c.steps.invariant.capacity, c.put_known.ensures.capacity);
-      end = c.steps.invariant.end;
+      capacity = omega (arith, c.loop-place.invariant.capacity, c.put_known.ensures.capacity);
+      end = c.loop-place.invariant.end;
     }

@@ -9,41 +9,41 @@ use Rattle.node_core.proofs.waiting.take_events.Goals as goal
 
 pub push_back-requires : goal.push_back-requires
 push_back-requires c =
-    let few = c.len-orderly.ensures.orderly.few in let long = length-pending c.args.queue.now in let count = c.steps.invariant.count in
+    let few = c.len-orderly.ensures.orderly.few in let long = length-pending c.args.queue.now in let count = c.loop-event.invariant.count in
     let first = ap length c.in-Some.ensures.least in omega arith
 
-pub steps-preserved-then-get-object : goal.steps-preserved-then-get-object
-steps-preserved-then-get-object c =
-    part-own c.args.object c.args.queue.now c.steps.queue c.pop.new.self c.steps.own c.steps.others c.in-Some.event c.steps.invariant c.in-Some.ensures.least
-    (room-popped c.steps.queue c.pop.new.self c.in-Some.event c.in-Some.ensures.ahead c.in-Some.ensures.merged)
+pub loop-event-preserved-then-get-object : goal.loop-event-preserved-then-get-object
+loop-event-preserved-then-get-object c =
+    part-own c.args.object c.args.queue.now c.loop-event.queue c.pop.new.self c.loop-event.own c.loop-event.others c.in-Some.event c.loop-event.invariant c.in-Some.ensures.least
+    (room-popped c.loop-event.queue c.pop.new.self c.in-Some.event c.in-Some.ensures.ahead c.in-Some.ensures.merged)
     c.push_back.new.self (sym (ap (λ (e : Event). e.key.dest) c.get.ensures) ∙ c.if-get-object.true) c.push_back.ensures
 
 pub push_back-requires-else-get-object : goal.push_back-requires-else-get-object
 push_back-requires-else-get-object c =
-    let few = c.len-orderly.ensures.orderly.few in let long = length-pending c.args.queue.now in let count = c.steps.invariant.count in
+    let few = c.len-orderly.ensures.orderly.few in let long = length-pending c.args.queue.now in let count = c.loop-event.invariant.count in
     let first = ap length c.in-Some.ensures.least in omega arith
 
-pub steps-preserved : goal.steps-preserved
-steps-preserved c =
-    part-other c.args.object c.args.queue.now c.steps.queue c.pop.new.self c.steps.own c.steps.others c.in-Some.event c.steps.invariant c.in-Some.ensures.least
-    (room-popped c.steps.queue c.pop.new.self c.in-Some.event c.in-Some.ensures.ahead c.in-Some.ensures.merged)
+pub loop-event-preserved : goal.loop-event-preserved
+loop-event-preserved c =
+    part-other c.args.object c.args.queue.now c.loop-event.queue c.pop.new.self c.loop-event.own c.loop-event.others c.in-Some.event c.loop-event.invariant c.in-Some.ensures.least
+    (room-popped c.loop-event.queue c.pop.new.self c.in-Some.event c.in-Some.ensures.ahead c.in-Some.ensures.merged)
     c.push_back-else-get-object.new.self (λ same. c.if-get-object.false (ap (λ (e : Event). e.key.dest) c.get.ensures ∙ same)) c.push_back-else-get-object.ensures
 
 pub give_back-requires-clause-ascending : goal.give_back-requires-clause-ascending
 give_back-requires-clause-ascending c =
-    parted-up c.args.object c.args.queue.now c.steps.queue c.steps.own c.steps.others c.steps.invariant (c.in_default.ensures.none.0 refl) c.len-orderly.ensures.orderly
+    parted-up c.args.object c.args.queue.now c.loop-event.queue c.loop-event.own c.loop-event.others c.loop-event.invariant (c.in_default.ensures.none.0 refl) c.len-orderly.ensures.orderly
 
 pub give_back-requires-clause-room : goal.give_back-requires-clause-room
 give_back-requires-clause-room c =
-    let few = c.len-orderly.ensures.orderly.few in let long = length-pending c.args.queue.now in let count = c.steps.invariant.count in
+    let few = c.len-orderly.ensures.orderly.few in let long = length-pending c.args.queue.now in let count = c.loop-event.invariant.count in
     let same = c.in_default.ensures.unchanged in
     let a = ap (λ (q : QueueView). length q.primary + length q.fresh) same in
-    let left = length-pending c.steps.queue in omega arith
+    let left = length-pending c.loop-event.queue in omega arith
 
 pub returns-clause-own : goal.returns-clause-own
-returns-clause-own c = parted-own c.args.object c.args.queue.now c.steps.queue c.steps.own c.steps.others c.steps.invariant (c.in_default.ensures.none.0 refl)
+returns-clause-own c = parted-own c.args.object c.args.queue.now c.loop-event.queue c.loop-event.own c.loop-event.others c.loop-event.invariant (c.in_default.ensures.none.0 refl)
 
 pub returns-clause-rest : goal.returns-clause-rest
 returns-clause-rest c =
-    parted-back c.args.object c.args.queue.now c.steps.queue c.steps.own c.steps.others c.steps.invariant (c.in_default.ensures.none.0 refl) c.len-orderly.ensures.orderly
+    parted-back c.args.object c.args.queue.now c.loop-event.queue c.loop-event.own c.loop-event.others c.loop-event.invariant (c.in_default.ensures.none.0 refl) c.len-orderly.ensures.orderly
     c.pop.new.self c.give_back.new.self c.in_default.ensures.unchanged c.give_back.ensures.primary c.give_back.ensures.fresh

@@ -4,8 +4,8 @@ use Rattle.speedes_queue.specs.Queues.{pending_of}
 use Rattle.node_core.proofs.MovingWaits.{IsParting}
 use Rattle.node_core.proofs.waiting.take_events.Given as goal
 
-abbrev pub invariant-steps : goal.invariant-steps
-invariant-steps l = IsParting l.fn.object l.fn.queue l.queue l.own l.others
+abbrev pub invariant-loop-event : goal.invariant-loop-event
+invariant-loop-event l = IsParting l.fn.object l.fn.queue l.queue l.own l.others
 
-abbrev pub decreases-steps : goal.decreases-steps
-decreases-steps l = length (pending_of l.queue)
+abbrev pub decreases-loop-event : goal.decreases-loop-event
+decreases-loop-event l = length (pending_of l.queue)

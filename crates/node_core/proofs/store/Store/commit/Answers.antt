@@ -8,8 +8,8 @@ use Rattle.node_core.specs.Handed.{AddsOne, IsNoted}
 use Rattle.node_core.proofs.CommitLoop.{handed-none, handing-start, handing-step, next-due, next-homed, next-less, next-noted, next-parcels, next-room}
 use Rattle.node_core.proofs.store.Store.commit.Goals as goal
 
-pub steps-init : goal.steps-init
-steps-init c =
+pub loop-key-init : goal.loop-key-init
+loop-key-init c =
     let blank = c.requires.blank in
     let told = c.in_ok-reserve.ensures.same ∙ blank.told in
     let due = c.due-due.result in
@@ -18,65 +18,65 @@ steps-init c =
 
 pub add-requires-clause-noted : goal.add-requires-clause-noted
 add-requires-clause-noted c =
-    let homes = c.args.homes.now in let old = c.args.self.now in let now = c.steps.self in let next = c.commit_one-done.new.self in
-    let told = c.steps.into.done.items in let cap = length told + c.steps.into.done.room in let out = c.steps.into.out.items in let d = c.commit_one-done.result in
+    let homes = c.args.homes.now in let old = c.args.self.now in let now = c.loop-key.self in let next = c.commit_one-done.new.self in
+    let told = c.loop-key.into.done.items in let cap = length told + c.loop-key.into.done.room in let out = c.loop-key.into.out.items in let d = c.commit_one-done.result in
     let P : Verdict → Type 0 = IsNoted in
     subst P (sym c.release-released.ensures.verdict)
     (next-noted homes c.args.horizon c.args.cut.now old now next told out cap d
-    (next-due homes c.args.horizon c.args.cut.now old now next told out cap c.in-Some.key c.commit_one-done.result d c.steps.invariant c.requires.can c.in-Some.ensures.some.0 c.in-Some.ensures.some.1 c.commit_one-done.ensures refl))
+    (next-due homes c.args.horizon c.args.cut.now old now next told out cap c.in-Some.key c.commit_one-done.result d c.loop-key.invariant c.requires.can c.in-Some.ensures.some.0 c.in-Some.ensures.some.1 c.commit_one-done.ensures refl))
 
 pub add-requires-clause-room : goal.add-requires-clause-room
 add-requires-clause-room c =
-    let homes = c.args.homes.now in let old = c.args.self.now in let now = c.steps.self in let next = c.commit_one-done.new.self in
-    let told = c.steps.into.done.items in let cap = length told + c.steps.into.done.room in let out = c.steps.into.out.items in let d = c.commit_one-done.result in
+    let homes = c.args.homes.now in let old = c.args.self.now in let now = c.loop-key.self in let next = c.commit_one-done.new.self in
+    let told = c.loop-key.into.done.items in let cap = length told + c.loop-key.into.done.room in let out = c.loop-key.into.out.items in let d = c.commit_one-done.result in
     let below : length told < cap =
     next-room homes c.args.horizon c.args.cut.now old now next told out cap d
-    (next-due homes c.args.horizon c.args.cut.now old now next told out cap c.in-Some.key c.commit_one-done.result d c.steps.invariant c.requires.can c.in-Some.ensures.some.0 c.in-Some.ensures.some.1 c.commit_one-done.ensures refl) in
+    (next-due homes c.args.horizon c.args.cut.now old now next told out cap c.in-Some.key c.commit_one-done.result d c.loop-key.invariant c.requires.can c.in-Some.ensures.some.0 c.in-Some.ensures.some.1 c.commit_one-done.ensures refl) in
     omega (arith, below)
 
 pub add-requires-clause-long : goal.add-requires-clause-long
-add-requires-clause-long c = c.steps.invariant.tells.long
+add-requires-clause-long c = c.loop-key.invariant.tells.long
 
 pub add-requires-clause-homed : goal.add-requires-clause-homed
 add-requires-clause-homed c =
-    let homes = c.args.homes.now in let old = c.args.self.now in let now = c.steps.self in let next = c.commit_one-done.new.self in
-    let told = c.steps.into.done.items in let cap = length told + c.steps.into.done.room in let out = c.steps.into.out.items in let d = c.commit_one-done.result in
+    let homes = c.args.homes.now in let old = c.args.self.now in let now = c.loop-key.self in let next = c.commit_one-done.new.self in
+    let told = c.loop-key.into.done.items in let cap = length told + c.loop-key.into.done.room in let out = c.loop-key.into.out.items in let d = c.commit_one-done.result in
     let P : List Event → Type 0 = Each (λ (e : Event). e.key.dest < length homes.homes) in
     subst P (sym c.release-released.ensures.sends)
     (next-homed homes c.args.horizon c.args.cut.now old now next told out cap d
-    (next-due homes c.args.horizon c.args.cut.now old now next told out cap c.in-Some.key c.commit_one-done.result d c.steps.invariant c.requires.can c.in-Some.ensures.some.0 c.in-Some.ensures.some.1 c.commit_one-done.ensures refl))
+    (next-due homes c.args.horizon c.args.cut.now old now next told out cap c.in-Some.key c.commit_one-done.result d c.loop-key.invariant c.requires.can c.in-Some.ensures.some.0 c.in-Some.ensures.some.1 c.commit_one-done.ensures refl))
 
 pub add-requires-clause-few : goal.add-requires-clause-few
 add-requires-clause-few c =
-    let homes = c.args.homes.now in let old = c.args.self.now in let now = c.steps.self in let next = c.commit_one-done.new.self in
-    let told = c.steps.into.done.items in let cap = length told + c.steps.into.done.room in let out = c.steps.into.out.items in let d = c.commit_one-done.result in
+    let homes = c.args.homes.now in let old = c.args.self.now in let now = c.loop-key.self in let next = c.commit_one-done.new.self in
+    let told = c.loop-key.into.done.items in let cap = length told + c.loop-key.into.done.room in let out = c.loop-key.into.out.items in let d = c.commit_one-done.result in
     let P : List Event → Type 0 = λ sends. (to : ℕ) → to < homes.nodes → length (slice_index_or out to []) + length sends < 2 ^ 60 in
     subst P (sym c.release-released.ensures.sends)
     (next-parcels homes c.args.horizon c.args.cut.now old now next told out cap d
-    (next-due homes c.args.horizon c.args.cut.now old now next told out cap c.in-Some.key c.commit_one-done.result d c.steps.invariant c.requires.can c.in-Some.ensures.some.0 c.in-Some.ensures.some.1 c.commit_one-done.ensures refl))
+    (next-due homes c.args.horizon c.args.cut.now old now next told out cap c.in-Some.key c.commit_one-done.result d c.loop-key.invariant c.requires.can c.in-Some.ensures.some.0 c.in-Some.ensures.some.1 c.commit_one-done.ensures refl))
 
-pub steps-preserved : goal.steps-preserved
-steps-preserved c =
-    let homes = c.args.homes.now in let old = c.args.self.now in let now = c.steps.self in let next = c.commit_one-done.new.self in
-    let told = c.steps.into.done.items in let cap = length told + c.steps.into.done.room in let out = c.steps.into.out.items in let d = c.commit_one-done.result in
+pub loop-key-preserved : goal.loop-key-preserved
+loop-key-preserved c =
+    let homes = c.args.homes.now in let old = c.args.self.now in let now = c.loop-key.self in let next = c.commit_one-done.new.self in
+    let told = c.loop-key.into.done.items in let cap = length told + c.loop-key.into.done.room in let out = c.loop-key.into.out.items in let d = c.commit_one-done.result in
     let E : Event → Type 0 = λ event. AddsOne homes event c.release-released.result.sends c.release-released.result.verdict told c.add.new.self.done.items out c.add.new.self.out.items in
     let S : List Event → Type 0 = λ sends. AddsOne homes d.event sends c.release-released.result.verdict told c.add.new.self.done.items out c.add.new.self.out.items in
     let V : Verdict → Type 0 = λ verdict. AddsOne homes d.event d.sends verdict told c.add.new.self.done.items out c.add.new.self.out.items in
     let adds = subst V c.release-released.ensures.verdict (subst S c.release-released.ensures.sends (subst E c.release-released.ensures.event c.add.ensures.adds)) in
     handing-step homes c.args.horizon c.args.cut.now old now next told out cap d
-    (next-due homes c.args.horizon c.args.cut.now old now next told out cap c.in-Some.key c.commit_one-done.result d c.steps.invariant c.requires.can c.in-Some.ensures.some.0 c.in-Some.ensures.some.1 c.commit_one-done.ensures refl)
+    (next-due homes c.args.horizon c.args.cut.now old now next told out cap c.in-Some.key c.commit_one-done.result d c.loop-key.invariant c.requires.can c.in-Some.ensures.some.0 c.in-Some.ensures.some.1 c.commit_one-done.ensures refl)
     c.add.new.self.done.items c.add.new.self.out.items c.release-released.new.self adds c.release-released.ensures.same (length c.add.new.self.done.items + c.add.new.self.done.room) c.add.ensures.room
 
-pub steps-smaller : goal.steps-smaller
-steps-smaller c =
-    let homes = c.args.homes.now in let old = c.args.self.now in let now = c.steps.self in let next = c.commit_one-done.new.self in
-    let told = c.steps.into.done.items in let cap = length told + c.steps.into.done.room in let out = c.steps.into.out.items in let d = c.commit_one-done.result in
+pub loop-key-smaller : goal.loop-key-smaller
+loop-key-smaller c =
+    let homes = c.args.homes.now in let old = c.args.self.now in let now = c.loop-key.self in let next = c.commit_one-done.new.self in
+    let told = c.loop-key.into.done.items in let cap = length told + c.loop-key.into.done.room in let out = c.loop-key.into.out.items in let d = c.commit_one-done.result in
     next-less homes c.args.horizon c.args.cut.now old now next told out cap d
-    (next-due homes c.args.horizon c.args.cut.now old now next told out cap c.in-Some.key c.commit_one-done.result d c.steps.invariant c.requires.can c.in-Some.ensures.some.0 c.in-Some.ensures.some.1 c.commit_one-done.ensures refl)
+    (next-due homes c.args.horizon c.args.cut.now old now next told out cap c.in-Some.key c.commit_one-done.result d c.loop-key.invariant c.requires.can c.in-Some.ensures.some.0 c.in-Some.ensures.some.1 c.commit_one-done.ensures refl)
     c.release-released.new.self c.release-released.ensures.same
 
 pub returns-clause-ok : goal.returns-clause-ok
-returns-clause-ok c = record { done = c.steps.invariant.done; taken = c.steps.invariant.taken; tells = c.steps.invariant.tells; rest = c.in_default.ensures.none }
+returns-clause-ok c = record { done = c.loop-key.invariant.done; taken = c.loop-key.invariant.taken; tells = c.loop-key.invariant.tells; rest = c.in_default.ensures.none }
 
 pub returns-then-is_none-clause-ok : goal.returns-then-is_none-clause-ok
 returns-then-is_none-clause-ok c =

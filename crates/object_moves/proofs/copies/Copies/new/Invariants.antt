@@ -4,5 +4,5 @@ use Rattle.std.specs.Arc.{arc_value}
 use Rattle.std.specs.List.{AllByRecursion}
 use Rattle.object_moves.proofs.copies.Copies.new.Given as goal
 
-abbrev pub invariant-steps : goal.invariant-steps
-invariant-steps l = (length l.more.items ≡ l.counter) × AllByRecursion (λ a. arc_value a ≡ arc_value l.one) l.more.items
+abbrev pub invariant-loop : goal.invariant-loop
+invariant-loop l = (length l.more.items ≡ l.counter) × AllByRecursion (λ a. arc_value a ≡ arc_value l.one) l.more.items
