@@ -194,13 +194,6 @@ module _ {M : Type 0} (meaning_of : M → Meaning) (bound : ℕ) (nodes : List (
         none j x at (subst H (sym is.model_is) (home-there m x model terms homes j is object there))));
   }
 
-module _ {X : Type 0} (key : X → Key) (found next : Option X) (x y : X) (found_is : found ≡ Some x) (next_is : next ≡ Some y) where
-  pub lesser-second : key_lt (key y) (key x) ≡ true → Some y ≡ lesser_by key found next
-  lesser-second lt = ap (λ b. cond b (Some y) (Some x)) (sym lt) ∙ ap (λ f. lesser_by key f (Some y)) (sym found_is) ∙ ap (lesser_by key found) (sym next_is)
-
-  pub lesser-first : key_lt (key y) (key x) ≡ false → Some x ≡ lesser_by key found next
-  lesser-first lt = ap (λ b. cond b (Some y) (Some x)) (sym lt) ∙ ap (λ f. lesser_by key f (Some y)) (sym found_is) ∙ ap (lesser_by key found) (sym next_is)
-
 -- the lesser of two keys is the one whose key is the lesser
 pub lesser-itself : (found next : Option Key) → lesser found next ≡ lesser_by itself found next
 lesser-itself None next = refl

@@ -6,7 +6,6 @@ use Rattle.std.proofs.lemmas.List.{length-append, length-map, length-set, map-ap
 use Rattle.std.proofs.lemmas.List.FromFn.{get_or-map-range_with_len}
 use Rattle.std.proofs.lemmas.Option.{slice_get_within}
 use Rattle.std.specs.Prelude.{slice_get, IsTrue, Option, Some}
-use Rattle.delta_exchange.specs.Views.{CellsView}
 use Rattle.model_core.specs.Meaning.{Meaning, MeaningLaws}
 use Rattle.key_order.proofs.InOrder.{in_order-same}
 use Rattle.sim_spec.specs.declared.terms.Terms.{Terms}
@@ -20,24 +19,20 @@ use Rattle.node_core.specs.Homes.{HomesView, home_of}
 use Rattle.node_core.specs.Nodes.{NodeView, home, log_at, log_or}
 use Rattle.node_core.specs.Saves.{HasObject}
 use Rattle.cycle_core.specs.Starts.{AreAllNew, ArePartsOf, ArePlaced, CanBegin, CanSet, HasStatesFrom, HaveStatesFrom, first_events, world_with}
-use Rattle.cycle_core.specs.States.{object_of}
 use Rattle.cycle_core.specs.Worlds.{IsNodeOf}
 use Rattle.cycle_core.proofs.PlaceLemmas.{at-other, at-set, same-some}
 use Rattle.cycle_core.proofs.WorldLemmas.{home-there}
 
 -- the last of the states that are left
-module _ (all left front more : List (CellsView × ℕ)) (x : CellsView × ℕ) (split : all ≡ left ++ more) (pops : left ≡ front ++ x ∷ []) where
+module _ (all left front more : List ObjectState) (x : ObjectState) (split : all ≡ left ++ more) (pops : left ≡ front ++ x ∷ []) where
   pub split-more : all ≡ front ++ (x ∷ more)
   split-more = split ∙ ap (λ xs. xs ++ more) pops ∙ append_assoc front (x ∷ []) more
 
-  pub state-last : object_at (map object_of all) (length front) ≡ object_of x
-  state-last =
-      ap (λ xs. object_at (map object_of xs) (length front)) split-more ∙ ap (λ ss. object_at ss (length front)) (map-append object_of front (x ∷ more))
-      ∙ ap (object_at (map object_of front ++ object_of x ∷ map object_of more)) (sym (length-map front object_of)) ∙ get_or-append_seam (map object_of front) (object_of x) (map object_of more) no_object
+  pub state-last : object_at all (length front) ≡ x
+  state-last = ap (λ xs. object_at xs (length front)) split-more ∙ get_or-append_seam front x more no_object
 
-  pub front-inside : length front + 1 ≤ length (map object_of all)
+  pub front-inside : length front + 1 ≤ length all
   front-inside =
-      let long = length-map all object_of in
       let parts = ap length split-more ∙ length-append front (x ∷ more) in
       omega arith
 
@@ -156,22 +151,22 @@ module _ {M : Type 0} (meaning_of : M → Meaning) (model : M) (terms : Terms) (
     pub state_is : object_at states object ≡ state
 
   -- it is the last object whose state is left
-  pub next-of : (all left front more : List (CellsView × ℕ)) (x : CellsView × ℕ) (olds nodes : List (NodeView M)) (count number : ℕ) (n : NodeView M) → all ≡ left ++ more → left ≡ front ++ x ∷ []
-      → CanSet meaning_of model terms homes (map object_of all) olds → count ≡ length left → HaveStatesFrom meaning_of model terms homes count (map object_of all) nodes
-      → slice_get nodes number ≡ Some n → number ≡ home_of homes (count - 1) → IsNext (map object_of all) nodes (count - 1) number (object_of x) n
+  pub next-of : (all left front more : List ObjectState) (x : ObjectState) (olds nodes : List (NodeView M)) (count number : ℕ) (n : NodeView M) → all ≡ left ++ more → left ≡ front ++ x ∷ []
+      → CanSet meaning_of model terms homes all olds → count ≡ length left → HaveStatesFrom meaning_of model terms homes count all nodes
+      → slice_get nodes number ≡ Some n → number ≡ home_of homes (count - 1) → IsNext all nodes (count - 1) number x n
   next-of all left front more x olds nodes count number n split pops can counted so_far at there =
       let long = ap length pops ∙ length-append front (x ∷ []) in
       let one : count ≡ count - 1 + 1 = omega arith in
       let last : length front ≡ count - 1 = omega arith in
       let inside = front-inside all left front more x split pops in
       let objects = can.objects in
-      let P : ℕ → Type 0 = λ k. HaveStatesFrom meaning_of model terms homes k (map object_of all) nodes in
+      let P : ℕ → Type 0 = λ k. HaveStatesFrom meaning_of model terms homes k all nodes in
       record {
         so_far = subst P one so_far;
         at = at;
         low = omega arith;
         there = there;
-        state_is = ap (object_at (map object_of all)) (sym last) ∙ state-last all left front more x split pops;
+        state_is = ap (object_at all) (sym last) ∙ state-last all left front more x split pops;
       }
 
   module _ (states : List ObjectState) (nodes : List (NodeView M)) (object number : ℕ) (state : ObjectState) (n : NodeView M) (next : IsNext states nodes object number state n) where

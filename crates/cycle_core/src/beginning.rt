@@ -7,12 +7,12 @@ ghost use Rattle.model_core.specs.Meaning.{MeaningLaws};
 ghost use Rattle.model_core.specs.declared.event.Event.{Event};
 ghost use Rattle.sim_spec.specs.declared.terms.Terms.{Terms};
 ghost use Rattle.cycle_core.specs.Starts.{AreAllNew, ArePartsOf, ArePlaced, CanSet, HaveStatesFrom, first_events};
-ghost use Rattle.cycle_core.specs.States.{object_of};
 
+use crate::state::ObjectState;
 use event_chain::{Cell, Chain};
 use event_firing::first_event;
 use model_core::model::Model as SimulationModel;
-use model_core::{Cells, Event, OutOfMemory};
+use model_core::{Event, OutOfMemory};
 use node_core::{Homes, Node, empty_parcels};
 use sim_spec::{Placement, Terms};
 use std::alloc::Global;
@@ -115,20 +115,20 @@ pub fn first_nodes<M: SimulationModel>(
     Ok(nodes)
 }
 
-/// Gives each object its cells, and how many events it has sent. It takes no memory.
+/// Gives each object its state. It takes no memory.
 pub fn set_objects<M: SimulationModel>(
     nodes: &mut [Node<M>],
     homes: &Homes,
-    objects: Vec<(Cells, u64)>,
+    objects: Vec<ObjectState>,
 )
-    requires { (model : M) × (terms : Terms) × CanSet M.meaning model terms homes.now (map object_of objects.items) nodes.old }
-    ensures { (model : M) (terms : Terms) → CanSet M.meaning model terms homes.now (map object_of objects.items) nodes.old
-        → HaveStatesFrom M.meaning model terms homes.now 0 (map object_of objects.items) nodes.new }
+    requires { (model : M) × (terms : Terms) × CanSet M.meaning model terms homes.now objects.items nodes.old }
+    ensures { (model : M) (terms : Terms) → CanSet M.meaning model terms homes.now objects.items nodes.old
+        → HaveStatesFrom M.meaning model terms homes.now 0 objects.items nodes.new }
 {
     let mut objects = objects;
     let mut object = homes.objects();
     while let Some(state) = objects.pop() {
-        let (cells, sent) = state;
+        let ObjectState { cells, sent } = state;
         object -= 1;
         let home = homes.home(object);
         nodes[home as usize].set_object(object, cells, sent);

@@ -1,5 +1,5 @@
 //! What is read out of nodes: the states of their objects, and the events that wait.
-ghost use Rattle.std.specs.Prelude.{◌≡◌, ℕ, ◌<◌, map, IfOk};
+ghost use Rattle.std.specs.Prelude.{◌≡◌, ℕ, ◌<◌, IfOk};
 ghost use Rattle.key_order.specs.Keys.{KeysDiffer};
 ghost use Rattle.key_order.specs.Pending.{in_order};
 ghost use Rattle.sim_spec.specs.declared.terms.Terms.{Terms};
@@ -7,11 +7,11 @@ ghost use Rattle.node_core.specs.Homes.{home_of};
 ghost use Rattle.node_core.specs.Nodes.{IsAsBefore};
 ghost use Rattle.cycle_core.specs.Places.{EachPair};
 ghost use Rattle.cycle_core.specs.Snapshots.{AllUndone, AreStatesOf, waiting_in};
-ghost use Rattle.cycle_core.specs.States.{object_of};
 ghost use Rattle.cycle_core.specs.Worlds.{AreNodesOf};
 
+use crate::state::ObjectState;
 use model_core::model::Model as SimulationModel;
-use model_core::{Cells, Event, OutOfMemory};
+use model_core::{Event, OutOfMemory};
 use node_core::{Homes, Node};
 use std::alloc::Global;
 
@@ -42,16 +42,16 @@ pub fn pending_of<M: SimulationModel>(
     Ok(pending)
 }
 
-/// The cells of each object of a model, and how many events it has sent.
+/// The state of each object of a model.
 pub fn objects_of<M: SimulationModel>(
     alloc: Global,
     model: &M,
     homes: &Homes,
     nodes: &[Node<M>],
-) -> Result<Vec<(Cells, u64)>, OutOfMemory>
+) -> Result<Vec<ObjectState>, OutOfMemory>
     requires nodes { (terms : Terms) × AreNodesOf model.now terms homes.now nodes.now }
     requires homes { (object : ℕ) → object < (M.meaning model.now).objects → home_of homes.now object < homes.now.nodes }
-    ensures { IfOk result (λ objects. AreStatesOf homes.now nodes.now (M.meaning model.now).objects (map object_of objects.items)) }
+    ensures { IfOk result (λ objects. AreStatesOf homes.now nodes.now (M.meaning model.now).objects objects.items) }
 {
     let count = model.objects();
     let mut objects = Vec::with_capacity(alloc, count as usize)?;
@@ -59,7 +59,10 @@ pub fn objects_of<M: SimulationModel>(
         let home = homes.home(object);
         let node = &nodes[home as usize];
         let cells = node.cells(object).copy(alloc)?;
-        objects.push((cells, node.sent(object)))?;
+        objects.push(ObjectState {
+            cells,
+            sent: node.sent(object),
+        })?;
     }
     Ok(objects)
 }

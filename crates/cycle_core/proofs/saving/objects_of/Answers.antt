@@ -1,10 +1,8 @@
 -- Object by object its state is read at its home.
-use Rattle.std.proofs.Common.{◌∙◌, arith, length, map, refl, sym, ap}
+use Rattle.std.proofs.Common.{◌∙◌, arith, length, refl, sym, ap}
 use Rattle.std.specs.Prelude.{slice_get}
-use Rattle.std.proofs.lemmas.List.{map-append}
 use Rattle.std.proofs.lemmas.Option.{slice_get_read}
 use Rattle.sim_spec.specs.Firing.{ObjectState}
-use Rattle.cycle_core.specs.States.{object_of}
 use Rattle.cycle_core.proofs.SettingLemmas.{home-of-node}
 use Rattle.cycle_core.proofs.SnapshotLemmas.{home-inside, states-more}
 use Rattle.cycle_core.proofs.saving.objects_of.Goals as goal
@@ -32,8 +30,8 @@ pub loop-object-preserved : goal.loop-object-preserved
 loop-object-preserved g c =
     let many = c.requires.nodes.1.many in
     let at = slice_get_read c.args.nodes.now (length c.args.nodes.now) c.home-home.result c.index-nodes-home.result refl (let lt = c.home-home.ensures.node in omega arith) c.index-nodes-home.is in
-    let state : ObjectState = object_of (c.in_ok-cells.cells, c.sent.result) in
-    states-more c.args.homes.now c.args.nodes.now c.loop-object.object (map object_of c.loop-object.objects.items) (map object_of c.push.new.self.items) state c.index-nodes-home.result c.loop-object.invariant
+    let state : ObjectState = record { cells = c.in_ok-cells.cells.contents; sent = c.sent.result } in
+    states-more c.args.homes.now c.args.nodes.now c.loop-object.object c.loop-object.objects.items c.push.new.self.items state c.index-nodes-home.result c.loop-object.invariant
     (ap (slice_get c.args.nodes.now) (sym c.home-home.ensures.home) ∙ at)
     (λ i. record { cells = (c.in_ok-cells.ensures.contents ∙ c.cells.ensures) i; sent = c.sent.ensures i })
-    (ap (map object_of) c.in_ok-push.ensures.items ∙ map-append object_of c.loop-object.objects.items _)
+    c.in_ok-push.ensures.items

@@ -1,7 +1,5 @@
-use Rattle.std.proofs.Common.{map}
 use Rattle.cycle_core.specs.Snapshots.{AreStatesOf}
-use Rattle.cycle_core.specs.States.{object_of}
 use Rattle.cycle_core.proofs.saving.objects_of.Given as goal
 
 abbrev pub invariant-loop-object : goal.invariant-loop-object
-invariant-loop-object g l = AreStatesOf l.fn.homes l.nodes l.object (map object_of l.objects.items)
+invariant-loop-object g l = AreStatesOf l.fn.homes l.nodes l.object l.objects.items

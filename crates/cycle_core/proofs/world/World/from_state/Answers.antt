@@ -10,7 +10,6 @@ use Rattle.sim_spec.specs.State.{Lawful, State}
 use Rattle.sim_spec.proofs.PartLemmas.{AllSound-dest}
 use Rattle.cycle_core.specs.Standings.{WorldStandsAt}
 use Rattle.cycle_core.specs.Starts.{ArePartsOf, ArePlaced, CanBegin, CanSet, HaveStatesFrom, world_with}
-use Rattle.cycle_core.specs.States.{object_of}
 use Rattle.cycle_core.proofs.SettingLemmas.{begins-at, can-set}
 use Rattle.cycle_core.proofs.world.World.from_state.Goals as goal
 
@@ -20,7 +19,7 @@ parcels_of-requires-clause-homes g c =
     let model = c.args.model.value in
     let homes = c.in_ok-homes.homes.value in
     let placed = subst (λ v. ArePlaced (of v) homes) c.deref-2.ensures c.in_ok-homes.ensures.placed in
-    let s : State = record { objects = map object_of c.state.inside.objects.items; pending = c.state.inside.pending.items; count = c.state.inside.count } in
+    let s : State = record { objects = c.state.inside.objects.items; pending = c.state.inside.pending.items; count = c.state.inside.count } in
     let lawful = subst (λ v. Lawful (of model) c.args.terms v) (sym c.state.view_is) c.requires.lawful in
     let long : length c.deref-3.result.now.homes ≡ (of model).objects = ap (λ h. length h.homes) c.deref-3.ensures ∙ placed.objects in
     subst (Each (λ (e : Event). e.key.dest < length c.deref-3.result.now.homes)) (sym c.as_slice.ensures.value)
@@ -33,7 +32,7 @@ set_objects-requires-after_bounds g c lifetimes outlives =
     let model = c.args.model.value in
     let homes = c.in_ok-homes.homes.value in
     let placed = subst (λ v. ArePlaced (of v) homes) c.deref-2.ensures c.in_ok-homes.ensures.placed in
-    let s : State = record { objects = map object_of c.state.inside.objects.items; pending = c.state.inside.pending.items; count = c.state.inside.count } in
+    let s : State = record { objects = c.state.inside.objects.items; pending = c.state.inside.pending.items; count = c.state.inside.count } in
     let lawful = subst (λ v. Lawful (of model) c.args.terms v) (sym c.state.view_is) c.requires.lawful in
     let set = can-set of model c.args.terms homes s.objects c.in_ok-nodes.nodes.items c.in_ok-nodes.ensures placed s lawful refl in
     let there = subst (λ h. CanSet of model c.args.terms h s.objects c.in_ok-nodes.nodes.items) (sym c.deref-4.ensures) set in
@@ -46,7 +45,7 @@ hand_out-requires-after_bounds g c lifetimes outlives =
     let model = c.args.model.value in
     let homes = c.in_ok-homes.homes.value in
     let placed = subst (λ v. ArePlaced (of v) homes) c.deref-2.ensures c.in_ok-homes.ensures.placed in
-    let s : State = record { objects = map object_of c.state.inside.objects.items; pending = c.state.inside.pending.items; count = c.state.inside.count } in
+    let s : State = record { objects = c.state.inside.objects.items; pending = c.state.inside.pending.items; count = c.state.inside.count } in
     let lawful = subst (λ v. Lawful (of model) c.args.terms v) (sym c.state.view_is) c.requires.lawful in
     let set = can-set of model c.args.terms homes s.objects c.in_ok-nodes.nodes.items c.in_ok-nodes.ensures placed s lawful refl in
     let there = subst (λ h. CanSet of model c.args.terms h s.objects c.in_ok-nodes.nodes.items) (sym c.deref-4.ensures) set in
@@ -68,7 +67,7 @@ returns-clause-stands g c =
     let model = c.args.model.value in
     let homes = c.in_ok-homes.homes.value in
     let placed = subst (λ v. ArePlaced (of v) homes) c.deref-2.ensures c.in_ok-homes.ensures.placed in
-    let s : State = record { objects = map object_of c.state.inside.objects.items; pending = c.state.inside.pending.items; count = c.state.inside.count } in
+    let s : State = record { objects = c.state.inside.objects.items; pending = c.state.inside.pending.items; count = c.state.inside.count } in
     let lawful = subst (λ v. Lawful (of model) c.args.terms v) (sym c.state.view_is) c.requires.lawful in
     let set = can-set of model c.args.terms homes s.objects c.in_ok-nodes.nodes.items c.in_ok-nodes.ensures placed s lawful refl in
     let there = subst (λ h. CanSet of model c.args.terms h s.objects c.in_ok-nodes.nodes.items) (sym c.deref-4.ensures) set in

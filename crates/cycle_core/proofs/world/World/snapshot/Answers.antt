@@ -5,7 +5,6 @@ use Rattle.node_core.specs.Homes.{HomesView}
 use Rattle.node_core.specs.Nodes.{NodeView}
 use Rattle.cycle_core.specs.Inside.{nodes_in}
 use Rattle.cycle_core.specs.Snapshots.{AllUndone, AreStatesOf}
-use Rattle.cycle_core.specs.States.{object_of}
 use Rattle.cycle_core.specs.Worlds.{AreNodesOf, StandsAt, WorldView}
 use Rattle.cycle_core.proofs.SnapshotLemmas.{each-as-before, snap-differ, snap-stands, snap-state}
 use Rattle.cycle_core.proofs.world.World.snapshot.Goals as goal
@@ -70,7 +69,7 @@ returns-clause-state g c s st =
     let slice : w.nodes ≡ c.as_mut_slice-nodes.result.now = ap nodes_in c.in-Some.is ∙ sym c.as_mut_slice-nodes.ensures.value in
     let un = subst (λ ns. AllUndone of ns c.undo_all.new.nodes) (sym slice) c.undo_all.ensures in
     let here = subst (λ v. StandsAt (of v.model) v s) (sym c.self.view_is) st in
-    let states = map object_of c.in_ok-objects.objects.items in
+    let states = c.in_ok-objects.objects.items in
     let now = c.pending_of.new.nodes in
     let at_homes = subst (λ h. AreStatesOf h now (of c.deref.result.now).objects states) c.deref-homes.ensures c.in_ok-objects.ensures in
     let are = subst (λ v. AreStatesOf w.homes now (of v).objects states) c.deref.ensures at_homes in
