@@ -21,7 +21,7 @@ TOP = pathlib.Path(__file__).resolve().parent.parent
 EXAMPLES = TOP / "examples"
 SHOP = (TOP / "crates/btb/stdin").read_bytes()
 NO_MEMORY = (6, b"out of memory\n")
-LONGEST = 60  # seconds
+LONGEST = 300  # seconds
 LEAST_SPACE, MOST_SPACE = 4_000_000, 2_200_000_000  # bytes; with less the loader ends before the program begins
 
 
