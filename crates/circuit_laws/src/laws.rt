@@ -1,8 +1,0 @@
-//! Laws of circuits. Each function does nothing: its contract is the law.
-ghost use Rattle.circuit_laws.specs.Settled.{SettledLaw};
-
-/// Where nothing is pending a circuit has settled: in every reached state without a pending event each pin is what the
-/// gate that feeds it puts out, and each gate that computes puts out the value of its pins.
-pub fn law_settled()
-    ensures { SettledLaw }
-{}

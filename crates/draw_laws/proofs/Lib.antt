@@ -1,2 +1,0 @@
-pub mod DrawsLaw
-pub mod SmallDraws

@@ -1,2 +1,0 @@
-pub mod DrawLaws
-pub mod Draws

@@ -1,4 +1,0 @@
-//! What the objects of a network of queues draw.
-#![tactic(auto)]
-
-pub mod laws;

@@ -1,9 +1,0 @@
-pub mod Balance
-pub mod JobsLaw
-pub mod Moving
-pub mod NamesLaw
-pub mod Permuted
-pub mod PlacesLaw
-pub mod SamePlace
-pub mod SmallCrowd
-pub mod Weights

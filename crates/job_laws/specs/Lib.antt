@@ -1,3 +1,0 @@
-pub mod JobLaws
-pub mod Jobs
-pub mod Places

@@ -1,4 +1,0 @@
-//! What becomes of each job of a network of queues.
-#![tactic(auto)]
-
-pub mod laws;

@@ -1,2 +1,0 @@
-pub mod PopulationLaw
-pub mod SmallRing

@@ -1,4 +1,0 @@
-//! What holds of every run of PHOLD.
-#![tactic(auto)]
-
-pub mod laws;

@@ -1,4 +1,0 @@
-pub mod Orders
-pub mod OrderLaws
-pub mod ServerLaws
-pub mod Stations

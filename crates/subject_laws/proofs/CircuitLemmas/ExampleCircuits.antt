@@ -1,0 +1,66 @@
+-- The examples are circuits.
+use Rattle.std.proofs.Common.{ℕ, zero, suc, ◌<◌, ◌≤◌, ◌^◌, List, [], ◌∷◌, length, refl, lit<, lit≤, arith}
+use Rattle.std.specs.Prelude.{All, codes}
+use Rattle.circuit_model.specs.declared.gate.LogicKind.TheVariants.{Not, And}
+use Rattle.circuit_model.specs.Parts.{IsGate, IsCircuit}
+use Rattle.circuit_model.specs.Starts.{flips_below}
+use Rattle.circuit_model.specs.Wiring.{pins_below, fed_among, fed_by}
+use Rattle.subject_laws.specs.CircuitExamples.{input, gate, gates_in_line, ring}
+
+All-one : {X : Type 0} (P : X → Type 0) (a : X) → P a → All P (a ∷ [])
+All-one P a here zero d within = here
+All-one P a here (suc i) d within = absurd (omega arith)
+
+All-cons : {X : Type 0} (P : X → Type 0) (a : X) (xs : List X) → P a → All P xs → All P (a ∷ xs)
+All-cons P a xs here rest zero d within = here
+All-cons P a xs here rest (suc i) d within = rest i d (omega arith)
+
+none : {X : Type 0} (P : X → Type 0) → All P []
+none P i d within = absurd (omega arith)
+
+pub ring-circuit : IsCircuit ring
+unfolding ring flips_below pins_below fed_among
+ring-circuit = record {
+  linked = record {
+    few_gates = lit≤ tt;
+    each = All-one (IsGate ring) _ (record { delay = lit≤ tt; pins = refl; from = All-one (λ number. number < 1) 0 (lit< tt); flips = refl });
+  };
+  few_flips = lit≤ tt;
+  fan_out = λ number exists. fan_out number exists;
+}
+  where
+    fan_out : (number : ℕ) → number < 1 → length (fed_by ring number) ≤ 8
+    fan_out zero exists = lit≤ tt
+    fan_out (suc number) exists = absurd (omega arith)
+
+pub gates_in_line-circuit : IsCircuit gates_in_line
+unfolding gates_in_line flips_below pins_below fed_among
+gates_in_line-circuit = record {
+  linked = record {
+    few_gates = lit≤ tt;
+    each = All-cons (IsGate gates_in_line) _ (gate (codes "n") Not 1 (0 ∷ []) ∷ gate (codes "z") And 0 (0 ∷ 1 ∷ []) ∷ []) a
+        (All-cons (IsGate gates_in_line) _ (gate (codes "z") And 0 (0 ∷ 1 ∷ []) ∷ []) n (All-one (IsGate gates_in_line) _ z));
+  };
+  few_flips = lit≤ tt;
+  fan_out = λ number exists. fan_out number exists;
+}
+  where
+    a : IsGate gates_in_line (input (codes "a") (2 ∷ []))
+    a = record { delay = lit≤ tt; pins = refl; from = none (λ number. number < 3); flips = All-one (λ time. time < 2 ^ 46) 2 (lit< tt) }
+
+    n : IsGate gates_in_line (gate (codes "n") Not 1 (0 ∷ []))
+    n = record { delay = lit≤ tt; pins = refl; from = All-one (λ number. number < 3) 0 (lit< tt); flips = refl }
+
+    z : IsGate gates_in_line (gate (codes "z") And 0 (0 ∷ 1 ∷ []))
+    z = record {
+      delay = lit≤ tt;
+      pins = (lit≤ tt, lit≤ tt);
+      from = All-cons (λ number. number < 3) 0 (1 ∷ []) (lit< tt) (All-one (λ number. number < 3) 1 (lit< tt));
+      flips = refl;
+    }
+
+    fan_out : (number : ℕ) → number < 3 → length (fed_by gates_in_line number) ≤ 8
+    fan_out zero exists = lit≤ tt
+    fan_out (suc zero) exists = lit≤ tt
+    fan_out (suc (suc zero)) exists = lit≤ tt
+    fan_out (suc (suc (suc number))) exists = absurd (omega arith)

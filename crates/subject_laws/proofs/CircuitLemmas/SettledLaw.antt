@@ -1,0 +1,62 @@
+-- Where nothing is pending a circuit has settled.
+use Rattle.std.proofs.Common.{◌≡◌, ◌⊎◌, ℕ, ◌<◌, List, [], length, sym, ap, ◌∙◌, subst, inl, inr}
+use Rattle.std.specs.Prelude.{Contains}
+use Rattle.std.specs.List.{AllByRecursion as Each}
+use Rattle.key_order.proofs.MemberLemmas.{none-in}
+use Rattle.sim_spec.specs.declared.terms.Terms.{Terms}
+use Rattle.sim_spec.specs.State.{State}
+use Rattle.circuit_model.specs.declared.gate.LogicGate.{LogicGate}
+use Rattle.circuit_model.specs.Gates.{gate_at}
+use Rattle.circuit_model.specs.Meaning.{circuit_meaning}
+use Rattle.circuit_model.specs.Parts.{IsCircuit}
+use Rattle.circuit_model.specs.Wiring.{pin, feeder}
+use Rattle.run_laws.specs.Reached.{Reaches}
+use Rattle.run_laws.proofs.Induction.{each_reached}
+use Rattle.subject_laws.specs.Settled.{output_at, level_at, IsComputed, IsSettled, SettledLaw}
+use Rattle.subject_laws.proofs.CircuitLemmas.Arriving.{arriving, arriving-none}
+use Rattle.subject_laws.proofs.CircuitLemmas.CircuitSteps.{IsCircuitStep, circuit_step}
+use Rattle.subject_laws.proofs.CircuitLemmas.Pins.{pins-kept}
+use Rattle.subject_laws.proofs.CircuitLemmas.Starting.{first_timely, first_pins, first_values}
+use Rattle.subject_laws.proofs.CircuitLemmas.Timely.{IsTimely, timely-kept}
+use Rattle.subject_laws.proofs.CircuitLemmas.Values.{WillCompute, values-kept}
+
+-- what is pending is timely, makes each pin what its gate puts out, and lets each gate compute that has yet to
+record Settles (gates : List LogicGate) (s : State) : Type 0 where
+  now : ℕ
+  timely : Each (IsTimely gates now) s.pending
+  pins : (number place : ℕ) → number < length gates → place < length (gate_at gates number).from
+      → arriving number place (level_at s number place) s.pending ≡ output_at s (feeder gates (pin number place))
+  values : (number : ℕ) → number < length gates → IsComputed gates s number ⊎ WillCompute number s.pending
+
+settles : (gates : List LogicGate) (t : Terms) → IsCircuit gates → (s : State) → Reaches (circuit_meaning gates) t s → Settles gates s
+settles gates t fine =
+    each_reached (circuit_meaning gates) t (Settles gates)
+    (record {
+      now = 0;
+      timely = first_timely gates;
+      pins = λ number place exists within. first_pins gates number place fine exists within;
+      values = first_values gates;
+    })
+    (λ s told after reached is_next before.
+    let n : IsCircuitStep gates t s told after = circuit_step gates t s told after fine reached is_next in
+    record {
+      now = n.step.event.key.stamp;
+      timely = timely-kept gates t s told after n before.now before.timely;
+      pins = λ number place exists within.
+          pins-kept gates t s told after n number place fine exists within before.now before.timely (before.pins number place exists within);
+      values = λ number exists. values-kept gates t s told after n number (before.values number exists);
+    })
+
+settled : (gates : List LogicGate) (s : State) → s.pending ≡ [] → Settles gates s → IsSettled gates s
+settled gates s nothing settles = record {
+  pins = λ number place exists within.
+      sym (ap (arriving number place (level_at s number place)) nothing ∙ arriving-none number place (level_at s number place))
+      ∙ settles.pins number place exists within;
+  values = λ number exists. elim (settles.values number exists) [
+    | inl computed ↦ computed
+    | inr will ↦ none-in will.0 (subst (λ es. Contains es will.0) nothing will.1)
+  ];
+}
+
+pub settled_law : SettledLaw
+settled_law gates t s fine reached nothing = settled gates s nothing (settles gates t fine s reached)

@@ -1,0 +1,3 @@
+-- What objects draw.
+pub mod DrawsLaw
+pub mod SmallDraws

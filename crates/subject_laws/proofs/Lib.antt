@@ -1,0 +1,6 @@
+pub mod CircuitLemmas
+pub mod DrawLemmas
+pub mod JobLemmas
+pub mod PholdLemmas
+pub mod QueueLemmas
+pub mod TotalLemmas

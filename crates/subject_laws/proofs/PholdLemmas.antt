@@ -1,0 +1,3 @@
+-- The population of PHOLD.
+pub mod PopulationLaw
+pub mod SmallRing

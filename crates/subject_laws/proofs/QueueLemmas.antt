@@ -1,0 +1,9 @@
+-- What an event does in a network of queues, and the laws of servers and of order.
+pub mod Cases
+pub mod Leaves
+pub mod NetworkStarts
+pub mod NetworkSteps
+pub mod OrderLaw
+pub mod PlainRuns
+pub mod ServersLaw
+pub mod SmallShop

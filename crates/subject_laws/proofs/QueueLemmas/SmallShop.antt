@@ -1,0 +1,105 @@
+-- A shop, computed: a source makes four jobs, one every two ticks from tick 1 on; a station with one server serves each
+-- for five ticks, and two may wait; a sink takes them out.
+use Rattle.std.proofs.Common.{lit<, lit≤, ◌≡◌, ℕ, false, refl, List, [], ◌∷◌, map}
+use Rattle.std.specs.Prelude.{None}
+use Rattle.event_key.specs.declared.key.Key.{Key}
+use Rattle.event_key.specs.declared.key.TheConstants.{INITIAL}
+use Rattle.event_key.specs.Keys.{key_lt, key_cmp}
+use Rattle.event_key.specs.Stamps.{stamp_at, next_stamp, has_no_step}
+use Rattle.delta_exchange.specs.Changes.{cells_after_all, inverses_of}
+use Rattle.random_streams.specs.declared.law.Law.TheVariants.{Fixed}
+use Rattle.random_streams.specs.Laws.{draw, drawn_value, words_read}
+use Rattle.model_core.specs.declared.event.Event.{Event}
+use Rattle.model_core.specs.declared.note.Note.{Note}
+use Rattle.sim_spec.specs.declared.terms.Terms.{Terms}
+use Rattle.key_order.specs.Pending.{enqueue, enqueue_all}
+use Rattle.sim_spec.specs.Firing.{has_endless_chain, emissions, fired_by, fire}
+use Rattle.sim_spec.specs.State.{State, initial_state}
+use Rattle.sim_spec.specs.Run.{next, next_of, next_fired}
+use Rattle.queue_models.specs.declared.kind.KindOver.TheVariants.{Source, Sink}
+use Rattle.queue_models.specs.Kinds.{kind_of_station}
+use Rattle.queue_models.specs.Meaning.{plain_meaning, network_meaning, start_of}
+use Rattle.queue_models.specs.Objects.{NetworkParts, sources_below}
+use Rattle.queue_models.specs.Sinks.{sink_effect}
+use Rattle.model_core.specs.Places.{place_changes}
+use Rattle.queue_models.specs.Sources.{idle_effect, last_effect, make_effect, source_effect}
+use Rattle.queue_models.specs.Stations.{Station, take_effect, wait_effect, lose_effect, arrival_outcome, serve_effect, free_effect, done_effect, station_effect}
+use Rattle.run_laws.specs.Reached.{left_by, after_events, Reaches, gathered, first_records}
+use Rattle.run_laws.specs.RunLaws.{IsCause}
+use Rattle.run_laws.specs.Sent.{sent_next}
+use Rattle.subject_laws.specs.Orders.{arrived_at, begun_at, done_at, numbers_of}
+use Rattle.subject_laws.specs.Stations.{IsStationAt, busy_at, waiting_at, in_service_at}
+
+unfoldable pub counter : Station
+counter = record { servers = 1; service = Fixed 5; line = 2; strict = false; next = 2 }
+
+unfoldable pub shop : NetworkParts
+unfolding counter
+shop = record {
+  seed = 7;
+  objects = record { name = 112 ∷ []; kind = Source 1 (Fixed 2) 4 1; rank = 0; quiet = false; trace = false }
+      ∷ record { name = 113 ∷ []; kind = kind_of_station counter; rank = 0; quiet = false; trace = false }
+      ∷ record { name = 114 ∷ []; kind = Sink None; rank = 0; quiet = false; trace = false }
+      ∷ [];
+  jobs = [];
+}
+
+unfoldable pub to_fifty : Terms
+to_fifty = record { end = 50; limit = 100; end_in_range = lit< tt; some_event = lit≤ tt; limit_in_range = lit≤ tt }
+
+-- a key of rank 0, and a record of one part
+abbrev pub key_at : ℕ → ℕ → ℕ → ℕ → ℕ → Key
+key_at time step dest src serial = record { stamp = stamp_at time step; rank = 0; dest = dest; src = src; serial = serial }
+
+abbrev told_at : Key → ℕ → ℕ → ℕ → Key × Note
+told_at key word a b = (key, record { word = word; a = a; b = b } ∷ [])
+
+-- two jobs are made; the first is taken, and the second waits
+four_records : first_records 4 (network_meaning shop) to_fifty ≡
+    told_at (key_at 1 0 0 INITIAL 0) 2 1 3
+    ∷ told_at (key_at 1 1 1 0 0) 3 1 0
+    ∷ told_at (key_at 3 0 0 0 1) 2 2 2
+    ∷ told_at (key_at 3 1 1 0 2) 4 2 1
+    ∷ []
+unfolding gathered shop counter to_fifty draw drawn_value words_read start_of sources_below place_changes idle_effect last_effect make_effect source_effect sink_effect take_effect wait_effect lose_effect arrival_outcome serve_effect free_effect done_effect station_effect plain_meaning network_meaning key_lt key_cmp next_stamp has_no_step cells_after_all inverses_of enqueue enqueue_all has_endless_chain emissions fired_by fire initial_state next next_of next_fired left_by after_events
+four_records = refl
+
+-- the third of them sent the event of the fourth, one step later
+second_arrival : Event
+second_arrival = record { key = key_at 3 1 1 0 2; kind = 3; a = 2; b = 3 }
+
+cause_of_fourth : IsCause (network_meaning shop) to_fifty 2 (key_at 3 1 1 0 2)
+unfolding second_arrival sent_next shop counter to_fifty draw drawn_value words_read start_of sources_below place_changes idle_effect last_effect make_effect source_effect sink_effect take_effect wait_effect lose_effect arrival_outcome serve_effect free_effect done_effect station_effect plain_meaning network_meaning key_lt key_cmp next_stamp has_no_step cells_after_all inverses_of enqueue enqueue_all has_endless_chain emissions fired_by fire initial_state next next_of next_fired left_by after_events
+cause_of_fourth = record {
+  told = told_at (key_at 3 0 0 0 1) 2 2 2;
+  after = after_events 3 (network_meaning shop) to_fifty;
+  happens = refl;
+  sent = (second_arrival, (0, lit< tt, refl), refl);
+  earlier = lit< tt;
+}
+
+-- six events are done: three jobs were made; the first is served, the others wait
+pub three_here : State
+three_here = after_events 6 (network_meaning shop) to_fifty
+
+three_here_reached : Reaches (network_meaning shop) to_fifty three_here
+unfolding three_here
+three_here_reached = (6, refl)
+
+is_counter : IsStationAt shop 1 counter
+unfolding shop
+is_counter = refl
+
+who_waits : ◌≡◌ {A = ℕ × List ℕ × List ℕ} (busy_at three_here 1, waiting_at three_here 1, map (λ e. e.a) (in_service_at three_here 1)) (1, 2 ∷ 3 ∷ [], 1 ∷ [])
+unfolding three_here shop counter to_fifty draw drawn_value words_read start_of sources_below place_changes idle_effect last_effect make_effect source_effect sink_effect take_effect wait_effect lose_effect arrival_outcome serve_effect free_effect done_effect station_effect plain_meaning network_meaning key_lt key_cmp next_stamp has_no_step cells_after_all inverses_of enqueue enqueue_all has_endless_chain emissions fired_by fire initial_state next next_of next_fired left_by after_events
+who_waits = refl
+
+-- after eleven events all four jobs came in; three services began, and two of them have ended
+eleven : State
+eleven = after_events 11 (network_meaning shop) to_fifty
+
+in_turn : ◌≡◌ {A = List ℕ × List ℕ × List ℕ × List ℕ × List ℕ}
+    (arrived_at shop to_fifty 1 11, begun_at shop to_fifty 1 11, done_at shop to_fifty 1 11, waiting_at eleven 1, numbers_of (in_service_at eleven 1))
+    (1 ∷ 2 ∷ 3 ∷ 4 ∷ [], 1 ∷ 2 ∷ 3 ∷ [], 1 ∷ 2 ∷ [], 4 ∷ [], 3 ∷ [])
+unfolding eleven gathered sent_next shop counter to_fifty draw drawn_value words_read start_of sources_below place_changes idle_effect last_effect make_effect source_effect sink_effect take_effect wait_effect lose_effect arrival_outcome serve_effect free_effect done_effect station_effect plain_meaning network_meaning key_lt key_cmp next_stamp has_no_step cells_after_all inverses_of enqueue enqueue_all has_endless_chain emissions fired_by fire initial_state next next_of next_fired left_by after_events
+in_turn = refl

@@ -1,0 +1,13 @@
+pub mod CircuitExamples
+pub mod DrawLaws
+pub mod Draws
+pub mod JobLaws
+pub mod Jobs
+pub mod OrderLaws
+pub mod Orders
+pub mod PholdLaws
+pub mod Places
+pub mod ServerLaws
+pub mod Settled
+pub mod Stations
+pub mod TotalLaws

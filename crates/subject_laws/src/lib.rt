@@ -1,0 +1,12 @@
+//! Laws in the words of those who study the subject: what holds of every run of PHOLD, of a network of queues and of a
+//! circuit. Each file is a law; its function does nothing: its contract is the law.
+#![tactic(auto)]
+
+pub mod circuit_examples;
+pub mod draws;
+pub mod jobs;
+pub mod order;
+pub mod population;
+pub mod servers;
+pub mod settled;
+pub mod totals;

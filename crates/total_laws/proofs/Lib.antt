@@ -1,3 +1,0 @@
-mod SmallTotals
-mod ToldTotals
-pub mod TotalsLaw
