@@ -13,7 +13,7 @@ use Rattle.circuit_model.specs.declared.gate.LogicGate.{LogicGate}
 use Rattle.circuit_model.specs.declared.gate.LogicKind.TheVariants.{Input}
 use Rattle.circuit_model.specs.declared.limits.TheConstants.{MOST_FED}
 use Rattle.model_text.specs.declared.directory.Place.{Place}
-use Rattle.model_text.specs.declared.named_gate.NamedGate.{NamedGate}
+use Rattle.model_text.specs.declared.named.NamedGate.{NamedGate}
 use Rattle.model_text.specs.declared.refusal.Cause.TheVariants.{Limit}
 use Rattle.model_text.specs.declared.refusal.Refusal.{Refusal}
 use Rattle.model_text.specs.declared.refusal.Refusal.TheVariants.{At, OutOfMemory}

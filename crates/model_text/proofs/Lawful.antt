@@ -8,14 +8,16 @@ use Rattle.std.proofs.lemmas.List.Elements.{All-nil, All-cons, All-head, All-tai
 use Rattle.model_core.specs.declared.entry.Entry.{Entry}
 use Rattle.queue_models.specs.declared.kind.KindOver.{KindOver}
 use Rattle.queue_models.specs.declared.kind.KindOver.TheVariants.{Source, Station, Delay, Router, Sink}
-use Rattle.queue_models.specs.Kinds.{is_source, is_station}
+use Rattle.queue_models.specs.Kinds.{is_source, is_station, IsKind}
 use Rattle.queue_models.specs.Objects.{Item, network_of, no_object}
-use Rattle.queue_models.specs.Parts.{IsName, IsLink, IsKind, IsObject, IsJob, IsNetwork}
+use Rattle.queue_models.specs.Parts.{IsName, IsLink, IsObject, IsJob, IsNetwork}
 use Rattle.model_text.specs.declared.directory.Place.{Place}
 use Rattle.model_text.specs.Checks.{Checked, ◌>>=◌}
 use Rattle.model_text.specs.Fields.{each_of}
 use Rattle.model_text.specs.Linked.{IsFound, IsLinkedJob}
-use Rattle.model_text.specs.Links.{found_link, link, links, linked_kind, linked_item, linked_from}
+use Rattle.model_text.specs.Kinds.{linked_kind}
+use Rattle.model_text.specs.Objects.{linked_item, linked_from}
+use Rattle.model_text.specs.Links.{found_link, link, links}
 use Rattle.model_text.specs.NamedItems.{AnyName, IsNamedItem}
 use Rattle.model_text.specs.Names.{is_name, Finder, NamedItem, NamedKind, place_of, place_from, place_in}
 
@@ -62,38 +64,34 @@ sources objects = map (λ object. is_source object.kind) objects
 named_sources : List NamedItem → List Bool
 named_sources named = map (λ object. is_source object.kind) named
 
-kind-source : (find : Finder) (at : ℕ) (named : NamedKind) (kind : KindOver ℕ) → linked_kind find at named ≡ Ok kind → is_source kind ≡ is_source named
-kind-source find at (Source first every count next) kind gives = let one = seen (link find at next) _ kind gives in sym (ap is_source one.2)
-kind-source find at (Station servers service line strict next) kind gives = let one = seen (link find at next) _ kind gives in sym (ap is_source one.2)
-kind-source find at (Delay delay next) kind gives = let one = seen (link find at next) _ kind gives in sym (ap is_source one.2)
-kind-source find at (Router next weights) kind gives = let one = seen (links find at next) _ kind gives in sym (ap is_source one.2)
-kind-source find at (Sink due) kind gives = let one : Sink due ≡ kind = cc in sym (ap is_source one)
+-- what pass two keeps of what an object does, where each link that it finds is such
+record IsLinked (Takes : ℕ → Type 0) (named : NamedKind) (kind : KindOver ℕ) : Type 0 where
+  source : is_source kind ≡ is_source named
+  station : is_station kind ≡ is_station named
+  in_range : IsKind AnyName named → IsKind Takes kind
 
-kind-station : (find : Finder) (at : ℕ) (named : NamedKind) (kind : KindOver ℕ) → linked_kind find at named ≡ Ok kind → is_station kind ≡ is_station named
-kind-station find at (Source first every count next) kind gives = let one = seen (link find at next) _ kind gives in sym (ap is_station one.2)
-kind-station find at (Station servers service line strict next) kind gives = let one = seen (link find at next) _ kind gives in sym (ap is_station one.2)
-kind-station find at (Delay delay next) kind gives = let one = seen (link find at next) _ kind gives in sym (ap is_station one.2)
-kind-station find at (Router next weights) kind gives = let one = seen (links find at next) _ kind gives in sym (ap is_station one.2)
-kind-station find at (Sink due) kind gives = let one : Sink due ≡ kind = cc in sym (ap is_station one)
-
-kind-lawful : (objects : List Item) (find : Finder) (links_are : (n : ℕ) → IsFound find n → IsLink objects n) (at : ℕ) (named : NamedKind) (kind : KindOver ℕ)
-    → IsKind AnyName named → linked_kind find at named ≡ Ok kind → IsKind (IsLink objects) kind
-kind-lawful objects find links_are at (Source first every count next) kind fine gives =
-    let one = seen (link find at next) _ kind gives in
-    subst (IsKind (IsLink objects)) one.2 (fine.0, links_are one.0 (link-found find at next one.0 one.1))
-kind-lawful objects find links_are at (Station servers service line strict next) kind fine gives =
-    let one = seen (link find at next) _ kind gives in
-    subst (IsKind (IsLink objects)) one.2 (fine.0, links_are one.0 (link-found find at next one.0 one.1))
-kind-lawful objects find links_are at (Delay delay next) kind fine gives =
-    let one = seen (link find at next) _ kind gives in
-    subst (IsKind (IsLink objects)) one.2 (fine.0, links_are one.0 (link-found find at next one.0 one.1))
-kind-lawful objects find links_are at (Router next weights) kind fine gives =
-    let one = seen (links find at next) _ kind gives in
-    let found = links-found find at 0 next one.0 one.1 in
-    subst (IsKind (IsLink objects)) one.2 (fine.0 ∙ found.1, fine.1, All-weaker (IsFound find) (IsLink objects) links_are one.0 found.0)
-kind-lawful objects find links_are at (Sink due) kind fine gives =
-    let one : Sink due ≡ kind = cc in
-    subst (IsKind (IsLink objects)) one fine
+kind-linked : (Takes : ℕ → Type 0) (find : Finder) (takes : (n : ℕ) → IsFound find n → Takes n) (at : ℕ) (named : NamedKind) (kind : KindOver ℕ)
+    → linked_kind find at named ≡ Ok kind → IsLinked Takes named kind
+kind-linked Takes find takes at (Source s) kind gives =
+    let one = seen (link find at s.next) _ kind gives in
+    subst (IsLinked Takes (Source s)) one.2
+    (record { source = refl; station = refl; in_range = λ fine. (record { starts = fine.0.starts; law = fine.0.law; some = fine.0.some; few = fine.0.few }, takes one.0 (link-found find at s.next one.0 one.1)) })
+kind-linked Takes find takes at (Station s) kind gives =
+    let one = seen (link find at s.next) _ kind gives in
+    subst (IsLinked Takes (Station s)) one.2
+    (record { source = refl; station = refl; in_range = λ fine. (record { some = fine.0.some; few = fine.0.few; law = fine.0.law; short = fine.0.short }, takes one.0 (link-found find at s.next one.0 one.1)) })
+kind-linked Takes find takes at (Delay d) kind gives =
+    let one = seen (link find at d.next) _ kind gives in
+    subst (IsLinked Takes (Delay d)) one.2
+    (record { source = refl; station = refl; in_range = λ fine. (fine.0, takes one.0 (link-found find at d.next one.0 one.1)) })
+kind-linked Takes find takes at (Router r) kind gives =
+    let one = seen (links find at r.next) _ kind gives in
+    let found = links-found find at 0 r.next one.0 one.1 in
+    subst (IsLinked Takes (Router r)) one.2
+    (record { source = refl; station = refl; in_range = λ fine. (fine.0 ∙ found.1, fine.1, All-weaker (IsFound find) Takes takes one.0 found.0) })
+kind-linked Takes find takes at (Sink sink) kind gives =
+    let one : Sink sink ≡ kind = cc in
+    subst (IsLinked Takes (Sink sink)) one (record { source = refl; station = refl; in_range = λ fine. fine })
 
 name-lawful : (name : List ℕ) → IsTrue (is_name name) → IsName name
 name-lawful name test = record { some = grind (arith, nat_tests); short = grind (arith, nat_tests); bytes = grind (arith, nat_tests) }
@@ -118,7 +116,7 @@ linked-sources find k (o ∷ named) objects gives =
     let first = bound (linked_item find k o) _ objects gives in
     let others = seen (each_of (linked_item find) (k + 1) named) (λ os. first.0 ∷ os) objects first.2 in
     let kind = seen (linked_kind find k o.kind) _ first.0 first.1 in
-    let same : is_source first.0.kind ≡ is_source o.kind = sym (ap (λ (object : Item). is_source object.kind) kind.2) ∙ kind-source find k o.kind kind.0 kind.1 in
+    let same : is_source first.0.kind ≡ is_source o.kind = sym (ap (λ (object : Item). is_source object.kind) kind.2) ∙ (kind-linked (IsFound find) find (λ n found. found) k o.kind kind.0 kind.1).source in
     sym (ap (λ (os : List Item). sources os) others.2)
     ∙ ap (λ (b : Bool). b ∷ sources others.0) same
     ∙ ap (λ (bs : List Bool). is_source o.kind ∷ bs) (linked-sources find (k + 1) named others.0 others.1)
@@ -131,12 +129,13 @@ linked-lawful all find links_are k (o ∷ named) objects fine gives =
     let others = seen (each_of (linked_item find) (k + 1) named) (λ os. first.0 ∷ os) objects first.2 in
     let kind = seen (linked_kind find k o.kind) _ first.0 first.1 in
     let here = All-head IsNamedItem o named fine in
+    let linked = kind-linked (IsLink all) find links_are k o.kind kind.0 kind.1 in
     let lawful : IsObject all first.0 =
     subst (IsObject all) kind.2 (record {
       name = name-lawful o.name here.named;
-      kind = kind-lawful all find links_are k o.kind kind.0 here.in_range kind.1;
+      kind = linked.in_range here.in_range;
       rank = here.rank;
-      traced = subst (λ station. IsTrue (not o.trace || station)) (sym (kind-station find k o.kind kind.0 kind.1)) here.traced;
+      traced = subst (λ station. IsTrue (not o.trace || station)) (sym linked.station) here.traced;
     }) in
     subst (All (IsObject all)) others.2
     (All-cons (IsObject all) first.0 others.0 lawful (linked-lawful all find links_are (k + 1) named others.0 (All-tail IsNamedItem o named fine) others.1))
@@ -190,7 +189,7 @@ name_at named objects same i d e within named_within =
 names-differ : (named : List NamedItem) (objects : List Item) → map (λ (object : Item). object.name) objects ≡ map (λ (object : NamedItem). object.name) named
     → length objects ≡ length named → AllPairs (λ (a b : NamedItem). a.name ≢ b.name) named → AllPairs (λ (a b : Item). a.name ≢ b.name) objects
 names-differ named objects same long apart i j d before within = λ equal.
-    let e : NamedItem = record { name = []; kind = Sink None; rank = 0; quiet = false; trace = false } in
+    let e : NamedItem = record { name = []; kind = Sink (record { due = None }); rank = 0; quiet = false; trace = false } in
     let first = name_at named objects same i d e (omega arith) (omega arith) in
     let second = name_at named objects same j d e within (omega arith) in
     apart i j e before (omega arith) (sym first ∙ equal ∙ second)

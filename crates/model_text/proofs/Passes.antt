@@ -7,7 +7,7 @@ use Rattle.queue_models.specs.Objects.{Item, network_of}
 use Rattle.model_text.specs.declared.formats.Format.{Format}
 use Rattle.model_text.specs.Checks.{Checked, Fails, ◌>>=◌}
 use Rattle.model_text.specs.Jobs.{jobs_from}
-use Rattle.model_text.specs.Links.{linked_from}
+use Rattle.model_text.specs.Objects.{linked_from}
 use Rattle.model_text.specs.Names.{Finder, NamedItem, place_in}
 use Rattle.model_text.specs.Networks.{linked_network}
 use Rattle.model_text.specs.declared.refusal.Refusal.{Refusal}

@@ -14,7 +14,7 @@ use Rattle.event_key.specs.declared.stamp.TheConstants.{LAST_TICK}
 use Rattle.model_core.specs.declared.entry.Entry.{Entry}
 use Rattle.model_core.specs.declared.limits.TheConstants.{MOST_ENTRIES, MOST_EVENTS, MOST_OBJECTS}
 use Rattle.model_core.specs.Meaning.{Meaning}
-use Rattle.queue_models.specs.declared.kind.KindOver.TheVariants.{Source, Station, Delay, Router, Sink}
+use Rattle.queue_models.specs.declared.kind.KindOver.TheVariants.{Station}
 use Rattle.model_text.specs.declared.formats.Format.TheVariants.{One, Two}
 use Rattle.model_text.specs.declared.refusal.Cause.{Cause}
 use Rattle.model_text.specs.declared.refusal.Cause.TheVariants.{Unknown, BadValue}
@@ -28,11 +28,11 @@ use Rattle.model_text.specs.FormatLaws.{with_format, FirstIsSecond}
 use Rattle.model_text.specs.Formats.{format_of}
 use Rattle.model_text.specs.Jobs.{job, jobs_from}
 use Rattle.model_text.specs.LawTexts.{law}
-use Rattle.model_text.specs.Links.{linked_from}
 use Rattle.model_text.specs.ModelTexts.{kind_of, top_keys, body, top}
 use Rattle.model_text.specs.Names.{Finder, NamedItem, NamedKind, place_in, new_name}
 use Rattle.model_text.specs.Networks.{linked_network, network}
-use Rattle.model_text.specs.Objects.{named_kind, known_keys, object, objects_after, objects}
+use Rattle.model_text.specs.Kinds.{named_kind}
+use Rattle.model_text.specs.Objects.{known_keys, object, objects_after, objects, linked_from}
 use Rattle.model_text.specs.Phold.{destination, phold_keys, phold}
 use Rattle.model_text.specs.Starts.{start_entry, start_entries}
 use Rattle.model_text.proofs.Lawful.{bound}
@@ -119,12 +119,8 @@ job_grows find at d x gives =
 
 -- the keys of an object of each kind
 keys_grow : (kind : NamedKind) (ms : Members) → has_only (known_keys One kind) ms ≡ true → has_only (known_keys Two kind) ms ≡ true
-keys_grow (Source first every count next) ms fits = more_keys (known_keys One (Source first every count next)) (codes "rank" ∷ codes "quiet" ∷ []) ms fits
-keys_grow (Station servers service line strict next) ms fits =
-    more_keys (known_keys One (Station servers service line strict next)) (codes "rank" ∷ codes "quiet" ∷ codes "trace" ∷ []) ms fits
-keys_grow (Delay delay next) ms fits = more_keys (known_keys One (Delay delay next)) (codes "rank" ∷ codes "quiet" ∷ []) ms fits
-keys_grow (Router next weights) ms fits = more_keys (known_keys One (Router next weights)) (codes "rank" ∷ codes "quiet" ∷ []) ms fits
-keys_grow (Sink due) ms fits = more_keys (known_keys One (Sink due)) (codes "rank" ∷ codes "quiet" ∷ []) ms fits
+keys_grow (Station station) ms fits = more_keys (known_keys One (Station station)) (codes "rank" ∷ codes "quiet" ∷ codes "trace" ∷ []) ms fits
+keys_grow other ms fits = more_keys (known_keys One other) (codes "rank" ∷ codes "quiet" ∷ []) ms fits
 
 record AreNew (kind : NamedKind) (ms : Members) : Type 0 where
   rank : get_member (codes "rank") ms ≡ None
@@ -132,35 +128,20 @@ record AreNew (kind : NamedKind) (ms : Members) : Type 0 where
   trace : get_member (codes "trace") ms ≡ None
 
 are_new : (kind : NamedKind) (ms : Members) → has_only (known_keys One kind) ms ≡ true → AreNew kind ms
-are_new (Source first every count next) ms fits =
-    let known = known_keys One (Source first every count next) in
+are_new (Station station) ms fits =
+    let known = known_keys One (Station station) in
     record { rank = no_key known (codes "rank") ms refl fits; quiet = no_key known (codes "quiet") ms refl fits; trace = no_key known (codes "trace") ms refl fits }
-are_new (Station servers service line strict next) ms fits =
-    let known = known_keys One (Station servers service line strict next) in
-    record { rank = no_key known (codes "rank") ms refl fits; quiet = no_key known (codes "quiet") ms refl fits; trace = no_key known (codes "trace") ms refl fits }
-are_new (Delay delay next) ms fits =
-    let known = known_keys One (Delay delay next) in
-    record { rank = no_key known (codes "rank") ms refl fits; quiet = no_key known (codes "quiet") ms refl fits; trace = no_key known (codes "trace") ms refl fits }
-are_new (Router next weights) ms fits =
-    let known = known_keys One (Router next weights) in
-    record { rank = no_key known (codes "rank") ms refl fits; quiet = no_key known (codes "quiet") ms refl fits; trace = no_key known (codes "trace") ms refl fits }
-are_new (Sink due) ms fits =
-    let known = known_keys One (Sink due) in
+are_new other ms fits =
+    let known = known_keys One other in
     record { rank = no_key known (codes "rank") ms refl fits; quiet = no_key known (codes "quiet") ms refl fits; trace = no_key known (codes "trace") ms refl fits }
 
 trace_one : (kind : NamedKind) (at : ℕ) (ms : Members) → trace One kind at ms ≡ Ok false
-trace_one (Source first every count next) at ms = refl
-trace_one (Station servers service line strict next) at ms = refl
-trace_one (Delay delay next) at ms = refl
-trace_one (Router next weights) at ms = refl
-trace_one (Sink due) at ms = refl
+trace_one (Station station) at ms = refl
+trace_one other at ms = refl
 
 trace_absent : (kind : NamedKind) (at : ℕ) (ms : Members) → get_member (codes "trace") ms ≡ None → trace Two kind at ms ≡ Ok false
-trace_absent (Source first every count next) at ms none = refl
-trace_absent (Station servers service line strict next) at ms none = flag_absent at (codes "trace") ms none
-trace_absent (Delay delay next) at ms none = refl
-trace_absent (Router next weights) at ms none = refl
-trace_absent (Sink due) at ms none = refl
+trace_absent (Station station) at ms none = flag_absent at (codes "trace") ms none
+trace_absent other at ms none = refl
 
 object_grows : (find : Finder) (at : ℕ) (d : Data) (x : NamedItem) → object One find at d ≡ Ok x → object Two find at d ≡ Ok x
 unfolding object

@@ -9,7 +9,7 @@ use Rattle.circuit_model.specs.declared.gate.LogicKind.{LogicKind}
 use Rattle.circuit_model.specs.declared.limits.TheConstants.{MOST_FED}
 use Rattle.model_core.specs.Meaning.{Meaning}
 use Rattle.model_core.specs.declared.limits.TheConstants.{MOST_OBJECTS}
-use Rattle.model_text.specs.declared.named_gate.NamedGate.{NamedGate}
+use Rattle.model_text.specs.declared.named.NamedGate.{NamedGate}
 use Rattle.model_text.specs.declared.refusal.Cause.TheVariants.{Limit}
 use Rattle.model_text.specs.Checks.{Checked, refusal_where, ◌>>=◌}
 use Rattle.model_text.specs.Fields.{text, table_of, array_of, required, optional, each_after, each_of, all_of}

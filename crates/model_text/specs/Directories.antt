@@ -1,7 +1,9 @@
--- What a directory finds.
-use Rattle.std.specs.BTreeMap.{get_by_text}
+-- What a directory finds: what has a name with these bytes.
+use Rattle.std.specs.Ordering.{nat_cmp}
+use Rattle.std.specs.BTreeMap.{get_by}
+use Rattle.std.specs.Cmp.Lexicographic.{slice_cmp}
 use Rattle.model_text.specs.declared.directory.Directory.{Directory}
 use Rattle.model_text.specs.Names.{Finder}
 
 abbrev pub finder : Directory → Finder
-finder directory name = get_by_text directory.places name
+finder directory name = get_by (λ key. slice_cmp nat_cmp name key.items) directory.places

@@ -8,6 +8,7 @@ pub mod FormatLaws
 pub mod Formats
 pub mod GateFields
 pub mod Jobs
+pub mod Kinds
 pub mod LawTexts
 pub mod Linked
 pub mod Links

@@ -3,7 +3,7 @@ use Rattle.std.specs.Prelude.{ℕ, ◌^◌, ◌≤◌, true, List, length, sum_b
 use Rattle.circuit_model.specs.Gates.{HasPins}
 use Rattle.circuit_model.specs.Parts.{HasFlips}
 use Rattle.model_text.specs.declared.directory.Place.{Place}
-use Rattle.model_text.specs.declared.named_gate.NamedGate.{NamedGate}
+use Rattle.model_text.specs.declared.named.NamedGate.{NamedGate}
 use Rattle.model_text.specs.Names.{Finder, place_from}
 
 pub record IsNamedGate (gate : NamedGate) : Type 0 where

@@ -1,8 +1,7 @@
 -- The numbers of an object that was read lie within their bounds.
 use Rattle.std.specs.Prelude.{ℕ, ◌≤◌, ◌||◌, not, IsTrue, List}
 use Rattle.event_key.specs.declared.key.TheConstants.{MOST_RANK}
-use Rattle.queue_models.specs.Kinds.{is_station}
-use Rattle.queue_models.specs.Parts.{IsKind}
+use Rattle.queue_models.specs.Kinds.{is_station, IsKind}
 use Rattle.model_text.specs.Names.{NamedItem, is_name}
 
 -- any name may stand for an object, until it is looked for

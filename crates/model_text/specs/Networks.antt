@@ -9,9 +9,8 @@ use Rattle.model_text.specs.declared.formats.Format.{Format}
 use Rattle.model_text.specs.Checks.{Checked, ◌>>=◌}
 use Rattle.model_text.specs.Fields.{array_of, optional}
 use Rattle.model_text.specs.Jobs.{jobs_from}
-use Rattle.model_text.specs.Links.{linked_from}
 use Rattle.model_text.specs.Names.{NamedItem, place_in}
-use Rattle.model_text.specs.Objects.{objects}
+use Rattle.model_text.specs.Objects.{objects, linked_from}
 
 -- passes two and three, after pass one; the items of the objects begin with 1, and those of the jobs follow them
 unfoldable pub linked_network : Format → ℕ → List NamedItem → Items → Checked Meaning

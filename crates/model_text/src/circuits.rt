@@ -15,7 +15,7 @@ use crate::directory::Directory;
 use crate::fields::{array_of, optional};
 use crate::gates::gates;
 use crate::links::links;
-use crate::named_gate::NamedGate;
+use crate::named::NamedGate;
 use crate::refusal::{Cause, Refusal};
 use circuit_model::{Circuit, LogicGate, first_overloaded};
 use model_core::MOST_OBJECTS;
@@ -34,7 +34,7 @@ fn linked_gate(
 {
     let from = links(alloc, directory, gate.from.as_slice(), item)?;
     Ok(LogicGate {
-        name: gate.name.into_name(),
+        name: gate.name,
         kind: gate.kind,
         delay: gate.delay,
         from,

@@ -16,7 +16,7 @@ pub(crate) struct Place {
 /// What was read so far, by its names.
 #[derive(Drop)]
 pub(crate) struct Directory {
-    places: BTreeMap<String, Place>,
+    places: BTreeMap<Vec<u8>, Place>,
 }
 
 impl Directory {
@@ -33,17 +33,17 @@ impl Directory {
     }
 
     /// What has this name.
-    pub(crate) fn find(&self, name: &str) -> Option<Place>
+    pub(crate) fn find(&self, name: &[u8]) -> Option<Place>
         ensures { result ≡ finder self.now name.now }
     {
         self.places.get(name).copied()
     }
 
     /// Takes in what has a name that it doesn't have yet.
-    pub(crate) fn add(&mut self, alloc: Global, name: &str, place: Place) -> Result<(), AllocError>
+    pub(crate) fn add(&mut self, alloc: Global, name: &[u8], place: Place) -> Result<(), AllocError>
         ensures { OnOk result (TakesIn (finder self.old) (finder self.new) name.now place) }
     {
-        let key = String::from_str(alloc, name)?;
+        let key = Vec::from_slice(alloc, name)?;
         self.places.insert(key, place)?;
         Ok(())
     }

@@ -9,13 +9,12 @@ ghost use Rattle.model_text.specs.GateFields.{logic_kind, takes, flips, feeders,
 ghost use Rattle.model_text.specs.NamedGates.{IsNamedGate};
 
 use crate::fields::{array_of, entries_of, item_count, number, only, optional, required, truth};
-use crate::label::Label;
-use crate::named_gate::NamedGate;
+use crate::named::NamedGate;
+use crate::names::names_of;
 use crate::refusal::{Cause, Refusal};
-use crate::routers::labels;
 use circuit_model::{LogicKind, MOST_DELAY, MOST_FLIPS};
 use event_key::LAST_TICK;
-use model_core::Sequence;
+use model_core::{Name, Sequence};
 use std::alloc::Global;
 use toml::{Table, Value};
 
@@ -77,7 +76,7 @@ fn feeders(
     value: &Value,
     kind: LogicKind,
     item: u32,
-) -> Result<Sequence<Label>, Refusal>
+) -> Result<Sequence<Name>, Refusal>
     ensures read { Gives (λ names. names) result (feeders kind item (view value.now)) }
     ensures fit { IfOk result (λ names. HasPins kind (length names)) }
 {
@@ -85,7 +84,7 @@ fn feeders(
     if !takes(kind, item_count(values)) {
         return Err(Cause::BadValue.at(item));
     }
-    Ok(Sequence::new(labels(alloc, values, item)?))
+    Ok(Sequence::new(names_of(alloc, values, item)?))
 }
 
 /// An input, where those before it turn so often.
@@ -93,7 +92,7 @@ fn feeders(
 pub(crate) fn input(
     alloc: Global,
     table: &Table,
-    name: Label,
+    name: Name,
     before: usize,
     item: u32,
 ) -> Result<NamedGate, Refusal>
@@ -121,7 +120,7 @@ pub(crate) fn input(
 pub(crate) fn fed_gate(
     alloc: Global,
     table: &Table,
-    name: Label,
+    name: Name,
     kind: LogicKind,
     item: u32,
 ) -> Result<NamedGate, Refusal>

@@ -11,7 +11,7 @@ ghost use Rattle.model_text.specs.NamedGates.{IsNamedGate, flip_count, gate_plac
 use crate::directory::{Directory, Place};
 use crate::fields::{required, table_of, text};
 use crate::gate_fields::{fed_gate, input, logic_kind};
-use crate::named_gate::NamedGate;
+use crate::named::NamedGate;
 use crate::names::new_name;
 use crate::refusal::Refusal;
 use std::alloc::Global;
@@ -61,7 +61,7 @@ pub(crate) fn gates(alloc: Global, values: &[Value]) -> Result<(Vec<NamedGate>, 
             number,
             takes_links: true,
         };
-        directory.add(alloc, gate.name.as_str(), place)?;
+        directory.add(alloc, gate.name.bytes(), place)?;
         flips += gate.flips.as_slice().len();
         gates.push(gate)?;
     }

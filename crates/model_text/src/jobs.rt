@@ -29,7 +29,7 @@ fn job(value: &Value, format: Format, directory: &Directory, item: u32) -> Resul
     let name = text(required(table, "at", item)?, item)?;
     let rank = rank(table, format, item)?;
     only(table, entry_keys(format), item)?;
-    let at = link(directory, name, item)?;
+    let at = link(directory, name.as_bytes(), item)?;
     Ok(Entry { time, at, rank })
 }
 

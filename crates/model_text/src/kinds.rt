@@ -1,28 +1,32 @@
-//! The kinds of objects, each with its fields.
+//! The kinds of objects, each with its fields, its keys and its links.
 ghost use Rattle.std.specs.Prelude.{◌≡◌, ◌^◌, ◌<◌, IfOk, map};
 ghost use Rattle.std.specs.Option.{ForSome};
 ghost use Rattle.toml.specs.Data.{get_member};
 ghost use Rattle.toml.specs.View.{view, table_view};
-ghost use Rattle.queue_models.specs.Parts.{IsKind};
+ghost use Rattle.queue_models.specs.Kinds.{IsKind};
 ghost use Rattle.model_text.specs.declared.formats.Format.TheVariants.{One, Two};
 ghost use Rattle.model_text.specs.Checks.{Gives};
+ghost use Rattle.model_text.specs.Directories.{finder};
 ghost use Rattle.model_text.specs.NamedItems.{AnyName};
-ghost use Rattle.model_text.specs.Objects.{source, station, delay, router, due_time, sink, named_kind, known_keys};
+ghost use Rattle.model_text.specs.Kinds.{source, station, delay, router, due_time, sink, named_kind, linked_kind};
+ghost use Rattle.model_text.specs.Objects.{known_keys};
 
+use crate::directory::Directory;
 use crate::fields::{field, number, optional, required, text, truth};
 use crate::formats::Format;
-use crate::label::Label;
 use crate::laws::law;
+use crate::links::{link, links};
 use crate::named::NamedKind;
+use crate::names::name_of;
 use crate::refusal::{Cause, Refusal};
 use crate::routers::{optional_weights, ways};
 use event_key::LAST_TICK;
-use queue_models::{MOST_JOBS, MOST_SERVERS, MOST_WAITING};
+use queue_models::{Delay, Kind, MOST_JOBS, MOST_SERVERS, MOST_WAITING, Router, Sink, Source, Station};
 use std::alloc::Global;
 use toml::{Table, Value};
 
 /// A source.
-#[tactic(auto, unfolding(crate::specs::Objects::source))]
+#[tactic(auto, unfolding(crate::specs::Kinds::source))]
 fn source(alloc: Global, table: &Table, item: u32) -> Result<NamedKind, Refusal>
     ensures read { Gives (λ kind. kind) result (source item (table_view table.now)) }
     ensures in_range { IfOk result (IsKind AnyName) }
@@ -36,16 +40,16 @@ fn source(alloc: Global, table: &Table, item: u32) -> Result<NamedKind, Refusal>
         u64::from(MOST_JOBS),
     )?;
     let next = text(required(table, "next", item)?, item)?;
-    Ok(NamedKind::Source {
+    Ok(NamedKind::Source(Source {
         first,
         every,
         count: count as u32,
-        next: Label::new(alloc, next)?,
-    })
+        next: name_of(alloc, next)?,
+    }))
 }
 
 /// A station.
-#[tactic(auto, unfolding(crate::specs::Objects::station))]
+#[tactic(auto, unfolding(crate::specs::Kinds::station))]
 fn station(alloc: Global, table: &Table, item: u32) -> Result<NamedKind, Refusal>
     ensures read { Gives (λ kind. kind) result (station item (table_view table.now)) }
     ensures in_range { IfOk result (IsKind AnyName) }
@@ -66,38 +70,38 @@ fn station(alloc: Global, table: &Table, item: u32) -> Result<NamedKind, Refusal
     )?;
     let strict = truth(optional(table, "strict", &Value::Boolean(false)), item)?;
     let next = text(required(table, "next", item)?, item)?;
-    Ok(NamedKind::Station {
+    Ok(NamedKind::Station(Station {
         servers: servers as u32,
         service,
         line: line as u32,
         strict,
-        next: Label::new(alloc, next)?,
-    })
+        next: name_of(alloc, next)?,
+    }))
 }
 
 /// A delay.
-#[tactic(auto, unfolding(crate::specs::Objects::delay))]
+#[tactic(auto, unfolding(crate::specs::Kinds::delay))]
 fn delay(alloc: Global, table: &Table, item: u32) -> Result<NamedKind, Refusal>
     ensures read { Gives (λ kind. kind) result (delay item (table_view table.now)) }
     ensures in_range { IfOk result (IsKind AnyName) }
 {
     let delay = law(required(table, "delay", item)?, item)?;
     let next = text(required(table, "next", item)?, item)?;
-    Ok(NamedKind::Delay {
+    Ok(NamedKind::Delay(Delay {
         delay,
-        next: Label::new(alloc, next)?,
-    })
+        next: name_of(alloc, next)?,
+    }))
 }
 
 /// A router.
-#[tactic(auto, unfolding(crate::specs::Objects::router, random_streams::specs::Laws::is_drawable))]
+#[tactic(auto, unfolding(crate::specs::Kinds::router, random_streams::specs::Laws::is_drawable))]
 fn router(alloc: Global, table: &Table, item: u32) -> Result<NamedKind, Refusal>
     ensures read { Gives (λ kind. kind) result (router item (table_view table.now)) }
     ensures in_range { IfOk result (IsKind AnyName) }
 {
     let next = ways(alloc, required(table, "next", item)?, item)?;
     let weights = optional_weights(alloc, table, "weights", item, next.as_slice().len())?;
-    Ok(NamedKind::Router { next, weights })
+    Ok(NamedKind::Router(Router { next, weights }))
 }
 
 /// The age that a job may have, where there is a greatest.
@@ -112,13 +116,13 @@ fn optional_due(table: &Table, key: &str, item: u32) -> Result<Option<u64>, Refu
 }
 
 /// A sink.
-#[tactic(auto, unfolding(crate::specs::Objects::sink))]
+#[tactic(auto, unfolding(crate::specs::Kinds::sink))]
 fn sink(table: &Table, item: u32) -> Result<NamedKind, Refusal>
     ensures read { Gives (λ kind. kind) result (sink item (table_view table.now)) }
     ensures in_range { IfOk result (IsKind AnyName) }
 {
     let due = optional_due(table, "due", item)?;
-    Ok(NamedKind::Sink { due })
+    Ok(NamedKind::Sink(Sink { due }))
 }
 
 /// The kind with this word, and its fields.
@@ -141,6 +145,36 @@ pub(crate) fn named_kind(
     }
 }
 
+/// What an object does, with numbers of objects in place of their names.
+pub(crate) fn linked_kind(
+    alloc: Global,
+    directory: &Directory,
+    kind: NamedKind,
+    item: u32,
+) -> Result<Kind, Refusal>
+    ensures { Gives (λ kind. kind) result (linked_kind (finder directory.now) item kind) }
+{
+    match kind {
+        NamedKind::Source(source) => {
+            let next = link(directory, source.next.bytes(), item)?;
+            Ok(Kind::Source(source.sending_to(next)))
+        }
+        NamedKind::Station(station) => {
+            let next = link(directory, station.next.bytes(), item)?;
+            Ok(Kind::Station(station.sending_to(next)))
+        }
+        NamedKind::Delay(delay) => {
+            let next = link(directory, delay.next.bytes(), item)?;
+            Ok(Kind::Delay(delay.sending_to(next)))
+        }
+        NamedKind::Router(router) => {
+            let next = links(alloc, directory, router.next.as_slice(), item)?;
+            Ok(Kind::Router(router.sending_to(next)))
+        }
+        NamedKind::Sink(sink) => Ok(Kind::Sink(sink)),
+    }
+}
+
 /// The keys that an object of each kind may have.
 pub(crate) fn known_keys(format: Format, kind: &NamedKind) -> &'static [&'static str]
     ensures { map (λ name. name.now) result.now ≡ known_keys format kind.now }
@@ -156,13 +190,13 @@ fn first_keys(kind: &NamedKind) -> &'static [&'static str]
     ensures { map (λ name. name.now) result.now ≡ known_keys One kind.now }
 {
     match kind {
-        NamedKind::Source { .. } => &["name", "kind", "first", "every", "count", "next"],
-        NamedKind::Station { .. } => &[
+        NamedKind::Source(_) => &["name", "kind", "first", "every", "count", "next"],
+        NamedKind::Station(_) => &[
             "name", "kind", "servers", "service", "line", "strict", "next",
         ],
-        NamedKind::Delay { .. } => &["name", "kind", "delay", "next"],
-        NamedKind::Router { .. } => &["name", "kind", "next", "weights"],
-        NamedKind::Sink { .. } => &["name", "kind", "due"],
+        NamedKind::Delay(_) => &["name", "kind", "delay", "next"],
+        NamedKind::Router(_) => &["name", "kind", "next", "weights"],
+        NamedKind::Sink(_) => &["name", "kind", "due"],
     }
 }
 
@@ -171,15 +205,15 @@ fn second_keys(kind: &NamedKind) -> &'static [&'static str]
     ensures { map (λ name. name.now) result.now ≡ known_keys Two kind.now }
 {
     match kind {
-        NamedKind::Source { .. } => &[
+        NamedKind::Source(_) => &[
             "name", "kind", "first", "every", "count", "next", "rank", "quiet",
         ],
-        NamedKind::Station { .. } => &[
+        NamedKind::Station(_) => &[
             "name", "kind", "servers", "service", "line", "strict", "next", "rank", "quiet",
             "trace",
         ],
-        NamedKind::Delay { .. } => &["name", "kind", "delay", "next", "rank", "quiet"],
-        NamedKind::Router { .. } => &["name", "kind", "next", "weights", "rank", "quiet"],
-        NamedKind::Sink { .. } => &["name", "kind", "due", "rank", "quiet"],
+        NamedKind::Delay(_) => &["name", "kind", "delay", "next", "rank", "quiet"],
+        NamedKind::Router(_) => &["name", "kind", "next", "weights", "rank", "quiet"],
+        NamedKind::Sink(_) => &["name", "kind", "due", "rank", "quiet"],
     }
 }

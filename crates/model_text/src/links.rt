@@ -3,18 +3,19 @@ ghost use Rattle.std.specs.Prelude.{◌≤◌, length};
 ghost use Rattle.model_core.specs.declared.limits.TheConstants.{MOST_OBJECTS};
 ghost use Rattle.model_text.specs.Checks.{Gives};
 ghost use Rattle.model_text.specs.Directories.{finder};
-ghost use Rattle.model_text.specs.Links.{link, links, linked_kind, linked_item, linked_from};
+ghost use Rattle.model_text.specs.Links.{link, links};
+ghost use Rattle.model_text.specs.Objects.{linked_item, linked_from};
 
 use crate::directory::Directory;
-use crate::label::Label;
-use crate::named::{NamedItem, NamedKind};
+use crate::kinds::linked_kind;
+use crate::named::NamedItem;
 use crate::refusal::{Cause, Refusal};
-use model_core::Sequence;
-use queue_models::{Item, Kind};
+use model_core::{Name, Sequence};
+use queue_models::Item;
 use std::alloc::Global;
 
 /// The number of what has this name, which may not be a source.
-pub(crate) fn link(directory: &Directory, name: &str, item: u32) -> Result<u32, Refusal>
+pub(crate) fn link(directory: &Directory, name: &[u8], item: u32) -> Result<u32, Refusal>
     ensures { Gives (λ number. number) result (link (finder directory.now) item name.now) }
 {
     match directory.find(name) {
@@ -27,68 +28,16 @@ pub(crate) fn link(directory: &Directory, name: &str, item: u32) -> Result<u32, 
 pub(crate) fn links(
     alloc: Global,
     directory: &Directory,
-    names: &[Label],
+    names: &[Name],
     item: u32,
 ) -> Result<Sequence<u32>, Refusal>
     ensures { Gives (λ numbers. numbers) result (links (finder directory.now) item names.now) }
 {
     let mut numbers = Vec::new(alloc);
     for name in names {
-        numbers.push(link(directory, name.as_str(), item)?)?;
+        numbers.push(link(directory, name.bytes(), item)?)?;
     }
     Ok(Sequence::new(numbers))
-}
-
-/// What an object does, with numbers of objects in place of their names.
-fn linked_kind(
-    alloc: Global,
-    directory: &Directory,
-    kind: NamedKind,
-    item: u32,
-) -> Result<Kind, Refusal>
-    ensures { Gives (λ kind. kind) result (linked_kind (finder directory.now) item kind) }
-{
-    match kind {
-        NamedKind::Source {
-            first,
-            every,
-            count,
-            next,
-        } => {
-            let next = link(directory, next.as_str(), item)?;
-            Ok(Kind::Source {
-                first,
-                every,
-                count,
-                next,
-            })
-        }
-        NamedKind::Station {
-            servers,
-            service,
-            line,
-            strict,
-            next,
-        } => {
-            let next = link(directory, next.as_str(), item)?;
-            Ok(Kind::Station {
-                servers,
-                service,
-                line,
-                strict,
-                next,
-            })
-        }
-        NamedKind::Delay { delay, next } => {
-            let next = link(directory, next.as_str(), item)?;
-            Ok(Kind::Delay { delay, next })
-        }
-        NamedKind::Router { next, weights } => {
-            let next = links(alloc, directory, next.as_slice(), item)?;
-            Ok(Kind::Router { next, weights })
-        }
-        NamedKind::Sink { due } => Ok(Kind::Sink { due }),
-    }
 }
 
 /// An object, with numbers of objects in place of their names.

@@ -1,17 +1,18 @@
 //! Names of objects.
-ghost use Rattle.std.specs.Prelude.{◌≡◌, IfOk, IsTrue, None};
+ghost use Rattle.std.specs.Prelude.{◌≡◌, IfOk, IsTrue, None, length};
 ghost use Rattle.std.specs.List.{list_all};
-ghost use Rattle.toml.specs.View.{view};
+ghost use Rattle.toml.specs.View.{view, items_view};
 ghost use Rattle.queue_models.specs.Parts.{is_name_byte};
 ghost use Rattle.model_text.specs.Checks.{Gives};
 ghost use Rattle.model_text.specs.Directories.{finder};
+ghost use Rattle.model_text.specs.Fields.{each, text};
 ghost use Rattle.model_text.specs.Names.{is_name, new_name};
 
 use crate::directory::Directory;
 use crate::fields::text;
-use crate::label::Label;
 use crate::refusal::{Cause, Refusal};
-use std::alloc::Global;
+use model_core::Name;
+use std::alloc::{AllocError, Global};
 use toml::Value;
 
 /// How many bytes a name has at most.
@@ -38,6 +39,26 @@ fn is_name(name: &str) -> bool
     !name.is_empty() && name.len() <= MOST_NAME_BYTES && has_name_bytes(name)
 }
 
+/// The name with this text.
+pub(crate) fn name_of(alloc: Global, text: &str) -> Result<Name, AllocError>
+    ensures { IfOk result (λ name. name ≡ text.now) }
+{
+    let text = String::from_str(alloc, text)?;
+    Ok(Name::new(text.into_bytes()))
+}
+
+/// The texts of an array, each as the name of an object.
+pub(crate) fn names_of(alloc: Global, values: &[Value], item: u32) -> Result<Vec<Name>, Refusal>
+    ensures read { Gives (λ names. names.items) result (each (text item) (items_view values.now)) }
+    ensures count { IfOk result (λ names. length names.items ≡ length values.now) }
+{
+    let mut names = Vec::new(alloc);
+    for value in values {
+        names.push(name_of(alloc, text(value, item)?)?)?;
+    }
+    Ok(names)
+}
+
 /// A name that no object before has.
 #[tactic(auto, unfolding(crate::specs::Names::new_name))]
 pub(crate) fn new_name(
@@ -45,7 +66,7 @@ pub(crate) fn new_name(
     value: &Value,
     directory: &Directory,
     item: u32,
-) -> Result<Label, Refusal>
+) -> Result<Name, Refusal>
     ensures read { Gives (λ name. name) result (new_name (finder directory.now) item (view value.now)) }
     ensures named { IfOk result (λ name. IsTrue (is_name name)) }
     ensures new { IfOk result (λ name. finder directory.now name ≡ None) }
@@ -54,8 +75,8 @@ pub(crate) fn new_name(
     if !is_name(name) {
         return Err(Cause::BadValue.at(item));
     }
-    if directory.find(name).is_some() {
+    if directory.find(name.as_bytes()).is_some() {
         return Err(Cause::BadValue.at(item));
     }
-    Ok(Label::new(alloc, name)?)
+    Ok(name_of(alloc, name)?)
 }

@@ -46,14 +46,14 @@ fn object(
     let takes_links = !kind.is_source();
     directory.add(
         alloc,
-        name.as_str(),
+        name.bytes(),
         Place {
             number,
             takes_links,
         },
     )?;
     Ok(NamedItem {
-        name: name.into_name(),
+        name,
         kind,
         rank,
         quiet,

@@ -6,32 +6,20 @@ ghost use Rattle.toml.specs.Data.{get_member};
 ghost use Rattle.toml.specs.View.{view, items_view, table_view};
 ghost use Rattle.random_streams.specs.Laws.{is_choice};
 ghost use Rattle.model_text.specs.Checks.{Gives};
-ghost use Rattle.model_text.specs.Fields.{number, text, each};
+ghost use Rattle.model_text.specs.Fields.{number, each};
 ghost use Rattle.model_text.specs.Routers.{ways, weights, weights_or_ones};
 
-use crate::fields::{array_of, entries_of, field, item_count, number, text};
-use crate::label::Label;
+use crate::fields::{array_of, entries_of, field, item_count, number};
+use crate::names::names_of;
 use crate::refusal::{Cause, Refusal};
-use model_core::Sequence;
+use model_core::{Name, Sequence};
 use random_streams::{MOST_WEIGHT, MOST_WEIGHTS, Weights, total_weight};
 use std::alloc::Global;
 use toml::{Table, Value};
 
-/// The texts of an array.
-pub(crate) fn labels(alloc: Global, values: &[Value], item: u32) -> Result<Vec<Label>, Refusal>
-    ensures read { Gives (λ labels. labels.items) result (each (text item) (items_view values.now)) }
-    ensures count { IfOk result (λ labels. length labels.items ≡ length values.now) }
-{
-    let mut labels = Vec::new(alloc);
-    for value in values {
-        labels.push(Label::new(alloc, text(value, item)?)?)?;
-    }
-    Ok(labels)
-}
-
 /// The names of the objects to which a router sends.
 #[tactic(auto, unfolding(crate::specs::Routers::ways))]
-pub(crate) fn ways(alloc: Global, value: &Value, item: u32) -> Result<Sequence<Label>, Refusal>
+pub(crate) fn ways(alloc: Global, value: &Value, item: u32) -> Result<Sequence<Name>, Refusal>
     ensures read { Gives (λ names. names) result (ways item (view value.now)) }
     ensures some { IfOk result (λ names. 1 ≤ length names) }
     ensures few { IfOk result (λ names. length names ≤ MOST_WEIGHTS) }
@@ -40,7 +28,7 @@ pub(crate) fn ways(alloc: Global, value: &Value, item: u32) -> Result<Sequence<L
     if item_count(values) == 0 {
         return Err(Cause::BadValue.at(item));
     }
-    Ok(Sequence::new(labels(alloc, values, item)?))
+    Ok(Sequence::new(names_of(alloc, values, item)?))
 }
 
 /// The weights of an array.

@@ -10,9 +10,9 @@ use Rattle.event_key.specs.declared.key.TheConstants.{MOST_RANK}
 use Rattle.model_core.specs.declared.entry.Entry.{Entry}
 use Rattle.random_streams.specs.declared.law.Law.TheVariants.{Uniform}
 use Rattle.random_streams.specs.Laws.{is_delay, is_drawable}
-use Rattle.queue_models.specs.Kinds.{is_source, is_station as is_station_kind}
+use Rattle.queue_models.specs.Kinds.{is_source, is_station as is_station_kind, IsKind}
 use Rattle.queue_models.specs.Objects.{Item, network_of}
-use Rattle.queue_models.specs.Parts.{is_name_byte, IsName, IsLink, IsKind, IsObject, IsJob, IsNetwork}
+use Rattle.queue_models.specs.Parts.{is_name_byte, IsName, IsLink, IsObject, IsJob, IsNetwork}
 use Rattle.queue_models.specs.Rings.{ring_station, ring_delay, ring_object, ring_objects, ring_jobs, ring_parts}
 
 -- the name, and what there is with a number of its parity, 0 for a station

@@ -7,28 +7,25 @@ use Rattle.model_core.specs.declared.effect.Effect.{Effect}
 use Rattle.model_core.specs.declared.effect.Outcome.TheVariants.{Goes}
 use Rattle.model_core.specs.declared.event.Event.{Event}
 use Rattle.queue_models.specs.declared.kind.KindOver.{KindOver}
-use Rattle.queue_models.specs.declared.kind.KindOver.TheVariants.{Source, Station, Delay, Router, Sink}
+use Rattle.queue_models.specs.declared.kind.KindOver.TheVariants.{Station}
 use Rattle.queue_models.specs.Keeping.{EffectKeeps, OutcomeKeeps}
-use Rattle.queue_models.specs.Kinds.{is_station, is_lawful, effect_at}
+use Rattle.queue_models.specs.Kinds.{is_station, is_lawful, effect_at, IsKind}
 use Rattle.queue_models.specs.Loads.{HasLoad}
 use Rattle.queue_models.specs.Meaning.{site_of}
 use Rattle.queue_models.specs.ModelLaws.{object_fine, object_keeps}
 use Rattle.queue_models.specs.Objects.{Item, NetworkParts, object_at}
-use Rattle.queue_models.specs.Parts.{IsKind, IsLink, IsNetwork}
+use Rattle.queue_models.specs.Parts.{IsLink, IsNetwork}
 
 station_load : (objects : List Item) (kind : KindOver ℕ) (cells : CellData) (x : Effect) → is_station kind ≡ true → IsKind (IsLink objects) kind → IsTrue (is_lawful kind cells)
     → EffectKeeps (length objects) (λ c. is_lawful kind c) cells x → HasLoad cells x.changes
-station_load objects (Source first every count next) cells x other fine lawful keeps = absurd (cc)
-station_load objects (Station servers service line strict next) cells x serves fine lawful keeps = record {
+station_load objects (Station station) cells x serves fine lawful keeps = record {
   words = grind (arith, nat_tests);
   lines = grind (arith, nat_tests);
   short = (let least = fine.0.short in grind (arith, nat_tests));
   few = keeps.changes.few;
   fits = keeps.changes.fits;
 }
-station_load objects (Delay delay next) cells x other fine lawful keeps = absurd (cc)
-station_load objects (Router next weights) cells x other fine lawful keeps = absurd (cc)
-station_load objects (Sink due) cells x other fine lawful keeps = absurd (cc)
+station_load objects other cells x serves fine lawful keeps = absurd (cc)
 
 traced_station : (trace station : Bool) → IsTrue (not trace || station) → trace ≡ true → station ≡ true
 traced_station true station fine traced = fine

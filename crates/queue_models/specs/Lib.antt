@@ -1,5 +1,6 @@
 pub mod Delays
 pub mod Keeping
+pub mod KindLaws
 pub mod Kinds
 pub mod Loads
 pub mod Meaning
@@ -7,7 +8,6 @@ pub mod ModelLaws
 pub mod Objects
 pub mod Parts
 pub mod PartsProps
-pub mod PlainLaws
 pub mod Rings
 pub mod Routers
 pub mod Sinks

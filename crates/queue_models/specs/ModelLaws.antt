@@ -7,54 +7,17 @@ use Rattle.model_core.specs.declared.event.Event.{Event}
 use Rattle.model_core.specs.declared.effect.Outcome.{Outcome}
 use Rattle.model_core.specs.declared.effect.Outcome.TheVariants.{Goes, Fails}
 use Rattle.model_core.specs.Meaning.{MeaningLaws, OutcomeLaws, StartLaws}
-use Rattle.random_streams.proofs.Bounds.{is_drawable-delay}
-use Rattle.queue_models.specs.declared.kind.KindOver.{KindOver}
-use Rattle.queue_models.specs.declared.kind.KindOver.TheVariants.{Source, Station, Delay, Router, Sink}
-use Rattle.queue_models.specs.declared.site.Site.{Site}
-use Rattle.queue_models.specs.Keeping.{OutcomeKeeps, IsSite, outcome_laws}
-use Rattle.queue_models.specs.Kinds.{KindCanDraw, is_lawful, effect_at, first_cells_of, first_time_of}
+use Rattle.queue_models.specs.Keeping.{OutcomeKeeps, outcome_laws}
+use Rattle.queue_models.specs.Kinds.{is_lawful, effect_at}
 use Rattle.queue_models.specs.Meaning.{plain_meaning, network_meaning, site_of, source_start, job_start, start_of}
-use Rattle.queue_models.specs.Objects.{Item, NetworkParts, object_at, source_numbers}
-use Rattle.queue_models.specs.Parts.{IsKind, IsLink, IsNetwork, IsObject}
-use Rattle.queue_models.specs.PlainLaws.{delay_keeps, router_keeps, sink_keeps}
-use Rattle.queue_models.specs.SourceLaws.{source_keeps}
+use Rattle.queue_models.specs.Objects.{NetworkParts, object_at, source_numbers}
+use Rattle.queue_models.specs.Parts.{IsNetwork, IsObject}
+use Rattle.queue_models.specs.KindLaws.{kind_keeps, first_lawful, first_time}
 use Rattle.queue_models.specs.Starts.{length-source_numbers, source_numbers-exist}
-use Rattle.queue_models.specs.StationLaws.{station_keeps}
 use Rattle.queue_models.specs.Telling.{as_told}
-
-kind_keeps : (objects : List Item) (site : Site) (kind : KindOver ℕ) (cells : CellData) (event : Event) → IsKind (IsLink objects) kind → IsSite (length objects) site
-    → IsTrue (is_lawful kind cells) → OutcomeKeeps (length objects) (λ c. is_lawful kind c) cells (effect_at site kind cells event)
-kind_keeps objects site (Source first every count next) cells event fine here lawful = source_keeps objects site first every count next cells event fine.0 fine.1 here lawful
-kind_keeps objects site (Station servers service line strict next) cells event fine here lawful =
-    station_keeps objects site (record { servers = servers; service = service; line = line; strict = strict; next = next }) cells event fine.0 fine.1 here lawful
-kind_keeps objects site (Delay delay next) cells event fine here lawful = delay_keeps objects site delay next cells event fine.0 fine.1 here lawful
-kind_keeps objects site (Router next weights) cells event fine here lawful = router_keeps objects site next weights cells event fine.0 fine.1 fine.2 here lawful
-kind_keeps objects site (Sink due) cells event fine here lawful = sink_keeps objects due cells event lawful
-
-first_lawful : (objects : List Item) (kind : KindOver ℕ) → IsKind (IsLink objects) kind → IsTrue (is_lawful kind (first_cells_of kind))
-first_lawful objects (Source first every count next) fine =
-    let all : 0 + count ≡ count = omega arith in grind (arith, nat_tests)
-first_lawful objects (Station servers service line strict next) fine = grind (arith, nat_tests)
-first_lawful objects (Delay delay next) fine = refl
-first_lawful objects (Router next weights) fine = refl
-first_lawful objects (Sink due) fine = refl
-
-first_time : (objects : List Item) (kind : KindOver ℕ) → IsKind (IsLink objects) kind → first_time_of kind < 2 ^ 46
-first_time objects (Source first every count next) fine = fine.0.starts
-first_time objects (Station servers service line strict next) fine = omega arith
-first_time objects (Delay delay next) fine = omega arith
-first_time objects (Router next weights) fine = omega arith
-first_time objects (Sink due) fine = omega arith
 
 pub object_fine : (p : NetworkParts) → IsNetwork p → (object : ℕ) → object < length p.objects → IsObject p.objects (object_at p.objects object)
 object_fine p fine object exists = fine.objects object _ exists
-
-pub kind_can_draw : (objects : List Item) (kind : KindOver ℕ) → IsKind (IsLink objects) kind → KindCanDraw kind
-kind_can_draw objects (Source first every count next) fine = is_drawable-delay every fine.0.law
-kind_can_draw objects (Station servers service line strict next) fine = is_drawable-delay service fine.0.law
-kind_can_draw objects (Delay delay next) fine = is_drawable-delay delay fine.0
-kind_can_draw objects (Router next weights) fine = (fine.0, fine.1)
-kind_can_draw objects (Sink due) fine = tt
 
 start_laws : (p : NetworkParts) → IsNetwork p → (i : ℕ) → i < length (source_numbers p.objects) + length p.jobs → StartLaws (plain_meaning p) (start_of p i)
 unfolding plain_meaning network_meaning start_of

@@ -21,7 +21,7 @@ network_of seed objects jobs = record { seed = seed; objects = objects; jobs = j
 
 -- what stands for an object where there is none
 abbrev pub no_object : Item
-no_object = record { name = []; kind = Sink None; rank = 0; quiet = false; trace = false }
+no_object = record { name = []; kind = Sink (record { due = None }); rank = 0; quiet = false; trace = false }
 
 -- objects are numbered from 0 on, in their order
 abbrev pub object_at : List Item → ℕ → Item

@@ -1,17 +1,10 @@
 -- The parts of a network lie within their bounds, and name what there is.
 use Rattle.std.specs.Prelude.{◌≡◌, ◌≢◌, ℕ, ◌^◌, ◌<◌, ◌≤◌, ◌==◌, ◌||◌, ◌&&◌, nat_le, not, Bool, false, IsTrue, List, length, All}
 use Rattle.std.specs.List.{AllPairs, list_all}
-use Rattle.std.specs.Option.{ForSome}
 use Rattle.event_key.specs.declared.key.TheConstants.{MOST_RANK}
 use Rattle.model_core.specs.declared.entry.Entry.{Entry}
 use Rattle.model_core.specs.declared.limits.TheConstants.{MOST_ENTRIES, MOST_OBJECTS}
-use Rattle.random_streams.specs.declared.law.Law.{Law}
-use Rattle.random_streams.specs.Laws.{is_choice, is_delay}
-use Rattle.queue_models.specs.declared.kind.KindOver.{KindOver}
-use Rattle.queue_models.specs.declared.kind.KindOver.TheVariants.{Source, Station, Delay, Router, Sink}
-use Rattle.queue_models.specs.declared.source.TheConstants.{MOST_JOBS}
-use Rattle.queue_models.specs.declared.station.TheConstants.{MOST_SERVERS, MOST_WAITING}
-use Rattle.queue_models.specs.Kinds.{is_source, is_station}
+use Rattle.queue_models.specs.Kinds.{IsKind, is_source, is_station}
 use Rattle.queue_models.specs.Objects.{Item, NetworkParts, object_at}
 
 -- an ASCII letter, a digit, '_' or '-'
@@ -23,26 +16,6 @@ pub record IsName (name : List ℕ) : Type 0 where
   pub some : 1 ≤ length name
   pub short : length name ≤ 16
   pub bytes : IsTrue (list_all is_name_byte name)
-
-pub record IsSource (first : ℕ) (every : Law) (count : ℕ) : Type 0 where
-  pub starts : first < 2 ^ 46
-  pub law : IsTrue (is_delay every)
-  pub some : 1 ≤ count
-  pub few : count ≤ MOST_JOBS
-
-pub record IsStation (servers : ℕ) (service : Law) (line : ℕ) : Type 0 where
-  pub some : 1 ≤ servers
-  pub few : servers ≤ MOST_SERVERS
-  pub law : IsTrue (is_delay service)
-  pub short : line ≤ MOST_WAITING
-
--- the numbers of an object lie within the bounds of its kind, and those to which it sends are such
-abbrev pub IsKind : {L : Type 0} → (L → Type 0) → KindOver L → Type 0
-IsKind Takes (Source first every count next) = IsSource first every count × Takes next
-IsKind Takes (Station servers service line strict next) = IsStation servers service line × Takes next
-IsKind Takes (Delay delay next) = IsTrue (is_delay delay) × Takes next
-IsKind Takes (Router next weights) = (length weights ≡ length next) × IsTrue (is_choice weights) × All Takes next
-IsKind Takes (Sink due) = ForSome due (λ due. due < 2 ^ 46)
 
 -- an object that there is, and that takes jobs
 pub record IsLink (objects : List Item) (number : ℕ) : Type 0 where

@@ -12,7 +12,7 @@ use Rattle.queue_models.specs.Objects.{Item, NetworkParts, network_of}
 unfoldable pub ring_station : ℕ → Item
 ring_station i = record {
   name = codes "q" ++ decimal i;
-  kind = Station 1 (Uniform 1 (1 + i % 7)) 256 false (2 * i + 1);
+  kind = Station (record { servers = 1; service = Uniform 1 (1 + i % 7); line = 256; strict = false; next = 2 * i + 1 });
   rank = 0;
   quiet = false;
   trace = false;
@@ -22,7 +22,7 @@ ring_station i = record {
 unfoldable pub ring_delay : ℕ → ℕ → Item
 ring_delay n i = record {
   name = codes "d" ++ decimal i;
-  kind = Delay (Uniform 1 (1 + i % 11)) (2 * ((i + 1) % n));
+  kind = Delay (record { delay = Uniform 1 (1 + i % 11); next = 2 * ((i + 1) % n) });
   rank = 0;
   quiet = false;
   trace = false;

@@ -5,6 +5,7 @@ use Rattle.model_core.specs.declared.effect.Outcome.{Outcome}
 use Rattle.model_core.specs.declared.effect.Outcome.TheVariants.{Goes, Fails}
 use Rattle.model_core.specs.declared.event.Event.{Event}
 use Rattle.model_core.specs.declared.words.TheConstants.{LATE, LEFT_WORD}
+use Rattle.queue_models.specs.declared.sink.Sink.{Sink}
 use Rattle.queue_models.specs.Sites.{told}
 
 abbrev pub is_late : Option ℕ → ℕ → Bool
@@ -12,7 +13,7 @@ is_late None age = false
 is_late (Some due) age = nat_lt due age
 
 -- a job's age is the time since it was born, or 0 where that is later
-unfoldable pub sink_effect : Option ℕ → Event → Outcome
-sink_effect due event =
+unfoldable pub sink_effect : Sink → Event → Outcome
+sink_effect sink event =
     let age = time_part event.key.stamp - event.b in
-    if is_late due age then Fails LATE else Goes (record { changes = []; sends = []; note = told LEFT_WORD event.a age })
+    if is_late sink.due age then Fails LATE else Goes (record { changes = []; sends = []; note = told LEFT_WORD event.a age })

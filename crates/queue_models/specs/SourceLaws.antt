@@ -8,15 +8,15 @@ use Rattle.delta_exchange.specs.Changes.{CellData, AllFit, cells_after_all}
 use Rattle.event_key.specs.Stamps.{time_part}
 use Rattle.model_core.specs.declared.effect.Outcome.TheVariants.{Goes}
 use Rattle.model_core.specs.declared.event.Event.{Event}
-use Rattle.random_streams.specs.declared.law.Law.{Law}
 use Rattle.random_streams.proofs.Bounds.{draw-le, is_drawable-delay}
 use Rattle.random_streams.specs.Laws.{is_delay}
 use Rattle.queue_models.specs.declared.site.Site.{Site}
+use Rattle.queue_models.specs.declared.source.Source.{Source}
 use Rattle.model_core.specs.Places.{place_changes}
 use Rattle.queue_models.specs.Sites.{place_of, drawn_at}
-use Rattle.queue_models.specs.Sources.{left_of, made_of, is_source_cells, idle_effect, last_effect, make_effect, source_effect}
+use Rattle.queue_models.specs.Sources.{left_of, made_of, is_source_cells, idle_effect, last_effect, make_effect, source_effect, IsSource}
 use Rattle.queue_models.specs.Objects.{Item}
-use Rattle.queue_models.specs.Parts.{IsLink, IsSource}
+use Rattle.queue_models.specs.Parts.{IsLink}
 use Rattle.queue_models.specs.Keeping.{Keeps, EffectKeeps, OutcomeKeeps, IsSite, place_cases, three_elements}
 
 -- a job goes from those that are left to those that are made
@@ -56,8 +56,8 @@ counts count cells next lawful some =
           stays,
         )
 
-every_delay : (site : Site) (every : Law) (cells : CellData) → IsTrue (is_delay every) → (drawn_at site cells every).0 ≤ 2 ^ 40
-every_delay site every cells delay = draw-le site.seed site.object (place_of cells) every (is_drawable-delay every delay)
+every_delay : (site : Site) (source : Source ℕ) (cells : CellData) → IsTrue (is_delay source.every) → (drawn_at site cells source.every).0 ≤ 2 ^ 40
+every_delay site source cells delay = draw-le site.seed site.object (place_of cells) source.every (is_drawable-delay source.every delay)
 
 idle_keeps : (objects : List Item) (count : ℕ) (cells : CellData) → IsTrue (is_source_cells count cells)
     → EffectKeeps (length objects) (is_source_cells count) cells (idle_effect cells)
@@ -69,40 +69,40 @@ idle_keeps objects count cells lawful = record {
   sends = tt;
 }
 
-last_keeps : (objects : List Item) (site : Site) (count next : ℕ) (cells : CellData) (time : ℕ) → IsLink objects next → IsSite (length objects) site
-    → IsTrue (is_source_cells count cells) → left_of cells ≡ 1 → EffectKeeps (length objects) (is_source_cells count) cells (last_effect site next cells time)
+last_keeps : (objects : List Item) (site : Site) (source : Source ℕ) (cells : CellData) (time : ℕ) → IsLink objects source.next → IsSite (length objects) site
+    → IsTrue (is_source_cells source.count cells) → left_of cells ≡ 1 → EffectKeeps (length objects) (is_source_cells source.count) cells (last_effect site source cells time)
 unfolding last_effect
-last_keeps objects site count next cells time link here lawful last =
+last_keeps objects site source cells time link here lawful last =
     let none : left_of cells - 1 ≡ 0 = omega arith in
     record {
-      changes = subst (λ left. Keeps (is_source_cells count) (Set 1 (made_of cells + 1) ∷ Set 2 left ∷ []) cells) none (counts count cells 0 lawful (omega arith)).1;
+      changes = subst (λ left. Keeps (is_source_cells source.count) (Set 1 (made_of cells + 1) ∷ Set 2 left ∷ []) cells) none (counts source.count cells 0 lawful (omega arith)).1;
       few_sends = omega arith;
       one_part = refl;
       sends = (link.exists, omega arith, here.rank, tt);
     }
 
-make_keeps : (objects : List Item) (site : Site) (every : Law) (count next : ℕ) (cells : CellData) (time : ℕ) → IsTrue (is_delay every) → IsLink objects next → IsSite (length objects) site
-    → IsTrue (is_source_cells count cells) → 1 ≤ left_of cells → EffectKeeps (length objects) (is_source_cells count) cells (make_effect site every next cells time)
+make_keeps : (objects : List Item) (site : Site) (source : Source ℕ) (cells : CellData) (time : ℕ) → IsTrue (is_delay source.every) → IsLink objects source.next → IsSite (length objects) site
+    → IsTrue (is_source_cells source.count cells) → 1 ≤ left_of cells → EffectKeeps (length objects) (is_source_cells source.count) cells (make_effect site source cells time)
 unfolding make_effect
-make_keeps objects site every count next cells time delay link here lawful some = record {
-  changes = (counts count cells (drawn_at site cells every).1 lawful some).0;
+make_keeps objects site source cells time delay link here lawful some = record {
+  changes = (counts source.count cells (drawn_at site cells source.every).1 lawful some).0;
   few_sends = omega arith;
   one_part = refl;
-  sends = (link.exists, omega arith, here.rank, (here.object, every_delay site every cells delay, here.rank, tt));
+  sends = (link.exists, omega arith, here.rank, (here.object, every_delay site source cells delay, here.rank, tt));
 }
 
-pub source_keeps : (objects : List Item) (site : Site) (first : ℕ) (every : Law) (count next : ℕ) (cells : CellData) (event : Event)
-    → IsSource first every count → IsLink objects next → IsSite (length objects) site
-    → IsTrue (is_source_cells count cells) → OutcomeKeeps (length objects) (is_source_cells count) cells (source_effect site every next cells event)
+pub source_keeps : (objects : List Item) (site : Site) (source : Source ℕ) (cells : CellData) (event : Event)
+    → IsSource source → IsLink objects source.next → IsSite (length objects) site
+    → IsTrue (is_source_cells source.count cells) → OutcomeKeeps (length objects) (is_source_cells source.count) cells (source_effect site source cells event)
 unfolding source_effect
-source_keeps objects site first every count next cells event fine link here lawful = by (left_of cells == 0) (left_of cells == 1) refl refl
+source_keeps objects site source cells event fine link here lawful = by (left_of cells == 0) (left_of cells == 1) refl refl
   where
     time : ℕ
     time = time_part event.key.stamp
 
     by : (none one : Bool) → left_of cells == 0 ≡ none → left_of cells == 1 ≡ one
-        → OutcomeKeeps (length objects) (is_source_cells count) cells
-        (if none then Goes (idle_effect cells) else if one then Goes (last_effect site next cells time) else Goes (make_effect site every next cells time))
-    by true one none_is one_is = idle_keeps objects count cells lawful
-    by false true none_is one_is = last_keeps objects site count next cells time link here lawful (grind (arith, nat_tests))
-    by false false none_is one_is = make_keeps objects site every count next cells time fine.law link here lawful (grind (arith, nat_tests))
+        → OutcomeKeeps (length objects) (is_source_cells source.count) cells
+        (if none then Goes (idle_effect cells) else if one then Goes (last_effect site source cells time) else Goes (make_effect site source cells time))
+    by true one none_is one_is = idle_keeps objects source.count cells lawful
+    by false true none_is one_is = last_keeps objects site source cells time link here lawful (grind (arith, nat_tests))
+    by false false none_is one_is = make_keeps objects site source cells time fine.law link here lawful (grind (arith, nat_tests))

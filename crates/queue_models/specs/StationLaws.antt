@@ -8,11 +8,12 @@ use Rattle.model_core.specs.declared.effect.Outcome.TheVariants.{Goes, Fails}
 use Rattle.model_core.specs.declared.event.Event.{Event}
 use Rattle.random_streams.proofs.Bounds.{draw-le, is_drawable-delay}
 use Rattle.queue_models.specs.declared.site.Site.{Site}
+use Rattle.queue_models.specs.declared.station.Station.{Station}
 use Rattle.model_core.specs.Places.{place_changes}
 use Rattle.queue_models.specs.Sites.{place_of, drawn_at}
-use Rattle.queue_models.specs.Stations.{busy_servers, waiting_jobs, Station, is_station_cells, take_effect, wait_effect, lose_effect, arrival_outcome, serve_effect, free_effect, done_effect, station_effect}
+use Rattle.queue_models.specs.Stations.{busy_servers, waiting_jobs, is_station_cells, take_effect, wait_effect, lose_effect, arrival_outcome, serve_effect, free_effect, done_effect, station_effect, IsStation}
 use Rattle.queue_models.specs.Objects.{Item}
-use Rattle.queue_models.specs.Parts.{IsLink, IsStation}
+use Rattle.queue_models.specs.Parts.{IsLink}
 use Rattle.queue_models.specs.Keeping.{Keeps, EffectKeeps, OutcomeKeeps, IsSite, place_cases, two_elements}
 
 -- a station's cells: its place, how many servers are busy, and who waits
@@ -20,14 +21,14 @@ abbrev pub station_cells : ℕ → ℕ → List ℕ → List ℕ → CellData
 station_cells place busy jobs births = record { words = place ∷ busy ∷ []; lines = jobs ∷ births ∷ [] }
 
 -- what holds of all such cells holds of all lawful ones
-cells_cases : (P : CellData → Type 0) (station : Station) (cells : CellData) → IsTrue (is_station_cells station.servers station.line cells)
+cells_cases : (P : CellData → Type 0) (station : Station ℕ) (cells : CellData) → IsTrue (is_station_cells station.servers station.line cells)
     → ((place busy : ℕ) (jobs births : List ℕ) → P (station_cells place busy jobs births)) → P cells
 cells_cases P station cells lawful h =
     two_elements (λ words. P (record { words = words; lines = cells.lines })) cells.words (grind (arith, nat_tests))
     (λ place busy. two_elements (λ lines. P (record { words = place ∷ busy ∷ []; lines = lines })) cells.lines (grind (arith, nat_tests))
     (λ jobs births. h place busy jobs births))
 
-take_changes : (station : Station) (next : ℕ) (cells : CellData) → IsTrue (is_station_cells station.servers station.line cells) → busy_servers cells < station.servers
+take_changes : (station : Station ℕ) (next : ℕ) (cells : CellData) → IsTrue (is_station_cells station.servers station.line cells) → busy_servers cells < station.servers
     → Keeps (is_station_cells station.servers station.line) (place_changes (place_of cells) next ++ Set 1 (busy_servers cells + 1) ∷ []) cells
 unfolding AllFit cells_after_all
 take_changes station next cells lawful = cells_cases
@@ -44,7 +45,7 @@ take_changes station next cells lawful = cells_cases
         (record { few = omega arith; fits = (omega arith, tt); after = after })
         (record { few = omega arith; fits = (omega arith, (omega arith, tt)); after = after })
 
-wait_changes : (station : Station) (job birth : ℕ) (cells : CellData) → IsTrue (is_station_cells station.servers station.line cells) → waiting_jobs cells < station.line
+wait_changes : (station : Station ℕ) (job birth : ℕ) (cells : CellData) → IsTrue (is_station_cells station.servers station.line cells) → waiting_jobs cells < station.line
     → Keeps (is_station_cells station.servers station.line) (Push 0 job ∷ Push 1 birth ∷ []) cells
 unfolding AllFit cells_after_all
 wait_changes station job birth cells lawful = cells_cases
@@ -59,7 +60,7 @@ wait_changes station job birth cells lawful = cells_cases
         grind (arith, nat_tests, length-append jobs (job ∷ []), length-append births (birth ∷ [])) in
         record { few = omega arith; fits = (omega arith, (omega arith, tt)); after = after }
 
-serve_changes : (station : Station) (next : ℕ) (cells : CellData) → IsTrue (is_station_cells station.servers station.line cells) → 0 < waiting_jobs cells
+serve_changes : (station : Station ℕ) (next : ℕ) (cells : CellData) → IsTrue (is_station_cells station.servers station.line cells) → 0 < waiting_jobs cells
     → Keeps (is_station_cells station.servers station.line) (place_changes (place_of cells) next ++ Pop 0 ∷ Pop 1 ∷ []) cells
 unfolding AllFit cells_after_all
 serve_changes station next cells lawful = cells_cases
@@ -78,7 +79,7 @@ serve_changes station next cells lawful = cells_cases
         (record { few = omega arith; fits = ((omega arith, omega arith), ((omega arith, omega arith), tt)); after = after })
         (record { few = omega arith; fits = (omega arith, ((omega arith, omega arith), ((omega arith, omega arith), tt))); after = after })
 
-free_changes : (station : Station) (cells : CellData) → IsTrue (is_station_cells station.servers station.line cells)
+free_changes : (station : Station ℕ) (cells : CellData) → IsTrue (is_station_cells station.servers station.line cells)
     → Keeps (is_station_cells station.servers station.line) (if busy_servers cells == 0 then [] else Set 1 (busy_servers cells - 1) ∷ []) cells
 unfolding AllFit cells_after_all
 free_changes station cells lawful = cells_cases
@@ -97,10 +98,10 @@ free_changes station cells lawful = cells_cases
         by_none true = record { few = omega arith; fits = tt; after = lawful }
         by_none false = record { few = omega arith; fits = (omega arith, tt); after = after }
 
-service_delay : (objects : List Item) (site : Site) (station : Station) (cells : CellData) → IsStation station.servers station.service station.line → (drawn_at site cells station.service).0 ≤ 2 ^ 40
+service_delay : (objects : List Item) (site : Site) (station : Station ℕ) (cells : CellData) → IsStation station → (drawn_at site cells station.service).0 ≤ 2 ^ 40
 service_delay objects site station cells fine = draw-le site.seed site.object (place_of cells) station.service (is_drawable-delay station.service fine.law)
 
-take_keeps : (objects : List Item) (site : Site) (station : Station) (cells : CellData) (event : Event) → IsStation station.servers station.service station.line → IsSite (length objects) site
+take_keeps : (objects : List Item) (site : Site) (station : Station ℕ) (cells : CellData) (event : Event) → IsStation station → IsSite (length objects) site
     → IsTrue (is_station_cells station.servers station.line cells) → busy_servers cells < station.servers
     → EffectKeeps (length objects) (is_station_cells station.servers station.line) cells (take_effect site station cells event)
 unfolding take_effect
@@ -111,19 +112,19 @@ take_keeps objects site station cells event fine here lawful free = record {
   sends = (here.object, service_delay objects site station cells fine, here.rank, tt);
 }
 
-wait_keeps : (objects : List Item) (station : Station) (cells : CellData) (event : Event) → IsTrue (is_station_cells station.servers station.line cells) → waiting_jobs cells < station.line
+wait_keeps : (objects : List Item) (station : Station ℕ) (cells : CellData) (event : Event) → IsTrue (is_station_cells station.servers station.line cells) → waiting_jobs cells < station.line
     → EffectKeeps (length objects) (is_station_cells station.servers station.line) cells (wait_effect cells event)
 unfolding wait_effect
 wait_keeps objects station cells event lawful room =
     record { changes = wait_changes station event.a event.b cells lawful room; few_sends = omega arith; one_part = refl; sends = tt }
 
-lose_keeps : (objects : List Item) (station : Station) (cells : CellData) (event : Event) → IsTrue (is_station_cells station.servers station.line cells)
+lose_keeps : (objects : List Item) (station : Station ℕ) (cells : CellData) (event : Event) → IsTrue (is_station_cells station.servers station.line cells)
     → EffectKeeps (length objects) (is_station_cells station.servers station.line) cells (lose_effect cells event)
 unfolding lose_effect AllFit cells_after_all
 lose_keeps objects station cells event lawful =
     record { changes = record { few = omega arith; fits = tt; after = lawful }; few_sends = omega arith; one_part = refl; sends = tt }
 
-serve_keeps : (objects : List Item) (site : Site) (station : Station) (cells : CellData) (event : Event) → IsStation station.servers station.service station.line → IsLink objects station.next → IsSite (length objects) site
+serve_keeps : (objects : List Item) (site : Site) (station : Station ℕ) (cells : CellData) (event : Event) → IsStation station → IsLink objects station.next → IsSite (length objects) site
     → IsTrue (is_station_cells station.servers station.line cells) → 0 < waiting_jobs cells
     → EffectKeeps (length objects) (is_station_cells station.servers station.line) cells (serve_effect site station cells event)
 unfolding serve_effect
@@ -134,13 +135,13 @@ serve_keeps objects site station cells event fine link here lawful some = record
   sends = (link.exists, omega arith, here.rank, (here.object, service_delay objects site station cells fine, here.rank, tt));
 }
 
-free_keeps : (objects : List Item) (site : Site) (station : Station) (cells : CellData) (event : Event) → IsStation station.servers station.service station.line → IsLink objects station.next → IsSite (length objects) site
+free_keeps : (objects : List Item) (site : Site) (station : Station ℕ) (cells : CellData) (event : Event) → IsStation station → IsLink objects station.next → IsSite (length objects) site
     → IsTrue (is_station_cells station.servers station.line cells) → EffectKeeps (length objects) (is_station_cells station.servers station.line) cells (free_effect site station cells event)
 unfolding free_effect
 free_keeps objects site station cells event fine link here lawful =
     record { changes = free_changes station cells lawful; few_sends = omega arith; one_part = refl; sends = (link.exists, omega arith, here.rank, tt) }
 
-arrival_keeps : (objects : List Item) (site : Site) (station : Station) (cells : CellData) (event : Event) → IsStation station.servers station.service station.line → IsSite (length objects) site
+arrival_keeps : (objects : List Item) (site : Site) (station : Station ℕ) (cells : CellData) (event : Event) → IsStation station → IsSite (length objects) site
     → IsTrue (is_station_cells station.servers station.line cells) → OutcomeKeeps (length objects) (is_station_cells station.servers station.line) cells (arrival_outcome site station cells event)
 unfolding arrival_outcome
 arrival_keeps objects site station cells event fine here lawful =
@@ -155,7 +156,7 @@ arrival_keeps objects site station cells event fine here lawful =
     by false false true free_is room_is = omega arith
     by false false false free_is room_is = lose_keeps objects station cells event lawful
 
-done_keeps : (objects : List Item) (site : Site) (station : Station) (cells : CellData) (event : Event) → IsStation station.servers station.service station.line → IsLink objects station.next → IsSite (length objects) site
+done_keeps : (objects : List Item) (site : Site) (station : Station ℕ) (cells : CellData) (event : Event) → IsStation station → IsLink objects station.next → IsSite (length objects) site
     → IsTrue (is_station_cells station.servers station.line cells) → EffectKeeps (length objects) (is_station_cells station.servers station.line) cells (done_effect site station cells event)
 unfolding done_effect
 done_keeps objects site station cells event fine link here lawful = by (nat_lt 0 (waiting_jobs cells)) refl
@@ -166,7 +167,7 @@ done_keeps objects site station cells event fine link here lawful = by (nat_lt 0
     by true some_is = serve_keeps objects site station cells event fine link here lawful (grind (arith, nat_tests))
     by false some_is = free_keeps objects site station cells event fine link here lawful
 
-pub station_keeps : (objects : List Item) (site : Site) (station : Station) (cells : CellData) (event : Event) → IsStation station.servers station.service station.line → IsLink objects station.next → IsSite (length objects) site
+pub station_keeps : (objects : List Item) (site : Site) (station : Station ℕ) (cells : CellData) (event : Event) → IsStation station → IsLink objects station.next → IsSite (length objects) site
     → IsTrue (is_station_cells station.servers station.line cells) → OutcomeKeeps (length objects) (is_station_cells station.servers station.line) cells (station_effect site station cells event)
 unfolding station_effect
 station_keeps objects site station cells event fine link here lawful = by (event.kind == 2)

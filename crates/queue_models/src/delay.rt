@@ -9,17 +9,31 @@ use crate::site::{Site, told};
 use model_core::{Cells, Effect, Ending, Event, HELD_WORD, keep_place};
 use random_streams::{Law, Stream, draw_by};
 
-/// What an event uses of a delay.
-#[derive(Drop)]
-pub struct Delay<'a> {
-    pub delay: &'a Law,
-    pub next: u32,
+/// What holds each job for a while.
+#[derive(Debug, Drop)]
+pub struct Delay<L> {
+    /// How long it holds a job.
+    pub delay: Law,
+    /// Where each job goes then.
+    pub next: L,
 }
 
-impl Delay<'_> {
+impl<L: Drop> Delay<L> {
+    /// This delay, with another object to which it sends.
+    pub fn sending_to<M>(self, next: M) -> Delay<M>
+        ensures { result ≡ record { delay = self.delay; next = next } }
+    {
+        Delay {
+            delay: self.delay,
+            next,
+        }
+    }
+}
+
+impl Delay<u32> {
     /// Holds a job.
     #[tactic(auto, unfolding(crate::specs::Delays::delay_effect))]
-    pub fn react(
+    pub(crate) fn react(
         &self,
         words: &mut Stream,
         site: Site,
@@ -27,13 +41,13 @@ impl Delay<'_> {
         event: &Event,
         sheet: &mut Effect,
     ) -> Ending
-        requires delay { IsTrue (is_drawable self.now.delay.now) }
+        requires delay { IsTrue (is_drawable self.now.delay) }
         requires cells { IsTrue (is_plain_cells cells.now.contents) }
         requires blank { sheet.old ≡ blank }
-        ensures { outcome_by result sheet.new ≡ delay_effect site self.now.delay.now self.now.next cells.now.contents event.now }
+        ensures { outcome_by result sheet.new ≡ delay_effect site self.now cells.now.contents event.now }
     {
         let place = cells.word(0);
-        let (delay, next_place) = draw_by(words, site.seed, site.object, place, self.delay);
+        let (delay, next_place) = draw_by(words, site.seed, site.object, place, &self.delay);
         keep_place(&mut sheet.changes, place, next_place);
         sheet
             .sends

@@ -1,46 +1,27 @@
-//! The objects of which a network is made.
-ghost use Rattle.std.specs.Prelude.{◌≡◌};
-ghost use Rattle.queue_models.specs.Kinds.{is_source, is_station};
+//! The objects of which a network is made, and what each does by its kind.
+ghost use Rattle.std.specs.Prelude.{◌≡◌, IfOk, IsTrue};
+ghost use Rattle.model_core.specs.Effects.{blank, outcome_by};
+ghost use Rattle.queue_models.specs.Kinds.{KindCanDraw, is_source, is_station, first_time_of, is_lawful, effect_at, first_cells_of};
 
-use model_core::{Name, Sequence};
-use random_streams::{Law, Weights};
+use crate::delay::Delay;
+use crate::router::Router;
+use crate::sink::Sink;
+use crate::site::{self, Site};
+use crate::source::Source;
+use crate::station::Station;
+use model_core::{Cells, Effect, Ending, Event, Name, OutOfMemory};
+use random_streams::Stream;
+use std::alloc::Global;
 
 /// What an object does with the jobs that come to it, over what stands for the objects to which it sends: their numbers
 /// in a network, and their names in a text. An object to which others send is never a source.
 #[derive(Debug, Drop)]
 pub enum KindOver<L> {
-    /// Makes `count` jobs, 1 to `MOST_JOBS` of them, the first at time `first`, which is below 2^46, and each further one
-    /// `every` so many ticks after the one before. Each goes to `next`.
-    Source {
-        first: u64,
-        every: Law,
-        count: u32,
-        next: L,
-    },
-    /// Has `servers`, 1 to `MOST_SERVERS` of them, each of which serves one job at a time for as long as `service` gives, and then
-    /// sends it to `next`. A job that finds no free server waits in a line, in order of arrival, for at most `line` jobs,
-    /// at most `MOST_WAITING`. One that finds the line full is lost, or fails with code 2 where the station is `strict`.
-    Station {
-        servers: u32,
-        service: Law,
-        line: u32,
-        strict: bool,
-        next: L,
-    },
-    /// Sends each job to `next` after a drawn delay.
-    Delay {
-        delay: Law,
-        next: L,
-    },
-    /// Sends each job at once to one of `next`, 1 to 64 objects, drawn in proportion to their `weights`.
-    Router {
-        next: Sequence<L>,
-        weights: Weights,
-    },
-    /// Takes each job out of the network. A job that is older than `due`, which is below 2^46, fails with code 3.
-    Sink {
-        due: Option<u64>,
-    },
+    Source(Source<L>),
+    Station(Station<L>),
+    Delay(Delay<L>),
+    Router(Router<L>),
+    Sink(Sink),
 }
 
 /// What an object of a network does.
@@ -66,13 +47,70 @@ impl<L> KindOver<L> {
     pub fn is_source(&self) -> bool
         ensures { result ≡ is_source self.now }
     {
-        matches!(self, KindOver::Source { .. })
+        matches!(self, KindOver::Source(_))
     }
 
     /// Whether it serves jobs, so that it can be traced.
     pub fn is_station(&self) -> bool
         ensures { result ≡ is_station self.now }
     {
-        matches!(self, KindOver::Station { .. })
+        matches!(self, KindOver::Station(_))
+    }
+}
+
+impl Kind {
+    /// When a source makes its first job, and 0 for any other kind.
+    pub(crate) fn first_time(&self) -> u64
+        ensures { result ≡ first_time_of self.now }
+    {
+        match self {
+            Kind::Source(source) => source.first,
+            _ => 0,
+        }
+    }
+
+    /// The cells at the start. Most kinds keep their random place alone.
+    pub(crate) fn first_cells(&self, alloc: Global) -> Result<Cells, OutOfMemory>
+        ensures { IfOk result (λ cells. cells.contents ≡ first_cells_of self.now) }
+    {
+        match self {
+            Kind::Source(source) => source.first_cells(alloc),
+            Kind::Station(station) => station.first_cells(alloc),
+            _ => site::first_cells(alloc),
+        }
+    }
+
+    /// Whether an object of this kind may have these cells.
+    pub(crate) fn is_lawful(&self, cells: &Cells) -> bool
+        ensures { result ≡ is_lawful self.now cells.now.contents }
+    {
+        match self {
+            Kind::Source(source) => source.is_lawful(cells),
+            Kind::Station(station) => station.is_lawful(cells),
+            _ => site::is_lawful(cells),
+        }
+    }
+
+    /// What an event does, written into a blank sheet.
+    pub(crate) fn react(
+        &self,
+        words: &mut Stream,
+        site: Site,
+        cells: &Cells,
+        event: &Event,
+        sheet: &mut Effect,
+    ) -> Ending
+        requires draws { KindCanDraw self.now }
+        requires lawful { IsTrue (is_lawful self.now cells.now.contents) }
+        requires blank { sheet.old ≡ blank }
+        ensures { outcome_by result sheet.new ≡ effect_at site self.now cells.now.contents event.now }
+    {
+        match self {
+            Kind::Source(source) => source.react(words, site, cells, event, sheet),
+            Kind::Station(station) => station.react(words, site, cells, event, sheet),
+            Kind::Delay(delay) => delay.react(words, site, cells, event, sheet),
+            Kind::Router(router) => router.react(words, site, cells, event, sheet),
+            Kind::Sink(sink) => sink.react(event, sheet),
+        }
     }
 }

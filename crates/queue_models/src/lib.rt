@@ -8,7 +8,6 @@
 mod delay;
 mod kind;
 mod network;
-mod object;
 mod rings;
 mod router;
 mod sink;
@@ -17,8 +16,11 @@ mod source;
 mod station;
 mod telling;
 
+pub use delay::Delay;
 pub use kind::{Item, ItemOver, Kind, KindOver};
 pub use network::Network;
 pub use rings::ring;
-pub use source::MOST_JOBS;
-pub use station::{MOST_SERVERS, MOST_WAITING};
+pub use router::Router;
+pub use sink::Sink;
+pub use source::{MOST_JOBS, Source};
+pub use station::{MOST_SERVERS, MOST_WAITING, Station};

@@ -4,8 +4,10 @@ ghost use Rattle.model_core.specs.declared.limits.TheConstants.{MOST_DEMO_STATIO
 ghost use Rattle.queue_models.specs.Rings.{ring_station, ring_delay, ring_object, ring_objects, ring_jobs, ring_parts, ring_terms};
 ghost use Rattle.queue_models.specs.Meaning.{network_meaning};
 
+use crate::delay::Delay;
 use crate::kind::{Item, Kind};
 use crate::network::Network;
+use crate::station::Station;
 use model_core::model::Model as SimulationModel;
 use model_core::{Entry, Name, OutOfMemory};
 use random_streams::Law;
@@ -21,7 +23,7 @@ fn ring_station(alloc: Global, number: u32) -> Result<Item, OutOfMemory>
     let name = format!(in alloc; "q{number}")?;
     Ok(Item {
         name: Name::new(name.into_bytes()),
-        kind: Kind::Station {
+        kind: Kind::Station(Station {
             servers: 1,
             service: Law::Uniform {
                 low: 1,
@@ -30,7 +32,7 @@ fn ring_station(alloc: Global, number: u32) -> Result<Item, OutOfMemory>
             line: 256,
             strict: false,
             next: 2 * number + 1,
-        },
+        }),
         rank: 0,
         quiet: false,
         trace: false,
@@ -47,13 +49,13 @@ fn ring_delay(alloc: Global, n: u32, number: u32) -> Result<Item, OutOfMemory>
     let name = format!(in alloc; "d{number}")?;
     Ok(Item {
         name: Name::new(name.into_bytes()),
-        kind: Kind::Delay {
+        kind: Kind::Delay(Delay {
             delay: Law::Uniform {
                 low: 1,
                 high: 1 + u64::from(number % 11),
             },
             next: 2 * ((number + 1) % n),
-        },
+        }),
         rank: 0,
         quiet: false,
         trace: false,

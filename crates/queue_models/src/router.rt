@@ -9,17 +9,31 @@ use crate::site::{Site, told};
 use model_core::{Cells, Effect, Ending, Event, ROUTED_WORD, Sequence, keep_place};
 use random_streams::{Stream, Weights, choose_by};
 
-/// What an event uses of a router.
-#[derive(Drop)]
-pub struct Router<'a> {
-    pub next: &'a Sequence<u32>,
-    pub weights: &'a Weights,
+/// What sends each job at once one of several ways.
+#[derive(Debug, Drop)]
+pub struct Router<L> {
+    /// The ways, 1 to 64 objects.
+    pub next: Sequence<L>,
+    /// A weight for each of them: a way is drawn in proportion to its weight.
+    pub weights: Weights,
 }
 
-impl Router<'_> {
+impl<L: Drop> Router<L> {
+    /// This router, with other objects to which it sends.
+    pub fn sending_to<M>(self, next: Sequence<M>) -> Router<M>
+        ensures { result ≡ record { next = next; weights = self.weights } }
+    {
+        Router {
+            next,
+            weights: self.weights,
+        }
+    }
+}
+
+impl Router<u32> {
     /// Routes a job. A word is drawn also where there is no choice.
     #[tactic(auto, unfolding(crate::specs::Routers::router_effect))]
-    pub fn react(
+    pub(crate) fn react(
         &self,
         words: &mut Stream,
         site: Site,
@@ -27,14 +41,14 @@ impl Router<'_> {
         event: &Event,
         sheet: &mut Effect,
     ) -> Ending
-        requires weights { length self.now.weights.now ≡ length self.now.next.now }
-        requires choice { IsTrue (is_choice self.now.weights.now) }
+        requires weights { length self.now.weights ≡ length self.now.next }
+        requires choice { IsTrue (is_choice self.now.weights) }
         requires cells { IsTrue (is_plain_cells cells.now.contents) }
         requires blank { sheet.old ≡ blank }
-        ensures { outcome_by result sheet.new ≡ router_effect site self.now.next.now self.now.weights.now cells.now.contents event.now }
+        ensures { outcome_by result sheet.new ≡ router_effect site self.now cells.now.contents event.now }
     {
         let place = cells.word(0);
-        let (way, next_place) = choose_by(words, site.seed, site.object, place, self.weights);
+        let (way, next_place) = choose_by(words, site.seed, site.object, place, &self.weights);
         let dest = self.chosen(way);
         keep_place(&mut sheet.changes, place, next_place);
         sheet.sends.push(site.job_to(dest, 0, event.a, event.b));
@@ -44,8 +58,8 @@ impl Router<'_> {
 
     /// The object that is chosen by its place.
     fn chosen(&self, way: u64) -> u32
-        requires { way < length self.now.next.now }
-        ensures { result ≡ slice_index self.now.next.now way }
+        requires { way < length self.now.next }
+        ensures { result ≡ slice_index self.now.next way }
     {
         self.next.as_slice()[way as usize]
     }

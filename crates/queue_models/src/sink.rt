@@ -7,18 +7,19 @@ use crate::site::told;
 use event_key::time_of;
 use model_core::{Effect, Ending, Event, LATE, LEFT_WORD};
 
-/// What an event uses of a sink.
-#[derive(Drop)]
+/// What takes each job out of the network.
+#[derive(Debug, Drop)]
 pub struct Sink {
+    /// The greatest age of a job, below 2^46, where there is one. A job that is older fails with code 3.
     pub due: Option<u64>,
 }
 
 impl Sink {
     /// A job leaves, at its age since it was born.
     #[tactic(auto, unfolding(crate::specs::Sinks::sink_effect))]
-    pub fn react(&self, event: &Event, sheet: &mut Effect) -> Ending
+    pub(crate) fn react(&self, event: &Event, sheet: &mut Effect) -> Ending
         requires blank { sheet.old ≡ blank }
-        ensures { outcome_by result sheet.new ≡ sink_effect self.now.due event.now }
+        ensures { outcome_by result sheet.new ≡ sink_effect self.now event.now }
     {
         let age = time_of(event.key.stamp).saturating_sub(event.b);
         if self.is_late(age) {

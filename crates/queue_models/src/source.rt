@@ -13,36 +13,44 @@ use std::alloc::Global;
 /// How many jobs a source makes at most.
 pub const MOST_JOBS: u32 = 1_000_000;
 
-/// The cells at the start: none of `count` jobs is made, and all are left.
-pub fn first_cells(alloc: Global, count: u32) -> Result<Cells, OutOfMemory>
-    ensures { IfOk result (λ cells. cells.contents ≡ first_source_cells count) }
-{
-    let words = vec![in alloc; 0, 0, u64::from(count)]?;
-    Cells::new(alloc, words, Vec::new(alloc))
-}
-
-/// What an event uses of a source.
-#[derive(Drop)]
-pub struct Source<'a> {
-    pub every: &'a Law,
+/// What makes jobs. None is sent to it.
+#[derive(Debug, Drop)]
+pub struct Source<L> {
+    /// When the first job is made, below 2^46.
+    pub first: u64,
+    /// How many ticks after it each further one is made.
+    pub every: Law,
+    /// How many jobs it makes, 1 to `MOST_JOBS`.
     pub count: u32,
-    pub next: u32,
+    /// Where each job goes.
+    pub next: L,
 }
 
-impl<'a> Source<'a> {
-    /// A source that makes a job `every` so many ticks, `count` of them, and sends each to `next`.
-    pub fn new(every: &'a Law, count: u32, next: u32) -> Source<'a>
-        ensures every { result.every.now ≡ every.now }
-        ensures count { result.count ≡ count }
-        ensures next { result.next ≡ next }
+impl<L: Drop> Source<L> {
+    /// This source, with another object to which it sends.
+    pub fn sending_to<M>(self, next: M) -> Source<M>
+        ensures { result ≡ record { first = self.first; every = self.every; count = self.count; next = next } }
     {
-        Source { every, count, next }
+        Source {
+            first: self.first,
+            every: self.every,
+            count: self.count,
+            next,
+        }
     }
 }
 
-impl Source<'_> {
+impl Source<u32> {
+    /// The cells at the start: no job is made, and all are left.
+    pub(crate) fn first_cells(&self, alloc: Global) -> Result<Cells, OutOfMemory>
+        ensures { IfOk result (λ cells. cells.contents ≡ first_source_cells self.now.count) }
+    {
+        let words = vec![in alloc; 0, 0, u64::from(self.count)]?;
+        Cells::new(alloc, words, Vec::new(alloc))
+    }
+
     /// Whether the jobs that are made and those that are left are all.
-    pub fn is_lawful(&self, cells: &Cells) -> bool
+    pub(crate) fn is_lawful(&self, cells: &Cells) -> bool
         ensures { result ≡ is_source_cells self.now.count cells.now.contents }
     {
         let count = u64::from(self.count);
@@ -57,7 +65,7 @@ impl Source<'_> {
 
     /// Makes the next job, where one is left.
     #[tactic(auto, unfolding(crate::specs::Sources::source_effect))]
-    pub fn react(
+    pub(crate) fn react(
         &self,
         words: &mut Stream,
         site: Site,
@@ -65,10 +73,10 @@ impl Source<'_> {
         event: &Event,
         sheet: &mut Effect,
     ) -> Ending
-        requires every { IsTrue (is_drawable self.now.every.now) }
+        requires every { IsTrue (is_drawable self.now.every) }
         requires cells { IsTrue (is_source_cells self.now.count cells.now.contents) }
         requires blank { sheet.old ≡ blank }
-        ensures { outcome_by result sheet.new ≡ source_effect site self.now.every.now self.now.next cells.now.contents event.now }
+        ensures { outcome_by result sheet.new ≡ source_effect site self.now cells.now.contents event.now }
     {
         let time = time_of(event.key.stamp);
         match cells.word(2) {
@@ -94,7 +102,7 @@ impl Source<'_> {
     fn make_last(&self, site: Site, cells: &Cells, time: u64, sheet: &mut Effect)
         requires cells { IsTrue (is_source_cells self.now.count cells.now.contents) }
         requires blank { sheet.old ≡ blank }
-        ensures { sheet.new ≡ last_effect site self.now.next cells.now.contents time }
+        ensures { sheet.new ≡ last_effect site self.now cells.now.contents time }
     {
         let job = cells.word(1) + 1;
         sheet.changes.push(Change::Set {
@@ -109,16 +117,16 @@ impl Source<'_> {
     /// Makes a job, and will make another after a drawn delay.
     #[tactic(auto, unfolding(crate::specs::Sources::make_effect))]
     fn make(&self, words: &mut Stream, site: Site, cells: &Cells, time: u64, sheet: &mut Effect)
-        requires every { IsTrue (is_drawable self.now.every.now) }
+        requires every { IsTrue (is_drawable self.now.every) }
         requires cells { IsTrue (is_source_cells self.now.count cells.now.contents) }
         requires left { 1 ≤ left_of cells.now.contents }
         requires blank { sheet.old ≡ blank }
-        ensures { sheet.new ≡ make_effect site self.now.every.now self.now.next cells.now.contents time }
+        ensures { sheet.new ≡ make_effect site self.now cells.now.contents time }
     {
         let place = cells.word(0);
         let job = cells.word(1) + 1;
         let left = cells.word(2) - 1;
-        let (delay, next_place) = draw_by(words, site.seed, site.object, place, self.every);
+        let (delay, next_place) = draw_by(words, site.seed, site.object, place, &self.every);
         keep_place(&mut sheet.changes, place, next_place);
         sheet.changes.push(Change::Set {
             word: 1,

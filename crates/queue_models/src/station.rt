@@ -2,7 +2,6 @@
 ghost use Rattle.std.specs.Prelude.{◌≡◌, ◌<◌, IfOk, IsTrue};
 ghost use Rattle.random_streams.specs.Laws.{is_drawable};
 ghost use Rattle.model_core.specs.Effects.{blank, outcome_by};
-ghost use Rattle.queue_models.specs.Views.{station_of};
 ghost use Rattle.queue_models.specs.Stations.{is_station_cells, first_station_cells, waiting_jobs, done_after, take_effect, wait_effect, lose_effect, arrival_outcome, serve_effect, free_effect, done_effect, station_effect};
 
 use crate::site::{DONE, Site, told};
@@ -27,36 +26,34 @@ pub const MOST_SERVERS: u32 = 1_024;
 /// How many jobs wait at a station at most.
 pub const MOST_WAITING: u32 = 65_536;
 
-/// What an event uses of a station.
-#[derive(Drop)]
-pub struct Station<'a> {
+/// Where jobs are served.
+#[derive(Debug, Drop)]
+pub struct Station<L> {
+    /// How many servers it has, 1 to `MOST_SERVERS`, each of which serves one job at a time.
     pub servers: u32,
-    pub service: &'a Law,
+    /// How long a service takes.
+    pub service: Law,
+    /// How many jobs wait at most where no server is free, at most `MOST_WAITING`. They wait in order of arrival.
     pub line: u32,
+    /// Whether a job that finds the line full fails with code 2. Else it is lost.
     pub strict: bool,
-    pub next: u32,
+    /// Where each job goes that was served.
+    pub next: L,
 }
 
-/// The cells at the start: no server is busy, and nobody waits.
-pub fn first_cells(alloc: Global) -> Result<Cells, OutOfMemory>
-    ensures { IfOk result (λ cells. cells.contents ≡ first_station_cells) }
-{
-    let words = vec![in alloc; 0, 0]?;
-    let lines = vec![in alloc; Vec::new(alloc), Vec::new(alloc)]?;
-    Cells::new(alloc, words, lines)
-}
-
-/// Whether no more servers are busy and no more jobs wait than there may be.
-pub fn is_lawful(servers: u32, line: u32, cells: &Cells) -> bool
-    ensures { result ≡ is_station_cells servers line cells.now.contents }
-{
-    if cells.words() != 2 || cells.lines() != 2 {
-        return false;
+impl<L: Drop> Station<L> {
+    /// This station, with another object to which it sends.
+    pub fn sending_to<M>(self, next: M) -> Station<M>
+        ensures { result ≡ record { servers = self.servers; service = self.service; line = self.line; strict = self.strict; next = next } }
+    {
+        Station {
+            servers: self.servers,
+            service: self.service,
+            line: self.line,
+            strict: self.strict,
+            next,
+        }
     }
-    let waiting = cells.line_len(JOBS);
-    waiting == cells.line_len(BIRTHS)
-        && waiting <= line as usize
-        && cells.word(BUSY) <= u64::from(servers)
 }
 
 /// The end of a job's service, which comes back to its station.
@@ -73,27 +70,32 @@ fn done_after(site: &Site, service: u64, job: u64, birth: u64) -> Send
     }
 }
 
-impl<'a> Station<'a> {
-    /// A station with so many servers, each of which serves a job for as long as `service` gives and sends it to `next`,
-    /// and with a line of so many places.
-    pub fn new(servers: u32, service: &'a Law, line: u32, strict: bool, next: u32) -> Station<'a>
-        ensures { station_of result
-            ≡ record { servers = servers; service = service.now; line = line; strict = strict; next = next } }
+impl Station<u32> {
+    /// The cells at the start: no server is busy, and nobody waits.
+    pub(crate) fn first_cells(&self, alloc: Global) -> Result<Cells, OutOfMemory>
+        ensures { IfOk result (λ cells. cells.contents ≡ first_station_cells) }
     {
-        Station {
-            servers,
-            service,
-            line,
-            strict,
-            next,
-        }
+        let words = vec![in alloc; 0, 0]?;
+        let lines = vec![in alloc; Vec::new(alloc), Vec::new(alloc)]?;
+        Cells::new(alloc, words, lines)
     }
-}
 
-impl Station<'_> {
+    /// Whether no more servers are busy and no more jobs wait than there may be.
+    pub(crate) fn is_lawful(&self, cells: &Cells) -> bool
+        ensures { result ≡ is_station_cells self.now.servers self.now.line cells.now.contents }
+    {
+        if cells.words() != 2 || cells.lines() != 2 {
+            return false;
+        }
+        let waiting = cells.line_len(JOBS);
+        waiting == cells.line_len(BIRTHS)
+            && waiting <= self.line as usize
+            && cells.word(BUSY) <= u64::from(self.servers)
+    }
+
     /// A service is done, or a job arrives, whatever else the kind of the event.
     #[tactic(auto, unfolding(crate::specs::Stations::station_effect))]
-    pub fn react(
+    pub(crate) fn react(
         &self,
         words: &mut Stream,
         site: Site,
@@ -101,10 +103,10 @@ impl Station<'_> {
         event: &Event,
         sheet: &mut Effect,
     ) -> Ending
-        requires service { IsTrue (is_drawable self.now.service.now) }
+        requires service { IsTrue (is_drawable self.now.service) }
         requires cells { IsTrue (is_station_cells self.now.servers self.now.line cells.now.contents) }
         requires blank { sheet.old ≡ blank }
-        ensures { outcome_by result sheet.new ≡ station_effect site (station_of self.now) cells.now.contents event.now }
+        ensures { outcome_by result sheet.new ≡ station_effect site self.now cells.now.contents event.now }
     {
         match event.kind {
             DONE => {
@@ -125,10 +127,10 @@ impl Station<'_> {
         event: &Event,
         sheet: &mut Effect,
     ) -> Ending
-        requires service { IsTrue (is_drawable self.now.service.now) }
+        requires service { IsTrue (is_drawable self.now.service) }
         requires cells { IsTrue (is_station_cells self.now.servers self.now.line cells.now.contents) }
         requires blank { sheet.old ≡ blank }
-        ensures { outcome_by result sheet.new ≡ arrival_outcome site (station_of self.now) cells.now.contents event.now }
+        ensures { outcome_by result sheet.new ≡ arrival_outcome site self.now cells.now.contents event.now }
     {
         if cells.word(BUSY) < u64::from(self.servers) {
             self.take(words, site, cells, event, sheet);
@@ -145,13 +147,13 @@ impl Station<'_> {
     /// A free server takes the job.
     #[tactic(auto, unfolding(crate::specs::Stations::take_effect))]
     fn take(&self, words: &mut Stream, site: Site, cells: &Cells, event: &Event, sheet: &mut Effect)
-        requires service { IsTrue (is_drawable self.now.service.now) }
+        requires service { IsTrue (is_drawable self.now.service) }
         requires cells { IsTrue (is_station_cells self.now.servers self.now.line cells.now.contents) }
         requires blank { sheet.old ≡ blank }
-        ensures { sheet.new ≡ take_effect site (station_of self.now) cells.now.contents event.now }
+        ensures { sheet.new ≡ take_effect site self.now cells.now.contents event.now }
     {
         let place = cells.word(0);
-        let (service, next_place) = draw_by(words, site.seed, site.object, place, self.service);
+        let (service, next_place) = draw_by(words, site.seed, site.object, place, &self.service);
         keep_place(&mut sheet.changes, place, next_place);
         sheet.changes.push(Change::Set {
             word: BUSY,
@@ -195,10 +197,10 @@ impl Station<'_> {
     /// A job is done: the next one is served, or the server is free.
     #[tactic(auto, unfolding(crate::specs::Stations::done_effect))]
     fn done(&self, words: &mut Stream, site: Site, cells: &Cells, event: &Event, sheet: &mut Effect)
-        requires service { IsTrue (is_drawable self.now.service.now) }
+        requires service { IsTrue (is_drawable self.now.service) }
         requires cells { IsTrue (is_station_cells self.now.servers self.now.line cells.now.contents) }
         requires blank { sheet.old ≡ blank }
-        ensures { sheet.new ≡ done_effect site (station_of self.now) cells.now.contents event.now }
+        ensures { sheet.new ≡ done_effect site self.now cells.now.contents event.now }
     {
         if cells.line_len(JOBS) > 0 {
             self.serve(words, site, cells, event, sheet);
@@ -217,16 +219,16 @@ impl Station<'_> {
         event: &Event,
         sheet: &mut Effect,
     )
-        requires service { IsTrue (is_drawable self.now.service.now) }
+        requires service { IsTrue (is_drawable self.now.service) }
         requires cells { IsTrue (is_station_cells self.now.servers self.now.line cells.now.contents) }
         requires waiting { 0 < waiting_jobs cells.now.contents }
         requires blank { sheet.old ≡ blank }
-        ensures { sheet.new ≡ serve_effect site (station_of self.now) cells.now.contents event.now }
+        ensures { sheet.new ≡ serve_effect site self.now cells.now.contents event.now }
     {
         let job = cells.line_at(JOBS, 0);
         let birth = cells.line_at(BIRTHS, 0);
         let place = cells.word(0);
-        let (service, next_place) = draw_by(words, site.seed, site.object, place, self.service);
+        let (service, next_place) = draw_by(words, site.seed, site.object, place, &self.service);
         keep_place(&mut sheet.changes, place, next_place);
         sheet.changes.push(Change::Pop { line: JOBS });
         sheet.changes.push(Change::Pop { line: BIRTHS });
@@ -242,7 +244,7 @@ impl Station<'_> {
     fn free(&self, site: Site, cells: &Cells, event: &Event, sheet: &mut Effect)
         requires cells { IsTrue (is_station_cells self.now.servers self.now.line cells.now.contents) }
         requires blank { sheet.old ≡ blank }
-        ensures { sheet.new ≡ free_effect site (station_of self.now) cells.now.contents event.now }
+        ensures { sheet.new ≡ free_effect site self.now cells.now.contents event.now }
     {
         let busy = cells.word(BUSY);
         if busy > 0 {

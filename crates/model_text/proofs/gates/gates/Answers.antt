@@ -5,7 +5,7 @@ use Rattle.std.proofs.lemmas.Result.{err_from_is_err_and}
 use Rattle.std.proofs.lemmas.List.Elements.{All-nil, All-push}
 use Rattle.toml.specs.Data.{Data}
 use Rattle.toml.specs.View.{view}
-use Rattle.model_text.specs.declared.named_gate.NamedGate.{NamedGate}
+use Rattle.model_text.specs.declared.named.NamedGate.{NamedGate}
 use Rattle.model_text.specs.Checks.{Fails}
 use Rattle.model_text.specs.Circuits.{gate, next_gate}
 use Rattle.model_text.specs.Directories.{finder}
@@ -48,7 +48,7 @@ loop-value-preserved c =
     record {
       count = rw pushed (omega (arith, length_push before g));
       found = rw pushed (finder-more (λ (gate : NamedGate). gate.name) gate_place (finder directory) (finder c.add.new.self) before g c.loop-value.invariant.found c.in_ok-gate.ensures.new
-          (subst (λ n. TakesIn (finder directory) (finder c.add.new.self) g.name (gate_place n g)) number (rw c.as_str.ensures at c.in_ok-add.ensures)));
+          (subst (λ n. TakesIn (finder directory) (finder c.add.new.self) g.name (gate_place n g)) number (rw c.bytes.ensures at c.in_ok-add.ensures)));
       in_range = rw pushed (All-push IsNamedGate before g c.loop-value.invariant.in_range c.in_ok-gate.ensures.in_range);
       flips = rw pushed (omega (arith, turns, sum_by_push (λ (gate : NamedGate). length gate.flips) before g, c.loop-value.invariant.flips));
       few_flips = omega (arith, turns, c.in_ok-gate.ensures.few);

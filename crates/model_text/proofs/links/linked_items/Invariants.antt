@@ -1,7 +1,7 @@
 use Rattle.std.proofs.Common.{◌≡◌, ◌+◌, drop, length}
 use Rattle.model_text.specs.Directories.{finder}
 use Rattle.model_text.specs.Fields.{each_of}
-use Rattle.model_text.specs.Links.{linked_item, linked_from}
+use Rattle.model_text.specs.Objects.{linked_item, linked_from}
 use Rattle.model_text.proofs.Each.{with_front}
 use Rattle.model_text.proofs.links.linked_items.Given as goal
 

@@ -2,7 +2,8 @@ use Rattle.std.proofs.Common.{◌≡◌, subst, sym, ap, ◌∙◌, arith}
 use Rattle.model_core.specs.declared.effect.Outcome.TheVariants.{Goes}
 use Rattle.queue_models.specs.declared.site.Site.{Site}
 use Rattle.queue_models.specs.Meaning.{network_meaning, site_of}
-use Rattle.queue_models.specs.ModelLaws.{object_fine, kind_can_draw}
+use Rattle.queue_models.specs.KindLaws.{kind_can_draw}
+use Rattle.queue_models.specs.ModelLaws.{object_fine}
 use Rattle.queue_models.specs.Objects.{Item, object_at}
 use Rattle.queue_models.specs.Kinds.{KindCanDraw, effect_at}
 use Rattle.queue_models.specs.Views.{parts_of}
