@@ -7,7 +7,8 @@ use Rattle.std.proofs.lemmas.Str.Parse.{tells_digits}
 use Rattle.std.proofs.lemmas.Int.Digits.{digits_value-lt}
 use native.Mathlib.Nat.{pow-le-pow_right}
 use Rattle.std.proofs.lemmas.Grind.{common_steps}
-use Rattle.sim_io.specs.Words.{is_number}
+use Rattle.std.proofs.lemmas.Bool.{and_parts, ltb-true}
+use Rattle.sim_io.specs.Words.{is_decimal, is_number}
 
 all_digits : (ds : List ℕ) → list_all is_ascii_digit ds ≡ true → AllDigits 10 ds
 all_digits [] h = tt
@@ -23,8 +24,9 @@ has_digits word h = grind (arith, common_steps, h)
 is_short : (word : List ℕ) → is_number word ≡ true → length word ≤ 7
 is_short word h = grind (arith, common_steps, h)
 
-is_some_digit : (word : List ℕ) → is_number word ≡ true → 0 < length word
-is_some_digit word h = grind (arith, common_steps, h)
+-- a number has a digit
+pub some_digits : (digits : List ℕ) → is_decimal digits ≡ true → 0 < length digits
+some_digits digits is = ltb-true _ _ (and_parts _ _ is).0
 
 fits : (word : List ℕ) → is_number word ≡ true → digits_value 10 word < 2 ^ 32
 fits word h =
@@ -36,4 +38,4 @@ fits word h =
 pub parsed : (word : List ℕ) → is_number word ≡ true → IsNumeral 10 (without_leading_plus word) × (digits_value 10 (without_leading_plus word) < 2 ^ 32)
 parsed word h =
     let P : List ℕ → Type 0 = λ w. IsNumeral 10 w × (digits_value 10 w < 2 ^ 32) in
-    subst P (sym (no_plus word (has_digits word h))) ((is_some_digit word h, all_digits word (has_digits word h)), fits word h)
+    subst P (sym (no_plus word (has_digits word h))) ((some_digits word (and_parts _ _ (and_parts _ _ h).0).0, all_digits word (has_digits word h)), fits word h)

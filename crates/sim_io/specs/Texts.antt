@@ -46,11 +46,15 @@ unfoldable pub record_lines : Meaning → List (Key × Note) → List ℕ
 record_lines m [] = []
 record_lines m (told ∷ rest) = event_lines m told.0 told.1 ++ record_lines m rest
 
+-- the line of a fault: when and where it happened, and what it is
+abbrev pub fault_line : Meaning → Key → ℕ → List ℕ
+fault_line m key code = codes "fault " ++ (place_text m key ++ (codes " " ++ (fault_text code ++ codes "\n")))
+
 -- the line that says why a simulation stopped, after so many events
 unfoldable pub stop_line : Meaning → Terms → ℕ → Stop → List ℕ
 stop_line m t count End = codes "end " ++ (decimal t.end ++ (codes " events " ++ (decimal count ++ codes "\n")))
 stop_line m t count Limit = codes "limit " ++ (decimal count ++ codes "\n")
-stop_line m t count (Fault key code) = codes "fault " ++ (place_text m key ++ (codes " " ++ (fault_text code ++ codes "\n")))
+stop_line m t count (Fault key code) = fault_line m key code
 
 -- where it stopped by a fault, that was at an object of the model
 abbrev pub IsAtObject : Meaning → Stop → Type 0

@@ -2,16 +2,20 @@
 ghost use Rattle.std.specs.Prelude.{◌≡◌, ◌+◌, ◌<◌, ◌≤◌, ◌++◌, OnOk, OnErr, codes, take, vec_len};
 ghost use Rattle.std.specs.Vec.{vec_capacity};
 ghost use Rattle.std.specs.Io.{StartsWith};
-ghost use Rattle.sim_io.specs.Texts.{part_line, part_text, stamp_text, event_lines, stop_line, IsAtObject};
+ghost use Rattle.sim_io.specs.Texts.{part_line, part_text, stamp_text, event_lines, fault_line, stop_line, IsAtObject};
 ghost use Rattle.sim_io.specs.CycleTexts.{IsWhole, cycle_line, demo_line};
 
-use crate::backwards::{SHORT, append_short, write_byte, write_number, write_word};
-use crate::text_parts::{put_fault, put_number, put_place, put_stamp};
+mod backwards;
+mod text_parts;
+
+use crate::lines::backwards::{SHORT, append_short, write_byte, write_number, write_word};
+use crate::lines::text_parts::{put_fault, put_place};
 use event_key::{Key, step_of, time_of};
 use model_core::model::Model;
 use model_core::{OutOfMemory, Part};
 use sim_spec::{Bucket, Stop, Terms};
 use std::alloc::Global;
+pub use text_parts::{put_number, put_stamp};
 
 /// Appends a stamp and a space.
 #[tactic(auto, unfolding(crate::specs::Texts::stamp_text))]
@@ -163,6 +167,26 @@ pub fn put_demo(
     Ok(())
 }
 
+/// Appends the line of a fault.
+fn put_failure<M: Model>(
+    alloc: Global,
+    model: &M,
+    key: &Key,
+    code: u32,
+    into: &mut Vec<u8>,
+) -> Result<(), OutOfMemory>
+    requires { key.now.dest < (M.meaning model.now).objects }
+    ensures ok { OnOk result (into.new.items ≡ into.old.items ++ fault_line (M.meaning model.now) key.now code) }
+    ensures prefix { StartsWith into.new.items into.old.items }
+{
+    into.extend_from_slice(b"fault ")?;
+    put_place(alloc, model, key, into)?;
+    into.push(b' ')?;
+    put_fault(code, into)?;
+    into.push(b'\n')?;
+    Ok(())
+}
+
 #[tactic(auto, unfolding(crate::specs::Texts::stop_line))]
 fn put_reason<M: Model>(
     alloc: Global,
@@ -176,25 +200,13 @@ fn put_reason<M: Model>(
     ensures ok { OnOk result (into.new.items ≡ into.old.items ++ stop_line (M.meaning model.now) terms.now count stop.now) }
     ensures prefix { StartsWith into.new.items into.old.items }
 {
-    match *stop {
-        Stop::End => {
-            into.extend_from_slice(b"end ")?;
-            put_number(terms.end, into)?;
-            into.extend_from_slice(b" events ")?;
-            put_number(count, into)?;
-        }
-        Stop::Limit => {
-            into.extend_from_slice(b"limit ")?;
-            put_number(count, into)?;
-        }
-        Stop::Fault { key, code } => {
-            into.extend_from_slice(b"fault ")?;
-            put_place(alloc, model, &key, into)?;
-            into.push(b' ')?;
-            put_fault(code, into)?;
-        }
-    }
-    into.push(b'\n')?;
+    let end = terms.end;
+    let line = match *stop {
+        Stop::End => format!(in alloc; "end {end} events {count}\n")?,
+        Stop::Limit => format!(in alloc; "limit {count}\n")?,
+        Stop::Fault { key, code } => return put_failure(alloc, model, &key, code, into),
+    };
+    into.extend_from_slice(line.as_bytes())?;
     Ok(())
 }
 

@@ -1,13 +1,20 @@
 //! The words of the command line.
-ghost use Rattle.std.specs.Prelude.{◌≡◌, ◌≤◌, IfOk, IfSome, [], None, codes, slice_get, string_bytes};
-ghost use Rattle.model_core.specs.declared.limits.TheConstants.{MOST_NODES};
-ghost use Rattle.sim_io.specs.Words.{AreInBounds, command_settings, is_among, judged, moves_named, number_within, only_number, placement_named, run_settings, settings, stray_word, texts_of, value_after, value_if, value_or, word_meant};
+ghost use Rattle.std.specs.Prelude.{◌≡◌, ◌≤◌, IfOk};
+ghost use Rattle.sim_io.specs.Words.{AreGivenInBounds, AreInBounds, command_settings, only_number, run_settings, settings, texts_of};
 
-use crate::moves::Moves;
-use crate::options::{Command, CommandOption, moves_named, number_within, placement_named};
-use model_core::{MOST_AHEAD, MOST_DEMO_STATIONS, MOST_NODES};
+mod commands;
+mod moves;
+mod options;
+mod values;
+
+use crate::words::commands::Command;
+use crate::words::options::{GivenOptions, read_options};
+use crate::words::values::number_within;
+use model_core::MOST_DEMO_STATIONS;
+pub use moves::Moves;
 use sim_spec::Placement;
 use thiserror::Error;
+pub use values::is_decimal;
 
 /// What is wrong with the words.
 #[derive(Clone, Copy, Debug, PartialEq, Eq, Error)]
@@ -53,6 +60,9 @@ pub const DEFAULT_NODES: u32 = 4;
 /// How many events a node processes at most past what it must, where nothing is asked for.
 pub const DEFAULT_AHEAD: u32 = 8;
 
+/// After how many cycles a state is saved at most.
+pub const MOST_SAVED_CYCLES: u32 = 9_999_999;
+
 /// What is to be done.
 #[derive(Clone, Copy, Debug, PartialEq, Eq)]
 pub enum Settings {
@@ -89,137 +99,19 @@ pub enum Settings {
     Resume,
 }
 
-/// What is wrong with a word that stands for nothing.
-fn stray_word(word: &String) -> WordFault
-    ensures { result ≡ stray_word (string_bytes word.now) }
-{
-    if word.as_bytes().starts_with(b"-") {
-        WordFault::UnknownOption
-    } else {
-        WordFault::ExtraWord
-    }
-}
-
-/// Whether a word is one of these.
-fn is_among(words: &[String], word: &str) -> bool
-    ensures { result ≡ is_among (texts_of words.now) word.now }
-{
-    for other in words {
-        if other.as_str() == word {
-            return true;
-        }
-    }
-    false
-}
-
-/// What a word comes to after those before it: the option that waits for a value now, if one does.
-fn word_meant(
-    command: Command,
-    before: &[String],
-    waiting: Option<CommandOption>,
-    word: &String,
-) -> Result<Option<CommandOption>, WordFault>
-    ensures { result ≡ word_meant command (texts_of before.now) waiting (string_bytes word.now) }
-{
-    if let Some(option) = waiting {
-        return if option.accepts(word.as_str()) {
-            Ok(None)
-        } else {
-            Err(WordFault::BadValue)
-        };
-    }
-    let Some(option) = command.option(word.as_str()) else {
-        return Err(stray_word(word));
-    };
-    if is_among(before, word.as_str()) {
-        return Err(WordFault::RepeatedOption);
-    }
-    Ok(if option.takes_value() {
-        Some(option)
-    } else {
-        None
-    })
-}
-
-/// Judges the words after a command.
-fn judge(command: Command, words: &[String]) -> Result<(), WordFault>
-    ensures { result ≡ judged command [] None (texts_of words.now) }
-{
-    let mut waiting = None;
-    for i in 0..words.len() {
-        waiting = word_meant(command, &words[..i], waiting, &words[i])?;
-    }
-    match waiting {
-        None => Ok(()),
-        Some(_) => Err(WordFault::MissingValue),
-    }
-}
-
-/// The place after an option, or past the end where it isn't given.
-fn place_after(words: &[String], option: &str) -> usize
-    ensures { slice_get (texts_of words.now) result ≡ value_after option.now (texts_of words.now) }
-{
-    for i in 0..words.len() {
-        if words[i].as_str() == option {
-            return i + 1;
-        }
-    }
-    words.len()
-}
-
-/// The number that is the value of an option, or what is so where it isn't given.
-fn number_given(words: &[String], option: &str, least: u32, most: u32, default: u32) -> u32
-    requires low { least ≤ default }
-    requires high { default ≤ most }
-    ensures value { result ≡ value_or default (number_within least most) (value_after option.now (texts_of words.now)) }
-    ensures low { least ≤ result }
-    ensures high { result ≤ most }
-{
-    match words.get(place_after(words, option)) {
-        Some(value) => number_within(least, most, value.as_str()).unwrap_or(default),
-        None => default,
-    }
-}
-
-/// Where the objects are placed.
-fn placement_given(words: &[String]) -> Placement
-    ensures { result ≡ value_or Placement.Round placement_named (value_after (codes "--placement") (texts_of words.now)) }
-{
-    match words.get(place_after(words, "--placement")) {
-        Some(value) => placement_named(value.as_str()).unwrap_or(Placement::Round),
-        None => Placement::Round,
-    }
-}
-
-/// How many workers are asked for, where they are.
-fn workers_given(words: &[String]) -> Option<u32>
-    ensures value { result ≡ value_if (number_within 1 MOST_NODES) (value_after (codes "--workers") (texts_of words.now)) }
-    ensures bounds { IfSome result (λ many. (1 ≤ many) × (many ≤ MOST_NODES)) }
-{
-    let value = words.get(place_after(words, "--workers"))?;
-    number_within(1, MOST_NODES, value.as_str())
-}
-
-/// Which objects are to move, where some are.
-fn moves_given(words: &[String]) -> Option<Moves>
-    ensures { result ≡ value_if moves_named (value_after (codes "--moves") (texts_of words.now)) }
-{
-    let value = words.get(place_after(words, "--moves"))?;
-    moves_named(value.as_str())
-}
-
 /// What the options of a run set.
-fn run_settings(words: &[String]) -> Settings
-    ensures value { result ≡ run_settings (texts_of words.now) }
+fn run_settings(given: &GivenOptions) -> Settings
+    requires { AreGivenInBounds given.now }
+    ensures value { result ≡ run_settings given.now }
     ensures bounds { AreInBounds result }
 {
     Settings::Run {
-        nodes: number_given(words, "--nodes", 1, MOST_NODES, DEFAULT_NODES),
-        ahead: number_given(words, "--ahead", 0, MOST_AHEAD, DEFAULT_AHEAD),
-        placement: placement_given(words),
-        cycles: is_among(words, "--cycles"),
-        workers: workers_given(words),
-        moves: moves_given(words),
+        nodes: given.nodes.unwrap_or(DEFAULT_NODES),
+        ahead: given.ahead.unwrap_or(DEFAULT_AHEAD),
+        placement: given.placement.unwrap_or(Placement::Round),
+        cycles: given.cycles,
+        workers: given.workers,
+        moves: given.moves,
     }
 }
 
@@ -232,10 +124,11 @@ fn only_number(words: &[String], least: u32, most: u32) -> Result<u32, WordFault
     let [number, rest @ ..] = words else {
         return Err(WordFault::MissingValue);
     };
-    match number_within(least, most, number.as_str()) {
-        None => Err(WordFault::BadValue),
-        Some(_) if !rest.is_empty() => Err(WordFault::ExtraWord),
-        Some(number) => Ok(number),
+    let number = number_within(least, most, number.as_str())?;
+    if rest.is_empty() {
+        Ok(number)
+    } else {
+        Err(WordFault::ExtraWord)
     }
 }
 
@@ -245,28 +138,22 @@ fn command_settings(command: Command, words: &[String]) -> Result<Settings, Word
     ensures bounds { IfOk result AreInBounds }
 {
     match command {
-        Command::Run => {
-            judge(command, words)?;
-            Ok(run_settings(words))
-        }
-        Command::One => {
-            judge(command, words)?;
-            Ok(Settings::One {
-                cycles: is_among(words, "--cycles"),
-            })
-        }
+        Command::Run => Ok(run_settings(&read_options(command, words)?)),
+        Command::One => Ok(Settings::One {
+            cycles: read_options(command, words)?.cycles,
+        }),
         Command::Totals => {
-            judge(command, words)?;
+            read_options(command, words)?;
             Ok(Settings::Totals)
         }
         Command::Demo => Ok(Settings::Demo {
             n: only_number(words, 1, MOST_DEMO_STATIONS)?,
         }),
         Command::Save => Ok(Settings::Save {
-            c: only_number(words, 0, 9_999_999)?,
+            c: only_number(words, 0, MOST_SAVED_CYCLES)?,
         }),
         Command::Resume => {
-            judge(command, words)?;
+            read_options(command, words)?;
             Ok(Settings::Resume)
         }
     }

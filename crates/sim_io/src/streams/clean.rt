@@ -1,0 +1,102 @@
+//! A source and a sink that never fail.
+ghost use Rattle.std.specs.Prelude.{◌≡◌, None, Some, List, [], ℕ, ◌<◌, Ok, IfOk, OnOk, length, min};
+ghost use Rattle.std.specs.Io.{ReadsAtMost, WritesAtMost};
+ghost use Rattle.std.specs.Io.KnownBytes.{Keeps, ReadConsumes, WriteAppends};
+ghost use Rattle.sim_io.specs.Causes.{CountsIdle, HasCause};
+
+use crate::streams::failed::Failed;
+use crate::streams::sink::Sink;
+use crate::streams::source::Source;
+use std::marker::Model;
+
+/// Bytes in memory, given without a fault. Contracts see the bytes that are left.
+#[derive(Drop)]
+pub struct CleanSource {
+    bytes: Vec<u8>,
+    at: usize,
+}
+
+impl Model for CleanSource {
+    ghost use Rattle.std.specs.Prelude.{ℕ, List, ◌≤◌, drop, length};
+
+    ghost Value = { List ℕ };
+
+    ghost view = { λ source. drop source.at source.bytes.items };
+
+    ghost invariant = { λ source. source.at ≤ length source.bytes.items };
+}
+
+impl CleanSource {
+    /// A source of these bytes.
+    pub fn new(bytes: Vec<u8>) -> CleanSource
+        ensures { result ≡ bytes.items }
+    {
+        CleanSource { bytes, at: 0 }
+    }
+}
+
+impl Source for CleanSource {
+    ghost left = { λ bytes. Some bytes };
+
+    ghost faults = { λ _. 0 };
+
+    fn read(&mut self, into: &mut [u8]) -> Result<usize, Failed>
+        ensures bound { ReadsAtMost result into.new }
+        ensures taken { ReadConsumes (Some self.old) (Some self.new) result into.new }
+        ensures cause { HasCause 0 0 result }
+        ensures quiet { OnOk result (◌≡◌ {A = ℕ} 0 0) }
+        ensures count { result ≡ Ok (min (length into.old) (length self.old)) }
+    {
+        let (_, left) = self.bytes.split_at(self.at);
+        let count = into.len().min(left.len());
+        let (piece, _) = left.split_at(count);
+        let (prefix, _) = into.split_at_mut(count);
+        prefix.copy_from_slice(piece);
+        self.at += count;
+        Ok(count)
+    }
+}
+
+/// Takes each piece whole, keeps no byte and tells none.
+#[derive(Clone, Copy, Debug, Default)]
+pub struct CleanSink;
+
+impl CleanSink {
+    /// A sink that never fails.
+    pub fn new() -> CleanSink {
+        CleanSink
+    }
+}
+
+impl Sink for CleanSink {
+    ghost use Rattle.std.proofs.KnownBytes.{Appends-nil};
+
+    ghost told = { λ _. None };
+
+    ghost handed = { λ _. None };
+
+    ghost faults = { λ _. 0 };
+
+    fn write(&mut self, bytes: &[u8]) -> Result<usize, Failed>
+        ensures bound { WritesAtMost result bytes.now }
+        ensures taken { WriteAppends None None result bytes.now }
+        ensures cause { HasCause 0 0 result }
+        ensures idle { CountsIdle 0 0 bytes.now result }
+        ensures quiet { IfOk result (λ n. 0 < n → ◌≡◌ {A = ℕ} 0 0) }
+        ensures whole { result ≡ Ok (length bytes.now) }
+    {
+        Ok(bytes.len())
+    }
+
+    fn flush(&mut self) -> Result<(), Failed>
+        ensures taken { Keeps None None }
+        ensures all { OnOk result (Keeps None None) }
+        ensures cause { HasCause 0 0 result }
+        ensures quiet { OnOk result (◌≡◌ {A = ℕ} 0 0) }
+        ensures done { result ≡ Ok tt }
+    {
+        Ok(())
+    }
+
+    ghost in_order = { λ _. ([], Appends-nil None) };
+}
