@@ -12,7 +12,7 @@ use Rattle.run_save.specs.SavedStates.{SavedState, state_of}
 use Rattle.run_save.specs.declared.reading.TheConstants.{MOST_STATE_BYTES}
 use Rattle.btb_program.specs.Answer.{Answer, answer_to_model, answer_to_state}
 use Rattle.model_core.specs.declared.limits.TheConstants.{MOST_TEXT_BYTES}
-use Rattle.sim_io.specs.declared.reading.TheConstants.{ENOUGH_BYTES}
+use Rattle.sim_io.specs.declared.streams.reading.TheConstants.{ENOUGH_BYTES}
 
 -- a text that is too long is so by its first 1,048,577 bytes, so that what comes after them does not matter to the answer
 answer-take : (chosen : Settings) (bytes : List ℕ)

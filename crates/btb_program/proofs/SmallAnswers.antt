@@ -28,7 +28,7 @@ use Rattle.sim_spec.specs.Cycles.{cycles_behind, cycles_on, cycles_for, cycles}
 use Rattle.sim_io.specs.declared.words.Settings.TheVariants.{One}
 use Rattle.sim_io.specs.Texts.{stamp_text, word_text, part_text, place_text, part_line, event_lines, record_lines, stop_line}
 use Rattle.sim_io.specs.CycleTexts.{cycle_line, told_cycle, bucket_lines, lines_of_buckets, text}
-use Rattle.sim_io.specs.Words.{judged, settings}
+use Rattle.sim_io.specs.Words.{settings}
 use Rattle.sim_text.specs.WholeTexts.{text_from}
 use Rattle.btb_program.specs.Answer.{answer, answer_to_settings, answer_to_model, refusal_line}
 
@@ -65,7 +65,7 @@ unfolding digits number_at start_at tie key_lt key_cmp next_stamp has_no_step ce
 an_event_at_the_horizon_waits = refl
 
 no_bytes_are_no_model : answer (codes "run" ∷ []) [] ≡ record { output = []; notes = codes "model: 3 Missing item 0\n"; status = 3 }
-unfolding digits refusal_line judged settings answer answer_to_settings answer_to_model model_of top is_utf8 chars parse_document lines skip_bom skip_from skip_ws
+unfolding digits refusal_line settings answer answer_to_settings answer_to_model model_of top is_utf8 chars parse_document lines skip_bom skip_from skip_ws
 no_bytes_are_no_model = refl
 
 no_word_is_no_command : answer [] [] ≡ record { output = []; notes = codes "words: no command\n"; status = 2 }
@@ -73,5 +73,5 @@ unfolding settings answer answer_to_settings
 no_word_is_no_command = refl
 
 a_word_too_many : answer (codes "run" ∷ codes "x" ∷ []) [] ≡ record { output = []; notes = codes "words: extra word\n"; status = 2 }
-unfolding judged settings answer answer_to_settings
+unfolding settings answer answer_to_settings
 a_word_too_many = refl

@@ -10,7 +10,7 @@ use Rattle.sim_io.specs.Transfers.{KeepsBackSome}
 use Rattle.sim_io.specs.Words.{settings}
 use Rattle.model_text.specs.ModelTexts.{ModelOf, model_of}
 use Rattle.run_save.specs.SavedStates.{state_of}
-use Rattle.sim_io.specs.declared.reading.TheConstants.{ENOUGH_BYTES}
+use Rattle.sim_io.specs.declared.streams.reading.TheConstants.{ENOUGH_BYTES}
 use Rattle.sim_spec.specs.declared.stop.Stop.TheVariants.{End, Limit, Fault}
 use Rattle.btb_program.specs.declared.ending.Ending.{Ending}
 use Rattle.btb_program.specs.declared.ending.Ending.TheVariants.{Stopped, Saved, RefusedWords, RefusedModel, RefusedState, ReadFault, WriteFault, OutOfMemory}

@@ -15,7 +15,7 @@ use Rattle.sim_spec.specs.declared.stop.Stop.TheVariants.{End, Limit, Fault}
 use Rattle.sim_spec.specs.State.{State, initial_state}
 use Rattle.sim_spec.specs.Run.{run}
 use Rattle.sim_spec.specs.Cycles.{cycles_for}
-use Rattle.sim_io.specs.declared.reading.TheConstants.{ENOUGH_BYTES}
+use Rattle.sim_io.specs.declared.streams.reading.TheConstants.{ENOUGH_BYTES}
 use Rattle.sim_io.specs.declared.words.WordFault.{WordFault}
 use Rattle.sim_io.specs.declared.words.Settings.{Settings}
 use Rattle.sim_io.specs.Words.{settings, texts_of, fault_name}

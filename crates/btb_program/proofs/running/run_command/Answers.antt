@@ -3,7 +3,7 @@ use Rattle.std.proofs.Common.{◌≡◌, ℕ, List, Err, ap, ◌∙◌, subst}
 use Rattle.std.specs.Io.KnownBytes.{Appends}
 use Rattle.std.proofs.KnownBytes.{Appends-nil}
 use Rattle.sim_io.specs.Transfers.{AppendsPrefix}
-use Rattle.sim_io.specs.declared.reading.TheConstants.{ENOUGH_BYTES}
+use Rattle.sim_io.specs.declared.streams.reading.TheConstants.{ENOUGH_BYTES}
 use Rattle.model_text.specs.Checks.{Fails}
 use Rattle.model_text.specs.ModelTexts.{model_of}
 use Rattle.model_text.specs.declared.refusal.Refusal.{Refusal}
