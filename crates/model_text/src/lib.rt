@@ -27,7 +27,7 @@ mod top;
 
 pub use format_laws::law_formats;
 pub use model::AnyModel;
-pub use refusal::{Cause, Refusal};
+pub use refusal::{Refusal, code_name};
 pub use top::read_model;
 
 #[cfg(test)]

@@ -1,27 +1,28 @@
 //! Why a model text is refused.
 ghost use Rattle.std.specs.Prelude.{◌≡◌};
-ghost use Rattle.model_text.specs.declared.refusal.Refusal.TheVariants.{At, OutOfMemory};
+ghost use Rattle.model_text.specs.Causes.{code_name};
+ghost use Rattle.model_text.specs.declared.refusal.Refusal.TheVariants.{OutOfMemory};
 
 use delta_exchange::OutOfMemory;
 use std::alloc::{AllocError, AllocFailed};
 use thiserror::Error;
 
 /// What the first check that fails found.
-#[derive(Clone, Copy, Debug, PartialEq, Eq, Error)]
-pub enum Cause {
-    #[error("the text has more than 1,048,576 bytes")]
+#[derive(Clone, Copy)]
+pub(crate) enum Cause {
+    /// The text has more than 1,048,576 bytes.
     TooLong,
-    #[error("the text is no TOML document")]
+    /// The text is no TOML document.
     NotToml,
-    #[error("a required field is absent")]
+    /// A required field is absent.
     Missing,
-    #[error("a key is unknown")]
+    /// A key is unknown.
     Unknown,
-    #[error("a value is of the wrong type, or is none of those that its field takes")]
+    /// A value is of the wrong type, or is none of those that its field takes.
     BadValue,
-    #[error("an object is named that is not there, or that takes no events")]
+    /// An object is named that is not there, or that takes no events.
     BadLink,
-    #[error("a number is too great, or an array too long")]
+    /// A number is too great, or an array too long.
     Limit,
 }
 
@@ -63,10 +64,10 @@ impl From<OutOfMemory> for Refusal {
 impl Cause {
     ghost use Rattle.std.specs.Prelude.{◌≡◌};
     ghost use Rattle.model_text.specs.declared.refusal.Refusal.TheVariants.{At};
-    ghost use Rattle.model_text.specs.Causes.{cause_code, cause_name, coded_cause};
+    ghost use Rattle.model_text.specs.Causes.{cause_code};
 
     /// Its code, from 1 to 7.
-    pub fn code(self) -> u8
+    fn code(self) -> u8
         ensures { result ≡ cause_code self }
     {
         match self {
@@ -80,44 +81,29 @@ impl Cause {
         }
     }
 
-    /// What it is called.
-    pub fn name(self) -> &'static str
-        ensures { result.now ≡ cause_name self }
-    {
-        match self {
-            Cause::TooLong => "TooLong",
-            Cause::NotToml => "NotToml",
-            Cause::Missing => "Missing",
-            Cause::Unknown => "Unknown",
-            Cause::BadValue => "BadValue",
-            Cause::BadLink => "BadLink",
-            Cause::Limit => "Limit",
-        }
-    }
-
-    /// The cause with this code.
-    pub fn of_code(code: u8) -> Option<Cause>
-        ensures { result ≡ coded_cause code }
-    {
-        match code {
-            1 => Some(Cause::TooLong),
-            2 => Some(Cause::NotToml),
-            3 => Some(Cause::Missing),
-            4 => Some(Cause::Unknown),
-            5 => Some(Cause::BadValue),
-            6 => Some(Cause::BadLink),
-            7 => Some(Cause::Limit),
-            _ => None,
-        }
-    }
-
     /// The refusal at an item.
-    pub(crate) fn at(self, item: u32) -> Refusal
+    pub fn at(self, item: u32) -> Refusal
         ensures { result ≡ At (cause_code self) item }
     {
         Refusal::At {
             code: self.code(),
             item,
         }
+    }
+}
+
+/// What a code is called, or nothing if no refusal has it.
+pub fn code_name(code: u8) -> &'static str
+    ensures { result.now ≡ code_name code }
+{
+    match code {
+        1 => "TooLong",
+        2 => "NotToml",
+        3 => "Missing",
+        4 => "Unknown",
+        5 => "BadValue",
+        6 => "BadLink",
+        7 => "Limit",
+        _ => "",
     }
 }

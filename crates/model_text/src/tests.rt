@@ -241,19 +241,19 @@ fn the_second_format_adds_ranks_of_hops(rt: HostRuntime) -> Result<(), Fail> {
 }
 
 #[test]
-fn a_cause_has_a_code_and_a_name(rt: HostRuntime) {
-    for (cause, code, name) in [
-        (Cause::TooLong, 1, "TooLong"),
-        (Cause::NotToml, 2, "NotToml"),
-        (Cause::Missing, 3, "Missing"),
-        (Cause::Unknown, 4, "Unknown"),
-        (Cause::BadValue, 5, "BadValue"),
-        (Cause::BadLink, 6, "BadLink"),
-        (Cause::Limit, 7, "Limit"),
+fn what_a_code_is_called(rt: HostRuntime) {
+    for (code, name) in [
+        (0, ""),
+        (1, "TooLong"),
+        (2, "NotToml"),
+        (3, "Missing"),
+        (4, "Unknown"),
+        (5, "BadValue"),
+        (6, "BadLink"),
+        (7, "Limit"),
+        (8, ""),
     ] {
-        assert_eq!(rt; cause.code(), code);
-        assert_eq!(rt; cause.name(), name);
-        assert_eq!(rt; Cause::of_code(code), Some(cause));
+        assert_eq!(rt; code_name(code), name);
     }
 }
 
