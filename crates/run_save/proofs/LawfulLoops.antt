@@ -5,7 +5,6 @@ use Rattle.std.proofs.Math.ListN.{drop_of_length-le}
 use Rattle.std.specs.Prelude.{nat_le}
 use Rattle.std.proofs.lemmas.Bool.{and_from, and_left, and_right, le-leb, leb-true}
 use Rattle.std.proofs.lemmas.List.{get_or-map}
-use Rattle.cycle_core.specs.States.{object_of}
 use Rattle.delta_exchange.specs.Views.{CellsView}
 use Rattle.model_core.specs.declared.event.Event.{Event}
 use Rattle.model_core.specs.Meaning.{Meaning}
@@ -56,10 +55,6 @@ events_end m objects i es d total within unsound so_far =
 pub events_done : (m : Meaning) (objects : List ObjectState) (i : ℕ) (es : List Event) (total : Checked (Unit {0})) → length es ≤ i → events_check m objects i (drop i es) ≡ total → total ≡ Ok tt
 unfolding events_check
 events_done m objects i es total past so_far = sym so_far ∙ ap (events_check m objects i) (drop_of_length-le es past)
-
--- the object at a place, as the code keeps it
-pub object_at-map : (os : List (CellsView × ℕ)) (i : ℕ) (o : CellsView × ℕ) → i < length os → o ≡ get_or os i o → object_at (map object_of os) i ≡ object_of o
-object_at-map os i o within is = get_or-map object_of os i o no_object within ∙ ap object_of (sym is)
 
 lt-leb : (a b : ℕ) → b < a → nat_le a b ≡ false
 lt-leb a b less = by_test (nat_le a b) refl

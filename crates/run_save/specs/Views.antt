@@ -1,7 +1,6 @@
 -- What the code keeps, in the words of the definitions.
 use Rattle.std.specs.Prelude.{ℕ, List, map}
 use Rattle.std.specs.Global.{Vec}
-use Rattle.cycle_core.specs.States.{object_of}
 use Rattle.model_text.specs.Meanings.{meaning_of}
 use Rattle.run_save.specs.declared.cursor.Cursor.{Cursor}
 use Rattle.run_save.specs.declared.draft.Draft.{Draft as OwnDraft}
@@ -18,7 +17,7 @@ lines_of lines = map (λ line. line.items) lines
 
 abbrev pub draft_of : OwnDraft → Draft
 draft_of draft = record {
-  state = record { objects = map object_of draft.objects.items; pending = draft.pending.items; count = draft.count };
+  state = record { objects = draft.objects.items; pending = draft.pending.items; count = draft.count };
   model = draft.model.now;
   line = draft.line;
 }

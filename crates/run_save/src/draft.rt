@@ -1,10 +1,11 @@
 //! What a state text says.
-use model_core::{Cells, Event};
+use cycle_core::ObjectState;
+use model_core::Event;
 
 /// What the lines of a state text say, with the bytes and the line of its model.
 #[derive(Drop)]
 pub(crate) struct Draft<'a> {
-    pub objects: Vec<(Cells, u64)>,
+    pub objects: Vec<ObjectState>,
     pub pending: Vec<Event>,
     pub count: u64,
     pub model: &'a [u8],

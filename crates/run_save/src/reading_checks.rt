@@ -1,14 +1,14 @@
 //! What a simulation asks of a state, line by line of its text.
-ghost use Rattle.std.specs.Prelude.{◌≡◌, ◌<◌, ◌≤◌, map, length};
+ghost use Rattle.std.specs.Prelude.{◌≡◌, ◌<◌, ◌≤◌, length};
 ghost use Rattle.model_core.specs.declared.limits.TheConstants.{MOST_EVENTS};
-ghost use Rattle.cycle_core.specs.States.{object_of};
 ghost use Rattle.run_save.specs.Checks.{Gives};
 ghost use Rattle.run_save.specs.LawfulChecks.{objects_check, is_sent, has_source, is_sound, events_check, lawful_check};
 
 use crate::refusal::{StateCause, StateRefusal};
+use cycle_core::ObjectState;
 use event_key::{INITIAL, Key, MOST_RANK};
+use model_core::Event;
 use model_core::model::Model;
-use model_core::{Cells, Event};
 use sim_spec::Terms;
 
 /// How many events may be pending before any is done.
@@ -21,15 +21,15 @@ const MOST_SENT: u64 = 8;
 pub(crate) fn check_objects<M: Model>(
     model: &M,
     count: u64,
-    objects: &[(Cells, u64)],
+    objects: &[ObjectState],
 ) -> Result<(), StateRefusal>
     requires few { count ≤ MOST_EVENTS }
     requires all { length objects.now ≡ (M.meaning model.now).objects }
-    ensures { Gives (λ x. x) result (objects_check (M.meaning model.now) count 0 (map object_of objects.now)) }
+    ensures { Gives (λ x. x) result (objects_check (M.meaning model.now) count 0 objects.now) }
 {
     for i in 0..model.objects() {
-        let (cells, sent) = &objects[i as usize];
-        if *sent > MOST_SENT * count || !model.is_lawful(i, cells) {
+        let object = &objects[i as usize];
+        if object.sent > MOST_SENT * count || !model.is_lawful(i, &object.cells) {
             return Err(StateCause::Unlawful.at(u64::from(i) + 4));
         }
     }
@@ -37,26 +37,26 @@ pub(crate) fn check_objects<M: Model>(
 }
 
 /// Whether an event is one that its source has sent.
-fn is_sent(objects: &[(Cells, u64)], key: &Key) -> bool
-    ensures { result ≡ is_sent (map object_of objects.now) key.now }
+fn is_sent(objects: &[ObjectState], key: &Key) -> bool
+    ensures { result ≡ is_sent objects.now key.now }
 {
     match objects.get(key.src as usize) {
-        Some((_, sent)) => key.serial < *sent,
+        Some(object) => key.serial < object.sent,
         None => false,
     }
 }
 
 /// Whether an event is an initial one, or one that its source has sent.
-fn has_source<M: Model>(model: &M, objects: &[(Cells, u64)], key: &Key) -> bool
-    ensures { result ≡ has_source (M.meaning model.now) (map object_of objects.now) key.now }
+fn has_source<M: Model>(model: &M, objects: &[ObjectState], key: &Key) -> bool
+    ensures { result ≡ has_source (M.meaning model.now) objects.now key.now }
 {
     let is_initial = key.src == INITIAL && key.serial < u64::from(model.starts());
     is_initial || is_sent(objects, key)
 }
 
 /// Whether an event has a destination, a rank and a source.
-fn is_sound<M: Model>(model: &M, objects: &[(Cells, u64)], key: &Key) -> bool
-    ensures { result ≡ is_sound (M.meaning model.now) (map object_of objects.now) key.now }
+fn is_sound<M: Model>(model: &M, objects: &[ObjectState], key: &Key) -> bool
+    ensures { result ≡ is_sound (M.meaning model.now) objects.now key.now }
 {
     key.dest < model.objects() && key.rank <= MOST_RANK && has_source(model, objects, key)
 }
@@ -64,10 +64,10 @@ fn is_sound<M: Model>(model: &M, objects: &[(Cells, u64)], key: &Key) -> bool
 /// Whether each event has a destination, a rank and a source.
 pub(crate) fn check_events<M: Model>(
     model: &M,
-    objects: &[(Cells, u64)],
+    objects: &[ObjectState],
     events: &[Event],
 ) -> Result<(), StateRefusal>
-    ensures { Gives (λ x. x) result (events_check (M.meaning model.now) (map object_of objects.now) 0 events.now) }
+    ensures { Gives (λ x. x) result (events_check (M.meaning model.now) objects.now 0 events.now) }
 {
     for (i, event) in events.iter().enumerate() {
         if !is_sound(model, objects, &event.key) {
@@ -83,11 +83,11 @@ pub(crate) fn check_lawful<M: Model>(
     model: &M,
     terms: &Terms,
     count: u64,
-    objects: &[(Cells, u64)],
+    objects: &[ObjectState],
     events: &[Event],
 ) -> Result<(), StateRefusal>
     ensures { Gives (λ x. x) result (lawful_check (M.meaning model.now) terms.now
-        (record { objects = map object_of objects.now; pending = events.now; count = count })) }
+        (record { objects = objects.now; pending = events.now; count = count })) }
 {
     if count > terms.limit {
         return Err(StateCause::Unlawful.at(2));

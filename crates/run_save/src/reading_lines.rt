@@ -1,6 +1,5 @@
 //! Reading the lines of a state text, one function for each kind.
 ghost use Rattle.std.specs.Prelude.{◌≡◌, ◌≤◌, Some, None, map, option_copied, IfOk};
-ghost use Rattle.cycle_core.specs.States.{object_of};
 ghost use Rattle.run_save.specs.Checks.{Gives};
 ghost use Rattle.run_save.specs.Lines.{named, object, stamp, key, event_line, is_above, event};
 ghost use Rattle.run_save.specs.Rests.{each, in_turn};
@@ -9,6 +8,7 @@ ghost use Rattle.run_save.specs.Views.{rest_of};
 use crate::cursor::Cursor;
 use crate::reading_lists::{counted, lines};
 use crate::refusal::StateRefusal;
+use cycle_core::ObjectState;
 use event_key::{Key, stamp_of};
 use model_core::{Cells, Event};
 use std::alloc::Global;
@@ -38,8 +38,8 @@ pub(crate) fn named<'a>(
 
 /// The line of an object.
 #[tactic(auto, unfolding(crate::specs::Lines::object))]
-fn object(alloc: Global, cursor: Cursor<'_>) -> Result<((Cells, u64), Cursor<'_>), StateRefusal>
-    ensures { Gives (λ x. (object_of x.0, rest_of x.1)) result (object (rest_of cursor.entry)) }
+fn object(alloc: Global, cursor: Cursor<'_>) -> Result<(ObjectState, Cursor<'_>), StateRefusal>
+    ensures { Gives (λ x. (x.0, rest_of x.1)) result (object (rest_of cursor.entry)) }
 {
     let (sent, rest) = cursor.after(b"object")?.field(u64::MAX)?;
     let (words, rest) = counted(alloc, rest)?;
@@ -47,7 +47,7 @@ fn object(alloc: Global, cursor: Cursor<'_>) -> Result<((Cells, u64), Cursor<'_>
     let (lines, rest) = lines(alloc, many, rest)?;
     let rest = rest.next_line()?;
     let cells = Cells::new(alloc, words, lines)?;
-    Ok(((cells, sent), rest))
+    Ok((ObjectState { cells, sent }, rest))
 }
 
 /// The lines of so many objects.
@@ -55,8 +55,8 @@ pub(crate) fn objects(
     alloc: Global,
     count: u64,
     cursor: Cursor<'_>,
-) -> Result<(Vec<(Cells, u64)>, Cursor<'_>), StateRefusal>
-    ensures { Gives (λ x. (map object_of x.0.items, rest_of x.1)) result (each object count (rest_of cursor.entry)) }
+) -> Result<(Vec<ObjectState>, Cursor<'_>), StateRefusal>
+    ensures { Gives (λ x. (x.0.items, rest_of x.1)) result (each object count (rest_of cursor.entry)) }
 {
     let mut objects = Vec::new(alloc);
     let mut rest = cursor;

@@ -1,13 +1,12 @@
 //! Writing a state text.
 ghost use Rattle.std.specs.Prelude.{◌≡◌, ◌<◌, ◌^◌, ◌++◌, codes, map, OnOk, OnErr};
 ghost use Rattle.std.specs.Io.{StartsWith};
-ghost use Rattle.cycle_core.specs.States.{object_of};
 ghost use Rattle.run_save.specs.SavedLaws.{FitsTypes};
 ghost use Rattle.run_save.specs.StateTexts.{named_text, state_text};
 
 use crate::writing_lines::{put_events, put_model, put_named, put_objects};
-use cycle_core::State;
-use model_core::{Cells, Event, OutOfMemory};
+use cycle_core::{ObjectState, State};
+use model_core::{Event, OutOfMemory};
 use sim_io::cut_back;
 
 /// Appends the first two lines.
@@ -23,16 +22,16 @@ fn put_head(count: u64, into: &mut Vec<u8>) -> Result<(), OutOfMemory>
 /// Appends the text of a state by its parts. Where memory runs out, it may have appended some of it.
 #[tactic(auto, unfolding(crate::specs::StateTexts::state_text))]
 fn put_parts(
-    objects: &[(Cells, u64)],
+    objects: &[ObjectState],
     pending: &[Event],
     count: u64,
     model: &[u8],
     into: &mut Vec<u8>,
 ) -> Result<(), OutOfMemory>
     ensures ok { OnOk result (into.new.items ≡ into.old.items
-        ++ state_text (record { objects = map object_of objects.now; pending = pending.now; count = count }) model.now) }
+        ++ state_text (record { objects = objects.now; pending = pending.now; count = count }) model.now) }
     ensures prefix { StartsWith into.new.items into.old.items }
-    ensures fits { OnOk result (FitsTypes (record { objects = map object_of objects.now; pending = pending.now; count = count })) }
+    ensures fits { OnOk result (FitsTypes (record { objects = objects.now; pending = pending.now; count = count })) }
 {
     put_head(count, into)?;
     put_objects(objects, into)?;

@@ -2,11 +2,11 @@
 ghost use Rattle.std.specs.Prelude.{◌≡◌, ◌<◌, ◌^◌, ◌++◌, length, map, codes, OnOk};
 ghost use Rattle.std.specs.List.{AllByRecursion, flat_map};
 ghost use Rattle.std.specs.Io.{StartsWith};
-ghost use Rattle.cycle_core.specs.States.{object_of};
 ghost use Rattle.delta_exchange.specs.Changes.{line_of};
 ghost use Rattle.run_save.specs.SavedLaws.{FitsCells, FitsEvent, FitsKey, FitsObject, IsLine};
 ghost use Rattle.run_save.specs.StateTexts.{field_text, counted_text, named_text, object_text, key_text, event_text};
 
+use cycle_core::ObjectState;
 use event_key::Key;
 use model_core::{Cells, Event, OutOfMemory};
 use sim_io::{put_number, put_stamp};
@@ -91,28 +91,28 @@ fn put_cells(cells: &Cells, into: &mut Vec<u8>) -> Result<(), OutOfMemory>
 
 /// The line of an object.
 #[tactic(auto, unfolding(crate::specs::StateTexts::object_text))]
-fn put_object(cells: &Cells, sent: u64, into: &mut Vec<u8>) -> Result<(), OutOfMemory>
-    ensures ok { OnOk result (into.new.items ≡ into.old.items ++ object_text (record { cells = cells.now.contents; sent = sent })) }
+fn put_object(object: &ObjectState, into: &mut Vec<u8>) -> Result<(), OutOfMemory>
+    ensures ok { OnOk result (into.new.items ≡ into.old.items ++ object_text object.now) }
     ensures prefix { StartsWith into.new.items into.old.items }
-    ensures fits { OnOk result (FitsObject (record { cells = cells.now.contents; sent = sent })) }
+    ensures fits { OnOk result (FitsObject object.now) }
 {
     into.extend_from_slice(b"object")?;
-    put_field(sent, into)?;
-    put_cells(cells, into)?;
+    put_field(object.sent, into)?;
+    put_cells(&object.cells, into)?;
     into.push(b'\n')?;
     Ok(())
 }
 
 /// How many objects there are, and their lines.
-pub(crate) fn put_objects(objects: &[(Cells, u64)], into: &mut Vec<u8>) -> Result<(), OutOfMemory>
+pub(crate) fn put_objects(objects: &[ObjectState], into: &mut Vec<u8>) -> Result<(), OutOfMemory>
     ensures ok { OnOk result (into.new.items ≡ into.old.items
-        ++ (named_text (codes "objects") (length objects.now) ++ flat_map object_text (map object_of objects.now))) }
+        ++ (named_text (codes "objects") (length objects.now) ++ flat_map object_text objects.now)) }
     ensures prefix { StartsWith into.new.items into.old.items }
-    ensures fits { OnOk result (AllByRecursion FitsObject (map object_of objects.now)) }
+    ensures fits { OnOk result (AllByRecursion FitsObject objects.now) }
 {
     put_named(b"objects", objects.len() as u64, into)?;
-    for (cells, sent) in objects {
-        put_object(cells, *sent, into)?;
+    for object in objects {
+        put_object(object, into)?;
     }
     Ok(())
 }

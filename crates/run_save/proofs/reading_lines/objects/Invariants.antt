@@ -1,5 +1,4 @@
-use Rattle.std.proofs.Common.{◌≡◌, ◌-◌, None, map}
-use Rattle.cycle_core.specs.States.{object_of}
+use Rattle.std.proofs.Common.{◌≡◌, ◌-◌, None}
 use Rattle.run_save.specs.Lines.{object}
 use Rattle.run_save.specs.Rests.{in_turn}
 use Rattle.run_save.specs.Views.{rest_of}
@@ -7,4 +6,4 @@ use Rattle.run_save.proofs.InTurnLemmas.{last_of, with_front}
 use Rattle.run_save.proofs.reading_lines.objects.Given as goal
 
 abbrev pub invariant-loop : goal.invariant-loop
-invariant-loop l = with_front (map object_of l.objects.items) (in_turn (λ _. object) (last_of (map object_of l.objects.items)) (l.count - l.counter) (rest_of l.rest)) ≡ in_turn (λ _. object) None l.count (rest_of l.cursor)
+invariant-loop l = with_front l.objects.items (in_turn (λ _. object) (last_of l.objects.items) (l.count - l.counter) (rest_of l.rest)) ≡ in_turn (λ _. object) None l.count (rest_of l.cursor)
