@@ -161,8 +161,5 @@ back_in_place m t old cell e primary fresh chain now is_taken is_cell is_chain i
     is_now ∙ ap (λ es. enqueue_all es primary) (is_chain ∙ ap (λ x. x ∷ []) (sym is_cell)) ∙ is_taken.back
 
 -- sends in range, by other names
-pub ranged_as : (n objects : ℕ) (sends ss : List Send) → n ≡ objects → sends ≡ ss → SendsInRange objects ss → SendsInRange n sends
-ranged_as n objects sends ss is_n is_sends h =
-    let P : ℕ → Type 0 = λ n. SendsInRange n sends in
-    let Q : List Send → Type 0 = SendsInRange objects in
-    subst P (sym is_n) (subst Q (sym is_sends) h)
+pub ranged_as : (objects : ℕ) (sends ss : List Send) → sends ≡ ss → SendsInRange objects ss → SendsInRange objects sends
+ranged_as objects sends ss is h = subst (SendsInRange objects) (sym is) h

@@ -138,7 +138,6 @@ impl Course {
                     &key,
                     serial,
                     sheet.sends.as_slice(),
-                    model.objects(),
                 )?;
                 self.count += 1;
                 Ok(Turn::Does(key))

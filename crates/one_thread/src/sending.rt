@@ -1,5 +1,5 @@
 //! What an event sends, on its way to the queue.
-ghost use Rattle.std.specs.Prelude.{◌≡◌, ◌<◌, ◌+◌, ◌++◌, ◌^◌, length, OnOk, false};
+ghost use Rattle.std.specs.Prelude.{◌≡◌, ℕ, ◌<◌, ◌+◌, ◌++◌, ◌^◌, length, OnOk, false};
 ghost use Rattle.event_key.specs.Stamps.{time_part};
 ghost use Rattle.model_core.specs.Meaning.{SendsInRange};
 ghost use Rattle.sim_spec.specs.Firing.{has_endless_chain, emissions};
@@ -20,11 +20,10 @@ pub fn send_all(
     cause: &Key,
     serial: u64,
     sends: &[Send],
-    objects: u32,
 ) -> Result<(), OutOfMemory>
     requires time { time_part cause.now.stamp < 2 ^ 46 }
     requires stepping { has_endless_chain cause.now.stamp sends.now ≡ false }
-    requires ranged { SendsInRange objects sends.now }
+    requires ranged { (objects : ℕ) × SendsInRange objects sends.now }
     requires serials { serial + length sends.now < 2 ^ 64 }
     requires primary { SerialsBelow cause.now.dest serial queue.old.primary }
     requires fresh { SerialsBelow cause.now.dest serial queue.old.fresh }

@@ -28,7 +28,7 @@ loop-send-preserved c =
     let is = c.fill-cell.ensures.value ∙ c.sent_event.ensures in
     let long = ap length c.push.ensures.fresh ∙ length-append fresh (c.fill-cell.result ∷ []) in
     record {
-      ranged = ranged_more c.args.objects sends i c.loop-send-test.true c.loop-send.invariant.ranged;
+      ranged = (c.loop-send.invariant.ranged.0, ranged_more c.loop-send.invariant.ranged.0 sends i c.loop-send-test.true c.loop-send.invariant.ranged.1);
       stepping = (chain_at cause.stamp sends i none c.loop-send-test.true c.loop-send.invariant.stepping).1;
       count = omega arith;
       primary_is = c.push.ensures.primary ∙ c.loop-send.invariant.primary_is;

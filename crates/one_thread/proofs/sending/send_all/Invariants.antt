@@ -1,4 +1,4 @@
-use Rattle.std.proofs.Common.{◌≡◌, ◌+◌, ◌≤◌, ◌++◌, false, drop, length}
+use Rattle.std.proofs.Common.{◌≡◌, ℕ, ◌+◌, ◌≤◌, ◌++◌, false, drop, length}
 use Rattle.model_core.specs.Meaning.{SendsInRange}
 use Rattle.sim_spec.specs.Firing.{has_endless_chain, emissions}
 use Rattle.key_order.specs.Serials.{SerialsBelow}
@@ -6,7 +6,7 @@ use Rattle.one_thread.proofs.sending.send_all.Given as goal
 
 abbrev pub invariant-loop-send : goal.invariant-loop-send
 invariant-loop-send l = record {
-  ranged : SendsInRange l.fn.objects (drop l.send-index l.sends);
+  ranged : (objects : ℕ) × SendsInRange objects (drop l.send-index l.sends);
   stepping : has_endless_chain l.cause.stamp (drop l.send-index l.sends) ≡ false;
   count : l.next_serial ≡ l.fn.serial + l.send-index;
   primary_is : l.queue.primary ≡ l.fn.queue.primary;

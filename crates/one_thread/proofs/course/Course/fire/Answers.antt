@@ -67,7 +67,7 @@ pub send_all-requires-clause-ranged : goal.send_all-requires-clause-ranged
 send_all-requires-clause-ranged g c =
     let P : Ending → Type 0 = λ ending. IsReaction (g.M.Model.meaning c.args.model.now) c.index_mut-object.result.now c.get-event.result.now c.fire.new.sheet ending c.fire.new.self in
     let goes : P Goes = subst P c.in-Goes.is c.in_ok-fire.ensures.ok in
-    ranged_as _ _ _ _ c.objects.ensures c.as_slice.ensures goes.ranged
+    ((g.M.Model.meaning c.args.model.now).objects, ranged_as _ _ _ c.as_slice.ensures goes.ranged)
 
 pub send_all-requires-clause-serials : goal.send_all-requires-clause-serials
 send_all-requires-clause-serials g c =
