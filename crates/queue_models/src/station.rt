@@ -31,10 +31,10 @@ pub const MOST_WAITING: u32 = 65_536;
 pub struct Station<L> {
     /// How many servers it has, 1 to `MOST_SERVERS`, each of which serves one job at a time.
     pub servers: u32,
-    /// How long a service takes.
-    pub service: Law,
     /// How many jobs wait at most where no server is free, at most `MOST_WAITING`. They wait in order of arrival.
     pub line: u32,
+    /// How long a service takes.
+    pub service: Law,
     /// Whether a job that finds the line full fails with code 2. Else it is lost.
     pub strict: bool,
     /// Where each job goes that was served.
@@ -48,8 +48,8 @@ impl<L: Drop> Station<L> {
     {
         Station {
             servers: self.servers,
-            service: self.service,
             line: self.line,
+            service: self.service,
             strict: self.strict,
             next,
         }

@@ -12,7 +12,7 @@ use Rattle.sim_spec.specs.declared.terms.Terms.{Terms}
 use Rattle.sim_spec.specs.State.{State, object_at as state_at}
 use Rattle.sim_spec.specs.Run.{Next, stops, does}
 use Rattle.queue_models.specs.declared.kind.KindOver.{KindOver}
-use Rattle.queue_models.specs.declared.kind.KindOver.TheVariants.{Source, Station, Delay, Router, Sink}
+use Rattle.queue_models.specs.declared.kind.KindOver.TheVariants.{Source, Station, Delay, Router}
 use Rattle.queue_models.specs.Meaning.{network_meaning}
 use Rattle.queue_models.specs.Objects.{NetworkParts, object_at}
 use Rattle.run_laws.specs.Reached.{gathered}
@@ -28,19 +28,16 @@ nth_draw seed object law n = (draw seed object (draw_place seed object law n) la
 
 -- the law by which an object draws; a sink draws nothing
 abbrev pub law_of : KindOver ℕ → Law
-law_of (Source first every count next) = every
-law_of (Station servers service line strict next) = service
-law_of (Delay delay next) = delay
-law_of (Router next weights) = Choice weights
-law_of (Sink due) = Fixed 0
+law_of (Source source) = source.every
+law_of (Station station) = station.service
+law_of (Delay delay) = delay.delay
+law_of (Router router) = Choice router.weights
+law_of other = Fixed 0
 
 -- how a draw shows: a router's is the way that it sends a job, any other a delay
 abbrev pub as_shown : KindOver ℕ → ℕ → ℕ
-as_shown (Source first every count next) value = value
-as_shown (Station servers service line strict next) value = value
-as_shown (Delay delay next) value = value
-as_shown (Router next weights) value = slice_index next value
-as_shown (Sink due) value = value
+as_shown (Router router) value = slice_index router.next value
+as_shown other value = value
 
 abbrev pub delays_of : ℕ → List Send → List ℕ
 delays_of kind sends = map (λ (s : Send). s.delay) (filter (λ (s : Send). s.kind == kind) sends)
@@ -48,11 +45,11 @@ delays_of kind sends = map (λ (s : Send). s.delay) (filter (λ (s : Send). s.ki
 -- the draws that show in what an object sends: when a source makes its next job, when a service ends, how long a delay
 -- holds a job, and which way a router sends it
 abbrev pub shown_by : KindOver ℕ → List Send → List ℕ
-shown_by (Source first every count next) sends = delays_of 1 sends
-shown_by (Station servers service line strict next) sends = delays_of 2 sends
-shown_by (Delay delay next) sends = delays_of 3 sends
-shown_by (Router next weights) sends = map (λ (s : Send). s.dest) sends
-shown_by (Sink due) sends = []
+shown_by (Source source) sends = delays_of 1 sends
+shown_by (Station station) sends = delays_of 2 sends
+shown_by (Delay delay) sends = delays_of 3 sends
+shown_by (Router router) sends = map (λ (s : Send). s.dest) sends
+shown_by other sends = []
 
 abbrev pub sends_of : Outcome → List Send
 sends_of (Goes x) = x.sends

@@ -3,13 +3,14 @@ use Rattle.std.specs.Prelude.{◌≡◌, ℕ, Bool, ◌==◌, ◌&&◌, List, fi
 use Rattle.delta_exchange.specs.Changes.{CellData, line_of}
 use Rattle.model_core.specs.declared.event.Event.{Event}
 use Rattle.sim_spec.specs.State.{State, object_at as state_at}
-use Rattle.queue_models.specs.Kinds.{kind_of_station}
+use Rattle.queue_models.specs.declared.kind.KindOver.TheVariants.{Station}
+use Rattle.queue_models.specs.declared.station.Station.{Station as StationOver}
 use Rattle.queue_models.specs.Objects.{NetworkParts, object_at}
-use Rattle.queue_models.specs.Stations.{Station, busy_servers}
+use Rattle.queue_models.specs.Stations.{busy_servers}
 
 -- an object of the network is this station
-abbrev pub IsStationAt : NetworkParts → ℕ → Station → Type 0
-IsStationAt p i station = (object_at p.objects i).kind ≡ kind_of_station station
+abbrev pub IsStationAt : NetworkParts → ℕ → StationOver ℕ → Type 0
+IsStationAt p i station = (object_at p.objects i).kind ≡ Station station
 
 abbrev pub cells_at : State → ℕ → CellData
 cells_at s i = (state_at s.objects i).cells

@@ -1,5 +1,5 @@
 -- Each object draws from its own stream.
-use Rattle.std.proofs.Common.{◌≡◌, ◌≢◌, ◌⊎◌, ℕ, suc, ◌+◌, ◌<◌, Bool, true, false, List, [], ◌∷◌, ◌++◌, length, map, inl, inr, refl, sym, ap, ◌∙◌, subst, arith, eqb, eqb-true, eq-eqb, ne_eqb, append-nil, length-append, get_or}
+use Rattle.std.proofs.Common.{◌≡◌, ◌≢◌, ℕ, suc, ◌+◌, ◌<◌, Bool, true, false, List, [], ◌∷◌, ◌++◌, length, map, inl, inr, refl, sym, ap, ◌∙◌, subst, arith, eqb, eqb-true, eq-eqb, ne_eqb, append-nil, length-append, get_or}
 use Rattle.std.specs.Prelude.{IsTrue, slice_index, ◌==◌, if◌then◌else◌}
 use Rattle.std.specs.List.{range_with_len}
 use Rattle.std.proofs.lemmas.List.FromFn.{map-range_with_len_more, get_or-map-range_with_len}
@@ -17,58 +17,70 @@ use Rattle.random_streams.specs.Laws.{draw}
 use Rattle.sim_spec.specs.declared.terms.Terms.{Terms}
 use Rattle.sim_spec.specs.State.{State, object_at as state_at}
 use Rattle.sim_spec.specs.Run.{Next, stops, does}
-use Rattle.random_streams.specs.declared.law.Law.TheVariants.{Choice}
 use Rattle.queue_models.specs.declared.kind.KindOver.{KindOver}
-use Rattle.queue_models.specs.declared.kind.KindOver.TheVariants.{Source, Station, Delay, Router, Sink}
+use Rattle.queue_models.specs.declared.kind.KindOver.TheVariants.{Source, Station}
 use Rattle.queue_models.specs.declared.site.Site.{Site}
+use Rattle.queue_models.specs.declared.source.Source.{Source as SourceOver}
+use Rattle.queue_models.specs.declared.station.Station.{Station as StationOver}
 use Rattle.queue_models.specs.Kinds.{is_lawful, first_cells_of, effect_at}
 use Rattle.queue_models.specs.Meaning.{plain_meaning, network_meaning, site_of}
 use Rattle.queue_models.specs.Objects.{Item, NetworkParts, object_at}
 use Rattle.queue_models.specs.Parts.{IsNetwork}
-use Rattle.queue_models.specs.Sites.{place_of, drawn_at}
+use Rattle.queue_models.specs.Sites.{place_of, job_to}
 use Rattle.queue_models.specs.Telling.{as_told}
 use Rattle.queue_models.specs.Sources.{idle_effect, last_effect, make_effect}
 use Rattle.queue_models.specs.Stations.{take_effect, wait_effect, lose_effect, serve_effect, free_effect}
 use Rattle.run_laws.specs.Reached.{after_events, gathered}
 use Rattle.run_laws.proofs.Induction.{after_events-does, after_events-stops, gathered-more, each_number}
 use Rattle.subject_laws.specs.Stations.{cells_at}
-use Rattle.subject_laws.proofs.QueueLemmas.Cases.{EventDoes, numbers, idles, makes_last, makes, takes, waits, loses, serves, frees, holds, routes, leaves}
-use Rattle.subject_laws.proofs.QueueLemmas.Leaves.{station_shape, source_shape, plain_shape, take_leaves, wait_leaves, serve_leaves, free_leaves, last_leaves, make_leaves, plain_leaves}
+use Rattle.subject_laws.proofs.QueueLemmas.Cases.{DrawsOnce, SourceDoes, idles, makes_last, makes, StationDoes, takes, waits, loses, serves, frees, PlainDoes, hands_on, leaves, EventDoes}
+use Rattle.subject_laws.proofs.QueueLemmas.Leaves.{station_shape, source_shape, take_leaves, wait_leaves, serve_leaves, free_leaves, last_leaves, make_leaves, no_change_leaves}
 use Rattle.subject_laws.proofs.QueueLemmas.NetworkStarts.{cells_at_start}
 use Rattle.subject_laws.proofs.QueueLemmas.PlainRuns.{SameNext, both_stop, both_do, same_next, same_gathered}
 use Rattle.subject_laws.proofs.QueueLemmas.NetworkSteps.{IsNetworkStep, network_step, cells_here, cells_elsewhere}
 use Rattle.subject_laws.specs.Draws.{draw_place, nth_draw, law_of, as_shown, shown_by, sends_of, first_sends, draws_next, drawn_by}
 use Rattle.subject_laws.specs.DrawLaws.{first_draws, EachDrawsItsOwn, DrawsStay}
 
--- an event draws nothing at its object, whose place stays, or one value, and its place is the one behind the words that were read
+-- what an event draws at its object
 abbrev DrawsAt : Site → CellData → KindOver ℕ → List Send → CellData → Type 0
-DrawsAt site cells kind sends after =
-    ((shown_by kind sends ≡ []) × (place_of after ≡ place_of cells))
-    ⊎ ((shown_by kind sends ≡ as_shown kind (drawn_at site cells (law_of kind)).0 ∷ []) × (place_of after ≡ (drawn_at site cells (law_of kind)).1))
+DrawsAt site cells kind sends after = DrawsOnce site cells kind sends (place_of after)
 
 place_same : (a b : CellData) → a ≡ b → place_of a ≡ place_of b
 place_same a b same = ap (λ (c : CellData). place_of c) same
 
-draws_at : (site : Site) (cells : CellData) (e : Event) (kind : KindOver ℕ) (x : Effect) → IsTrue (is_lawful kind cells) → EventDoes site cells e kind x
+source_draws : (site : Site) (cells : CellData) (e : Event) (source : SourceOver ℕ) (x : Effect) → IsTrue (is_lawful (Source source) cells) → SourceDoes site cells e source x
+    → DrawsAt site cells (Source source) x.sends (cells_after_all x.changes cells)
+unfolding idle_effect last_effect make_effect cells_after_all
+source_draws site cells e source x lawful (idles none) = inl (refl, refl)
+source_draws site cells e source x lawful (makes_last one) =
+    inl (refl, place_same _ _ (last_leaves site source cells (time_part e.key.stamp) (source_shape source.count cells lawful)))
+source_draws site cells e source x lawful (makes more) =
+    inr (refl, place_same _ _ (make_leaves site source cells (time_part e.key.stamp) (source_shape source.count cells lawful)))
+
+station_draws : (site : Site) (cells : CellData) (e : Event) (station : StationOver ℕ) (x : Effect) → IsTrue (is_lawful (Station station) cells) → StationDoes site cells e station x
+    → DrawsAt site cells (Station station) x.sends (cells_after_all x.changes cells)
+unfolding take_effect wait_effect lose_effect serve_effect free_effect cells_after_all
+station_draws site cells e station x lawful (takes other free) =
+    inr (refl, place_same _ _ (take_leaves site station cells e (station_shape station.servers station.line cells lawful)))
+station_draws site cells e station x lawful (waits other full room) =
+    inl (refl, place_same _ _ (wait_leaves cells e (station_shape station.servers station.line cells lawful)))
+station_draws site cells e station x lawful (loses other full none) = inl (refl, refl)
+station_draws site cells e station x lawful (serves done some) =
+    inr (refl, place_same _ _ (serve_leaves site station cells e (station_shape station.servers station.line cells lawful)))
+station_draws site cells e station x lawful (frees done none) =
+    inl (refl, place_same _ _ (free_leaves site station cells e (station_shape station.servers station.line cells lawful)))
+
+draws_alone : (objects : List Item) (site : Site) (cells : CellData) (e : Event) (kind : KindOver ℕ) (x : Effect) → PlainDoes objects site cells e kind x
     → DrawsAt site cells kind x.sends (cells_after_all x.changes cells)
-unfolding idle_effect last_effect make_effect take_effect wait_effect lose_effect serve_effect free_effect cells_after_all
-draws_at site cells e (Source first every count next) x lawful (idles none) = inl (refl, refl)
-draws_at site cells e (Source first every count next) x lawful (makes_last one) =
-    inl (refl, place_same _ _ (last_leaves site next cells (time_part e.key.stamp) (source_shape count cells lawful)))
-draws_at site cells e (Source first every count next) x lawful (makes more) =
-    inr (refl, place_same _ _ (make_leaves site every next cells (time_part e.key.stamp) (source_shape count cells lawful)))
-draws_at site cells e (Station servers service line strict next) x lawful (takes other free) =
-    inr (refl, place_same _ _ (take_leaves site (numbers servers service line strict next) cells e (station_shape servers line cells lawful)))
-draws_at site cells e (Station servers service line strict next) x lawful (waits other full room) =
-    inl (refl, place_same _ _ (wait_leaves cells e (station_shape servers line cells lawful)))
-draws_at site cells e (Station servers service line strict next) x lawful (loses other full none) = inl (refl, refl)
-draws_at site cells e (Station servers service line strict next) x lawful (serves done some) =
-    inr (refl, place_same _ _ (serve_leaves site (numbers servers service line strict next) cells e (station_shape servers line cells lawful)))
-draws_at site cells e (Station servers service line strict next) x lawful (frees done none) =
-    inl (refl, place_same _ _ (free_leaves site (numbers servers service line strict next) cells e (station_shape servers line cells lawful)))
-draws_at site cells e (Delay law next) x lawful holds = inr (refl, place_same _ _ (plain_leaves cells (drawn_at site cells law).1 (plain_shape cells lawful)))
-draws_at site cells e (Router next weights) x lawful routes = inr (refl, place_same _ _ (plain_leaves cells (drawn_at site cells (Choice weights)).1 (plain_shape cells lawful)))
-draws_at site cells e (Sink due) x lawful leaves = inl (refl, refl)
+draws_alone objects site cells e kind x (hands_on {dest = dest} {delay = delay} there moving after draws) =
+    subst (DrawsOnce site cells kind (job_to site dest delay e.a e.b ∷ [])) (sym (place_same _ _ after)) draws
+draws_alone objects site cells e kind x (leaves none) = inl (none, place_same _ _ (no_change_leaves cells))
+
+draws_at : (objects : List Item) (site : Site) (cells : CellData) (e : Event) (kind : KindOver ℕ) (x : Effect) → IsTrue (is_lawful kind cells) → EventDoes objects site cells e kind x
+    → DrawsAt site cells kind x.sends (cells_after_all x.changes cells)
+draws_at objects site cells e (Source source) x lawful does_so = source_draws site cells e source x lawful does_so
+draws_at objects site cells e (Station station) x lawful does_so = station_draws site cells e station x lawful does_so
+draws_at objects site cells e other x lawful does_so = draws_alone objects site cells e other x does_so
 
 -- an object drew its first draws, and stands behind the words that they read
 record DrewItsOwn (p : NetworkParts) (i : ℕ) (s : State) (drawn : List ℕ) : Type 0 where
@@ -132,7 +144,7 @@ own_on p t s told after n i drawn before = by (eqb i n.step.event.key.dest) refl
         let shown : plain_draws p d s (does told after) ≡ shown_by (object_at p.objects d).kind n.step.effect.sends =
         drawn_here p t s told after n d true (eq-eqb d d refl) in
         let moves : place_of (cells_at after d) ≡ place_of (cells_after_all n.step.effect.changes (cells_at s d)) = place_same _ _ (cells_here p t s told after n) in
-        elim (draws_at (site_of p d) (cells_at s d) n.step.event (object_at p.objects d).kind n.step.effect n.cells n.does_so) [
+        elim (draws_at p.objects (site_of p d) (cells_at s d) n.step.event (object_at p.objects d).kind n.step.effect n.cells n.does_so) [
           | inl none ↦ drew_none p d s after drawn (plain_draws p d s (does told after)) (shown ∙ none.0) (moves ∙ none.1) before
           | inr one ↦ drew_one p d s after drawn (plain_draws p d s (does told after)) (shown ∙ one.0) (moves ∙ one.1) before
         ]
@@ -148,11 +160,9 @@ own_on p t s told after n i drawn before = by (eqb i n.step.event.key.dest) refl
         drew_none p i s after drawn (plain_draws p i s (does told after)) shown (place_same _ _ (cells_elsewhere p t s told after n i apart)) before
 
 first_place : (kind : KindOver ℕ) → place_of (first_cells_of kind) ≡ 0
-first_place (Source first every count next) = refl
-first_place (Station servers service line strict next) = refl
-first_place (Delay delay next) = refl
-first_place (Router next weights) = refl
-first_place (Sink due) = refl
+first_place (Source source) = refl
+first_place (Station station) = refl
+first_place other = refl
 
 own : (p : NetworkParts) (t : Terms) (i : ℕ) → IsNetwork p → i < length p.objects → (n : ℕ) → DrewItsOwn p i (after_events n (plain_meaning p) t) (plain_drawn p t i n)
 unfolding gathered after_events draw_place

@@ -10,8 +10,7 @@ use Rattle.key_order.specs.Pending.{enqueue, enqueue_all}
 use Rattle.sim_spec.specs.Firing.{has_endless_chain, emissions, fired_by, fire}
 use Rattle.sim_spec.specs.State.{initial_state}
 use Rattle.sim_spec.specs.Run.{next, next_of, next_fired}
-use Rattle.queue_models.specs.declared.kind.KindOver.TheVariants.{Source, Sink}
-use Rattle.queue_models.specs.Kinds.{kind_of_station}
+use Rattle.queue_models.specs.declared.kind.KindOver.TheVariants.{Source, Station, Sink}
 use Rattle.queue_models.specs.Meaning.{plain_meaning, network_meaning, start_of}
 use Rattle.queue_models.specs.Objects.{NetworkParts, sources_below}
 use Rattle.queue_models.specs.Sinks.{sink_effect}
@@ -27,9 +26,9 @@ slow_shop : NetworkParts
 unfolding shop counter
 slow_shop = record {
   seed = 7;
-  objects = record { name = 112 ∷ []; kind = Source 1 (Fixed 9) 4 1; rank = 0; quiet = false; trace = false }
-      ∷ record { name = 113 ∷ []; kind = kind_of_station counter; rank = 0; quiet = false; trace = false }
-      ∷ record { name = 114 ∷ []; kind = Sink None; rank = 0; quiet = false; trace = false }
+  objects = record { name = 112 ∷ []; kind = Source (record { first = 1; every = (Fixed 9); count = 4; next = 1 }); rank = 0; quiet = false; trace = false }
+      ∷ record { name = 113 ∷ []; kind = Station counter; rank = 0; quiet = false; trace = false }
+      ∷ record { name = 114 ∷ []; kind = Sink (record { due = None }); rank = 0; quiet = false; trace = false }
       ∷ [];
   jobs = [];
 }

@@ -15,16 +15,17 @@ use Rattle.sim_spec.specs.declared.terms.Terms.{Terms}
 use Rattle.sim_spec.specs.Firing.{emissions}
 use Rattle.sim_spec.specs.State.{State, initial_state, start_event, object_at as state_at}
 use Rattle.sim_spec.specs.Run.{does}
+use Rattle.queue_models.specs.declared.source.Source.{Source as SourceOver}
 use Rattle.queue_models.specs.declared.kind.KindOver.{KindOver}
-use Rattle.queue_models.specs.declared.kind.KindOver.TheVariants.{Source, Station, Delay, Router, Sink}
+use Rattle.queue_models.specs.declared.kind.KindOver.TheVariants.{Source}
 use Rattle.queue_models.specs.declared.site.Site.{Site}
 use Rattle.queue_models.specs.Kinds.{is_lawful, is_source, first_cells_of}
 use Rattle.queue_models.specs.Meaning.{plain_meaning, site_of}
-use Rattle.queue_models.specs.Objects.{NetworkParts, object_at, source_numbers}
+use Rattle.queue_models.specs.Objects.{Item, NetworkParts, object_at, source_numbers}
 use Rattle.queue_models.specs.Sources.{made_of, idle_effect, last_effect, make_effect}
 use Rattle.run_laws.proofs.Steps.{first_firing}
 use Rattle.subject_laws.specs.Stations.{cells_at}
-use Rattle.subject_laws.proofs.QueueLemmas.Cases.{EventDoes, idles, makes_last, makes}
+use Rattle.subject_laws.proofs.QueueLemmas.Cases.{EventDoes, SourceDoes, idles, makes_last, makes}
 use Rattle.subject_laws.proofs.QueueLemmas.Leaves.{source_shape, last_leaves, make_leaves}
 use Rattle.subject_laws.proofs.QueueLemmas.NetworkStarts.{cells_at_start, source_exists}
 use Rattle.subject_laws.proofs.QueueLemmas.NetworkSteps.{IsNetworkStep, cells_here, cells_elsewhere}
@@ -102,23 +103,27 @@ own_job i number k =
     ap (λ b. map (λ (job : Job × Place). job.0.number) (cond b ((record { origin = made_by i; number = number }, at_event k) ∷ []) [])) (eq-eqb i i refl)
 
 -- what a source makes gets the next number
-source_numbers_on : (site : Site) (cells : CellData) (e : Event) (kind : KindOver ℕ) (x : Effect) (i stamp object serial : ℕ) (jobs : List (Job × Place))
-    → is_source kind ≡ true → IsTrue (is_lawful kind cells) → EventDoes site cells e kind x → Numbered i (made_of cells) jobs
+source_numbers_of : (site : Site) (cells : CellData) (e : Event) (source : SourceOver ℕ) (x : Effect) (i stamp object serial : ℕ) (jobs : List (Job × Place))
+    → IsTrue (is_lawful (Source source) cells) → SourceDoes site cells e source x → Numbered i (made_of cells) jobs
     → numbers_from (made_by i) jobs ++ numbers_from (made_by i) (newly_made (word_told x.note) i (job_told x.note) (emissions stamp object serial x.sends))
     ≡ range_with_len 1 (made_of (cells_after_all x.changes cells))
 unfolding emissions idle_effect last_effect make_effect Numbered
-source_numbers_on site cells e (Source first every count next) x i stamp object serial jobs makes_jobs lawful (idles none) so_far =
+source_numbers_of site cells e source x i stamp object serial jobs lawful (idles none) so_far =
     append-nil (numbers_from (made_by i) jobs) ∙ so_far ∙ ap (λ (c : CellData). range_with_len 1 (made_of c)) (sym (idle_leaves cells))
-source_numbers_on site cells e (Source first every count next) x i stamp object serial jobs makes_jobs lawful (makes_last one) so_far =
+source_numbers_of site cells e source x i stamp object serial jobs lawful (makes_last one) so_far =
     one_more i (made_of cells) jobs _ so_far (own_job i (made_of cells + 1) _)
-    ∙ ap (λ (c : CellData). range_with_len 1 (made_of c)) (sym (last_leaves site next cells (time_part e.key.stamp) (source_shape count cells lawful)))
-source_numbers_on site cells e (Source first every count next) x i stamp object serial jobs makes_jobs lawful (makes more) so_far =
+    ∙ ap (λ (c : CellData). range_with_len 1 (made_of c)) (sym (last_leaves site source cells (time_part e.key.stamp) (source_shape source.count cells lawful)))
+source_numbers_of site cells e source x i stamp object serial jobs lawful (makes more) so_far =
     one_more i (made_of cells) jobs _ so_far (own_job i (made_of cells + 1) _)
-    ∙ ap (λ (c : CellData). range_with_len 1 (made_of c)) (sym (make_leaves site every next cells (time_part e.key.stamp) (source_shape count cells lawful)))
-source_numbers_on site cells e (Station servers service line strict next) x i stamp object serial jobs makes_jobs lawful does_so so_far = cc
-source_numbers_on site cells e (Delay delay next) x i stamp object serial jobs makes_jobs lawful does_so so_far = cc
-source_numbers_on site cells e (Router next weights) x i stamp object serial jobs makes_jobs lawful does_so so_far = cc
-source_numbers_on site cells e (Sink due) x i stamp object serial jobs makes_jobs lawful does_so so_far = cc
+    ∙ ap (λ (c : CellData). range_with_len 1 (made_of c)) (sym (make_leaves site source cells (time_part e.key.stamp) (source_shape source.count cells lawful)))
+
+source_numbers_on : (objects : List Item) (site : Site) (cells : CellData) (e : Event) (kind : KindOver ℕ) (x : Effect) (i stamp object serial : ℕ) (jobs : List (Job × Place))
+    → is_source kind ≡ true → IsTrue (is_lawful kind cells) → EventDoes objects site cells e kind x → Numbered i (made_of cells) jobs
+    → numbers_from (made_by i) jobs ++ numbers_from (made_by i) (newly_made (word_told x.note) i (job_told x.note) (emissions stamp object serial x.sends))
+    ≡ range_with_len 1 (made_of (cells_after_all x.changes cells))
+source_numbers_on objects site cells e (Source source) x i stamp object serial jobs makes_jobs lawful does_so so_far =
+    source_numbers_of site cells e source x i stamp object serial jobs lawful does_so so_far
+source_numbers_on objects site cells e other x i stamp object serial jobs makes_jobs lawful does_so so_far = cc
 
 pub made_on : (p : NetworkParts) (t : Terms) (s : State) (told : Key × Note) (after : State) (jobs : List (Job × Place)) → IsNetworkStep p t s told after
     → (i : ℕ) → is_source (object_at p.objects i).kind ≡ true
@@ -139,7 +144,7 @@ made_on p t s told after jobs n i is so_far =
         let e : Event = n.step.event in
         let d : ℕ = e.key.dest in
         let cells : CellData = cells_at s d in
-        source_numbers_on (site_of p d) cells e (object_at p.objects d).kind n.step.effect d e.key.stamp d (state_at s.objects d).sent jobs is n.cells n.does_so so_far
+        source_numbers_on p.objects (site_of p d) cells e (object_at p.objects d).kind n.step.effect d e.key.stamp d (state_at s.objects d).sent jobs is n.cells n.does_so so_far
         ∙ ap (λ (c : CellData). range_with_len 1 (made_of c)) (sym (cells_here p t s told after n))
 
     by : (here : Bool) → eqb i n.step.event.key.dest ≡ here
@@ -171,11 +176,8 @@ first_made p j a zero = refl
 first_made p j a (suc n) = first_made p j (a + 1) n
 
 none_made : (kind : KindOver ℕ) → is_source kind ≡ true → made_of (first_cells_of kind) ≡ 0
-none_made (Source first every count next) is = refl
-none_made (Station servers service line strict next) is = cc
-none_made (Delay delay next) is = cc
-none_made (Router next weights) is = cc
-none_made (Sink due) is = cc
+none_made (Source source) is = refl
+none_made other is = cc
 
 pub made_first : (p : NetworkParts) (i : ℕ) → is_source (object_at p.objects i).kind ≡ true
     → numbers_from (made_by i) (first_places p) ≡ range_with_len 1 (made_of (cells_at (initial_state (plain_meaning p)) i))

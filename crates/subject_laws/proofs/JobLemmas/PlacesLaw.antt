@@ -18,7 +18,7 @@ use Rattle.sim_spec.specs.State.{State, initial_state, start_event, event_of_sta
 use Rattle.sim_spec.specs.Run.{does}
 use Rattle.key_order.proofs.EachLemmas.{Each-map}
 use Rattle.queue_models.specs.declared.kind.KindOver.{KindOver}
-use Rattle.queue_models.specs.declared.kind.KindOver.TheVariants.{Source, Station, Delay, Router, Sink}
+use Rattle.queue_models.specs.declared.kind.KindOver.TheVariants.{Source, Station}
 use Rattle.queue_models.specs.Kinds.{first_cells_of, is_source}
 use Rattle.queue_models.specs.Meaning.{plain_meaning, network_meaning, source_start, job_start}
 use Rattle.queue_models.specs.ModelLaws.{object_fine}
@@ -192,11 +192,9 @@ shifted F G S J a (suc n) room same =
 
 -- nobody waits
 first_line : (kind : KindOver ℕ) → line_of (first_cells_of kind) 0 ≡ []
-first_line (Source first every count next) = refl
-first_line (Station servers service line strict next) = refl
-first_line (Delay delay next) = refl
-first_line (Router next weights) = refl
-first_line (Sink due) = refl
+first_line (Source source) = refl
+first_line (Station station) = refl
+first_line other = refl
 
 no_lines : (p : NetworkParts) (w : ℕ × Place → ℕ) (a n : ℕ) → a + n ≤ length p.objects
     → sum_by (λ i. line_weight w i (waiting_at (initial_state (plain_meaning p)) i)) (range_with_len a n) ≡ 0

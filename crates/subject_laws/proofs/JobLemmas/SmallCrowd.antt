@@ -28,9 +28,9 @@ use Rattle.subject_laws.specs.Jobs.{Job, listed, made_by, whereabouts, in_the_sy
 crowd : NetworkParts
 crowd = record {
   seed = 7;
-  objects = record { name = 112 ∷ []; kind = Source 1 (Fixed 2) 2 1; rank = 0; quiet = false; trace = false }
-      ∷ record { name = 113 ∷ []; kind = Station 1 (Fixed 5) 1 false 2; rank = 0; quiet = false; trace = false }
-      ∷ record { name = 114 ∷ []; kind = Sink None; rank = 0; quiet = false; trace = false }
+  objects = record { name = 112 ∷ []; kind = Source (record { first = 1; every = (Fixed 2); count = 2; next = 1 }); rank = 0; quiet = false; trace = false }
+      ∷ record { name = 113 ∷ []; kind = Station (record { servers = 1; service = (Fixed 5); line = 1; strict = false; next = 2 }); rank = 0; quiet = false; trace = false }
+      ∷ record { name = 114 ∷ []; kind = Sink (record { due = None }); rank = 0; quiet = false; trace = false }
       ∷ [];
   jobs = record { time = 0; at = 1; rank = 0 } ∷ [];
 }

@@ -1,4 +1,5 @@
 -- The cells that an event leaves.
+use Rattle.queue_models.specs.declared.station.Station.{Station}
 use Rattle.queue_models.specs.StationLaws.{station_cells}
 use Rattle.std.proofs.Common.{◌≡◌, ℕ, ◌+◌, ◌-◌, Bool, true, false, List, [], ◌∷◌, ◌++◌, length, drop, refl, sym, ap, ◌∙◌, arith, eqb-true, get_or, append-nil}
 use Rattle.std.specs.Prelude.{IsTrue, ◌==◌, if◌then◌else◌}
@@ -8,12 +9,12 @@ use Rattle.delta_exchange.specs.declared.change.Change.TheVariants.{Set, Push, P
 use Rattle.delta_exchange.specs.Changes.{CellData, line_of, cells_after_all}
 use Rattle.model_core.specs.declared.event.Event.{Event}
 use Rattle.queue_models.specs.declared.site.Site.{Site}
-use Rattle.random_streams.specs.declared.law.Law.{Law}
+use Rattle.queue_models.specs.declared.source.Source.{Source}
 use Rattle.queue_models.specs.Keeping.{two_elements, three_elements, one_element}
 use Rattle.model_core.specs.Places.{place_changes}
 use Rattle.queue_models.specs.Sites.{place_of, drawn_at, is_plain_cells}
 use Rattle.queue_models.specs.Sources.{made_of, left_of, is_source_cells, last_effect, make_effect}
-use Rattle.queue_models.specs.Stations.{Station, busy_servers, is_station_cells, take_effect, wait_effect, serve_effect, free_effect}
+use Rattle.queue_models.specs.Stations.{busy_servers, is_station_cells, take_effect, wait_effect, serve_effect, free_effect}
 
 -- a source's: its place, how many jobs are made, and how many are left
 abbrev pub source_cells : ℕ → ℕ → ℕ → CellData
@@ -61,7 +62,7 @@ place_moves place next words lines more = by (next == place) refl
     by true stays_is = ap (λ (at : ℕ). cells_after_all more (record { words = at ∷ words; lines = lines })) (sym (eqb-true next place stays_is))
     by false stays_is = refl
 
-pub take_leaves : (site : Site) (station : Station) (cells : CellData) (e : Event) → HasStationCells cells
+pub take_leaves : (site : Site) (station : Station ℕ) (cells : CellData) (e : Event) → HasStationCells cells
     → cells_after_all (take_effect site station cells e).changes cells ≡ station_cells (drawn_at site cells station.service).1 (busy_servers cells + 1) (line_of cells 0) (line_of cells 1)
 unfolding take_effect cells_after_all
 take_leaves site station cells e has =
@@ -74,7 +75,7 @@ pub wait_leaves : (cells : CellData) (e : Event) → HasStationCells cells
 unfolding wait_effect cells_after_all
 wait_leaves cells e has = ap (cells_after_all (Push 0 e.a ∷ Push 1 e.b ∷ [])) has.are
 
-pub serve_leaves : (site : Site) (station : Station) (cells : CellData) (e : Event) → HasStationCells cells
+pub serve_leaves : (site : Site) (station : Station ℕ) (cells : CellData) (e : Event) → HasStationCells cells
     → cells_after_all (serve_effect site station cells e).changes cells ≡ station_cells (drawn_at site cells station.service).1 (busy_servers cells) (drop 1 (line_of cells 0)) (drop 1 (line_of cells 1))
 unfolding serve_effect cells_after_all
 serve_leaves site station cells e has =
@@ -82,7 +83,7 @@ serve_leaves site station cells e has =
     ap (cells_after_all (place_changes (place_of cells) next ++ Pop 0 ∷ Pop 1 ∷ [])) has.are
     ∙ place_moves (place_of cells) next (busy_servers cells ∷ []) (line_of cells 0 ∷ line_of cells 1 ∷ []) (Pop 0 ∷ Pop 1 ∷ [])
 
-pub free_leaves : (site : Site) (station : Station) (cells : CellData) (e : Event) → HasStationCells cells
+pub free_leaves : (site : Site) (station : Station ℕ) (cells : CellData) (e : Event) → HasStationCells cells
     → cells_after_all (free_effect site station cells e).changes cells ≡ station_cells (place_of cells) (busy_servers cells - 1) (line_of cells 0) (line_of cells 1)
 unfolding free_effect cells_after_all
 free_leaves site station cells e has = by (busy_servers cells == 0) refl
@@ -94,16 +95,16 @@ free_leaves site station cells e has = by (busy_servers cells == 0) refl
         has.are ∙ ap (λ busy. station_cells (place_of cells) busy (line_of cells 0) (line_of cells 1)) same
     by false none_is = ap (cells_after_all (Set 1 (busy_servers cells - 1) ∷ [])) has.are
 
-pub last_leaves : (site : Site) (dest : ℕ) (cells : CellData) (time : ℕ) → cells ≡ source_cells (place_of cells) (made_of cells) (left_of cells)
-    → cells_after_all (last_effect site dest cells time).changes cells ≡ source_cells (place_of cells) (made_of cells + 1) 0
+pub last_leaves : (site : Site) (source : Source ℕ) (cells : CellData) (time : ℕ) → cells ≡ source_cells (place_of cells) (made_of cells) (left_of cells)
+    → cells_after_all (last_effect site source cells time).changes cells ≡ source_cells (place_of cells) (made_of cells + 1) 0
 unfolding last_effect cells_after_all
-last_leaves site dest cells time are = ap (cells_after_all (Set 1 (made_of cells + 1) ∷ Set 2 0 ∷ [])) are
+last_leaves site source cells time are = ap (cells_after_all (Set 1 (made_of cells + 1) ∷ Set 2 0 ∷ [])) are
 
-pub make_leaves : (site : Site) (every : Law) (dest : ℕ) (cells : CellData) (time : ℕ) → cells ≡ source_cells (place_of cells) (made_of cells) (left_of cells)
-    → cells_after_all (make_effect site every dest cells time).changes cells ≡ source_cells (drawn_at site cells every).1 (made_of cells + 1) (left_of cells - 1)
+pub make_leaves : (site : Site) (source : Source ℕ) (cells : CellData) (time : ℕ) → cells ≡ source_cells (place_of cells) (made_of cells) (left_of cells)
+    → cells_after_all (make_effect site source cells time).changes cells ≡ source_cells (drawn_at site cells source.every).1 (made_of cells + 1) (left_of cells - 1)
 unfolding make_effect cells_after_all
-make_leaves site every dest cells time are =
-    let next = (drawn_at site cells every).1 in
+make_leaves site source cells time are =
+    let next = (drawn_at site cells source.every).1 in
     ap (cells_after_all (place_changes (place_of cells) next ++ Set 1 (made_of cells + 1) ∷ Set 2 (left_of cells - 1) ∷ [])) are
     ∙ place_moves (place_of cells) next (made_of cells ∷ left_of cells ∷ []) [] (Set 1 (made_of cells + 1) ∷ Set 2 (left_of cells - 1) ∷ [])
 
@@ -114,3 +115,8 @@ plain_leaves cells next are =
     ap (λ (changes : List Change). cells_after_all changes cells) (sym (append-nil (place_changes (place_of cells) next)))
     ∙ ap (cells_after_all (place_changes (place_of cells) next ++ [])) are
     ∙ place_moves (place_of cells) next [] [] []
+
+-- no change leaves the cells
+pub no_change_leaves : (cells : CellData) → cells_after_all [] cells ≡ cells
+unfolding cells_after_all
+no_change_leaves cells = refl

@@ -9,10 +9,12 @@ use Rattle.model_core.specs.declared.event.Event.{Event}
 use Rattle.model_core.specs.Meaning.{Meaning}
 use Rattle.sim_spec.specs.Firing.{ObjectState}
 use Rattle.sim_spec.specs.State.{initial_state, start_event, event_of_start, first_object, no_object as no_state}
+use Rattle.queue_models.specs.declared.kind.KindOver.TheVariants.{Station}
+use Rattle.queue_models.specs.declared.station.Station.{Station as StationOver}
 use Rattle.queue_models.specs.Meaning.{plain_meaning, network_meaning, source_start, job_start, start_of}
-use Rattle.queue_models.specs.Kinds.{first_cells_of, is_source, kind_of_station}
+use Rattle.queue_models.specs.Kinds.{first_cells_of, is_source}
 use Rattle.queue_models.specs.Objects.{Item, NetworkParts, object_at, no_object, source_numbers}
-use Rattle.queue_models.specs.Stations.{Station, first_station_cells}
+use Rattle.queue_models.specs.Stations.{first_station_cells}
 use Rattle.run_laws.proofs.EnqueueSums.{sum_by-enqueue_all}
 use Rattle.subject_laws.specs.Stations.{IsStationAt, cells_at}
 
@@ -27,8 +29,8 @@ exists_as p i P is no_sink = by (ltb i (length p.objects)) refl
         no_sink (subst P none is)
         )
 
-pub station_exists : (p : NetworkParts) (i : ℕ) (station : Station) → IsStationAt p i station → i < length p.objects
-station_exists p i station is = exists_as p i (λ o. o.kind ≡ kind_of_station station) is (λ sink. cc)
+pub station_exists : (p : NetworkParts) (i : ℕ) (station : StationOver ℕ) → IsStationAt p i station → i < length p.objects
+station_exists p i station is = exists_as p i (λ o. o.kind ≡ Station station) is (λ sink. cc)
 
 pub source_exists : (p : NetworkParts) (i : ℕ) → is_source (object_at p.objects i).kind ≡ true → i < length p.objects
 source_exists p i is = exists_as p i (λ o. is_source o.kind ≡ true) is (λ sink. cc)
@@ -38,7 +40,7 @@ unfolding initial_state plain_meaning network_meaning
 cells_at_start p i exists =
     ap (λ (o : ObjectState). o.cells) (get_or-map-range_with_len (first_object (plain_meaning p)) 0 (length p.objects) i i no_state exists (omega arith))
 
-pub station_at_start : (p : NetworkParts) (i : ℕ) (station : Station) → IsStationAt p i station → cells_at (initial_state (plain_meaning p)) i ≡ first_station_cells
+pub station_at_start : (p : NetworkParts) (i : ℕ) (station : StationOver ℕ) → IsStationAt p i station → cells_at (initial_state (plain_meaning p)) i ≡ first_station_cells
 station_at_start p i station is = cells_at_start p i (station_exists p i station is) ∙ ap first_cells_of is
 
 -- an initial event makes the first job of a source, or is the arrival of a job

@@ -13,7 +13,7 @@ use Rattle.sim_spec.specs.Run.{does, next}
 use Rattle.sim_spec.proofs.RunLemmas.{first_sound}
 use Rattle.queue_models.specs.Kinds.{is_lawful}
 use Rattle.queue_models.specs.Meaning.{plain_meaning, network_meaning, site_of}
-use Rattle.queue_models.specs.ModelLaws.{plain_laws}
+use Rattle.queue_models.specs.ModelLaws.{object_fine, plain_laws}
 use Rattle.queue_models.specs.Objects.{NetworkParts, object_at}
 use Rattle.queue_models.specs.Parts.{IsNetwork}
 use Rattle.run_laws.specs.Reached.{Reaches}
@@ -30,7 +30,7 @@ pub record IsNetworkStep (p : NetworkParts) (t : Terms) (s : State) (told : Key 
   pub exists : step.event.key.dest < length p.objects
   pub long : length s.objects ≡ length p.objects
   pub cells : IsTrue (is_lawful (object_at p.objects step.event.key.dest).kind (cells_at s step.event.key.dest))
-  pub does_so : EventDoes (site_of p step.event.key.dest) (cells_at s step.event.key.dest) step.event (object_at p.objects step.event.key.dest).kind step.effect
+  pub does_so : EventDoes p.objects (site_of p step.event.key.dest) (cells_at s step.event.key.dest) step.event (object_at p.objects step.event.key.dest).kind step.effect
 
 pub reached_lawful : (p : NetworkParts) (t : Terms) (s : State) → IsNetwork p → Reaches (plain_meaning p) t s → Lawful (plain_meaning p) t s
 reached_lawful p t s fine reached = reached-lawful (plain_meaning p) t s (plain_laws p fine) reached
@@ -48,7 +48,8 @@ network_step p t s told after fine reached is_next =
       exists = exists;
       long = lawful.objects;
       cells = lawful.cells step.event.key.dest exists;
-      does_so = event_does (site_of p step.event.key.dest) (object_at p.objects step.event.key.dest).kind (cells_at s step.event.key.dest) step.event step.effect step.outcome;
+      does_so = event_does p.objects (site_of p step.event.key.dest) (object_at p.objects step.event.key.dest).kind (cells_at s step.event.key.dest) step.event step.effect
+          (object_fine p fine step.event.key.dest exists).kind (lawful.cells step.event.key.dest exists) step.outcome;
     }
 
 -- the object of the event has other cells, and each other object keeps its own

@@ -17,15 +17,15 @@ use Rattle.sim_spec.specs.State.{State, initial_state, object_at as state_at}
 use Rattle.sim_spec.specs.Run.{stops, does, next}
 use Rattle.sim_spec.proofs.LawfulLemmas.{next-lawful}
 use Rattle.key_order.proofs.ShareLemmas.{filter-enqueue_all}
+use Rattle.queue_models.specs.declared.station.Station.{Station as StationOver}
 use Rattle.queue_models.specs.declared.kind.KindOver.{KindOver}
 use Rattle.queue_models.specs.declared.site.Site.{Site}
-use Rattle.queue_models.specs.Kinds.{kind_of_station}
 use Rattle.queue_models.specs.Meaning.{plain_meaning, site_of}
 use Rattle.queue_models.specs.ModelLaws.{plain_laws}
 use Rattle.queue_models.specs.Objects.{NetworkParts, object_at}
 use Rattle.queue_models.specs.Parts.{IsNetwork}
 use Rattle.queue_models.specs.Sites.{drawn_at}
-use Rattle.queue_models.specs.Stations.{Station, busy_servers, waiting_jobs, is_station_cells, done_after, take_effect, wait_effect, lose_effect, serve_effect, free_effect}
+use Rattle.queue_models.specs.Stations.{busy_servers, waiting_jobs, is_station_cells, done_after, take_effect, wait_effect, lose_effect, serve_effect, free_effect}
 use Rattle.run_laws.specs.Reached.{after_events, Reaches, gathered}
 use Rattle.run_laws.proofs.Induction.{after_events-does, after_events-stops, gathered-more, each_number}
 use Rattle.run_laws.proofs.Steps.{first_firing, sent_next-step}
@@ -33,7 +33,7 @@ use Rattle.subject_laws.specs.OrderLaws.{IsFirstComeFirstServed, FirstComeFirstS
 use Rattle.subject_laws.specs.Orders.{jobs_told, is_coming, is_done, arrived_at, done_at, numbers_of, begins_at, begun_at}
 use Rattle.subject_laws.specs.ServerLaws.{AreServing}
 use Rattle.subject_laws.specs.Stations.{IsStationAt, cells_at, busy_at, waiting_at, ends_service_at, in_service_at}
-use Rattle.subject_laws.proofs.QueueLemmas.Cases.{EventDoes, takes, waits, loses, serves, frees}
+use Rattle.subject_laws.proofs.QueueLemmas.Cases.{EventDoes, StationDoes, takes, waits, loses, serves, frees}
 use Rattle.subject_laws.proofs.QueueLemmas.Leaves.{HasStationCells, station_shape, take_leaves, wait_leaves, serve_leaves, free_leaves}
 use Rattle.subject_laws.proofs.QueueLemmas.NetworkStarts.{station_at_start}
 use Rattle.subject_laws.proofs.QueueLemmas.NetworkSteps.{IsNetworkStep, network_step, reached_lawful, cells_here, cells_elsewhere}
@@ -76,14 +76,14 @@ joined : (a b c d a' b' c' d' : List ℕ) → a ≡ a' → b ≡ b' → c ≡ c'
 joined a b c d a' b' c' d' p q r s same = cc
 
 -- the ends of services among what an event sends
-take_sends : (site : Site) (station : Station) (cells : CellData) (e : Event) (stamp object serial : ℕ)
+take_sends : (site : Site) (station : StationOver ℕ) (cells : CellData) (e : Event) (stamp object serial : ℕ)
     → (end : Event) × (filter (ends_service_at site.object) (emissions stamp object serial (take_effect site station cells e).sends) ≡ end ∷ []) × (end.a ≡ e.a)
 unfolding emissions take_effect
 take_sends site station cells e stamp object serial =
     let end : Event = emission stamp object serial (done_after site (drawn_at site cells station.service).0 e.a e.b) in
     (end, ap (λ b. cond b (end ∷ []) []) (eq-eqb site.object site.object refl), refl)
 
-serve_sends : (site : Site) (station : Station) (cells : CellData) (e : Event) (stamp object serial : ℕ)
+serve_sends : (site : Site) (station : StationOver ℕ) (cells : CellData) (e : Event) (stamp object serial : ℕ)
     → (end : Event) × (filter (ends_service_at site.object) (emissions stamp object serial (serve_effect site station cells e).sends) ≡ end ∷ []) × (end.a ≡ slice_index (line_of cells 0) 0)
 unfolding emissions serve_effect
 serve_sends site station cells e stamp object serial =
@@ -102,9 +102,9 @@ none_sent : (es others : List Event) → es ≡ [] → enqueue_all es others ≡
 unfolding enqueue_all
 none_sent es others none = ap (λ xs. enqueue_all xs others) none
 
-moves_on : (site : Site) (cells : CellData) (e : Event) (station : Station) (x : Effect) (stamp object serial : ℕ) (others : List Event)
+moves_on : (site : Site) (cells : CellData) (e : Event) (station : StationOver ℕ) (x : Effect) (stamp object serial : ℕ) (others : List Event)
     → HasStationCells cells → busy_servers cells ≡ length (serving_of e others) → (0 < waiting_jobs cells → busy_servers cells ≡ station.servers) → busy_servers cells ≤ station.servers
-    → EventDoes site cells e (kind_of_station station) x
+    → StationDoes site cells e station x
     → (let sent : List Event = filter (ends_service_at site.object) (emissions stamp object serial x.sends) in
     Moves station.servers (line_of cells 0) (jobs_of is_coming x.note) (numbers_of sent) (line_of (cells_after_all x.changes cells) 0) (jobs_of is_done x.note) (serving_of e others) (enqueue_all sent others))
 unfolding jobs_of emissions take_effect wait_effect lose_effect serve_effect free_effect
@@ -169,7 +169,7 @@ moves_on site cells e station x stamp object serial others has busy full upto (f
     }
 
 -- what one event moves at a station, as the run tells it
-record IsMoved (p : NetworkParts) (s : State) (told : Key × Note) (after : State) (i : ℕ) (station : Station) : Type 0 where
+record IsMoved (p : NetworkParts) (s : State) (told : Key × Note) (after : State) (i : ℕ) (station : StationOver ℕ) : Type 0 where
   pub in_order : waiting_at s i ++ jobs_told is_coming i s (does told after) ≡ begins_at (plain_meaning p) i s (does told after) ++ waiting_at after i
   pub one_by_one : station.servers ≡ 1
       → numbers_of (in_service_at s i) ++ begins_at (plain_meaning p) i s (does told after) ≡ jobs_told is_done i s (does told after) ++ numbers_of (in_service_at after i)
@@ -198,7 +198,7 @@ begins_are : (p : NetworkParts) (t : Terms) (s : State) (told : Key × Note) (af
 begins_are p t s told after n i =
     ap (λ (es : List Event). numbers_of (filter (ends_service_at i) es)) (sent_next-step (plain_meaning p) t s told after n.step)
 
-moved_elsewhere : (p : NetworkParts) (t : Terms) (s : State) (told : Key × Note) (after : State) (n : IsNetworkStep p t s told after) (i : ℕ) (station : Station)
+moved_elsewhere : (p : NetworkParts) (t : Terms) (s : State) (told : Key × Note) (after : State) (n : IsNetworkStep p t s told after) (i : ℕ) (station : StationOver ℕ)
     → IsAscending after.pending → i ≢ n.step.event.key.dest → IsMoved p s told after i station
 unfolding ends
 moved_elsewhere p t s told after n i station up apart =
@@ -208,7 +208,7 @@ moved_elsewhere p t s told after n i station up apart =
     let away : (e.key.dest == i) ≡ false = ne_eqb e.key.dest i (λ same. apart (sym same)) in
     let none : filter (ends_service_at i) events ≡ [] =
     empty_list (filter (ends_service_at i) events) (length-filter (ends_service_at i) events
-    ∙ ends_elsewhere (site_of p e.key.dest) (cells_at s e.key.dest) e (object_at p.objects e.key.dest).kind n.step.effect i e.key.stamp e.key.dest _ (λ eq. apart (sym eq)) n.does_so) in
+    ∙ ends_elsewhere p.objects (site_of p e.key.dest) (cells_at s e.key.dest) e (object_at p.objects e.key.dest).kind n.step.effect i e.key.stamp e.key.dest _ (λ eq. apart (sym eq)) n.does_so) in
     let begins : begins_at (plain_meaning p) i s (does told after) ≡ [] = begins_are p t s told after n i ∙ ap numbers_of none in
     let line : List ℕ = waiting_at s i in
     let kept : waiting_at after i ≡ line = ap (λ (c : CellData). line_of c 0) (cells_elsewhere p t s told after n i apart) in
@@ -226,7 +226,7 @@ moved_elsewhere p t s told after n i station up apart =
     by true here is = is
     by false here is = refl
 
-moved_here : (p : NetworkParts) (t : Terms) (s : State) (told : Key × Note) (after : State) (n : IsNetworkStep p t s told after) (station : Station)
+moved_here : (p : NetworkParts) (t : Terms) (s : State) (told : Key × Note) (after : State) (n : IsNetworkStep p t s told after) (station : StationOver ℕ)
     → IsAscending after.pending → IsStationAt p n.step.event.key.dest station → AreServing s n.step.event.key.dest station → IsMoved p s told after n.step.event.key.dest station
 unfolding serving_of
 moved_here p t s told after n station up is good =
@@ -237,7 +237,7 @@ moved_here p t s told after n station up is good =
     let events : List Event = (first_firing s e x).events in
     let others : List Event = filter (ends_service_at d) n.step.rest in
     let here : (e.key.dest == d) ≡ true = eq-eqb d d refl in
-    let R : KindOver ℕ → Type 0 = λ kind. EventDoes (site_of p d) cells e kind x in
+    let R : KindOver ℕ → Type 0 = λ kind. EventDoes p.objects (site_of p d) cells e kind x in
     let lawful : IsTrue (is_station_cells station.servers station.line cells) = station_lawful p s d station is n.cells in
     let was : in_service_at s d ≡ serving_of e others =
     served_before p t s told after n d ∙ ap (λ b. cond b (e ∷ others) others) (ap (λ b. (e.kind == 2) && b) here ∙ and_true (e.kind == 2)) in
@@ -258,7 +258,7 @@ moved_here p t s told after n station up is good =
     and_true true = refl
     and_true false = refl
 
-moved : (p : NetworkParts) (t : Terms) (s : State) (told : Key × Note) (after : State) (i : ℕ) (station : Station) → IsNetwork p → Reaches (plain_meaning p) t s
+moved : (p : NetworkParts) (t : Terms) (s : State) (told : Key × Note) (after : State) (i : ℕ) (station : StationOver ℕ) → IsNetwork p → Reaches (plain_meaning p) t s
     → next (plain_meaning p) t s ≡ does told after → IsStationAt p i station → IsMoved p s told after i station
 moved p t s told after i station fine reached is_next is = by (eqb i n.step.event.key.dest) refl
   where
@@ -284,10 +284,10 @@ both : {xs us ys vs : List ℕ} → xs ≡ us → ys ≡ vs → xs ++ ys ≡ us 
 both {xs} {us} {ys} {vs} same more = ap (λ (l : List ℕ). l ++ ys) same ∙ ap (λ (l : List ℕ). us ++ l) more
 
 -- the law over the plain meaning
-abbrev Served : NetworkParts → Terms → ℕ → Station → ℕ → Type 0
+abbrev Served : NetworkParts → Terms → ℕ → StationOver ℕ → ℕ → Type 0
 Served p t i station n = IsFirstComeFirstServed p t i station n (after_events n (plain_meaning p) t)
 
-first_moves : (p : NetworkParts) (t : Terms) (i : ℕ) (station : Station) → IsNetwork p → IsStationAt p i station → Served p t i station 0
+first_moves : (p : NetworkParts) (t : Terms) (i : ℕ) (station : StationOver ℕ) → IsNetwork p → IsStationAt p i station → Served p t i station 0
 unfolding gathered after_events
 first_moves p t i station fine is = record {
   begun = sym (ap (λ (c : CellData). line_of c 0) (station_at_start p i station is));
@@ -297,7 +297,7 @@ first_moves p t i station fine is = record {
       sym (ap numbers_of (empty_list (in_service_at (initial_state (plain_meaning p)) i) (omega (arith, good.under_way, idle))));
 }
 
-halted : (p : NetworkParts) (t : Terms) (i : ℕ) (station : Station) (n : ℕ) (stop : Stop) → next (plain_meaning p) t (after_events n (plain_meaning p) t) ≡ stops stop
+halted : (p : NetworkParts) (t : Terms) (i : ℕ) (station : StationOver ℕ) (n : ℕ) (stop : Stop) → next (plain_meaning p) t (after_events n (plain_meaning p) t) ≡ stops stop
     → Served p t i station n → Served p t i station (suc n)
 halted p t i station n stop is_next before =
     let m = plain_meaning p in
@@ -310,7 +310,7 @@ halted p t i station n stop is_next before =
       done = λ one. begun ∙ before.done one ∙ sym (both (gathered-more (jobs_told is_done i) m t n (stops stop) is_next ∙ append-nil (done_at p t i n)) served);
     }
 
-happened : (p : NetworkParts) (t : Terms) (i : ℕ) (station : Station) → IsNetwork p → IsStationAt p i station → (n : ℕ) (told : Key × Note) (after : State)
+happened : (p : NetworkParts) (t : Terms) (i : ℕ) (station : StationOver ℕ) → IsNetwork p → IsStationAt p i station → (n : ℕ) (told : Key × Note) (after : State)
     → next (plain_meaning p) t (after_events n (plain_meaning p) t) ≡ does told after → Served p t i station n → Served p t i station (suc n)
 happened p t i station fine is n told after is_next before =
     let m = plain_meaning p in

@@ -11,20 +11,23 @@ use Rattle.model_core.specs.declared.note.Note.{Note}
 use Rattle.sim_spec.specs.declared.terms.Terms.{Terms}
 use Rattle.sim_spec.specs.Firing.{emissions}
 use Rattle.sim_spec.specs.State.{State, initial_state, start_event, event_of_start, object_at as state_at}
+use Rattle.queue_models.specs.declared.kind.KindOver.TheVariants.{Source, Station}
+use Rattle.queue_models.specs.declared.source.Source.{Source as SourceOver}
+use Rattle.queue_models.specs.declared.station.Station.{Station as StationOver}
 use Rattle.queue_models.specs.declared.kind.KindOver.{KindOver}
 use Rattle.queue_models.specs.declared.site.Site.{Site}
-use Rattle.queue_models.specs.Kinds.{is_lawful, kind_of_station}
+use Rattle.queue_models.specs.Kinds.{is_lawful}
 use Rattle.queue_models.specs.Meaning.{plain_meaning, network_meaning, site_of, source_start, job_start}
-use Rattle.queue_models.specs.Objects.{NetworkParts, object_at, source_numbers}
+use Rattle.queue_models.specs.Objects.{Item, NetworkParts, object_at, source_numbers}
 use Rattle.queue_models.specs.Sources.{idle_effect, last_effect, make_effect}
-use Rattle.queue_models.specs.Stations.{Station, busy_servers, waiting_jobs, is_station_cells, take_effect, wait_effect, lose_effect, serve_effect, free_effect}
+use Rattle.queue_models.specs.Stations.{busy_servers, waiting_jobs, is_station_cells, take_effect, wait_effect, lose_effect, serve_effect, free_effect}
 use Rattle.queue_models.specs.Parts.{IsNetwork}
 use Rattle.run_laws.specs.Reached.{Reaches}
 use Rattle.run_laws.proofs.Induction.{each_reached}
 use Rattle.run_laws.proofs.Steps.{first_firing}
 use Rattle.subject_laws.specs.ServerLaws.{AreServing, ServersLaw}
 use Rattle.subject_laws.specs.Stations.{IsStationAt, cells_at, ends_service_at}
-use Rattle.subject_laws.proofs.QueueLemmas.Cases.{EventDoes, idles, makes_last, makes, takes, waits, loses, serves, frees, holds, routes, leaves}
+use Rattle.subject_laws.proofs.QueueLemmas.Cases.{SourceDoes, idles, makes_last, makes, StationDoes, takes, waits, loses, serves, frees, PlainDoes, hands_on, leaves, EventDoes}
 use Rattle.subject_laws.proofs.QueueLemmas.Leaves.{HasStationCells, station_shape, take_leaves, wait_leaves, serve_leaves, free_leaves}
 use Rattle.subject_laws.proofs.QueueLemmas.NetworkStarts.{station_exists, station_at_start, start_cases, sum_at_start, starts_none}
 use Rattle.subject_laws.proofs.QueueLemmas.NetworkSteps.{IsNetworkStep, network_step, reached_lawful, cells_here, cells_elsewhere, sum_before, sum_after}
@@ -35,33 +38,46 @@ unfoldable pub ends : ℕ → List Event → ℕ
 ends i es = count_by (ends_service_at i) es
 
 -- no object sends the end of a service to another one
-pub ends_elsewhere : (site : Site) (cells : CellData) (e : Event) (kind : KindOver ℕ) (x : Effect) (i stamp object serial : ℕ) → site.object ≢ i → EventDoes site cells e kind x
+source_ends : (site : Site) (cells : CellData) (e : Event) (source : SourceOver ℕ) (x : Effect) (i stamp object serial : ℕ) → SourceDoes site cells e source x
     → ends i (emissions stamp object serial x.sends) ≡ 0
-unfolding ends emissions idle_effect last_effect make_effect take_effect wait_effect lose_effect serve_effect free_effect
-ends_elsewhere site cells e kind x i stamp object serial apart (idles none) = refl
-ends_elsewhere site cells e kind x i stamp object serial apart (makes_last one) = refl
-ends_elsewhere site cells e kind x i stamp object serial apart (makes more) = refl
-ends_elsewhere site cells e kind x i stamp object serial apart (takes other free) = ap (λ b. 0 + cond b 1 0) (ne_eqb site.object i apart)
-ends_elsewhere site cells e kind x i stamp object serial apart (waits other full room) = refl
-ends_elsewhere site cells e kind x i stamp object serial apart (loses other full none) = refl
-ends_elsewhere site cells e kind x i stamp object serial apart (serves done some) = ap (λ b. 0 + cond b 1 0) (ne_eqb site.object i apart)
-ends_elsewhere site cells e kind x i stamp object serial apart (frees done none) = refl
-ends_elsewhere site cells e kind x i stamp object serial apart holds = refl
-ends_elsewhere site cells e kind x i stamp object serial apart routes = refl
-ends_elsewhere site cells e kind x i stamp object serial apart leaves = refl
+unfolding ends emissions idle_effect last_effect make_effect
+source_ends site cells e source x i stamp object serial (idles none) = refl
+source_ends site cells e source x i stamp object serial (makes_last one) = refl
+source_ends site cells e source x i stamp object serial (makes more) = refl
+
+station_ends : (site : Site) (cells : CellData) (e : Event) (station : StationOver ℕ) (x : Effect) (i stamp object serial : ℕ) → site.object ≢ i → StationDoes site cells e station x
+    → ends i (emissions stamp object serial x.sends) ≡ 0
+unfolding ends emissions take_effect wait_effect lose_effect serve_effect free_effect
+station_ends site cells e station x i stamp object serial apart (takes other free) = ap (λ b. 0 + cond b 1 0) (ne_eqb site.object i apart)
+station_ends site cells e station x i stamp object serial apart (waits other full room) = refl
+station_ends site cells e station x i stamp object serial apart (loses other full none) = refl
+station_ends site cells e station x i stamp object serial apart (serves done some) = ap (λ b. 0 + cond b 1 0) (ne_eqb site.object i apart)
+station_ends site cells e station x i stamp object serial apart (frees done none) = refl
+
+plain_ends : (objects : List Item) (site : Site) (cells : CellData) (e : Event) (kind : KindOver ℕ) (x : Effect) (i stamp object serial : ℕ) → PlainDoes objects site cells e kind x
+    → ends i (emissions stamp object serial x.sends) ≡ 0
+unfolding ends emissions
+plain_ends objects site cells e kind x i stamp object serial (hands_on there moving after draws) = refl
+plain_ends objects site cells e kind x i stamp object serial (leaves none) = refl
+
+pub ends_elsewhere : (objects : List Item) (site : Site) (cells : CellData) (e : Event) (kind : KindOver ℕ) (x : Effect) (i stamp object serial : ℕ) → site.object ≢ i
+    → EventDoes objects site cells e kind x → ends i (emissions stamp object serial x.sends) ≡ 0
+ends_elsewhere objects site cells e (Source source) x i stamp object serial apart does_so = source_ends site cells e source x i stamp object serial does_so
+ends_elsewhere objects site cells e (Station station) x i stamp object serial apart does_so = station_ends site cells e station x i stamp object serial apart does_so
+ends_elsewhere objects site cells e other x i stamp object serial apart does_so = plain_ends objects site cells e other x i stamp object serial does_so
 
 -- a station's servers, where this many of its services are under way
-record Serving (station : Station) (cells : CellData) (services : ℕ) : Type 0 where
+record Serving (station : StationOver ℕ) (cells : CellData) (services : ℕ) : Type 0 where
   pub under_way : busy_servers cells ≡ services
   pub none_idle : 0 < waiting_jobs cells → busy_servers cells ≡ station.servers
 
 -- how many ends of services an event sends to its own station
-take_ends : (site : Site) (station : Station) (cells : CellData) (e : Event) (stamp object serial : ℕ)
+take_ends : (site : Site) (station : StationOver ℕ) (cells : CellData) (e : Event) (stamp object serial : ℕ)
     → ends site.object (emissions stamp object serial (take_effect site station cells e).sends) ≡ 1
 unfolding ends emissions take_effect
 take_ends site station cells e stamp object serial = ap (λ b. 0 + cond b 1 0) (eq-eqb site.object site.object refl)
 
-serve_ends : (site : Site) (station : Station) (cells : CellData) (e : Event) (stamp object serial : ℕ)
+serve_ends : (site : Site) (station : StationOver ℕ) (cells : CellData) (e : Event) (stamp object serial : ℕ)
     → ends site.object (emissions stamp object serial (serve_effect site station cells e).sends) ≡ 1
 unfolding ends emissions serve_effect
 serve_ends site station cells e stamp object serial = ap (λ b. 0 + cond b 1 0) (eq-eqb site.object site.object refl)
@@ -78,14 +94,14 @@ pub lose_leaves : (cells : CellData) (e : Event) → cells_after_all (lose_effec
 unfolding lose_effect cells_after_all
 lose_leaves cells e = refl
 
-free_ends : (i stamp object serial : ℕ) (site : Site) (station : Station) (cells : CellData) (e : Event) → ends i (emissions stamp object serial (free_effect site station cells e).sends) ≡ 0
+free_ends : (i stamp object serial : ℕ) (site : Site) (station : StationOver ℕ) (cells : CellData) (e : Event) → ends i (emissions stamp object serial (free_effect site station cells e).sends) ≡ 0
 unfolding ends emissions free_effect
 free_ends i stamp object serial site station cells e = refl
 
 -- an event at a station, where so many services are under way besides it
-serving_on : (site : Site) (cells : CellData) (e : Event) (station : Station) (x : Effect) (stamp object serial others : ℕ)
+serving_on : (site : Site) (cells : CellData) (e : Event) (station : StationOver ℕ) (x : Effect) (stamp object serial others : ℕ)
     → HasStationCells cells → busy_servers cells ≤ station.servers
-    → (e.kind ≢ 2 → Serving station cells others) → (e.kind ≡ 2 → Serving station cells (1 + others)) → EventDoes site cells e (kind_of_station station) x
+    → (e.kind ≢ 2 → Serving station cells others) → (e.kind ≡ 2 → Serving station cells (1 + others)) → StationDoes site cells e station x
     → Serving station (cells_after_all x.changes cells) (ends site.object (emissions stamp object serial x.sends) + others)
 serving_on site cells e station x stamp object serial others has upto arrives done (takes other free) =
     let S : CellData → Type 0 = λ c. Serving station c (ends site.object (emissions stamp object serial (take_effect site station cells e).sends) + others) in
@@ -125,10 +141,10 @@ serving_on site cells e station x stamp object serial others has upto arrives do
 
 -- of a state: each station is serving
 AllServing : NetworkParts → State → Type 0
-AllServing p s = (i : ℕ) (station : Station) → IsStationAt p i station → Serving station (cells_at s i) (ends i s.pending)
+AllServing p s = (i : ℕ) (station : StationOver ℕ) → IsStationAt p i station → Serving station (cells_at s i) (ends i s.pending)
 
 -- a station's cells in a lawful state
-pub station_lawful : (p : NetworkParts) (s : State) (i : ℕ) (station : Station) → IsStationAt p i station → IsTrue (is_lawful (object_at p.objects i).kind (cells_at s i))
+pub station_lawful : (p : NetworkParts) (s : State) (i : ℕ) (station : StationOver ℕ) → IsStationAt p i station → IsTrue (is_lawful (object_at p.objects i).kind (cells_at s i))
     → IsTrue (is_station_cells station.servers station.line (cells_at s i))
 station_lawful p s i station is lawful = let L : KindOver ℕ → Type 0 = λ kind. IsTrue (is_lawful kind (cells_at s i)) in subst L is lawful
 
@@ -153,7 +169,7 @@ unfolding weight
 weight_done e done =
     ap (λ b. cond (b && (e.key.dest == e.key.dest)) 1 0) (eq-eqb e.kind 2 done) ∙ ap (λ b. cond b 1 0) (eq-eqb e.key.dest e.key.dest refl)
 
-serving_here : (p : NetworkParts) (t : Terms) (s : State) (told : Key × Note) (after : State) (n : IsNetworkStep p t s told after) (station : Station)
+serving_here : (p : NetworkParts) (t : Terms) (s : State) (told : Key × Note) (after : State) (n : IsNetworkStep p t s told after) (station : StationOver ℕ)
     → IsStationAt p n.step.event.key.dest station → Serving station (cells_at s n.step.event.key.dest) (ends n.step.event.key.dest s.pending)
     → Serving station (cells_at after n.step.event.key.dest) (ends n.step.event.key.dest after.pending)
 unfolding ends weight
@@ -164,7 +180,7 @@ serving_here p t s told after n station is before =
     let x : Effect = n.step.effect in
     let others : ℕ = ends d n.step.rest in
     let lawful : IsTrue (is_station_cells station.servers station.line cells) = station_lawful p s d station is n.cells in
-    let D : KindOver ℕ → Type 0 = λ kind. EventDoes (site_of p d) cells e kind x in
+    let D : KindOver ℕ → Type 0 = λ kind. EventDoes p.objects (site_of p d) cells e kind x in
     let C : ℕ → Type 0 = Serving station cells in
     let had : ends d s.pending ≡ weight d e + others = sum_before p t s told after n (weight d) in
     let on : Serving station (cells_after_all x.changes cells) (ends d (first_firing s e x).events + others) =
@@ -187,7 +203,7 @@ serving_kept p t s told after n before i station is = by (eqb i n.step.event.key
         let apart : i ≢ e.key.dest = λ same. let yes = eq-eqb i e.key.dest same in cc in
         let same : cells_at after i ≡ cells_at s i = cells_elsewhere p t s told after n i apart in
         let none_sent : ends i (first_firing s e n.step.effect).events ≡ 0 =
-        ends_elsewhere (site_of p e.key.dest) (cells_at s e.key.dest) e (object_at p.objects e.key.dest).kind n.step.effect i e.key.stamp e.key.dest _ (λ eq. apart (sym eq)) n.does_so in
+        ends_elsewhere p.objects (site_of p e.key.dest) (cells_at s e.key.dest) e (object_at p.objects e.key.dest).kind n.step.effect i e.key.stamp e.key.dest _ (λ eq. apart (sym eq)) n.does_so in
         let not_it : weight i e ≡ 0 = weight_elsewhere i e (λ eq. apart (sym eq)) in
         let now : ends i after.pending ≡ ends i s.pending = omega (arith, sum_before p t s told after n (weight i), sum_after p t s told after n (weight i)) in
         let S : CellData → Type 0 = λ c. Serving station c (ends i after.pending) in
@@ -214,7 +230,7 @@ serving_first p i station is =
     subst S (sym (station_at_start p i station is)) (record { under_way = sym none; none_idle = λ some. absurd (omega arith) })
 
 -- the law over the plain meaning
-pub plain_servers_law : (p : NetworkParts) (t : Terms) (s : State) (i : ℕ) (station : Station)
+pub plain_servers_law : (p : NetworkParts) (t : Terms) (s : State) (i : ℕ) (station : StationOver ℕ)
     → IsNetwork p → Reaches (plain_meaning p) t s → IsStationAt p i station → AreServing s i station
 unfolding AllServing ends plain_meaning network_meaning
 plain_servers_law p t s i station fine reached is =

@@ -16,30 +16,30 @@ use Rattle.key_order.specs.Pending.{enqueue, enqueue_all}
 use Rattle.sim_spec.specs.Firing.{has_endless_chain, emissions, fired_by, fire}
 use Rattle.sim_spec.specs.State.{State, initial_state}
 use Rattle.sim_spec.specs.Run.{next, next_of, next_fired}
-use Rattle.queue_models.specs.declared.kind.KindOver.TheVariants.{Source, Sink}
-use Rattle.queue_models.specs.Kinds.{kind_of_station}
+use Rattle.queue_models.specs.declared.station.Station.{Station as StationOver}
+use Rattle.queue_models.specs.declared.kind.KindOver.TheVariants.{Source, Station, Sink}
 use Rattle.queue_models.specs.Meaning.{plain_meaning, network_meaning, start_of}
 use Rattle.queue_models.specs.Objects.{NetworkParts, sources_below}
 use Rattle.queue_models.specs.Sinks.{sink_effect}
 use Rattle.model_core.specs.Places.{place_changes}
 use Rattle.queue_models.specs.Sources.{idle_effect, last_effect, make_effect, source_effect}
-use Rattle.queue_models.specs.Stations.{Station, take_effect, wait_effect, lose_effect, arrival_outcome, serve_effect, free_effect, done_effect, station_effect}
+use Rattle.queue_models.specs.Stations.{take_effect, wait_effect, lose_effect, arrival_outcome, serve_effect, free_effect, done_effect, station_effect}
 use Rattle.run_laws.specs.Reached.{left_by, after_events, Reaches, gathered, first_records}
 use Rattle.run_laws.specs.RunLaws.{IsCause}
 use Rattle.run_laws.specs.Sent.{sent_next}
 use Rattle.subject_laws.specs.Orders.{arrived_at, begun_at, done_at, numbers_of}
 use Rattle.subject_laws.specs.Stations.{IsStationAt, busy_at, waiting_at, in_service_at}
 
-unfoldable pub counter : Station
+unfoldable pub counter : StationOver ℕ
 counter = record { servers = 1; service = Fixed 5; line = 2; strict = false; next = 2 }
 
 unfoldable pub shop : NetworkParts
 unfolding counter
 shop = record {
   seed = 7;
-  objects = record { name = 112 ∷ []; kind = Source 1 (Fixed 2) 4 1; rank = 0; quiet = false; trace = false }
-      ∷ record { name = 113 ∷ []; kind = kind_of_station counter; rank = 0; quiet = false; trace = false }
-      ∷ record { name = 114 ∷ []; kind = Sink None; rank = 0; quiet = false; trace = false }
+  objects = record { name = 112 ∷ []; kind = Source (record { first = 1; every = (Fixed 2); count = 4; next = 1 }); rank = 0; quiet = false; trace = false }
+      ∷ record { name = 113 ∷ []; kind = Station counter; rank = 0; quiet = false; trace = false }
+      ∷ record { name = 114 ∷ []; kind = Sink (record { due = None }); rank = 0; quiet = false; trace = false }
       ∷ [];
   jobs = [];
 }

@@ -24,20 +24,20 @@ use Rattle.sim_stats.specs.Sums.{last_told, sums_of}
 use Rattle.sim_stats.specs.Words.{TimedWord, words_at, timed_words, words_told}
 use Rattle.sim_stats.proofs.SumsLemmas.{with_word, sums_of-more}
 use Rattle.sim_stats.proofs.TotalsLemmas.{words_told-here, words_told-elsewhere}
+use Rattle.queue_models.specs.declared.station.Station.{Station as StationOver}
 use Rattle.queue_models.specs.declared.kind.KindOver.{KindOver}
 use Rattle.queue_models.specs.declared.site.Site.{Site}
-use Rattle.queue_models.specs.Kinds.{kind_of_station}
 use Rattle.queue_models.specs.Meaning.{plain_meaning, site_of}
 use Rattle.queue_models.specs.ModelLaws.{plain_laws}
 use Rattle.queue_models.specs.Objects.{NetworkParts}
 use Rattle.queue_models.specs.Parts.{IsNetwork}
-use Rattle.queue_models.specs.Stations.{Station, busy_servers, waiting_jobs, is_station_cells, take_effect, wait_effect, lose_effect, serve_effect, free_effect}
+use Rattle.queue_models.specs.Stations.{busy_servers, waiting_jobs, is_station_cells, take_effect, wait_effect, lose_effect, serve_effect, free_effect}
 use Rattle.run_laws.specs.Reached.{after_events, record_of, first_records, gathered}
 use Rattle.run_laws.proofs.Induction.{after_events-does, after_events-stops, gathered-more, each_number}
 use Rattle.run_laws.proofs.OrderLaw.{records_ascend}
 use Rattle.subject_laws.specs.ServerLaws.{AreServing}
 use Rattle.subject_laws.specs.Stations.{IsStationAt, cells_at, busy_at, waiting_at, in_service_at, ends_service_at}
-use Rattle.subject_laws.proofs.QueueLemmas.Cases.{EventDoes, takes, waits, loses, serves, frees}
+use Rattle.subject_laws.proofs.QueueLemmas.Cases.{EventDoes, StationDoes, takes, waits, loses, serves, frees}
 use Rattle.subject_laws.proofs.QueueLemmas.Leaves.{HasStationCells, station_shape, take_leaves, wait_leaves, serve_leaves, free_leaves}
 use Rattle.subject_laws.proofs.QueueLemmas.NetworkStarts.{station_at_start}
 use Rattle.subject_laws.proofs.QueueLemmas.NetworkSteps.{IsNetworkStep, network_step, cells_here, cells_elsewhere}
@@ -88,9 +88,9 @@ done_while_none_waits o none =
     ap (λ b. let p : Occupancy = if b then record { busy = o.busy; waiting = o.waiting - 1 } else record { busy = o.busy - 1; waiting = o.waiting } in p) no
 
 -- what is told of an event at a station, at this time
-moved_on : (site : Site) (cells : CellData) (e : Event) (station : Station) (x : Effect) (told : List TimedWord) (time : ℕ)
+moved_on : (site : Site) (cells : CellData) (e : Event) (station : StationOver ℕ) (x : Effect) (told : List TimedWord) (time : ℕ)
     → HasStationCells cells → busy_servers cells ≤ station.servers → (e.kind ≡ 2 → 0 < busy_servers cells) → (sums_of told).last ≤ time
-    → Balanced station.servers (busy_servers cells) (waiting_jobs cells) (sums_of told) → EventDoes site cells e (kind_of_station station) x
+    → Balanced station.servers (busy_servers cells) (waiting_jobs cells) (sums_of told) → StationDoes site cells e station x
     → Balanced station.servers (busy_servers (cells_after_all x.changes cells)) (waiting_jobs (cells_after_all x.changes cells)) (sums_of (told ++ words_at time x.note))
 unfolding take_effect wait_effect lose_effect serve_effect free_effect
 moved_on site cells e station x told time has few serving later before (takes other free) =
@@ -172,7 +172,7 @@ abbrev plain_totals_at : NetworkParts → Terms → ℕ → ℕ → Sums
 plain_totals_at p t i n = sums_of (words_told i (first_records n (plain_meaning p) t))
 
 -- a station after n events
-Accounts : NetworkParts → Terms → ℕ → Station → ℕ → Type 0
+Accounts : NetworkParts → Terms → ℕ → StationOver ℕ → ℕ → Type 0
 Accounts p t i station n =
     Balanced station.servers (busy_at (after_events n (plain_meaning p) t) i) (length (waiting_at (after_events n (plain_meaning p) t) i)) (plain_totals_at p t i n)
 
@@ -197,7 +197,7 @@ told_before p t n told after fine is_next = λ k none within.
     omega arith
 
 -- an event of the station
-told_here : (p : NetworkParts) (t : Terms) (n : ℕ) (told : Key × Note) (after : State) (station : Station) → IsNetwork p
+told_here : (p : NetworkParts) (t : Terms) (n : ℕ) (told : Key × Note) (after : State) (station : StationOver ℕ) → IsNetwork p
     → next (plain_meaning p) t (after_events n (plain_meaning p) t) ≡ does told after
     → (step : IsNetworkStep p t (after_events n (plain_meaning p) t) told after) → IsStationAt p step.step.event.key.dest station
     → Accounts p t step.step.event.key.dest station n
@@ -214,7 +214,7 @@ told_here p t n told after station fine is_next step is before =
     let cells : CellData = cells_at s d in
     let good : AreServing s d station = plain_servers_law p t s d station fine (n, refl) is in
     let lawful : IsTrue (is_station_cells station.servers station.line cells) = station_lawful p s d station is step.cells in
-    let D : KindOver ℕ → Type 0 = λ kind. EventDoes (site_of p d) cells e kind x in
+    let D : KindOver ℕ → Type 0 = λ kind. EventDoes p.objects (site_of p d) cells e kind x in
     let pending : length (in_service_at s d) ≡ length (filter (ends_service_at d) (e ∷ step.step.rest)) =
     ap (λ (es : List Event). length (filter (ends_service_at d) es)) step.step.pending in
     let serving : e.kind ≡ 2 → 0 < busy_servers cells =
@@ -237,7 +237,7 @@ told_here p t n told after station fine is_next step is before =
     let T : Key × Note → Type 0 = λ told. Balanced station.servers (busy_at after d) (length (waiting_at after d)) (sums_of (words_told d (records ++ told ∷ []))) in
     subst T (sym at) (subst W (sym (words_told-here records (e.key, x.note))) (subst C (sym (cells_here p t s told after step)) on))
 
-accounts_on : (p : NetworkParts) (t : Terms) (i : ℕ) (station : Station) (n : ℕ) (told : Key × Note) (after : State) → IsNetwork p → IsStationAt p i station
+accounts_on : (p : NetworkParts) (t : Terms) (i : ℕ) (station : StationOver ℕ) (n : ℕ) (told : Key × Note) (after : State) → IsNetwork p → IsStationAt p i station
     → next (plain_meaning p) t (after_events n (plain_meaning p) t) ≡ does told after → Accounts p t i station n → Accounts p t i station (suc n)
 unfolding Accounts
 accounts_on p t i station n told after fine is is_next before =
@@ -274,13 +274,13 @@ nothing_told : (servers : ℕ) → Balanced servers 0 0 (sums_of [])
 unfolding sums_of intervals after_words last_told
 nothing_told servers = record { jobs = refl; busy_now = refl; waiting_now = refl; ticks = omega arith }
 
-accounts_first : (p : NetworkParts) (t : Terms) (i : ℕ) (station : Station) → IsStationAt p i station → Accounts p t i station 0
+accounts_first : (p : NetworkParts) (t : Terms) (i : ℕ) (station : StationOver ℕ) → IsStationAt p i station → Accounts p t i station 0
 unfolding Accounts gathered after_events words_told
 accounts_first p t i station is =
     let C : CellData → Type 0 = λ c. Balanced station.servers (busy_servers c) (waiting_jobs c) (sums_of []) in
     subst C (sym (station_at_start p i station is)) (nothing_told station.servers)
 
-accounts_halted : (p : NetworkParts) (t : Terms) (i : ℕ) (station : Station) (n : ℕ) (stop : Stop)
+accounts_halted : (p : NetworkParts) (t : Terms) (i : ℕ) (station : StationOver ℕ) (n : ℕ) (stop : Stop)
     → next (plain_meaning p) t (after_events n (plain_meaning p) t) ≡ stops stop → Accounts p t i station n → Accounts p t i station (suc n)
 unfolding Accounts
 accounts_halted p t i station n stop is_next before =
@@ -291,7 +291,7 @@ accounts_halted p t i station n stop is_next before =
     (subst R (sym (gathered-more record_of m t n (stops stop) is_next ∙ append-nil (first_records n m t))) before)
 
 -- the law over the plain meaning
-plain_totals : (p : NetworkParts) (t : Terms) (i : ℕ) (station : Station) (n : ℕ) → IsNetwork p → IsStationAt p i station
+plain_totals : (p : NetworkParts) (t : Terms) (i : ℕ) (station : StationOver ℕ) (n : ℕ) → IsNetwork p → IsStationAt p i station
     → IsAccountedFor (plain_totals_at p t i n) (after_events n (plain_meaning p) t) i station
 unfolding Accounts
 plain_totals p t i station n fine is =
