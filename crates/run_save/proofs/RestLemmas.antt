@@ -4,7 +4,7 @@ use Rattle.std.specs.Prelude.{codes, decimal, nat_le, nat_eq, ◌&&◌}
 use Rattle.std.specs.Char.{is_ascii_digit}
 use Rattle.std.specs.List.{starts_with, take_while}
 use Rattle.std.specs.Str.Parse.{AllDigits, digits_value}
-use Rattle.std.proofs.lemmas.Bool.{and_from, and_parts, leb-true, le-leb, ltb-true}
+use Rattle.std.proofs.lemmas.Bool.{and_from, and_parts, leb-true, le-leb}
 use Rattle.std.proofs.lemmas.Bool.Decides.{Decides-eqb}
 use Rattle.std.proofs.lemmas.Fmt.{decimal-digits_value, decimal_is_IsNumeral, first_decimal, decimal_digit}
 use Rattle.std.proofs.lemmas.Grind.{common_steps}
@@ -14,8 +14,11 @@ use Rattle.std.proofs.lemmas.Slice.Eq.{starts_is}
 use Rattle.std.proofs.lemmas.Str.Parse.{tells_digits, numerals_by_value, digit_at, digits_value-take-le}
 use Rattle.std.proofs.lemmas.Str.{digit_value_digit}
 use Rattle.std.proofs.lemmas.Int.Digits.{digits_value_more}
+use Rattle.sim_io.specs.Words.{is_decimal}
+use Rattle.sim_io.proofs.NumberLemmas.{some_digits}
+use Rattle.run_save.specs.Checks.{Checked}
 use Rattle.run_save.specs.StateTexts.{field_text}
-use Rattle.run_save.specs.Rests.{Rest, formed, after, next_line, digit_count, digits_of, is_decimal, number, field}
+use Rattle.run_save.specs.Rests.{Rest, formed, after, next_line, digit_count, digits_of, number, field}
 use Rattle.run_save.proofs.CheckLemmas.{bound, joined, passes, passed, same_given}
 
 -- bytes that are left at a line
@@ -89,13 +92,18 @@ value-within digits i value within all is = omega (arith, value-more digits i va
 
 -- ---- numbers
 
+-- a number that is read was written so
+abbrev pub TakesNumber : (ℕ → Rest → Checked (ℕ × Rest)) → (ℕ → List ℕ) → Type 0
+TakesNumber read text = (most : ℕ) (rest : Rest) (x : ℕ × Rest) → most < 2 ^ 64 → read most rest ≡ Ok x → (rest.bytes ≡ text x.0 ++ x.1.bytes) × (x.0 ≤ most)
+
+-- a number that is written so is read
+abbrev pub ReadsNumber : (ℕ → Rest → Checked (ℕ × Rest)) → (ℕ → List ℕ) → Type 0
+ReadsNumber read text = (most n : ℕ) (more : List ℕ) (line : ℕ) → n ≤ most → n < 2 ^ 64 → IsPlain more → read most (at (text n ++ more) line) ≡ Ok (n, at more line)
+
 one_zero : (digits : List ℕ) → is_decimal digits ≡ true → get_or digits 0 0 ≡ 48 → length digits ≡ 1
 one_zero [] is first = grind (arith, common_steps, is)
 one_zero (c ∷ []) is first = refl
 one_zero (c ∷ d ∷ ds) is first = grind (arith, common_steps, is, first)
-
-some_digits : (digits : List ℕ) → is_decimal digits ≡ true → 0 < length digits
-some_digits digits is = ltb-true _ _ (and_parts _ _ is).0
 
 -- the number is written with these digits
 pub decimal-digits : (digits : List ℕ) → AllDigits 10 digits → is_decimal digits ≡ true → digits_value 10 digits < 2 ^ 64 → decimal (digits_value 10 digits) ≡ digits
@@ -109,7 +117,7 @@ pub decimal-is_decimal : (n : ℕ) → n < 2 ^ 64 → is_decimal (decimal n) ≡
 decimal-is_decimal zero fits = rw (decimal_digit 0 (omega arith)) refl
 decimal-is_decimal (suc n) fits = no_zero_first (decimal (suc n)) (decimal_is_IsNumeral (suc n) fits).0.0 (first_decimal (suc n) (omega arith) fits)
 
-pub number-takes : (most : ℕ) (rest : Rest) (x : ℕ × Rest) → most < 2 ^ 64 → number most rest ≡ Ok x → (rest.bytes ≡ decimal x.0 ++ x.1.bytes) × (x.0 ≤ most)
+pub number-takes : TakesNumber number decimal
 unfolding number
 number-takes most rest x small reads =
     let digits = digits_of rest.bytes in
@@ -121,7 +129,7 @@ number-takes most rest x small reads =
     sym (take-append-drop (digit_count rest.bytes) rest.bytes) ∙ ap (λ (t : List ℕ). t ++ drop (digit_count rest.bytes) rest.bytes) (sym written) in
     subst (λ (y : ℕ × Rest). (rest.bytes ≡ decimal y.0 ++ y.1.bytes) × (y.0 ≤ most)) (same_given _ _ test.2) (parts, within)
 
-pub number-reads : (most n : ℕ) (more : List ℕ) (line : ℕ) → n ≤ most → n < 2 ^ 64 → IsPlain more → number most (at (decimal n ++ more) line) ≡ Ok (n, at more line)
+pub number-reads : ReadsNumber number decimal
 unfolding number
 number-reads most n more line within fits plain =
     let numeral = decimal_is_IsNumeral n fits in
@@ -135,14 +143,14 @@ number-reads most n more line within fits plain =
     (passed _ _ _ (and_from _ _ is small))
     (ap (λ (k : ℕ). Ok (k, at (drop (digit_count (decimal n ++ more)) (decimal n ++ more)) line)) value ∙ ap (λ (bytes : List ℕ). Ok (n, at bytes line)) rest)
 
-pub field-takes : (most : ℕ) (rest : Rest) (x : ℕ × Rest) → most < 2 ^ 64 → field most rest ≡ Ok x → (rest.bytes ≡ field_text x.0 ++ x.1.bytes) × (x.0 ≤ most)
+pub field-takes : TakesNumber field field_text
 unfolding field field_text
 field-takes most rest x small reads =
     let space = bound (after (codes " ") rest) _ x reads in
     let value = number-takes most space.0 x small space.2 in
     (after-takes (codes " ") rest space.0 space.1 ∙ ap (λ (t : List ℕ). codes " " ++ t) value.0 ∙ sym (append_assoc (codes " ") (decimal x.0) x.1.bytes), value.1)
 
-pub field-reads : (most n : ℕ) (more : List ℕ) (line : ℕ) → n ≤ most → n < 2 ^ 64 → IsPlain more → field most (at (field_text n ++ more) line) ≡ Ok (n, at more line)
+pub field-reads : ReadsNumber field field_text
 unfolding field field_text
 field-reads most n more line within fits plain =
     joined (after (codes " ") (at (codes " " ++ (decimal n ++ more)) line)) _ (at (decimal n ++ more) line) _

@@ -1,5 +1,7 @@
 -- A check gives a value, or the code and line of the first refusal that it meets.
-use Rattle.std.specs.Prelude.{◌≡◌, ℕ, Bool, true, false, Result, Ok, Err}
+use Rattle.std.specs.Prelude.{ℕ, Bool, true, false, Option, Some, None, Result, Ok, Err}
+pub use Rattle.model_text.specs.Checks.{◌>>=◌}
+use Rattle.model_text.specs.Checks.{FailsWith, GivesBy}
 use Rattle.run_save.specs.declared.refusal.StateCause.{StateCause}
 use Rattle.run_save.specs.declared.refusal.StateRefusal.{StateRefusal}
 use Rattle.run_save.specs.declared.refusal.StateRefusal.TheVariants.{At, OutOfMemory}
@@ -22,18 +24,14 @@ abbrev pub wanted : Bool → StateCause → ℕ → Checked (Unit {0})
 wanted true cause line = Ok tt
 wanted false cause line = refusal cause line
 
--- one check after another: the first refusal is the answer
-infixl 10 ◌>>=◌
-abbrev pub ◌>>=◌ : {A B : Type 0} → Checked A → (A → Checked B) → Checked B
-(Ok x) >>= f = f x
-(Err e) >>= f = Err e
+abbrev pub refused_by : StateRefusal → Option Refused
+refused_by OutOfMemory = None
+refused_by (At code line) = Some (record { code = code; line = line })
 
 -- the check refuses in the same way, unless memory ran out
 abbrev pub Fails : {Y : Type 0} → StateRefusal → Checked Y → Type 0
-Fails OutOfMemory check = Unit {0}
-Fails (At code line) check = check ≡ Err (record { code = code; line = line })
+Fails refusal check = FailsWith (refused_by refusal) check
 
 -- what a function returned, seen by a view, is what the check gives, unless memory ran out
 abbrev pub Gives : {X Y : Type 0} → (X → Y) → Result X StateRefusal → Checked Y → Type 0
-Gives view (Ok x) check = check ≡ Ok (view x)
-Gives view (Err e) check = Fails e check
+Gives view result check = GivesBy refused_by view result check

@@ -1,9 +1,9 @@
 -- Reading from the front of what is left of a text. What isn't of its form is refused at its line.
-use Rattle.std.specs.Prelude.{ℕ, zero, suc, ◌+◌, ◌-◌, ◌^◌, Bool, not, ◌&&◌, nat_eq, nat_lt, nat_le, List, [], ◌∷◌, length, take, drop, codes, Option, Some, None, Ok}
+use Rattle.std.specs.Prelude.{ℕ, zero, suc, ◌+◌, ◌-◌, ◌^◌, Bool, ◌&&◌, nat_eq, nat_le, List, [], ◌∷◌, length, take, drop, codes, Option, Some, None, Ok}
 use Rattle.std.specs.Char.{is_ascii_digit}
 use Rattle.std.specs.List.{prefix_len, starts_with}
 use Rattle.std.specs.Str.Parse.{digits_value}
-use Rattle.sim_io.specs.Words.{has_zero_first}
+use Rattle.sim_io.specs.Words.{is_decimal}
 use Rattle.run_save.specs.declared.refusal.StateCause.TheVariants.{BadLine}
 use Rattle.run_save.specs.Checks.{Checked, wanted, ◌>>=◌}
 
@@ -38,10 +38,6 @@ digit_count bytes = prefix_len is_ascii_digit bytes
 
 abbrev pub digits_of : List ℕ → List ℕ
 digits_of bytes = take (digit_count bytes) bytes
-
--- digits without a zero before others
-abbrev pub is_decimal : List ℕ → Bool
-is_decimal digits = nat_lt 0 (length digits) && not (has_zero_first digits)
 
 -- a number that isn't above the greatest, and what is left after it
 unfoldable pub number : ℕ → Rest → Checked (ℕ × Rest)

@@ -2,7 +2,10 @@
 ghost use Rattle.std.specs.Prelude.{◌≡◌, ◌<◌, ◌^◌, true};
 ghost use Rattle.std.specs.Option.{SomeIff};
 ghost use Rattle.std.specs.Str.Parse.{AllDigits, digits_value};
-ghost use Rattle.run_save.specs.Rests.{digit_count, is_decimal};
+ghost use Rattle.sim_io.specs.Words.{is_decimal};
+ghost use Rattle.run_save.specs.Rests.{digit_count};
+
+use sim_io::is_decimal;
 
 /// How many digits stand at the front.
 pub(crate) fn digit_count(bytes: &[u8]) -> usize
@@ -14,13 +17,6 @@ pub(crate) fn digit_count(bytes: &[u8]) -> usize
         }
     }
     bytes.len()
-}
-
-/// Whether the digits are some, without a zero before others.
-fn is_decimal(digits: &[u8]) -> bool
-    ensures { result ≡ is_decimal digits.now }
-{
-    !digits.is_empty() && !(digits.len() > 1 && digits.starts_with(b"0"))
 }
 
 /// The value of digits, where 64 bits hold it.

@@ -16,7 +16,7 @@ mod writing_lines;
 
 pub use laws::{law_read, law_written};
 pub use reading::{MOST_STATE_BYTES, read_state};
-pub use refusal::{StateCause, StateRefusal};
+pub use refusal::{StateCause, StateRefusal, state_code_name};
 pub use saved::Saved;
 pub use writing::put_state;
 

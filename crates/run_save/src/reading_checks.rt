@@ -2,7 +2,7 @@
 ghost use Rattle.std.specs.Prelude.{◌≡◌, ◌<◌, ◌≤◌, length};
 ghost use Rattle.model_core.specs.declared.limits.TheConstants.{MOST_EVENTS};
 ghost use Rattle.run_save.specs.Checks.{Gives};
-ghost use Rattle.run_save.specs.LawfulChecks.{objects_check, is_sent, has_source, is_sound, events_check, lawful_check};
+ghost use Rattle.run_save.specs.LawfulChecks.{objects_check, is_sent, has_source, is_sound, events_check, events_line, lawful_check};
 
 use crate::refusal::{StateCause, StateRefusal};
 use cycle_core::ObjectState;
@@ -17,6 +17,19 @@ const MOST_AT_START: u64 = 400_000;
 /// How many events an event sends at most.
 const MOST_SENT: u64 = 8;
 
+/// The line of the count.
+const COUNT_LINE: u64 = 2;
+
+/// The line of how many objects there are. Their lines follow.
+const OBJECTS_LINE: u64 = 3;
+
+/// The line of how many events are pending, which comes after the objects. The lines of the events follow.
+fn events_line(objects: &[ObjectState]) -> u64
+    ensures { result ≡ events_line (length objects.now) }
+{
+    OBJECTS_LINE + 1 + objects.len() as u64
+}
+
 /// Whether each object has a lawful number of events sent, and lawful cells.
 pub(crate) fn check_objects<M: Model>(
     model: &M,
@@ -30,7 +43,7 @@ pub(crate) fn check_objects<M: Model>(
     for i in 0..model.objects() {
         let object = &objects[i as usize];
         if object.sent > MOST_SENT * count || !model.is_lawful(i, &object.cells) {
-            return Err(StateCause::Unlawful.at(u64::from(i) + 4));
+            return Err(StateCause::Unlawful.at(OBJECTS_LINE + 1 + u64::from(i)));
         }
     }
     Ok(())
@@ -71,7 +84,7 @@ pub(crate) fn check_events<M: Model>(
 {
     for (i, event) in events.iter().enumerate() {
         if !is_sound(model, objects, &event.key) {
-            return Err(StateCause::Unlawful.at(objects.len() as u64 + i as u64 + 5));
+            return Err(StateCause::Unlawful.at(events_line(objects) + 1 + i as u64));
         }
     }
     Ok(())
@@ -90,14 +103,14 @@ pub(crate) fn check_lawful<M: Model>(
         (record { objects = objects.now; pending = events.now; count = count })) }
 {
     if count > terms.limit {
-        return Err(StateCause::Unlawful.at(2));
+        return Err(StateCause::Unlawful.at(COUNT_LINE));
     }
     if objects.len() != model.objects() as usize {
-        return Err(StateCause::Unlawful.at(3));
+        return Err(StateCause::Unlawful.at(OBJECTS_LINE));
     }
     check_objects(model, count, objects)?;
     if events.len() as u64 > MOST_AT_START + MOST_SENT * count {
-        return Err(StateCause::Unlawful.at(objects.len() as u64 + 4));
+        return Err(StateCause::Unlawful.at(events_line(objects)));
     }
     check_events(model, objects, events)
 }

@@ -1,21 +1,22 @@
 //! Why a state text is refused.
 ghost use Rattle.std.specs.Prelude.{◌≡◌};
-ghost use Rattle.run_save.specs.declared.refusal.StateRefusal.TheVariants.{At, OutOfMemory};
+ghost use Rattle.run_save.specs.Causes.{state_code_name};
+ghost use Rattle.run_save.specs.declared.refusal.StateRefusal.TheVariants.{OutOfMemory};
 
 use delta_exchange::OutOfMemory;
 use std::alloc::{AllocError, AllocFailed};
 use thiserror::Error;
 
 /// What the first check that fails found.
-#[derive(Clone, Copy, Debug, PartialEq, Eq, Error)]
+#[derive(Clone, Copy)]
 pub enum StateCause {
-    #[error("the text has more than 67,108,864 bytes")]
+    /// The text has more than 67,108,864 bytes.
     TooLong,
-    #[error("a line isn't of its form")]
+    /// A line isn't of its form.
     BadLine,
-    #[error("the model is refused")]
+    /// The model is refused.
     BadModel,
-    #[error("no simulation of the model meets the state")]
+    /// No simulation of the model meets the state.
     Unlawful,
 }
 
@@ -57,7 +58,7 @@ impl From<OutOfMemory> for StateRefusal {
 impl StateCause {
     ghost use Rattle.std.specs.Prelude.{◌≡◌};
     ghost use Rattle.run_save.specs.declared.refusal.StateRefusal.TheVariants.{At};
-    ghost use Rattle.run_save.specs.Causes.{cause_code, cause_name, coded_cause};
+    ghost use Rattle.run_save.specs.Causes.{cause_code};
 
     /// Its code, from 1 to 4.
     pub fn code(self) -> u8
@@ -71,31 +72,6 @@ impl StateCause {
         }
     }
 
-    /// What it is called.
-    pub fn name(self) -> &'static str
-        ensures { result.now ≡ cause_name self }
-    {
-        match self {
-            StateCause::TooLong => "TooLong",
-            StateCause::BadLine => "BadLine",
-            StateCause::BadModel => "BadModel",
-            StateCause::Unlawful => "Unlawful",
-        }
-    }
-
-    /// The cause with this code.
-    pub fn of_code(code: u8) -> Option<StateCause>
-        ensures { result ≡ coded_cause code }
-    {
-        match code {
-            1 => Some(StateCause::TooLong),
-            2 => Some(StateCause::BadLine),
-            3 => Some(StateCause::BadModel),
-            4 => Some(StateCause::Unlawful),
-            _ => None,
-        }
-    }
-
     /// The refusal at a line.
     pub(crate) fn at(self, line: u64) -> StateRefusal
         ensures { result ≡ At (cause_code self) line }
@@ -104,5 +80,18 @@ impl StateCause {
             code: self.code(),
             line,
         }
+    }
+}
+
+/// What a code is called, or nothing if no refusal has it.
+pub fn state_code_name(code: u8) -> &'static str
+    ensures { result.now ≡ state_code_name code }
+{
+    match code {
+        1 => "TooLong",
+        2 => "BadLine",
+        3 => "BadModel",
+        4 => "Unlawful",
+        _ => "",
     }
 }

@@ -144,16 +144,15 @@ fn bytes_behind_the_model_are_refused(rt: HostRuntime) -> Result<(), Fail> {
 }
 
 #[test]
-fn the_causes_have_their_codes_and_names(rt: HostRuntime) {
-    for (cause, code, name) in [
-        (StateCause::TooLong, 1u8, "TooLong"),
-        (StateCause::BadLine, 2, "BadLine"),
-        (StateCause::BadModel, 3, "BadModel"),
-        (StateCause::Unlawful, 4, "Unlawful"),
+fn what_a_code_is_called(rt: HostRuntime) {
+    for (code, name) in [
+        (0, ""),
+        (1, "TooLong"),
+        (2, "BadLine"),
+        (3, "BadModel"),
+        (4, "Unlawful"),
+        (5, ""),
     ] {
-        assert_eq!(rt; cause.code(), code);
-        assert_eq!(rt; cause.name(), name);
-        assert_eq!(rt; StateCause::of_code(code), Some(cause));
+        assert_eq!(rt; state_code_name(code), name);
     }
-    assert_eq!(rt; StateCause::of_code(5), None);
 }

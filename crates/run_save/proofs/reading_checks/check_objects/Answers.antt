@@ -22,9 +22,10 @@ returns-then-object-count g c =
       | then-object-count-via-then-object-count w ↦ sent_too_much m c.args.count c.loop-i.i o (omega (arith, w.if-object-count.true))
       | then-object-count-via-else-object-count+then-not-is_lawful w ↦ cells_unlawful m c.args.count c.loop-i.i o (sym w.if-not-is_lawful.ensures)
     ] in
+    let at_line : c.loop-i.i + 4 ≡ 4 + c.from.result = omega (arith, c.from.ensures) in
     rw c.at.ensures (objects_end m c.args.count c.loop-i.i objects (objects_check m c.args.count 0 objects) (omega (arith, inside))
     (ap (is_lawful_object m c.args.count c.loop-i.i) at ∙ unlawful) c.loop-i.invariant
-    ∙ ap (λ n. refusal Unlawful (n + 4)) (sym c.from.ensures))
+    ∙ ap (λ n. refusal Unlawful n) at_line)
 
 pub loop-i-preserved : goal.loop-i-preserved
 loop-i-preserved g c =
