@@ -1,5 +1,5 @@
 -- What the program writes, what it notes, and the status with which it ends.
-use Rattle.std.specs.Prelude.{ℕ, ◌+◌, nat_le, Bool, true, false, List, [], ◌++◌, length, Option, Some, None, IfSome, IsOk, Result, Ok, Err, String, codes, decimal}
+use Rattle.std.specs.Prelude.{ℕ, ◌+◌, nat_le, Bool, true, false, List, [], ◌++◌, length, Option, Some, IfSome, IsOk, Result, Ok, Err, String, codes, decimal}
 use Rattle.std.specs.Io.KnownBytes.{Appends}
 use Rattle.std.specs.declared.alloc.Global.{Global}
 use Rattle.model_text.specs.Causes.{code_name}
@@ -22,8 +22,7 @@ use Rattle.sim_io.specs.Words.{settings, texts_of, fault_name}
 use Rattle.sim_io.specs.Transfers.{AppendsPrefix, KeepsBackSome}
 use Rattle.sim_text.specs.declared.telling.Telling.{Telling}
 use Rattle.sim_text.specs.WholeTexts.{text_from, first_lines}
-use Rattle.run_save.specs.Causes as state_causes
-use Rattle.run_save.specs.declared.refusal.StateCause.{StateCause}
+use Rattle.run_save.specs.Causes.{state_code_name}
 use Rattle.run_save.specs.Checks as states
 use Rattle.run_save.specs.SavedStates.{SavedState, state_of}
 use Rattle.run_save.specs.StateTexts.{state_text}
@@ -44,19 +43,11 @@ status_of_stop Limit = EVENT_LIMIT
 abbrev pub words_line : WordFault → List ℕ
 words_line fault = codes "words: " ++ (fault_name fault ++ codes "\n")
 
--- the line for a model that is refused: the code and the name of the cause, and the item where it was met
+-- the line for a model that is refused: the code and what it is called, and the item where it was met
 unfoldable pub refusal_line : ℕ → ℕ → List ℕ
 refusal_line code item = codes "model: " ++ (decimal code ++ (codes " " ++ (code_name code ++ (codes " item " ++ (decimal item ++ codes "\n")))))
 
--- the name of the cause with this code why a state is refused, or nothing where no cause has it
-abbrev pub state_name_where : Option StateCause → List ℕ
-state_name_where None = []
-state_name_where (Some cause) = state_causes.cause_name cause
-
-abbrev pub state_code_name : ℕ → List ℕ
-state_code_name code = state_name_where (state_causes.coded_cause code)
-
--- the line for a saved state that is refused: the code and the name of the cause, and the line where it was met
+-- the line for a saved state that is refused: the code and what it is called, and the line where it was met
 unfoldable pub state_line : ℕ → ℕ → List ℕ
 state_line code line = codes "state: " ++ (decimal code ++ (codes " " ++ (state_code_name code ++ (codes " line " ++ (decimal line ++ codes "\n")))))
 

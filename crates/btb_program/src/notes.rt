@@ -3,26 +3,15 @@ ghost use Rattle.std.specs.Prelude.{◌≡◌, ◌⊎◌, IfOk, OnOk, OnErr};
 ghost use Rattle.std.specs.Io.KnownBytes.{Appends};
 ghost use Rattle.sim_io.specs.Causes.{HasCause, Rose};
 ghost use Rattle.sim_io.specs.Transfers.{AppendsPrefix};
-ghost use Rattle.model_text.specs.Causes.{code_name};
-ghost use Rattle.btb_program.specs.Answer.{words_line, refusal_line, state_code_name, state_line};
+ghost use Rattle.btb_program.specs.Answer.{words_line, refusal_line, state_line};
 ghost use Rattle.btb_program.specs.Endings.{status_of_ending, line_of_ending};
 
 use crate::ending::Ending;
 use delta_exchange::OutOfMemory;
-use model_text::Cause;
-use run_save::StateCause;
+use model_text::code_name;
+use run_save::state_code_name;
 use sim_io::{Failed, Sink, WordFault, write_all};
 use std::alloc::Global;
-
-/// The name of the cause with this code.
-fn code_name(code: u8) -> &'static str
-    ensures { result.now ≡ code_name code }
-{
-    match Cause::of_code(code) {
-        Some(cause) => cause.name(),
-        None => "",
-    }
-}
 
 /// The line for a model that is refused with this code at this item.
 #[tactic(auto, unfolding(crate::specs::Answer::refusal_line))]
@@ -32,16 +21,6 @@ pub fn refusal_line(alloc: Global, code: u8, item: u32) -> Result<Vec<u8>, OutOf
     let name = code_name(code);
     let line = format!(in alloc; "model: {code} {name} item {item}\n")?;
     Ok(line.into_bytes())
-}
-
-/// The name of the cause with this code.
-fn state_code_name(code: u8) -> &'static str
-    ensures { result.now ≡ state_code_name code }
-{
-    match StateCause::of_code(code) {
-        Some(cause) => cause.name(),
-        None => "",
-    }
 }
 
 /// The line for a saved state that is refused with this code at this line.
