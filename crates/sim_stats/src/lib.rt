@@ -6,6 +6,8 @@ mod occupancy;
 mod sums;
 mod totals;
 
+pub use occupancy::Occupancy;
+pub use sums::{is_arrival, is_service};
 pub use totals::Totals;
 
 #[cfg(test)]

@@ -26,7 +26,7 @@ pub struct Sums {
 }
 
 /// Whether a word tells that something comes to an object.
-fn is_arrival(word: u32) -> bool
+pub fn is_arrival(word: u32) -> bool
     ensures { result ≡ is_arrival word }
 {
     matches!(
@@ -36,7 +36,7 @@ fn is_arrival(word: u32) -> bool
 }
 
 /// Whether a word tells that an object is done with something.
-fn is_service(word: u32) -> bool
+pub fn is_service(word: u32) -> bool
     ensures { result ≡ is_service word }
 {
     matches!(

@@ -1,0 +1,24 @@
+-- The sums of each object of a model within a window, in order.
+use Rattle.std.specs.Prelude.{ℕ, List, length, map}
+use Rattle.std.specs.List.{range_with_len}
+use Rattle.event_key.specs.declared.key.Key.{Key}
+use Rattle.model_core.specs.declared.note.Note.{Note}
+use Rattle.sim_stats.specs.Totals.{last_time}
+use Rattle.replications.specs.declared.window.Window.{Window}
+use Rattle.replications.specs.Parts.{parts_told}
+use Rattle.replications.specs.Windows.{window_of}
+
+-- what is known of each object, the first tick of the window, how many records were told, and the time of the last one
+pub record WindowsView : Type 0 where
+  pub objects : List Window
+  pub first : ℕ
+  pub records : ℕ
+  pub last : ℕ
+
+unfoldable pub windows_of : ℕ → ℕ → List (Key × Note) → WindowsView
+windows_of first objects records = record {
+  objects = map (λ object. window_of first (parts_told object records)) (range_with_len 0 objects);
+  first = first;
+  records = length records;
+  last = last_time 0 records;
+}

@@ -1,0 +1,9 @@
+//! Replications: one model under many seeds, and for each what every object did within a window of time.
+#![tactic(auto)]
+
+mod left;
+mod window;
+mod windows;
+
+pub use window::{Columns, Window};
+pub use windows::Windows;

@@ -1,0 +1,177 @@
+//! The sums of one object within a window of time.
+ghost use Rattle.std.specs.Prelude.{◌≡◌, ◌≤◌, ◌<◌, ◌+◌, ◌-◌, ◌*◌, ◌^◌, ◌++◌, ◌∷◌, ◌==◌, [], ℕ, List, length, max, if◌then◌else◌};
+ghost use Rattle.std.specs.Int.{from_bool};
+ghost use Rattle.replications.specs.Windows.{no_sums};
+
+use crate::left::Left;
+use model_core::{LEFT_WORD, LOST_WORD, Part};
+use sim_stats::{Occupancy, is_arrival, is_service};
+
+/// What is summed up of an object within a window of time.
+#[derive(Clone, Copy, Debug, PartialEq, Eq)]
+pub struct Columns {
+    /// How many jobs came to it, were served there, and were turned away.
+    pub arrivals: u64,
+    pub served: u64,
+    pub lost: u64,
+    /// Busy servers times the ticks for which they were busy.
+    pub busy: u128,
+    /// Waiting jobs times the ticks for which they waited.
+    pub waiting: u128,
+    /// The ages of the jobs that left there, in ticks.
+    pub age: u128,
+    /// The most jobs that waited at once.
+    pub longest: u64,
+}
+
+/// What is known of an object within a window of time, as far as it was told.
+#[derive(Clone, Copy, Debug, PartialEq, Eq)]
+pub struct Window {
+    pub arrivals: u64,
+    pub served: u64,
+    pub lost: u64,
+    pub busy: u128,
+    pub waiting: u128,
+    pub age: u128,
+    /// How many jobs wait as the window begins.
+    pub begins: u64,
+    /// The most jobs that a part within the window left waiting.
+    pub longest: u64,
+    /// Who is there, as the last part leaves it.
+    pub left: Left,
+}
+
+impl Window {
+    ghost use Rattle.sim_stats.specs.Words.{is_arrival, is_service, is_loss};
+    ghost use Rattle.model_core.specs.declared.words.TheConstants.{LEFT_WORD};
+    ghost use Rattle.replications.specs.Parts.{TimedPart, parts_at};
+    ghost use Rattle.replications.specs.Windows.{IsWithin, window_of, window_sums};
+
+    /// Nothing was told yet.
+    pub fn none() -> Window
+        ensures { (first : ℕ) → result ≡ window_of first [] }
+    {
+        Window {
+            arrivals: 0,
+            served: 0,
+            lost: 0,
+            busy: 0,
+            waiting: 0,
+            age: 0,
+            begins: 0,
+            longest: 0,
+            left: Left {
+                since: 0,
+                occupancy: Occupancy::nobody(),
+            },
+        }
+    }
+
+    /// Time goes on to a tick: who is there stays until then.
+    fn pass(&mut self, first: u64, time: u64)
+        requires time { time ≤ 2 ^ 48 }
+        requires room { IsWithin (2 ^ 34) self.old }
+        ensures passed { let ticks = time - max self.old.left.since first in
+            self.new ≡ record self.old { busy = self.old.busy + ticks * self.old.left.occupancy.busy; waiting = self.old.waiting + ticks * self.old.left.occupancy.waiting } }
+        ensures busy { self.new.busy ≤ self.old.busy + 2 ^ 82 }
+        ensures waiting { self.new.waiting ≤ self.old.waiting + 2 ^ 82 }
+    {
+        let ticks = u128::from(time.saturating_sub(self.left.since.max(first)));
+        self.busy += ticks * u128::from(self.left.occupancy.busy);
+        self.waiting += ticks * u128::from(self.left.occupancy.waiting);
+    }
+
+    /// A part within the window counts.
+    fn count(&mut self, part: &Part)
+        requires { IsWithin (2 ^ 34) self.old }
+        ensures counted { self.new ≡ record self.old {
+          arrivals = self.old.arrivals + from_bool (is_arrival part.now.word);
+          served = self.old.served + from_bool (is_service part.now.word);
+          lost = self.old.lost + from_bool (is_loss part.now.word);
+          age = self.old.age + (if part.now.word == LEFT_WORD then part.now.b else 0);
+          longest = max self.old.longest self.old.left.occupancy.waiting;
+        } }
+        ensures age { self.new.age ≤ self.old.age + 2 ^ 64 }
+    {
+        self.arrivals += u64::from(is_arrival(part.word));
+        self.served += u64::from(is_service(part.word));
+        self.lost += u64::from(part.word == LOST_WORD);
+        self.age += if part.word == LEFT_WORD {
+            u128::from(part.b)
+        } else {
+            0
+        };
+        self.longest = self.longest.max(self.left.occupancy.waiting);
+    }
+
+    /// One part more, told at this time, of a window that begins at `first`.
+    fn add_part(&mut self, first: u64, time: u64, part: &Part)
+        requires time { time ≤ 2 ^ 48 }
+        requires room { IsWithin (2 ^ 33) self.old }
+        ensures sums { (told : List TimedPart) → self.old ≡ window_of first told
+            → self.new ≡ window_of first (told ++ record { time = time; part = part.now } ∷ []) }
+        ensures within { (parts : ℕ) → IsWithin parts self.old → IsWithin (parts + 1) self.new }
+    {
+        self.pass(first, time);
+        let occupancy = self.left.occupancy.after(part.word);
+        self.left = Left {
+            since: time,
+            occupancy,
+        };
+        if time < first {
+            self.begins = occupancy.waiting;
+        } else {
+            self.count(part);
+        }
+    }
+
+    /// What a record at this time tells, of a window that begins at `first`.
+    pub fn add(&mut self, first: u64, time: u64, parts: &[Part])
+        requires few { length parts.now ≤ 4 }
+        requires time { time ≤ 2 ^ 48 }
+        requires room { IsWithin (2 ^ 32) self.old }
+        ensures sums { (told : List TimedPart) → self.old ≡ window_of first told → self.new ≡ window_of first (told ++ parts_at time parts.now) }
+        ensures within { (parts : ℕ) → IsWithin parts self.old → IsWithin (parts + 4) self.new }
+    {
+        for part in parts {
+            self.add_part(first, time, part);
+        }
+    }
+
+    /// The sums of the window from tick `first` to tick `last`: all are 0 where it has no tick.
+    pub fn close(&self, first: u64, last: u64) -> Columns
+        requires last { last ≤ 2 ^ 48 }
+        requires room { IsWithin (2 ^ 33) self.now }
+        ensures { (told : List TimedPart) → self.now ≡ window_of first told → result ≡ window_sums first last told }
+    {
+        if last < first {
+            return no_sums();
+        }
+        let mut all = *self;
+        all.pass(first, last);
+        Columns {
+            arrivals: all.arrivals,
+            served: all.served,
+            lost: all.lost,
+            busy: all.busy,
+            waiting: all.waiting,
+            age: all.age,
+            longest: all.begins.max(all.longest),
+        }
+    }
+}
+
+/// The sums of no tick.
+fn no_sums() -> Columns
+    ensures { result ≡ no_sums }
+{
+    Columns {
+        arrivals: 0,
+        served: 0,
+        lost: 0,
+        busy: 0,
+        waiting: 0,
+        age: 0,
+        longest: 0,
+    }
+}
