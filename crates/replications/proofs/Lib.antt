@@ -1,2 +1,3 @@
 pub mod StayLemmas
+pub mod TableLemmas
 pub mod WindowLemmas

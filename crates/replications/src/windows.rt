@@ -1,2 +1,81 @@
-//! x
-pub struct Windows;
+//! The sums of each object within a window of time.
+ghost use Rattle.std.specs.Prelude.{◌≡◌, ◌<◌, ◌≤◌, ◌+◌, ◌++◌, ◌∷◌, [], ℕ, List, length, All, IfOk};
+ghost use Rattle.event_key.specs.declared.key.Key.{Key};
+ghost use Rattle.event_key.specs.Stamps.{time_part};
+ghost use Rattle.model_core.specs.declared.note.Note.{Note};
+
+use crate::window::Window;
+use event_key::{Key, time_of};
+use model_core::{OutOfMemory, Part, RecordBuffer};
+use std::alloc::Global;
+use std::marker::Model;
+
+/// What is known of each object of a model within a window that begins at a tick, kept as records come.
+#[derive(Debug, Drop)]
+pub struct Windows {
+    objects: Vec<Window>,
+    first: u64,
+    records: u64,
+    last: u64,
+}
+
+impl Model for Windows {
+    ghost use Rattle.std.specs.Prelude.{◌*◌, All};
+    ghost use Rattle.replications.specs.declared.window.Window.{Window};
+    ghost use Rattle.replications.specs.Windows.{IsWithin};
+    ghost use Rattle.replications.specs.Tables.{WindowsView};
+
+    ghost Value = { WindowsView };
+
+    ghost view = { λ windows. record { objects = windows.objects.items; first = windows.first; records = windows.records; last = windows.last } };
+
+    ghost invariant = { λ windows. All (λ (window : Window). IsWithin (4 * windows.records) window) windows.objects.items };
+}
+
+impl Windows {
+    ghost use Rattle.replications.specs.Tables.{windows_of};
+    ghost use Rattle.model_core.specs.declared.limits.TheConstants.{MOST_EVENTS};
+
+    /// No record yet, for a model with so many objects and a window that begins at this tick.
+    pub fn new(alloc: Global, objects: u32, first: u64) -> Result<Windows, OutOfMemory>
+        ensures { IfOk result (λ windows. windows ≡ windows_of first objects []) }
+    {
+        Ok(Windows {
+            objects: vec![in alloc; Window::none(); objects as usize]?,
+            first,
+            records: 0,
+            last: 0,
+        })
+    }
+
+    /// One record more, of at most four parts, at an object that there is. It takes no memory, and time for its own parts
+    /// alone.
+    pub fn add(&mut self, key: &Key, parts: &[Part])
+        requires object { key.now.dest < length self.old.objects }
+        requires few { length parts.now ≤ 4 }
+        requires room { self.old.records < MOST_EVENTS }
+        ensures windows { (first objects : ℕ) (records : List (Key × Note)) → self.old ≡ windows_of first objects records
+            → self.new ≡ windows_of first objects (records ++ (key.now, parts.now) ∷ []) }
+        ensures objects { length self.new.objects ≡ length self.old.objects }
+        ensures records { self.new.records ≡ self.old.records + 1 }
+    {
+        let time = time_of(key.stamp);
+        let window = &mut self.objects[key.dest as usize];
+        window.add(self.first, time, parts);
+        self.records += 1;
+        self.last = time;
+    }
+
+    /// All these records, in order, as `add` takes each.
+    pub fn add_all(&mut self, records: &RecordBuffer)
+        requires objects { All (λ (told : Key × Note). told.0.dest < length self.old.objects) records.now.items }
+        requires room { self.old.records + length records.now.items ≤ MOST_EVENTS }
+        ensures { (first objects : ℕ) (before : List (Key × Note)) → self.old ≡ windows_of first objects before
+            → self.new ≡ windows_of first objects (before ++ records.now.items) }
+    {
+        for i in 0..records.len() {
+            let (key, parts) = records.at(i);
+            self.add(key, parts);
+        }
+    }
+}

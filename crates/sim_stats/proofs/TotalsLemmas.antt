@@ -41,13 +41,13 @@ words_told-elsewhere object records told apart =
     ap (λ b. flat_map timed_words (cond b (told ∷ []) [])) (ne_eqb told.0.dest object (λ same. apart (sym same))) in
     words_told-more object records told ∙ ap (λ (words : List TimedWord). words_told object records ++ words) none ∙ append-nil (words_told object records)
 
-last_time-more : (time : ℕ) (records : List (Key × Note)) (told : Key × Note) → last_time time (records ++ told ∷ []) ≡ time_part told.0.stamp
+pub last_time-more : (time : ℕ) (records : List (Key × Note)) (told : Key × Note) → last_time time (records ++ told ∷ []) ≡ time_part told.0.stamp
 unfolding last_time
 last_time-more time [] told = refl
 last_time-more time (first ∷ rest) told = last_time-more (time_part first.0.stamp) rest told
 
 -- a list of what is so at each place, where that changes at one place
-map-range-set : {X : Type 0} (f g : ℕ → X) (n place : ℕ) (new : X) → new ≡ g place → ((i : ℕ) → i ≢ place → g i ≡ f i) → set (map f (range_with_len 0 n)) place new ≡ map g (range_with_len 0 n)
+pub map-range-set : {X : Type 0} (f g : ℕ → X) (n place : ℕ) (new : X) → new ≡ g place → ((i : ℕ) → i ≢ place → g i ≡ f i) → set (map f (range_with_len 0 n)) place new ≡ map g (range_with_len 0 n)
 map-range-set f g n place new here elsewhere =
     let old = map f (range_with_len 0 n) in
     let long : length old ≡ n = length-map-range_with_len f 0 n in
