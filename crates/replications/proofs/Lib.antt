@@ -1,3 +1,4 @@
+pub mod RowLemmas
 pub mod StayLemmas
 pub mod TableLemmas
 pub mod WindowLemmas

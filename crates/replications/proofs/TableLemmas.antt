@@ -80,6 +80,10 @@ pub windows_of-records : (first objects : ℕ) (records : List (Key × Note)) �
 unfolding windows_of
 windows_of-records first objects records = refl
 
+pub windows_of-last : (first objects : ℕ) (records : List (Key × Note)) → (windows_of first objects records).last ≡ last_time 0 records
+unfolding windows_of
+windows_of-last first objects records = refl
+
 pub windows_of-none : (first objects : ℕ) → windows_of first objects [] ≡ record { objects = replicate objects (window_of first []); first = first; records = 0; last = 0 }
 unfolding windows_of parts_told last_time
 windows_of-none first objects =

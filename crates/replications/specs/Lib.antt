@@ -1,4 +1,5 @@
 pub mod Parts
+pub mod Rows
 pub mod Stays
 pub mod Tables
 pub mod Windows

@@ -2,8 +2,11 @@
 #![tactic(auto)]
 
 mod left;
+mod replication;
+mod rows;
 mod window;
 mod windows;
 
+pub use replication::replicate_once;
 pub use window::{Columns, Window};
 pub use windows::Windows;

@@ -1,12 +1,15 @@
 //! The sums of each object within a window of time.
-ghost use Rattle.std.specs.Prelude.{◌≡◌, ◌<◌, ◌≤◌, ◌+◌, ◌++◌, ◌∷◌, [], ℕ, List, length, All, IfOk};
+ghost use Rattle.std.specs.Prelude.{◌≡◌, ◌<◌, ◌≤◌, ◌+◌, ◌^◌, ◌++◌, ◌∷◌, [], ℕ, List, length, All, IfOk, OnOk};
 ghost use Rattle.event_key.specs.declared.key.Key.{Key};
 ghost use Rattle.event_key.specs.Stamps.{time_part};
 ghost use Rattle.model_core.specs.declared.note.Note.{Note};
 
+use crate::rows::{RunEnd, put_columns, put_end, put_seed};
 use crate::window::Window;
 use event_key::{Key, time_of};
+use model_core::model::Model as SimulationModel;
 use model_core::{OutOfMemory, Part, RecordBuffer};
+use sim_spec::{Stop, Terms};
 use std::alloc::Global;
 use std::marker::Model;
 
@@ -20,7 +23,8 @@ pub struct Windows {
 }
 
 impl Model for Windows {
-    ghost use Rattle.std.specs.Prelude.{◌*◌, All};
+    ghost use Rattle.std.specs.Prelude.{◌*◌, ◌^◌, ◌≤◌, All};
+    ghost use Rattle.model_core.specs.declared.limits.TheConstants.{MOST_EVENTS};
     ghost use Rattle.replications.specs.declared.window.Window.{Window};
     ghost use Rattle.replications.specs.Windows.{IsWithin};
     ghost use Rattle.replications.specs.Tables.{WindowsView};
@@ -29,11 +33,14 @@ impl Model for Windows {
 
     ghost view = { λ windows. record { objects = windows.objects.items; first = windows.first; records = windows.records; last = windows.last } };
 
-    ghost invariant = { λ windows. All (λ (window : Window). IsWithin (4 * windows.records) window) windows.objects.items };
+    ghost invariant = { λ windows. (windows.records ≤ MOST_EVENTS) × (windows.last ≤ 2 ^ 48) × All (λ (window : Window). IsWithin (4 * windows.records) window) windows.objects.items };
 }
 
 impl Windows {
+    ghost use Rattle.replications.specs.Parts.{parts_told};
+    ghost use Rattle.replications.specs.Windows.{window_sums};
     ghost use Rattle.replications.specs.Tables.{windows_of};
+    ghost use Rattle.replications.specs.Rows.{last_tick, row, rows_of_records};
     ghost use Rattle.model_core.specs.declared.limits.TheConstants.{MOST_EVENTS};
 
     /// No record yet, for a model with so many objects and a window that begins at this tick.
@@ -77,5 +84,61 @@ impl Windows {
             let (key, parts) = records.at(i);
             self.add(key, parts);
         }
+    }
+
+    /// The last tick of a run of these records that stopped for this reason.
+    fn last_tick(&self, terms: &Terms, stop: &Stop) -> u64
+        ensures tick { (first objects : ℕ) (records : List (Key × Note)) → self.now ≡ windows_of first objects records → result ≡ last_tick terms.now records stop.now }
+        ensures below { result ≤ 2 ^ 48 }
+    {
+        match stop {
+            Stop::End => terms.end,
+            Stop::Limit => self.last,
+            Stop::Fault { key, .. } => time_of(key.stamp),
+        }
+    }
+
+    /// Appends the row of an object.
+    fn put_row<M: SimulationModel>(
+        &self,
+        alloc: Global,
+        model: &M,
+        object: u32,
+        last: u64,
+        end: &RunEnd,
+        into: &mut Vec<u8>,
+    ) -> Result<(), OutOfMemory>
+        requires object { object < (M.meaning model.now).objects }
+        requires exists { object < length self.now.objects }
+        requires last { last ≤ 2 ^ 48 }
+        ensures { (first objects : ℕ) (records : List (Key × Note)) → self.now ≡ windows_of first objects records
+            → OnOk result (into.new.items ≡ into.old.items ++ row (M.meaning model.now) first last end.now object (window_sums first last (parts_told object records))) }
+    {
+        let sums = self.objects[object as usize].close(self.first, last);
+        put_seed(alloc, end.seed, into)?;
+        model.put_name(alloc, object, into)?;
+        put_columns(alloc, &sums, into)?;
+        put_end(alloc, last.saturating_sub(self.first), end, into)?;
+        Ok(())
+    }
+
+    /// Appends the rows of all objects, in order, where these are all records of a run that ended so.
+    pub fn put_rows<M: SimulationModel>(
+        &self,
+        alloc: Global,
+        model: &M,
+        terms: &Terms,
+        end: &RunEnd,
+        into: &mut Vec<u8>,
+    ) -> Result<(), OutOfMemory>
+        requires { length self.now.objects ≡ (M.meaning model.now).objects }
+        ensures { (first objects : ℕ) (records : List (Key × Note)) → self.now ≡ windows_of first objects records
+            → OnOk result (into.new.items ≡ into.old.items ++ rows_of_records (M.meaning model.now) terms.now first end.now records) }
+    {
+        let last = self.last_tick(terms, &end.stop);
+        for object in 0..model.objects() {
+            self.put_row(alloc, model, object, last, end, into)?;
+        }
+        Ok(())
     }
 }

@@ -29,7 +29,10 @@ returns-clause-windows c first objects records summed =
     ∙ ap with_first (windows_of-first first objects records) ∙ windows_of-more first objects records told new added
 
 pub invariant_of-self : goal.invariant_of-self
-invariant_of-self c =
-    keeps_within c.self.inside.objects.items c.self.inside.records c.args.key.now.dest c.index_mut-window.result.now c.add.new.self
-    (omega (arith, c.requires.object, ap (λ (s : WindowsView). length s.objects) c.self.view_is))
-    c.index_mut-window.ensures.value c.self.invariant c.add.ensures.within
+invariant_of-self c = (
+  omega (arith, c.requires.room, ap (λ (s : WindowsView). s.records) c.self.view_is),
+  omega (arith, c.time_of-time.ensures),
+  keeps_within c.self.inside.objects.items c.self.inside.records c.args.key.now.dest c.index_mut-window.result.now c.add.new.self
+      (omega (arith, c.requires.object, ap (λ (s : WindowsView). length s.objects) c.self.view_is))
+      c.index_mut-window.ensures.value c.self.invariant.2 c.add.ensures.within,
+)

@@ -1,4 +1,4 @@
-use Rattle.std.proofs.Common.{List, replicate, ◌∙◌, ap, sym}
+use Rattle.std.proofs.Common.{List, replicate, ◌∙◌, ap, sym, arith}
 use Rattle.replications.specs.declared.window.Window.{Window}
 use Rattle.replications.specs.Tables.{WindowsView}
 use Rattle.replications.proofs.TableLemmas.{windows_of-none, none_are_small}
@@ -11,6 +11,9 @@ returns c =
     ∙ sym (windows_of-none c.args.first c.args.objects)
 
 pub invariant_of-result : goal.invariant_of-result
-invariant_of-result c =
-    none_are_small c.args.first c.args.objects c.in_ok-vec.field-0.items
-    (c.in_ok-vec.ensures.items_if_clones_equal (λ y same. same) ∙ ap (λ (one : Window). replicate c.args.objects one) (c.none.ensures c.args.first))
+invariant_of-result c = (
+  omega arith,
+  omega arith,
+  none_are_small c.args.first c.args.objects c.in_ok-vec.field-0.items
+      (c.in_ok-vec.ensures.items_if_clones_equal (λ y same. same) ∙ ap (λ (one : Window). replicate c.args.objects one) (c.none.ensures c.args.first)),
+)

@@ -1,0 +1,23 @@
+use Rattle.std.proofs.Common.{◌≡◌, ◌+◌, ◌-◌, List, length}
+use Rattle.sim_spec.specs.declared.bucket.Bucket.{Bucket}
+use Rattle.sim_spec.specs.Cycles.{records_of_buckets}
+use Rattle.sim_spec.specs.State.{initial_state}
+use Rattle.sim_text.proofs.UnderWay.{IsUnderWay, SimulationLaws}
+use Rattle.replications.specs.Tables.{windows_of}
+use Rattle.replications.proofs.replication.run_to_stop.Given as goal
+
+abbrev pub invariant-cycles : goal.invariant-cycles
+invariant-cycles g l =
+    let m = g.M.Model.meaning l.model in
+    record {
+      model : l.engine.model ≡ l.model;
+      terms : l.engine.terms ≡ l.terms;
+      so_far : List Bucket;
+      laws : SimulationLaws m l.terms (initial_state m);
+      way : IsUnderWay m l.terms (initial_state m) l.engine.standing so_far;
+      numbered : l.cycles ≡ length so_far;
+      kept : l.windows ≡ windows_of l.fn.first m.objects (records_of_buckets so_far);
+    }
+
+abbrev pub decreases-cycles : goal.decreases-cycles
+decreases-cycles g l = (l.terms.limit + 3) - l.cycles

@@ -1,0 +1,34 @@
+use Rattle.std.proofs.Common.{◌≡◌, ◌∙◌, ℕ, List, sym, ap, get_or, length, arith}
+use Rattle.std.proofs.lemmas.List.{take_all}
+use Rattle.replications.specs.Tables.{WindowsView, windows_of}
+use Rattle.replications.specs.Windows.{window_sums}
+use Rattle.replications.specs.Parts.{parts_told}
+use Rattle.replications.specs.Rows.{table_of}
+use Rattle.replications.proofs.RowLemmas.{rows_from-next, rows-written, rows-begun, table_of-length, table_of-at}
+use Rattle.replications.proofs.windows.Windows.put_rows.Goals as goal
+
+pub loop-object-init : goal.loop-object-init
+loop-object-init g c = λ first objects records summed.
+    rows-begun (g.M.Model.meaning c.args.model.now) first c.last_tick-last.result c.args.end.now (table_of first c.last_tick-last.result (g.M.Model.meaning c.args.model.now).objects records) c.args.into.now.items
+
+pub loop-object-preserved : goal.loop-object-preserved
+loop-object-preserved g c = λ first objects records summed.
+    let m = g.M.Model.meaning c.args.model.now in
+    let last = c.last_tick-last.result in
+    let i = c.loop-object.object in
+    let one = window_sums first last (parts_told i records) in
+    let table = table_of first last m.objects records in
+    let exists = table_of-length first last m.objects records in
+    rows_from-next m first last c.args.end.now table i one c.args.into.now.items c.loop-object.into.items c.put_row.new.into.items
+    (omega (arith, exists, c.objects-object-end.ensures, c.loop-object-test.true))
+    (sym (table_of-at first last m.objects records i one (omega (arith, c.objects-object-end.ensures, c.loop-object-test.true))))
+    (c.loop-object.invariant first objects records summed)
+    (c.in_ok-put_row.ensures first objects records summed)
+
+pub returns : goal.returns
+returns g c = λ first objects records summed.
+    let m = g.M.Model.meaning c.args.model.now in
+    rows-written m c.args.terms.now first c.last_tick-last.result c.args.end.now records c.loop-object.object c.args.into.now.items c.loop-object.into.items
+    (c.last_tick-last.ensures.tick first objects records summed)
+    (omega (arith, c.objects-object-end.ensures, c.loop-object-test.false))
+    (c.loop-object.invariant first objects records summed)

@@ -1,0 +1,69 @@
+-- The rows of a table: what each object did within a window of a run.
+use Rattle.std.specs.Prelude.{ℕ, ◌+◌, ◌-◌, List, [], ◌∷◌, ◌++◌, codes, decimal, map}
+use Rattle.std.specs.List.{range_with_len}
+use Rattle.event_key.specs.declared.key.Key.{Key}
+use Rattle.event_key.specs.Stamps.{time_part}
+use Rattle.model_core.specs.declared.note.Note.{Note}
+use Rattle.model_core.specs.Meaning.{Meaning}
+use Rattle.sim_spec.specs.declared.stop.Stop.{Stop}
+use Rattle.sim_spec.specs.declared.stop.Stop.TheVariants.{End, Limit, Fault}
+use Rattle.sim_spec.specs.declared.terms.Terms.{Terms}
+use Rattle.sim_spec.specs.State.{initial_state}
+use Rattle.sim_spec.specs.Run.{Run, run}
+use Rattle.sim_stats.specs.Totals.{last_time}
+use Rattle.replications.specs.declared.rows.RunEnd.{RunEnd}
+use Rattle.replications.specs.declared.window.Columns.{Columns}
+use Rattle.replications.specs.Parts.{parts_told}
+use Rattle.replications.specs.Windows.{window_sums}
+
+abbrev pub stop_name : Stop → List ℕ
+stop_name End = codes "end"
+stop_name Limit = codes "limit"
+stop_name (Fault key code) = codes "fault"
+
+-- the last tick of a run of these records: its end, the time of its fault, or where the limit stopped it the time of its last record
+abbrev pub last_tick : Terms → List (Key × Note) → Stop → ℕ
+last_tick t records End = t.end
+last_tick t records Limit = last_time 0 records
+last_tick t records (Fault key code) = time_part key.stamp
+
+unfoldable pub seed_text : ℕ → List ℕ
+seed_text seed = decimal seed ++ codes ","
+
+unfoldable pub counts_text : Columns → List ℕ
+counts_text sums = codes "," ++ (decimal sums.arrivals ++ (codes "," ++ (decimal sums.served ++ (codes "," ++ decimal sums.lost))))
+
+unfoldable pub times_text : Columns → List ℕ
+times_text sums =
+    codes "," ++ (decimal sums.busy ++ (codes "," ++ (decimal sums.waiting ++ (codes "," ++ (decimal sums.age ++ (codes "," ++ decimal sums.longest))))))
+
+abbrev pub columns_text : Columns → List ℕ
+columns_text sums = counts_text sums ++ times_text sums
+
+unfoldable pub end_text : ℕ → RunEnd → List ℕ
+end_text ticks end = codes "," ++ (decimal ticks ++ (codes "," ++ (decimal end.events ++ (codes "," ++ (stop_name end.stop ++ codes "\n")))))
+
+-- the row of an object with these sums, from the first tick of the window to its last one
+unfoldable pub row : Meaning → ℕ → ℕ → RunEnd → ℕ → Columns → List ℕ
+row m first last end object sums = seed_text end.seed ++ (m.label object ++ (columns_text sums ++ end_text (last - first) end))
+
+-- a row for each object, numbered from this one on
+unfoldable pub rows_from : Meaning → ℕ → ℕ → RunEnd → ℕ → List Columns → List ℕ
+rows_from m first last end object [] = []
+rows_from m first last end object (sums ∷ rest) = row m first last end object sums ++ rows_from m first last end (object + 1) rest
+
+-- the sums of each object over these records
+unfoldable pub table_of : ℕ → ℕ → ℕ → List (Key × Note) → List Columns
+table_of first last objects records = map (λ object. window_sums first last (parts_told object records)) (range_with_len 0 objects)
+
+-- the rows of a run with these records, that ended so
+unfoldable pub rows_of_records : Meaning → Terms → ℕ → RunEnd → List (Key × Note) → List ℕ
+rows_of_records m t first end records =
+    let last = last_tick t records end.stop in rows_from m first last end 0 (table_of first last m.objects records)
+
+abbrev pub end_of : ℕ → Run → RunEnd
+end_of seed r = record { seed = seed; events = r.last.count; stop = r.stop }
+
+-- the rows of the run of a model from its start, under this seed
+unfoldable pub rows : Meaning → Terms → ℕ → ℕ → List ℕ
+rows m t first seed = let r = run m t (initial_state m) in rows_of_records m t first (end_of seed r) r.records

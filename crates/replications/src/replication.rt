@@ -1,0 +1,96 @@
+//! One replication.
+ghost use Rattle.std.specs.Prelude.{◌≡◌, ◌++◌, [], IfOk, OnOk, None};
+ghost use Rattle.std.specs.Arc.{arc_value};
+ghost use Rattle.sim_spec.specs.Run.{run};
+ghost use Rattle.sim_spec.specs.Standing.{stands};
+ghost use Rattle.sim_spec.specs.State.{initial_state};
+ghost use Rattle.replications.specs.Rows.{end_of, rows};
+ghost use Rattle.replications.specs.Tables.{windows_of};
+
+use crate::rows::RunEnd;
+use crate::windows::Windows;
+use model_core::OutOfMemory;
+use model_core::model::Model as SimulationModel;
+use one_thread::OneThread;
+use run_laws::laws::{law_order, law_reached};
+use sim_spec::laws::{law_bucket, law_initial, law_moves, law_next};
+use sim_spec::{Stop, Terms};
+use std::alloc::Global;
+use std::sync::Arc;
+
+/// Runs an engine from its start until it has ended, and takes note of all records. No bucket is kept.
+fn run_to_stop<M: SimulationModel>(
+    alloc: Global,
+    model: &M,
+    terms: &Terms,
+    first: u64,
+    seed: u64,
+    engine: &mut OneThread<M>,
+    windows: &mut Windows,
+) -> Result<RunEnd, OutOfMemory>
+    requires model { engine.old.model ≡ model.now }
+    requires terms { engine.old.terms ≡ terms.now }
+    requires begins { engine.old.standing ≡ stands (initial_state (M.meaning model.now)) None }
+    requires windows { windows.old ≡ windows_of first (M.meaning model.now).objects [] }
+    ensures windows { OnOk result (windows.new
+        ≡ windows_of first (M.meaning model.now).objects (run (M.meaning model.now) terms.now (initial_state (M.meaning model.now))).records) }
+    ensures end { IfOk result (λ end. end ≡ end_of seed (run (M.meaning model.now) terms.now (initial_state (M.meaning model.now)))) }
+{
+    law_initial(model, terms);
+    law_next(model, terms);
+    law_bucket(model, terms);
+    law_moves(model, terms);
+    law_reached(model, terms);
+    law_order(model, terms);
+    let mut cycles = 0u64;
+    'cycles: loop {
+        if let Some(stop) = engine.ended() {
+            let events = engine.count();
+            return Ok(RunEnd { seed, events, stop });
+        }
+        let bucket = engine.bucket(alloc)?;
+        windows.add_all(bucket.done.as_buffer());
+        engine.give_back(bucket.done);
+        cycles += 1;
+    }
+}
+
+/// Runs an engine from its start until it has ended, and appends the rows of its run.
+#[tactic(auto, unfolding(crate::specs::Rows::rows))]
+fn put_run<M: SimulationModel>(
+    alloc: Global,
+    model: &M,
+    terms: &Terms,
+    first: u64,
+    seed: u64,
+    engine: &mut OneThread<M>,
+    into: &mut Vec<u8>,
+) -> Result<Stop, OutOfMemory>
+    requires model { engine.old.model ≡ model.now }
+    requires terms { engine.old.terms ≡ terms.now }
+    requires begins { engine.old.standing ≡ stands (initial_state (M.meaning model.now)) None }
+    ensures rows { OnOk result (into.new.items ≡ into.old.items ++ rows (M.meaning model.now) terms.now first seed) }
+    ensures stop { IfOk result (λ stop. stop ≡ (run (M.meaning model.now) terms.now (initial_state (M.meaning model.now))).stop) }
+{
+    let mut windows = Windows::new(alloc, model.objects(), first)?;
+    let end = run_to_stop(alloc, model, terms, first, seed, engine, &mut windows)?;
+    windows.put_rows(alloc, model, terms, &end, into)?;
+    Ok(end.stop)
+}
+
+/// Runs a model from its start on the engine for one thread, and appends a row for each object: what it did from tick `first`
+/// to the end of the run, under this seed. Where memory runs out, it may have appended some of it.
+pub fn replicate_once<M: SimulationModel>(
+    alloc: Global,
+    model: Arc<M>,
+    terms: Terms,
+    first: u64,
+    seed: u64,
+    into: &mut Vec<u8>,
+) -> Result<Stop, OutOfMemory>
+    ensures rows { OnOk result (into.new.items ≡ into.old.items ++ rows (M.meaning (arc_value model)) terms first seed) }
+    ensures stop { IfOk result (λ stop. stop ≡ (run (M.meaning (arc_value model)) terms (initial_state (M.meaning (arc_value model)))).stop) }
+{
+    let mut engine = OneThread::new(alloc, model.clone()?, terms)?;
+    put_run(alloc, &*model, &terms, first, seed, &mut engine, into)
+}
