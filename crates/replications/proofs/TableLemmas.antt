@@ -1,5 +1,5 @@
 -- What is known of each object, with one record more.
-use Rattle.std.proofs.Common.{◌≡◌, ◌≢◌, ℕ, ◌+◌, ◌*◌, ◌<◌, ◌≤◌, Bool, true, false, List, [], ◌∷◌, ◌++◌, length, map, refl, sym, ap, ◌∙◌, arith, length-append, eq-eqb, ne_eqb, get_or, cond, subst, append-nil, replicate}
+use Rattle.std.proofs.Common.{◌≡◌, ◌≢◌, ℕ, ◌+◌, ◌*◌, ◌<◌, Bool, List, [], ◌∷◌, ◌++◌, length, map, refl, sym, ap, ◌∙◌, arith, length-append, eq-eqb, ne_eqb, get_or, cond, subst, append-nil, replicate}
 use Rattle.std.specs.Prelude.{◌==◌, All}
 use Rattle.std.specs.List.{filter, flat_map, range_with_len}
 use Rattle.std.proofs.Math.ListN.{set}

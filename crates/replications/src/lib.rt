@@ -1,12 +1,22 @@
 //! Replications: one model under many seeds, and for each what every object did within a window of time.
 #![tactic(auto)]
 
+mod batch;
+mod job;
 mod left;
 mod replication;
 mod rows;
+mod seeds;
+mod seen;
+mod study;
+mod table;
 mod window;
 mod windows;
 
 pub use replication::replicate_once;
+pub use seeds::Seeds;
+pub use seen::Seen;
+pub use study::Study;
+pub use table::write_table;
 pub use window::{Columns, Window};
 pub use windows::Windows;

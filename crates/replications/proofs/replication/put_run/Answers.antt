@@ -1,5 +1,5 @@
 use Rattle.std.proofs.Common.{◌∙◌, ap, length}
-use Rattle.replications.specs.Tables.{WindowsView, windows_of}
+use Rattle.replications.specs.Tables.{WindowsView}
 use Rattle.replications.proofs.TableLemmas.{windows_of-length}
 use Rattle.replications.proofs.replication.put_run.Goals as goal
 

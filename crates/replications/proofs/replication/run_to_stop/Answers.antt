@@ -1,7 +1,7 @@
 -- Each turn takes note of one bucket; the last one sees why the simulation stopped.
 use Rattle.std.proofs.Common.{◌≡◌, ℕ, ◌+◌, ◌<◌, ◌++◌, ◌∷◌, [], true, List, length, length-append, refl, sym, ap, ◌∙◌, subst, arith}
 use Rattle.std.specs.List.{AllPairs}
-use Rattle.std.specs.Prelude.{All, None}
+use Rattle.std.specs.Prelude.{All}
 use Rattle.event_key.specs.declared.key.Key.{Key}
 use Rattle.event_key.specs.Keys.{key_lt}
 use Rattle.model_core.specs.declared.note.Note.{Note}
@@ -10,7 +10,7 @@ use Rattle.one_thread.specs.Engines.{EngineView}
 use Rattle.sim_spec.specs.Cycles.{records_of_buckets}
 use Rattle.sim_spec.specs.Run.{run}
 use Rattle.sim_spec.specs.State.{initial_state}
-use Rattle.sim_spec.specs.Standing.{Standing, stands}
+use Rattle.sim_spec.specs.Standing.{Standing}
 use Rattle.sim_text.proofs.SummaryLemmas.{records_of_buckets-more}
 use Rattle.sim_text.proofs.UnderWay.{IsUnderWay, begins, none_of, ended-same, cycle-same, ends_so, bucket-at_objects, bucket-has_room, goes_on, few_cycles}
 use Rattle.replications.specs.declared.rows.RunEnd.{RunEnd}

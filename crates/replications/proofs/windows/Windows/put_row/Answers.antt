@@ -1,7 +1,7 @@
 use Rattle.std.proofs.Common.{◌≡◌, ◌-◌, ◌∙◌, sym, ap, get_or, length, arith}
 use Rattle.replications.specs.Parts.{parts_told}
 use Rattle.replications.specs.Windows.{window_of, window_sums}
-use Rattle.replications.specs.Tables.{WindowsView, windows_of}
+use Rattle.replications.specs.Tables.{WindowsView}
 use Rattle.replications.proofs.TableLemmas.{windows_of-at, windows_of-length, windows_of-first}
 use Rattle.replications.proofs.RowLemmas.{row-written}
 use Rattle.replications.proofs.windows.Windows.put_row.Goals as goal

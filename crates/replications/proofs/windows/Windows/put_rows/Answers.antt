@@ -1,6 +1,4 @@
-use Rattle.std.proofs.Common.{◌≡◌, ◌∙◌, ℕ, List, sym, ap, get_or, length, arith}
-use Rattle.std.proofs.lemmas.List.{take_all}
-use Rattle.replications.specs.Tables.{WindowsView, windows_of}
+use Rattle.std.proofs.Common.{sym, arith}
 use Rattle.replications.specs.Windows.{window_sums}
 use Rattle.replications.specs.Parts.{parts_told}
 use Rattle.replications.specs.Rows.{table_of}

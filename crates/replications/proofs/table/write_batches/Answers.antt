@@ -1,0 +1,56 @@
+use Rattle.std.proofs.Common.{ℕ, ◌++◌, length, refl, sym, ap, ◌∙◌, subst, arith}
+use Rattle.std.proofs.KnownBytes.{Appends-nil, Appends-trans}
+use Rattle.std.specs.Io.KnownBytes.{Appends}
+use Rattle.model_core.proofs.Results.{on_err}
+use Rattle.sim_io.specs.Transfers.{AppendsPrefix}
+use Rattle.replications.specs.Families.{study_of}
+use Rattle.replications.specs.Studies.{AreDone, rows_between, stops_between, seen_of}
+use Rattle.replications.proofs.TextLemmas.{rows_between-none, stops_between-none, so_far-prefix, batch-prefix, rows-batch, stops-batch}
+use Rattle.replications.proofs.table.write_batches.Goals as goal
+
+pub batches-init : goal.batches-init
+batches-init g c =
+    let s = study_of g.S.Seeds.seeded c.args.study.now in
+    let told = g.K.Sink.told c.args.out.now in
+    record {
+      within = omega arith;
+      written = subst (Appends told told) (sym (rows_between-none s 0)) (Appends-nil told);
+      seen = c.nothing-seen.ensures ∙ ap seen_of (sym (stops_between-none s 0));
+      later = omega arith;
+      quiet = refl;
+    }
+
+pub returns-in_err-jobs-clause-prefix : goal.returns-in_err-jobs-clause-prefix
+returns-in_err-jobs-clause-prefix g c =
+    let s = study_of g.S.Seeds.seeded c.args.study.now in
+    on_err _ (so_far-prefix s 0 c.batches.done c.args.count c.batches.invariant.within _ _ c.batches.invariant.written)
+
+pub returns-in_err-write_rows-clause-prefix : goal.returns-in_err-write_rows-clause-prefix
+returns-in_err-write_rows-clause-prefix g c =
+    let s = study_of g.S.Seeds.seeded c.args.study.now in
+    let jobs = c.in_ok-jobs.jobs.items in
+    let all : AreDone s c.batches.done c.as_slice.result.now = subst (AreDone s c.batches.done) (sym c.as_slice.ensures.value) c.in_ok-jobs.ensures.done in
+    let P : ℕ → Type 0 = λ n. AppendsPrefix (g.K.Sink.told c.batches.out) (g.K.Sink.told c.write_rows.new.out) (rows_between s c.batches.done n) in
+    on_err _ (batch-prefix s c.batches.done (length jobs) c.args.count (omega (arith, c.in_ok-jobs.ensures.many, c.min-until.ensures)) _ _ _ c.batches.invariant.written
+    (subst P (ap length c.as_slice.ensures.value) (c.in_err-write_rows.ensures.prefix s c.batches.done all)))
+
+pub batches-preserved : goal.batches-preserved
+batches-preserved g c =
+    let s = study_of g.S.Seeds.seeded c.args.study.now in
+    let i = c.batches.invariant in
+    let jobs = c.in_ok-jobs.jobs.items in
+    let mid = g.K.Sink.told c.batches.out in
+    let new = g.K.Sink.told c.write_rows.new.out in
+    let all : AreDone s c.batches.done c.as_slice.result.now = subst (AreDone s c.batches.done) (sym c.as_slice.ensures.value) c.in_ok-jobs.ensures.done in
+    let P : ℕ → Type 0 = λ n. Appends mid new (rows_between s c.batches.done n) in
+    record {
+      within = omega (arith, c.min-until.ensures);
+      written = subst (Appends (g.K.Sink.told c.args.out.now) new) (rows-batch s c.batches.done (length jobs) c.min-until.result c.in_ok-jobs.ensures.many)
+          (Appends-trans _ mid new (rows_between s 0 c.batches.done) (rows_between s c.batches.done (length jobs)) i.written
+          (subst P (ap length c.as_slice.ensures.value) (c.in_ok-write_rows.ensures.whole s c.batches.done all)));
+      seen = c.in_ok-write_rows.ensures.seen s c.batches.done (stops_between s 0 c.batches.done) all i.seen
+          ∙ ap seen_of (ap (λ n. stops_between s 0 c.batches.done ++ stops_between s c.batches.done n) (ap length c.as_slice.ensures.value)
+          ∙ stops-batch s c.batches.done (length jobs) c.min-until.result c.in_ok-jobs.ensures.many);
+      later = omega (arith, i.later, c.in_ok-write_rows.ensures.later);
+      quiet = c.in_ok-write_rows.ensures.quiet ∙ i.quiet;
+    }

@@ -1,0 +1,19 @@
+use Rattle.std.proofs.Common.{◌≡◌, ◌-◌, ◌≤◌}
+use Rattle.std.specs.Io.KnownBytes.{Appends}
+use Rattle.replications.specs.Families.{study_of}
+use Rattle.replications.specs.Studies.{rows_between, stops_between, seen_of}
+use Rattle.replications.proofs.table.write_batches.Given as goal
+
+abbrev pub invariant-batches : goal.invariant-batches
+invariant-batches g l =
+    let s = study_of g.S.Seeds.seeded l.study in
+    record {
+      within : l.done ≤ l.count;
+      written : Appends (g.K.Sink.told l.fn.out) (g.K.Sink.told l.out) (rows_between s 0 l.done);
+      seen : l.seen ≡ seen_of (stops_between s 0 l.done);
+      later : g.K.Sink.faults l.fn.out ≤ g.K.Sink.faults l.out;
+      quiet : g.K.Sink.faults l.out ≡ g.K.Sink.faults l.fn.out;
+    }
+
+abbrev pub decreases-batches : goal.decreases-batches
+decreases-batches g l = l.count - l.done

@@ -1,0 +1,9 @@
+-- What a study is in the words of the definitions.
+use Rattle.std.specs.Prelude.{ℕ}
+use Rattle.model_core.specs.Meaning.{Meaning}
+use Rattle.replications.specs.declared.study.Study.{Study}
+use Rattle.replications.specs.Studies.{StudyOf}
+
+module _ {S : Type 0} (with_seed : S → ℕ → Meaning) where
+  abbrev pub study_of : Study S → StudyOf
+  study_of study = record { with_seed = with_seed study.models; terms = study.terms; from = study.from; first_seed = study.first_seed }

@@ -1,0 +1,108 @@
+//! Batches of replications, shared out among workers.
+ghost use Rattle.std.specs.Prelude.{◌≡◌, ◌≤◌, ◌<◌, ◌+◌, ◌-◌, ◌^◌, ◌++◌, IfOk, OnOk, None, length, All};
+ghost use Rattle.std.specs.Thread.{IsSend, IsSync};
+ghost use Rattle.steal_pool.specs.declared.worker.TheConstants.{MOST_WORKERS};
+ghost use Rattle.replications.specs.declared.job.Job.{Job};
+ghost use Rattle.replications.specs.Families.{study_of};
+ghost use Rattle.replications.specs.Studies.{AreDone, AreToDo, Does, IsDone, rows_under, seed_at, stop_under};
+
+use crate::job::Job;
+use crate::replication::replicate_once;
+use crate::seeds::Seeds;
+use crate::study::Study;
+use model_core::OutOfMemory;
+use model_core::model::Model as SimulationModel;
+use sim_spec::Stop;
+use std::alloc::Global;
+use std::thread::Threads;
+use steal_pool::run_each;
+
+/// How many seeds there are: 2^63.
+const SEEDS: u64 = 9_223_372_036_854_775_808;
+
+/// The seed of a replication, counted from 0.
+fn seed_at(first: u64, number: u64) -> u64
+    requires first { first < 2 ^ 63 }
+    requires number { number < 2 ^ 63 }
+    ensures seed { result ≡ seed_at first number }
+    ensures below { result < 2 ^ 63 }
+{
+    (first + number) % SEEDS
+}
+
+/// Runs a model under a seed, and appends its rows.
+fn run_seed<M: SimulationModel, S: Seeds<M>>(
+    alloc: Global,
+    study: &Study<S>,
+    seed: u64,
+    into: &mut Vec<u8>,
+) -> Result<Stop, OutOfMemory>
+    requires { seed < 2 ^ 63 }
+    ensures rows { OnOk result (into.new.items ≡ into.old.items ++ rows_under (study_of S.seeded study.now) seed) }
+    ensures stop { IfOk result (λ stop. stop ≡ stop_under (study_of S.seeded study.now) seed) }
+{
+    let model = study.models.with_seed(alloc, seed)?;
+    let stop = replicate_once(alloc, model, study.terms, study.from, seed, into)?;
+    Ok(stop)
+}
+
+/// Does a job.
+fn do_job<M: SimulationModel, S: Seeds<M>>(alloc: Global, study: &Study<S>, job: &mut Job)
+    requires seed { job.old.seed < 2 ^ 63 }
+    requires stop { job.old.stop ≡ None }
+    ensures { Does (study_of S.seeded study.now) job.old job.new }
+{
+    if let Ok(stop) = run_seed(alloc, study, job.seed, &mut job.rows) {
+        job.stop = Some(stop);
+    }
+}
+
+/// Jobs for the replications from one on, before another one.
+fn jobs_between(
+    alloc: Global,
+    first_seed: u64,
+    from: u64,
+    until: u64,
+) -> Result<Vec<Job>, OutOfMemory>
+    requires first { first_seed < 2 ^ 63 }
+    requires order { from ≤ until }
+    requires below { until < 2 ^ 63 }
+    ensures jobs { IfOk result (λ jobs. AreToDo first_seed from jobs.items) }
+    ensures ready { IfOk result (λ jobs. All (λ (job : Job). (job.seed < 2 ^ 63) × (job.stop ≡ None)) jobs.items) }
+    ensures many { IfOk result (λ jobs. from + length jobs.items ≡ until) }
+{
+    let mut jobs = Vec::new(alloc);
+    for number in from..until {
+        jobs.push(Job {
+            seed: seed_at(first_seed, number),
+            rows: Vec::new(alloc),
+            stop: None,
+        })?;
+    }
+    Ok(jobs)
+}
+
+/// Does the replications from one on, before another one, by so many workers. Answers them in their order.
+pub fn run_batch<R: Threads + Sync, M: SimulationModel, S: Seeds<M>>(
+    rt: &R,
+    alloc: Global,
+    study: &Study<S>,
+    workers: u32,
+    from: u64,
+    until: u64,
+) -> Result<Vec<Job>, OutOfMemory>
+    requires first { study.now.first_seed < 2 ^ 63 }
+    requires order { from ≤ until }
+    requires below { until < 2 ^ 63 }
+    requires workers { (1 ≤ workers) × (workers ≤ MOST_WORKERS) }
+    ensures done { IfOk result (λ jobs. AreDone (study_of S.seeded study.now) from jobs.items) }
+    ensures many { IfOk result (λ jobs. from + length jobs.items ≡ until) }
+{
+    let jobs = jobs_between(alloc, study.first_seed, from, until)?;
+    let work = |job: &mut Job|
+        requires { IsSync S.row × IsSend M.row × IsSync M.row × (job.old.seed < 2 ^ 63) × (job.old.stop ≡ None) }
+        ensures { Does (study_of S.seeded study.entry.now) job.old job.new }
+    { do_job(alloc, study, job) };
+    let done = run_each(rt, alloc, jobs, workers, &work)?;
+    Ok(done)
+}

@@ -1,0 +1,151 @@
+//! The table of many replications.
+ghost use Rattle.std.specs.Prelude.{◌≡◌, ◌≤◌, ◌<◌, ◌+◌, ◌*◌, ◌^◌, ◌++◌, ℕ, List, length, IfOk, OnOk, OnErr, IsErrOf};
+ghost use Rattle.std.specs.Io.KnownBytes.{Appends, Keeps};
+ghost use Rattle.steal_pool.specs.declared.worker.TheConstants.{MOST_WORKERS};
+ghost use Rattle.sim_spec.specs.declared.stop.Stop.{Stop};
+ghost use Rattle.sim_io.specs.Causes.{Rose};
+ghost use Rattle.sim_io.specs.Transfers.{AppendsPrefix};
+ghost use Rattle.sim_text.specs.declared.unfinished.Unfinished.TheVariants.{WriteFault, OutOfMemory as NoMemory};
+ghost use Rattle.replications.specs.Families.{study_of};
+ghost use Rattle.replications.specs.Studies.{StudyOf, AreDone, rows_between, stops_between, table_text, seen_of};
+
+use crate::batch::run_batch;
+use crate::job::Job;
+use crate::rows::HEAD;
+use crate::seeds::Seeds;
+use crate::seen::Seen;
+use crate::study::Study;
+use model_core::model::Model as SimulationModel;
+use sim_io::{Sink, write_all};
+use sim_text::Unfinished;
+use std::alloc::Global;
+use std::thread::Threads;
+
+/// How many bytes the texts of a batch have at most, where it has several replications: 64 MiB.
+const BATCH_BYTES: u64 = 67_108_864;
+
+/// How many bytes a row has at most: a seed of 19 digits, a name of 16 bytes, sums of 20 digits or 39, and the rest.
+const ROW_BYTES: u64 = 274;
+
+/// How many replications of a batch each worker has on average, so that starting the workers costs little beside them, and
+/// that few of them wait at its end.
+const EACH: u64 = 64;
+
+/// How many replications a batch has, of a model with so many objects.
+fn batch_size(objects: u32, workers: u32) -> u64
+    requires { workers ≤ MOST_WORKERS }
+    ensures some { 1 ≤ result }
+    ensures few { result ≤ 4096 }
+{
+    let rows = u64::from(objects.max(1)) * ROW_BYTES;
+    (BATCH_BYTES / rows).min(EACH * u64::from(workers)).max(1)
+}
+
+/// Writes the rows of a batch in order, until there was no memory for a replication.
+fn write_rows<K: Sink>(jobs: &[Job], seen: &mut Seen, out: &mut K) -> Result<(), Unfinished>
+    ensures whole { (s : StudyOf) (number : ℕ) → AreDone s number jobs.now
+        → OnOk result (Appends (K.told out.old) (K.told out.new) (rows_between s number (length jobs.now))) }
+    ensures seen { (s : StudyOf) (number : ℕ) (before : List Stop) → AreDone s number jobs.now → seen.old ≡ seen_of before
+        → OnOk result (seen.new ≡ seen_of (before ++ stops_between s number (length jobs.now))) }
+    ensures prefix { (s : StudyOf) (number : ℕ) → AreDone s number jobs.now
+        → OnErr result (AppendsPrefix (K.told out.old) (K.told out.new) (rows_between s number (length jobs.now))) }
+    ensures fault { IsErrOf result WriteFault → Rose (K.faults out.old) (K.faults out.new) }
+    ensures later { K.faults out.old ≤ K.faults out.new }
+    ensures quiet { OnOk result (K.faults out.new ≡ K.faults out.old) }
+    ensures no_memory { IsErrOf result NoMemory → K.faults out.new ≡ K.faults out.old }
+{
+    for job in jobs {
+        let Some(stop) = job.stop else {
+            return Err(Unfinished::OutOfMemory);
+        };
+        write_all(out, job.rows.as_slice())?;
+        *seen = seen.with(stop);
+    }
+    Ok(())
+}
+
+/// Writes the rows of all replications, a batch at a time.
+fn write_batches<R: Threads + Sync, M: SimulationModel, S: Seeds<M>, K: Sink>(
+    rt: &R,
+    alloc: Global,
+    study: &Study<S>,
+    count: u64,
+    workers: u32,
+    out: &mut K,
+) -> Result<Seen, Unfinished>
+    requires first { study.now.first_seed < 2 ^ 63 }
+    requires count { count < 2 ^ 32 }
+    requires workers { (1 ≤ workers) × (workers ≤ MOST_WORKERS) }
+    ensures whole { OnOk result (Appends (K.told out.old) (K.told out.new) (rows_between (study_of S.seeded study.now) 0 count)) }
+    ensures seen { IfOk result (λ seen. seen ≡ seen_of (stops_between (study_of S.seeded study.now) 0 count)) }
+    ensures prefix { OnErr result (AppendsPrefix (K.told out.old) (K.told out.new) (rows_between (study_of S.seeded study.now) 0 count)) }
+    ensures fault { IsErrOf result WriteFault → Rose (K.faults out.old) (K.faults out.new) }
+    ensures later { K.faults out.old ≤ K.faults out.new }
+    ensures quiet { OnOk result (K.faults out.new ≡ K.faults out.old) }
+    ensures no_memory { IsErrOf result NoMemory → K.faults out.new ≡ K.faults out.old }
+{
+    let size = batch_size(study.models.objects(), workers);
+    let mut seen = Seen::nothing();
+    let mut done = 0u64;
+    'batches: while done < count {
+        let until = count.min(done + size);
+        let jobs = run_batch(rt, alloc, study, workers, done, until)?;
+        write_rows(jobs.as_slice(), &mut seen, out)?;
+        done = until;
+    }
+    Ok(seen)
+}
+
+/// Writes the head line, and then all rows.
+#[tactic(auto, unfolding(crate::specs::Studies::table_text))]
+fn write_lines<R: Threads + Sync, M: SimulationModel, S: Seeds<M>, K: Sink>(
+    rt: &R,
+    alloc: Global,
+    study: &Study<S>,
+    count: u64,
+    workers: u32,
+    out: &mut K,
+) -> Result<Seen, Unfinished>
+    requires first { study.now.first_seed < 2 ^ 63 }
+    requires count { count < 2 ^ 32 }
+    requires workers { (1 ≤ workers) × (workers ≤ MOST_WORKERS) }
+    ensures whole { OnOk result (Appends (K.told out.old) (K.told out.new) (table_text (study_of S.seeded study.now) count)) }
+    ensures seen { IfOk result (λ seen. seen ≡ seen_of (stops_between (study_of S.seeded study.now) 0 count)) }
+    ensures prefix { OnErr result (AppendsPrefix (K.told out.old) (K.told out.new) (table_text (study_of S.seeded study.now) count)) }
+    ensures fault { IsErrOf result WriteFault → Rose (K.faults out.old) (K.faults out.new) }
+    ensures later { K.faults out.old ≤ K.faults out.new }
+    ensures quiet { OnOk result (K.faults out.new ≡ K.faults out.old) }
+    ensures no_memory { IsErrOf result NoMemory → K.faults out.new ≡ K.faults out.old }
+{
+    write_all(out, HEAD.as_bytes())?;
+    let seen = write_batches(rt, alloc, study, count, workers, out)?;
+    Ok(seen)
+}
+
+/// Runs a model under so many seeds, shared out among so many workers, and writes the table: the head line, and the rows of
+/// each replication in the order of the seeds. It is the same for any number of workers and any schedule of threads. Memory
+/// is that of the runs under way and of the rows of a batch, and doesn't grow with the number of replications.
+pub fn write_table<R: Threads + Sync, M: SimulationModel, S: Seeds<M>, K: Sink>(
+    rt: &R,
+    alloc: Global,
+    study: &Study<S>,
+    count: u64,
+    workers: u32,
+    out: &mut K,
+) -> Result<Seen, Unfinished>
+    requires first { study.now.first_seed < 2 ^ 63 }
+    requires count { count < 2 ^ 32 }
+    requires workers { (1 ≤ workers) × (workers ≤ MOST_WORKERS) }
+    ensures whole { OnOk result (Appends (K.told out.old) (K.told out.new) (table_text (study_of S.seeded study.now) count)) }
+    ensures handed { OnOk result (Keeps (K.told out.new) (K.handed out.new)) }
+    ensures seen { IfOk result (λ seen. seen ≡ seen_of (stops_between (study_of S.seeded study.now) 0 count)) }
+    ensures prefix { OnErr result (AppendsPrefix (K.told out.old) (K.told out.new) (table_text (study_of S.seeded study.now) count)) }
+    ensures fault { IsErrOf result WriteFault → Rose (K.faults out.old) (K.faults out.new) }
+    ensures later { K.faults out.old ≤ K.faults out.new }
+    ensures quiet { OnOk result (K.faults out.new ≡ K.faults out.old) }
+    ensures no_memory { IsErrOf result NoMemory → K.faults out.new ≡ K.faults out.old }
+{
+    let outcome = write_lines(rt, alloc, study, count, workers, out);
+    out.flush()?;
+    outcome
+}
