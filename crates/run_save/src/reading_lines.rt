@@ -1,5 +1,5 @@
 //! Reading the lines of a state text, one function for each kind.
-ghost use Rattle.std.specs.Prelude.{◌≡◌, ◌≤◌, Some, None, map, option_copied, IfOk};
+ghost use Rattle.std.specs.Prelude.{◌≡◌, ◌≤◌, Some, None, option_copied, IfOk};
 ghost use Rattle.run_save.specs.Checks.{Gives};
 ghost use Rattle.run_save.specs.Lines.{named, object, stamp, key, event_line, is_above, event};
 ghost use Rattle.run_save.specs.Rests.{each, in_turn};

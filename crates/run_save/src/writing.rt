@@ -1,5 +1,5 @@
 //! Writing a state text.
-ghost use Rattle.std.specs.Prelude.{◌≡◌, ◌<◌, ◌^◌, ◌++◌, codes, map, OnOk, OnErr};
+ghost use Rattle.std.specs.Prelude.{◌≡◌, ◌<◌, ◌^◌, ◌++◌, codes, OnOk, OnErr};
 ghost use Rattle.std.specs.Io.{StartsWith};
 ghost use Rattle.run_save.specs.SavedLaws.{FitsTypes};
 ghost use Rattle.run_save.specs.StateTexts.{named_text, state_text};

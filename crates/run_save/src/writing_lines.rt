@@ -1,5 +1,5 @@
 //! Writing the lines of a state text. Each call appends a text; where memory runs out, it may have appended some of it.
-ghost use Rattle.std.specs.Prelude.{◌≡◌, ◌<◌, ◌^◌, ◌++◌, length, map, codes, OnOk};
+ghost use Rattle.std.specs.Prelude.{◌≡◌, ◌<◌, ◌^◌, ◌++◌, length, codes, OnOk};
 ghost use Rattle.std.specs.List.{AllByRecursion, flat_map};
 ghost use Rattle.std.specs.Io.{StartsWith};
 ghost use Rattle.delta_exchange.specs.Changes.{line_of};

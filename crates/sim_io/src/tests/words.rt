@@ -3,64 +3,38 @@ use sim_spec::Placement;
 use std::alloc::Global;
 use std::test::Fail;
 
-fn list_of(alloc: Global, words: &[&str]) -> Result<Vec<String>, Fail> {
-    let mut list = Vec::new(alloc);
-    for word in words {
-        list.push(String::from_str(alloc, word)?)?;
+/// The words between the spaces of a line.
+fn words_of(alloc: Global, line: &str) -> Result<Vec<String>, Fail> {
+    let mut words = Vec::new(alloc);
+    for word in line.split(' ') {
+        words.push(String::from_str(alloc, word)?)?;
     }
-    Ok(list)
+    Ok(words)
 }
 
 /// A run in round placement without lines of cycles.
-fn run(nodes: u32, ahead: u32) -> Settings {
+fn run(nodes: u32, ahead: u32, workers: Option<u32>, moves: Option<Moves>) -> Settings {
     Settings::Run {
         nodes,
         ahead,
         placement: Placement::Round,
         cycles: false,
-        workers: None,
-        moves: None,
-    }
-}
-
-/// The same by so many workers.
-fn run_by(workers: u32) -> Settings {
-    Settings::Run {
-        nodes: 4,
-        ahead: 8,
-        placement: Placement::Round,
-        cycles: false,
-        workers: Some(workers),
-        moves: None,
-    }
-}
-
-/// The same with objects that move.
-fn run_with(moves: Moves) -> Settings {
-    Settings::Run {
-        nodes: 4,
-        ahead: 8,
-        placement: Placement::Round,
-        cycles: false,
-        workers: None,
-        moves: Some(moves),
+        workers,
+        moves,
     }
 }
 
 #[test]
 fn a_command_and_its_options(rt: HostRuntime) -> Result<(), Fail> {
     let alloc = rt.alloc();
-    for (words, settings) in [
-        (["run"].as_slice(), run(4, 8)),
-        (["run", "--nodes", "1"].as_slice(), run(1, 8)),
-        (["run", "--ahead", "0"].as_slice(), run(4, 0)),
+    for (line, settings) in [
+        ("run", run(4, 8, None, None)),
+        ("run --nodes 1", run(1, 8, None, None)),
+        ("run --ahead 0", run(4, 0, None, None)),
+        ("run --ahead 1024 --nodes 64", run(64, 1024, None, None)),
+        ("run --placement round", run(4, 8, None, None)),
         (
-            ["run", "--ahead", "1024", "--nodes", "64"].as_slice(),
-            run(64, 1024),
-        ),
-        (["run", "--placement", "round"].as_slice(), run(4, 8)),
-        (
-            ["run", "--cycles", "--placement", "block", "--ahead", "7"].as_slice(),
+            "run --cycles --placement block --ahead 7",
             Settings::Run {
                 nodes: 4,
                 ahead: 7,
@@ -70,32 +44,23 @@ fn a_command_and_its_options(rt: HostRuntime) -> Result<(), Fail> {
                 moves: None,
             },
         ),
-        (["run", "--workers", "1"].as_slice(), run_by(1)),
+        ("run --workers 1", run(4, 8, Some(1), None)),
+        ("run --nodes 4 --workers 64", run(4, 8, Some(64), None)),
+        ("run --moves load", run(4, 8, None, Some(Moves::Load))),
         (
-            ["run", "--nodes", "4", "--workers", "64"].as_slice(),
-            run_by(64),
+            "run --moves turn --placement round",
+            run(4, 8, None, Some(Moves::Turn)),
         ),
-        (["run", "--moves", "load"].as_slice(), run_with(Moves::Load)),
-        (
-            ["run", "--moves", "turn", "--placement", "round"].as_slice(),
-            run_with(Moves::Turn),
-        ),
-        (["one"].as_slice(), Settings::One { cycles: false }),
-        (
-            ["one", "--cycles"].as_slice(),
-            Settings::One { cycles: true },
-        ),
-        (["totals"].as_slice(), Settings::Totals),
-        (["demo", "1"].as_slice(), Settings::Demo { n: 1 }),
-        (["demo", "256"].as_slice(), Settings::Demo { n: 256 }),
-        (["save", "0"].as_slice(), Settings::Save { c: 0 }),
-        (
-            ["save", "9999999"].as_slice(),
-            Settings::Save { c: 9_999_999 },
-        ),
-        (["resume"].as_slice(), Settings::Resume),
+        ("one", Settings::One { cycles: false }),
+        ("one --cycles", Settings::One { cycles: true }),
+        ("totals", Settings::Totals),
+        ("demo 1", Settings::Demo { n: 1 }),
+        ("demo 256", Settings::Demo { n: 256 }),
+        ("save 0", Settings::Save { c: 0 }),
+        ("save 9999999", Settings::Save { c: 9_999_999 }),
+        ("resume", Settings::Resume),
     ] {
-        assert_eq!(rt; read_words(&list_of(alloc, words)?), Ok(settings));
+        assert_eq!(rt; read_words(&words_of(alloc, line)?), Ok(settings));
     }
     Ok(())
 }
@@ -103,95 +68,62 @@ fn a_command_and_its_options(rt: HostRuntime) -> Result<(), Fail> {
 #[test]
 fn the_first_faulty_word_is_judged(rt: HostRuntime) -> Result<(), Fail> {
     let alloc = rt.alloc();
-    for (words, fault) in [
-        ([].as_slice(), WordFault::NoCommand),
-        (["go"].as_slice(), WordFault::UnknownCommand),
-        (["go", "run"].as_slice(), WordFault::UnknownCommand),
-        (["run", "--nodes=2"].as_slice(), WordFault::UnknownOption),
-        (["run", "-", "x"].as_slice(), WordFault::UnknownOption),
-        (["one", "x", "-"].as_slice(), WordFault::ExtraWord),
-        (["run", "run"].as_slice(), WordFault::ExtraWord),
-        (
-            ["run", "--cycles", "--cycles"].as_slice(),
-            WordFault::RepeatedOption,
-        ),
-        (["one", "--cycles", "x"].as_slice(), WordFault::ExtraWord),
-        (["one", "--cycles=1"].as_slice(), WordFault::UnknownOption),
-        (["one", "--nodes", "4"].as_slice(), WordFault::UnknownOption),
-        (["run", "--nodes"].as_slice(), WordFault::MissingValue),
-        (
-            ["run", "--cycles", "--ahead"].as_slice(),
-            WordFault::MissingValue,
-        ),
-        (["run", "--nodes", "0"].as_slice(), WordFault::BadValue),
-        (["run", "--nodes", "65"].as_slice(), WordFault::BadValue),
-        (["run", "--nodes", "04"].as_slice(), WordFault::BadValue),
-        (["run", "--nodes", "+4"].as_slice(), WordFault::BadValue),
-        (["run", "--nodes", ""].as_slice(), WordFault::BadValue),
-        (
-            ["run", "--nodes", "--ahead"].as_slice(),
-            WordFault::BadValue,
-        ),
-        (["run", "--ahead", "1025"].as_slice(), WordFault::BadValue),
-        (
-            ["run", "--ahead", "00000001"].as_slice(),
-            WordFault::BadValue,
-        ),
-        (
-            ["run", "--placement", "Round"].as_slice(),
-            WordFault::BadValue,
-        ),
-        (
-            ["run", "--nodes", "2", "--nodes", "0"].as_slice(),
-            WordFault::RepeatedOption,
-        ),
-        (
-            ["run", "--nodes", "2", "3"].as_slice(),
-            WordFault::ExtraWord,
-        ),
-        (["run", "--workers"].as_slice(), WordFault::MissingValue),
-        (["run", "--workers", "0"].as_slice(), WordFault::BadValue),
-        (["run", "--workers", "65"].as_slice(), WordFault::BadValue),
-        (
-            ["run", "--workers", "2", "--workers", "2"].as_slice(),
-            WordFault::RepeatedOption,
-        ),
-        (
-            ["one", "--workers", "2"].as_slice(),
-            WordFault::UnknownOption,
-        ),
-        (["run", "--moves"].as_slice(), WordFault::MissingValue),
-        (["run", "--moves", "Load"].as_slice(), WordFault::BadValue),
-        (["run", "--moves", "round"].as_slice(), WordFault::BadValue),
-        (
-            ["run", "--moves", "load", "--moves", "turn"].as_slice(),
-            WordFault::RepeatedOption,
-        ),
-        (["run", "--moves=load"].as_slice(), WordFault::UnknownOption),
-        (
-            ["one", "--moves", "load"].as_slice(),
-            WordFault::UnknownOption,
-        ),
-        (["totals", "--cycles"].as_slice(), WordFault::UnknownOption),
-        (["totals", "totals"].as_slice(), WordFault::ExtraWord),
-        (["demo"].as_slice(), WordFault::MissingValue),
-        (["demo", "0"].as_slice(), WordFault::BadValue),
-        (["demo", "257"].as_slice(), WordFault::BadValue),
-        (["demo", "-1"].as_slice(), WordFault::BadValue),
-        (["demo", "01", "2"].as_slice(), WordFault::BadValue),
-        (["demo", "1", "2"].as_slice(), WordFault::ExtraWord),
-        (["demo", "1", "--cycles"].as_slice(), WordFault::ExtraWord),
-        (["save"].as_slice(), WordFault::MissingValue),
-        (["save", "10000000"].as_slice(), WordFault::BadValue),
-        (["save", "-1"].as_slice(), WordFault::BadValue),
-        (["save", "x", "y"].as_slice(), WordFault::BadValue),
-        (["save", "1", "2"].as_slice(), WordFault::ExtraWord),
-        (["save", "1", "--nodes"].as_slice(), WordFault::ExtraWord),
-        (["resume", "--cycles"].as_slice(), WordFault::UnknownOption),
-        (["resume", "1"].as_slice(), WordFault::ExtraWord),
-        (["resume", "resume", "-"].as_slice(), WordFault::ExtraWord),
+    assert_eq!(rt; read_words(&Vec::new(alloc)), Err(WordFault::NoCommand));
+    for (line, fault) in [
+        ("go", WordFault::UnknownCommand),
+        ("go run", WordFault::UnknownCommand),
+        ("run --nodes=2", WordFault::UnknownOption),
+        ("run - x", WordFault::UnknownOption),
+        ("one x -", WordFault::ExtraWord),
+        ("run run", WordFault::ExtraWord),
+        ("run --cycles --cycles", WordFault::RepeatedOption),
+        ("one --cycles x", WordFault::ExtraWord),
+        ("one --cycles=1", WordFault::UnknownOption),
+        ("one --nodes 4", WordFault::UnknownOption),
+        ("run --nodes", WordFault::MissingValue),
+        ("run --cycles --ahead", WordFault::MissingValue),
+        ("run --nodes 0", WordFault::BadValue),
+        ("run --nodes 65", WordFault::BadValue),
+        ("run --nodes 04", WordFault::BadValue),
+        ("run --nodes +4", WordFault::BadValue),
+        ("run --nodes ", WordFault::BadValue),
+        ("run --nodes --ahead", WordFault::BadValue),
+        ("run --ahead 1025", WordFault::BadValue),
+        ("run --ahead 00000001", WordFault::BadValue),
+        ("run --placement Round", WordFault::BadValue),
+        ("run --nodes 2 --nodes 0", WordFault::RepeatedOption),
+        ("run --nodes 2 3", WordFault::ExtraWord),
+        ("run --workers", WordFault::MissingValue),
+        ("run --workers 0", WordFault::BadValue),
+        ("run --workers 65", WordFault::BadValue),
+        ("run --workers 2 --workers 2", WordFault::RepeatedOption),
+        ("one --workers 2", WordFault::UnknownOption),
+        ("run --moves", WordFault::MissingValue),
+        ("run --moves Load", WordFault::BadValue),
+        ("run --moves round", WordFault::BadValue),
+        ("run --moves load --moves turn", WordFault::RepeatedOption),
+        ("run --moves=load", WordFault::UnknownOption),
+        ("one --moves load", WordFault::UnknownOption),
+        ("totals --cycles", WordFault::UnknownOption),
+        ("totals totals", WordFault::ExtraWord),
+        ("demo", WordFault::MissingValue),
+        ("demo 0", WordFault::BadValue),
+        ("demo 257", WordFault::BadValue),
+        ("demo -1", WordFault::BadValue),
+        ("demo 01 2", WordFault::BadValue),
+        ("demo 1 2", WordFault::ExtraWord),
+        ("demo 1 --cycles", WordFault::ExtraWord),
+        ("save", WordFault::MissingValue),
+        ("save 10000000", WordFault::BadValue),
+        ("save -1", WordFault::BadValue),
+        ("save x y", WordFault::BadValue),
+        ("save 1 2", WordFault::ExtraWord),
+        ("save 1 --nodes", WordFault::ExtraWord),
+        ("resume --cycles", WordFault::UnknownOption),
+        ("resume 1", WordFault::ExtraWord),
+        ("resume resume -", WordFault::ExtraWord),
     ] {
-        assert_eq!(rt; read_words(&list_of(alloc, words)?), Err(fault));
+        assert_eq!(rt; read_words(&words_of(alloc, line)?), Err(fault));
     }
     Ok(())
 }
