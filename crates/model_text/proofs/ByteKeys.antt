@@ -26,6 +26,6 @@ bytes-updated bytes bs old new value updates cs =
     ⊎_elim
     (λ same. subst (λ l. get_by (λ key. slice_cmp nat_cmp l (bytes key)) new ≡ value) ((bytes_decides bs cs).0 same) updates.1 ∙ sym (cond-true (bytes_eq bs cs) value _ same))
     (λ differ.
-        others_stay _ _ _ _ updates.3 _ (λ x y. (eq_by_cmp_equiv nat_list_cmp_total).congr cs (bytes x) (bytes y)) (λ key. apart bs cs (bytes key) differ)
-        ∙ sym (cond-false (bytes_eq bs cs) value _ differ))
+    others_stay _ _ _ _ updates.3 _ (λ x y. (eq_by_cmp_equiv nat_list_cmp_total).congr cs (bytes x) (bytes y)) (λ key. apart bs cs (bytes key) differ)
+    ∙ sym (cond-false (bytes_eq bs cs) value _ differ))
     (cases_Bool (bytes_eq bs cs))

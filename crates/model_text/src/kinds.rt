@@ -21,7 +21,9 @@ use crate::names::name_of;
 use crate::refusal::{Cause, Refusal};
 use crate::routers::{optional_weights, ways};
 use event_key::LAST_TICK;
-use queue_models::{Delay, Kind, MOST_JOBS, MOST_SERVERS, MOST_WAITING, Router, Sink, Source, Station};
+use queue_models::{
+    Delay, Kind, MOST_JOBS, MOST_SERVERS, MOST_WAITING, Router, Sink, Source, Station,
+};
 use std::alloc::Global;
 use toml::{Table, Value};
 
