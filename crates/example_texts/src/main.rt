@@ -9,7 +9,7 @@ ghost use Rattle.model_runs.specs.Machines.{IsMachine};
 ghost use Rattle.sim_text.specs.WholeTexts.{text_from_start};
 ghost use Rattle.sim_text.specs.declared.telling.Telling.TheVariants.{Lines};
 
-use model_runs::{DEFAULT_SPREAD, Machine, run_model};
+use model_runs::{DEFAULT_SPREAD, Job, Machine, Stage, run_model};
 use model_text::{AnyModel, read_model};
 use node_team::Open;
 use sim_io::MemSink;
@@ -54,8 +54,19 @@ fn text_of<R: Threads + Sync>(
     requires { IsMachine machine }
     ensures { IfOk result (λ sink. sink.taken ≡ text_from_start (meaning_of model) terms (Lines false)) }
 {
+    let stage = Stage {
+        rt,
+        alloc,
+        gate: &Open,
+    };
+    let job = Job {
+        model,
+        terms,
+        machine,
+        telling: RECORDS,
+    };
     let mut sink = MemSink::new(alloc, ROOM, Vec::new(alloc), Vec::new(alloc), ROOM)?;
-    run_model(rt, alloc, &Open, model, terms, machine, RECORDS, &mut sink)?;
+    run_model(stage, job, &mut sink)?;
     Ok(sink)
 }
 

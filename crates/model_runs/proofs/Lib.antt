@@ -1,1 +1,2 @@
+pub mod HandedLemmas
 pub mod SavingLemmas

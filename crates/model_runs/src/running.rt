@@ -1,23 +1,22 @@
 //! A whole simulation of a model.
-ghost use Rattle.std.specs.Prelude.{◌≡◌, ◌≤◌, IfOk, OnOk, OnErr, IsErrOf, None};
+ghost use Rattle.std.specs.Prelude.{◌≡◌, ◌≤◌, IfOk, None};
 ghost use Rattle.std.specs.Arc.{arc_value};
-ghost use Rattle.std.specs.Io.KnownBytes.{Appends, Keeps};
 ghost use Rattle.std.specs.Thread.{IsSync};
 ghost use Rattle.model_core.specs.declared.limits.TheConstants.{MOST_NODES};
-ghost use Rattle.sim_spec.specs.Run.{run};
 ghost use Rattle.sim_spec.specs.Standing.{stands};
 ghost use Rattle.sim_spec.specs.State.{initial_state};
-ghost use Rattle.sim_io.specs.Causes.{Rose};
-ghost use Rattle.sim_io.specs.Transfers.{AppendsPrefix};
-ghost use Rattle.sim_text.specs.WholeTexts.{text_from_start};
-ghost use Rattle.sim_text.specs.declared.unfinished.Unfinished.TheVariants.{WriteFault, OutOfMemory as NoMemory};
+ghost use Rattle.sim_text.specs.Written.{HasSimulated};
 ghost use Rattle.cycle_core.specs.Standings.{WorldStandsAt, GoesOn, HasCycled};
 ghost use Rattle.node_team.specs.Handings.{AreWorkers};
+ghost use Rattle.model_runs.specs.Handed.{HandsOn};
 ghost use Rattle.model_runs.specs.Machines.{IsMachine, IsSpread};
 ghost use Rattle.model_text.specs.Meanings.{meaning_of};
 
+use crate::handing::hand_on;
+use crate::job::Job;
 use crate::machine::{Machine, Spread};
 use crate::one_thread_run::OneThreadRun;
+use crate::stage::Stage;
 use crate::team_run::TeamRun;
 use model_core::OutOfMemory;
 use model_text::AnyModel;
@@ -47,7 +46,7 @@ fn one_thread(
 }
 
 /// The same on nodes.
-fn on_nodes(
+pub(crate) fn on_nodes(
     alloc: Global,
     model: AnyModel,
     terms: Terms,
@@ -65,7 +64,7 @@ fn on_nodes(
     Ok((model, run))
 }
 
-/// Runs a model on one thread, and writes the text of its simulation.
+/// Runs a model on one thread, and writes what is to be told of its simulation.
 fn run_one_thread<K: Sink>(
     alloc: Global,
     model: AnyModel,
@@ -73,13 +72,7 @@ fn run_one_thread<K: Sink>(
     telling: Telling,
     out: &mut K,
 ) -> Result<Stop, Unfinished>
-    ensures whole { OnOk result (Appends (K.told out.old) (K.told out.new) (text_from_start (meaning_of model) terms telling)) }
-    ensures stop { IfOk result (λ stop. stop ≡ (run (meaning_of model) terms (initial_state (meaning_of model))).stop) }
-    ensures prefix { OnErr result (AppendsPrefix (K.told out.old) (K.told out.new) (text_from_start (meaning_of model) terms telling)) }
-    ensures fault { IsErrOf result WriteFault → Rose (K.faults out.old) (K.faults out.new) }
-    ensures later { K.faults out.old ≤ K.faults out.new }
-    ensures quiet { OnOk result (K.faults out.new ≡ K.faults out.old) }
-    ensures no_memory { IsErrOf result NoMemory → K.faults out.new ≡ K.faults out.old }
+    ensures { HasSimulated K.Sink out.old out.new result (meaning_of model) terms telling (initial_state (meaning_of model)) }
 {
     let (model, mut run) = one_thread(alloc, model, terms)?;
     law_initial(&*model, &terms);
@@ -87,11 +80,9 @@ fn run_one_thread<K: Sink>(
     simulate(alloc, &*model, &terms, &mut run, &cycle, telling, out)
 }
 
-/// Runs a model on nodes that advance in threads, and writes the text of its simulation.
+/// Runs a model on nodes that advance in threads, and writes what is to be told of its simulation.
 fn run_on_nodes<R: Threads + Sync, G: Gate, K: Sink>(
-    rt: &R,
-    alloc: Global,
-    gate: &G,
+    stage: Stage<R, G>,
     model: AnyModel,
     terms: Terms,
     spread: Spread,
@@ -99,14 +90,9 @@ fn run_on_nodes<R: Threads + Sync, G: Gate, K: Sink>(
     out: &mut K,
 ) -> Result<Stop, Unfinished>
     requires { IsSpread spread }
-    ensures whole { OnOk result (Appends (K.told out.old) (K.told out.new) (text_from_start (meaning_of model) terms telling)) }
-    ensures stop { IfOk result (λ stop. stop ≡ (run (meaning_of model) terms (initial_state (meaning_of model))).stop) }
-    ensures prefix { OnErr result (AppendsPrefix (K.told out.old) (K.told out.new) (text_from_start (meaning_of model) terms telling)) }
-    ensures fault { IsErrOf result WriteFault → Rose (K.faults out.old) (K.faults out.new) }
-    ensures later { K.faults out.old ≤ K.faults out.new }
-    ensures quiet { OnOk result (K.faults out.new ≡ K.faults out.old) }
-    ensures no_memory { IsErrOf result NoMemory → K.faults out.new ≡ K.faults out.old }
+    ensures { HasSimulated K.Sink out.old out.new result (meaning_of model) terms telling (initial_state (meaning_of model)) }
 {
+    let Stage { rt, alloc, gate } = stage;
     let (model, mut run) = on_nodes(alloc, model, terms, spread)?;
     law_initial(&*model, &terms);
     let workers = spread.workers;
@@ -117,56 +103,32 @@ fn run_on_nodes<R: Threads + Sync, G: Gate, K: Sink>(
     simulate(alloc, &*model, &terms, &mut run, &cycle, telling, out)
 }
 
-/// Runs a model by a machine, and writes what is to be told of its simulation.
-fn run_on<R: Threads + Sync, G: Gate, K: Sink>(
-    rt: &R,
-    alloc: Global,
-    gate: &G,
-    model: AnyModel,
-    terms: Terms,
-    machine: Machine,
-    telling: Telling,
-    out: &mut K,
-) -> Result<Stop, Unfinished>
-    requires { IsMachine machine }
-    ensures whole { OnOk result (Appends (K.told out.old) (K.told out.new) (text_from_start (meaning_of model) terms telling)) }
-    ensures stop { IfOk result (λ stop. stop ≡ (run (meaning_of model) terms (initial_state (meaning_of model))).stop) }
-    ensures prefix { OnErr result (AppendsPrefix (K.told out.old) (K.told out.new) (text_from_start (meaning_of model) terms telling)) }
-    ensures fault { IsErrOf result WriteFault → Rose (K.faults out.old) (K.faults out.new) }
-    ensures later { K.faults out.old ≤ K.faults out.new }
-    ensures quiet { OnOk result (K.faults out.new ≡ K.faults out.old) }
-    ensures no_memory { IsErrOf result NoMemory → K.faults out.new ≡ K.faults out.old }
-{
-    match machine {
-        Machine::OneThread => run_one_thread(alloc, model, terms, telling, out),
-        Machine::Nodes(spread) => run_on_nodes(rt, alloc, gate, model, terms, spread, telling, out),
-    }
-}
-
 /// Runs a model from its start, writes what is to be told of its simulation, and hands it on. The text is the same whatever
 /// the machine, the nodes, their placement, how far they work ahead, the workers, who steals what, which objects move, and
 /// the schedule of threads.
 pub fn run_model<R: Threads + Sync, G: Gate, K: Sink>(
-    rt: &R,
-    alloc: Global,
-    gate: &G,
-    model: AnyModel,
-    terms: Terms,
-    machine: Machine,
-    telling: Telling,
+    stage: Stage<R, G>,
+    job: Job,
     out: &mut K,
 ) -> Result<Stop, Unfinished>
-    requires { IsMachine machine }
-    ensures whole { OnOk result (Appends (K.told out.old) (K.told out.new) (text_from_start (meaning_of model) terms telling)) }
-    ensures handed { OnOk result (Keeps (K.told out.new) (K.handed out.new)) }
-    ensures stop { IfOk result (λ stop. stop ≡ (run (meaning_of model) terms (initial_state (meaning_of model))).stop) }
-    ensures prefix { OnErr result (AppendsPrefix (K.told out.old) (K.told out.new) (text_from_start (meaning_of model) terms telling)) }
-    ensures fault { IsErrOf result WriteFault → Rose (K.faults out.old) (K.faults out.new) }
-    ensures later { K.faults out.old ≤ K.faults out.new }
-    ensures quiet { OnOk result (K.faults out.new ≡ K.faults out.old) }
-    ensures no_memory { IsErrOf result NoMemory → K.faults out.new ≡ K.faults out.old }
+    requires { IsMachine job.machine }
+    ensures simulated { HasSimulated K.Sink out.old out.new result (meaning_of job.model) job.terms job.telling (initial_state (meaning_of job.model)) }
+    ensures handed { HandsOn K.Sink out.new result }
 {
-    let outcome = run_on(rt, alloc, gate, model, terms, machine, telling, out);
-    out.flush()?;
-    outcome
+    let Job {
+        model,
+        terms,
+        machine,
+        telling,
+    } = job;
+    match machine {
+        Machine::OneThread => {
+            let outcome = run_one_thread(stage.alloc, model, terms, telling, out);
+            hand_on(outcome, out)
+        }
+        Machine::Nodes(spread) => {
+            let outcome = run_on_nodes(stage, model, terms, spread, telling, out);
+            hand_on(outcome, out)
+        }
+    }
 }

@@ -1,21 +1,20 @@
 //! A simulation that is saved after its first cycles, and goes on from there.
-ghost use Rattle.std.specs.Prelude.{◌≡◌, ◌≤◌, IfOk, OnOk, OnErr, IsErrOf, None, false};
+ghost use Rattle.std.specs.Prelude.{◌≡◌, IfOk, None, false};
 ghost use Rattle.std.specs.Arc.{arc_value};
-ghost use Rattle.std.specs.Io.KnownBytes.{Appends, Keeps};
 ghost use Rattle.std.specs.Thread.{IsSync};
-ghost use Rattle.sim_spec.specs.Cycles.{cycles_for};
-ghost use Rattle.sim_spec.specs.Run.{run};
 ghost use Rattle.sim_spec.specs.Standing.{stands};
-ghost use Rattle.sim_spec.specs.State.{Lawful, initial_state};
-ghost use Rattle.sim_io.specs.Causes.{Rose};
-ghost use Rattle.sim_io.specs.Transfers.{AppendsPrefix};
-ghost use Rattle.sim_text.specs.WholeTexts.{first_lines, text_from};
+ghost use Rattle.sim_spec.specs.State.{Lawful};
+ghost use Rattle.sim_text.specs.Written.{HasSimulated};
 ghost use Rattle.sim_text.specs.declared.telling.Telling.TheVariants.{Lines};
-ghost use Rattle.sim_text.specs.declared.unfinished.Unfinished.TheVariants.{WriteFault, OutOfMemory as NoMemory};
 ghost use Rattle.cycle_core.specs.Standings.{WorldStandsAt, GoesOn, HasCycled};
+ghost use Rattle.model_runs.specs.Handed.{HandsOn};
+ghost use Rattle.model_runs.specs.Saved.{HasSaved};
 ghost use Rattle.model_text.specs.Meanings.{meaning_of};
 
+use crate::handing::hand_on;
 use crate::machine::DEFAULT_SPREAD;
+use crate::running::on_nodes;
+use crate::stage::Stage;
 use crate::team_run::TeamRun;
 use cycle_core::State;
 use model_core::OutOfMemory;
@@ -29,23 +28,7 @@ use std::alloc::Global;
 use std::sync::Arc;
 use std::thread::Threads;
 
-/// A simulation at its start, on nodes as by default, and its model.
-fn at_start(
-    alloc: Global,
-    model: AnyModel,
-    terms: Terms,
-) -> Result<(Arc<AnyModel>, TeamRun), OutOfMemory>
-    ensures named { IfOk result (λ both. arc_value both.0 ≡ model) }
-    ensures model { IfOk result (λ both. both.1.team.world.model ≡ model) }
-    ensures terms { IfOk result (λ both. both.1.team.world.terms ≡ terms) }
-    ensures begins { IfOk result (λ both. WorldStandsAt meaning_of both.1.team.world (stands (initial_state (meaning_of model)) None)) }
-{
-    let model = Arc::new(alloc, model)?;
-    let run = TeamRun::new(alloc, model.clone()?, terms, DEFAULT_SPREAD)?;
-    Ok((model, run))
-}
-
-/// The same at a state.
+/// A simulation at a state, on nodes as by default, and its model.
 fn at_state(
     alloc: Global,
     model: AnyModel,
@@ -65,25 +48,16 @@ fn at_state(
 
 /// Writes the records of the first cycles of a model, and answers the state after them.
 fn save_after<R: Threads + Sync, G: Gate, K: Sink>(
-    rt: &R,
-    alloc: Global,
-    gate: &G,
+    stage: Stage<R, G>,
     model: AnyModel,
     terms: Terms,
     cycles: u32,
     out: &mut K,
 ) -> Result<State, Unfinished>
-    ensures whole { OnOk result
-        (Appends (K.told out.old) (K.told out.new) (first_lines (meaning_of model) terms cycles (initial_state (meaning_of model)))) }
-    ensures state { IfOk result (λ state. state ≡ (cycles_for cycles (meaning_of model) terms (initial_state (meaning_of model))).last) }
-    ensures prefix { OnErr result
-        (AppendsPrefix (K.told out.old) (K.told out.new) (first_lines (meaning_of model) terms cycles (initial_state (meaning_of model)))) }
-    ensures fault { IsErrOf result WriteFault → Rose (K.faults out.old) (K.faults out.new) }
-    ensures later { K.faults out.old ≤ K.faults out.new }
-    ensures quiet { OnOk result (K.faults out.new ≡ K.faults out.old) }
-    ensures no_memory { IsErrOf result NoMemory → K.faults out.new ≡ K.faults out.old }
+    ensures { HasSaved K.Sink out.old out.new result (meaning_of model) terms cycles }
 {
-    let (model, mut run) = at_start(alloc, model, terms)?;
+    let Stage { rt, alloc, gate } = stage;
+    let (model, mut run) = on_nodes(alloc, model, terms, DEFAULT_SPREAD)?;
     law_initial(&*model, &terms);
     let cycle = |run: &mut TeamRun, alloc: Global| -> Result<Bucket, OutOfMemory>
         requires { IsSync R.row × IsSync G.row × GoesOn meaning_of run.old.team.world }
@@ -96,49 +70,31 @@ fn save_after<R: Threads + Sync, G: Gate, K: Sink>(
 /// Runs a model from its start for so many cycles, or until it stops, on nodes as by default, writes their records, and
 /// hands them on. It answers the state after them.
 pub fn save_model<R: Threads + Sync, G: Gate, K: Sink>(
-    rt: &R,
-    alloc: Global,
-    gate: &G,
+    stage: Stage<R, G>,
     model: AnyModel,
     terms: Terms,
     cycles: u32,
     out: &mut K,
 ) -> Result<State, Unfinished>
-    ensures whole { OnOk result
-        (Appends (K.told out.old) (K.told out.new) (first_lines (meaning_of model) terms cycles (initial_state (meaning_of model)))) }
-    ensures handed { OnOk result (Keeps (K.told out.new) (K.handed out.new)) }
-    ensures state { IfOk result (λ state. state ≡ (cycles_for cycles (meaning_of model) terms (initial_state (meaning_of model))).last) }
-    ensures prefix { OnErr result
-        (AppendsPrefix (K.told out.old) (K.told out.new) (first_lines (meaning_of model) terms cycles (initial_state (meaning_of model)))) }
-    ensures fault { IsErrOf result WriteFault → Rose (K.faults out.old) (K.faults out.new) }
-    ensures later { K.faults out.old ≤ K.faults out.new }
-    ensures quiet { OnOk result (K.faults out.new ≡ K.faults out.old) }
-    ensures no_memory { IsErrOf result NoMemory → K.faults out.new ≡ K.faults out.old }
+    ensures saved { HasSaved K.Sink out.old out.new result (meaning_of model) terms cycles }
+    ensures handed { HandsOn K.Sink out.new result }
 {
-    let outcome = save_after(rt, alloc, gate, model, terms, cycles, out);
-    out.flush()?;
-    outcome
+    let outcome = save_after(stage, model, terms, cycles, out);
+    hand_on(outcome, out)
 }
 
 /// Runs a model from a state until it stops, and writes its records and why.
 fn resume_at<R: Threads + Sync, G: Gate, K: Sink>(
-    rt: &R,
-    alloc: Global,
-    gate: &G,
+    stage: Stage<R, G>,
     model: AnyModel,
     terms: Terms,
     state: State,
     out: &mut K,
 ) -> Result<Stop, Unfinished>
     requires { Lawful (meaning_of model) terms state }
-    ensures whole { OnOk result (Appends (K.told out.old) (K.told out.new) (text_from (meaning_of model) terms (Lines false) state)) }
-    ensures stop { IfOk result (λ stop. stop ≡ (run (meaning_of model) terms state).stop) }
-    ensures prefix { OnErr result (AppendsPrefix (K.told out.old) (K.told out.new) (text_from (meaning_of model) terms (Lines false) state)) }
-    ensures fault { IsErrOf result WriteFault → Rose (K.faults out.old) (K.faults out.new) }
-    ensures later { K.faults out.old ≤ K.faults out.new }
-    ensures quiet { OnOk result (K.faults out.new ≡ K.faults out.old) }
-    ensures no_memory { IsErrOf result NoMemory → K.faults out.new ≡ K.faults out.old }
+    ensures { HasSimulated K.Sink out.old out.new result (meaning_of model) terms (Lines false) state }
 {
+    let Stage { rt, alloc, gate } = stage;
     let (model, mut run) = at_state(alloc, model, terms, state)?;
     let cycle = |run: &mut TeamRun, alloc: Global| -> Result<Bucket, OutOfMemory>
         requires { IsSync R.row × IsSync G.row × GoesOn meaning_of run.old.team.world }
@@ -151,25 +107,16 @@ fn resume_at<R: Threads + Sync, G: Gate, K: Sink>(
 /// Runs a model from a state that a simulation of it can meet until it stops, on nodes as by default, writes its records and
 /// why, and hands all on.
 pub fn resume_model<R: Threads + Sync, G: Gate, K: Sink>(
-    rt: &R,
-    alloc: Global,
-    gate: &G,
+    stage: Stage<R, G>,
     model: AnyModel,
     terms: Terms,
     state: State,
     out: &mut K,
 ) -> Result<Stop, Unfinished>
     requires { Lawful (meaning_of model) terms state }
-    ensures whole { OnOk result (Appends (K.told out.old) (K.told out.new) (text_from (meaning_of model) terms (Lines false) state)) }
-    ensures handed { OnOk result (Keeps (K.told out.new) (K.handed out.new)) }
-    ensures stop { IfOk result (λ stop. stop ≡ (run (meaning_of model) terms state).stop) }
-    ensures prefix { OnErr result (AppendsPrefix (K.told out.old) (K.told out.new) (text_from (meaning_of model) terms (Lines false) state)) }
-    ensures fault { IsErrOf result WriteFault → Rose (K.faults out.old) (K.faults out.new) }
-    ensures later { K.faults out.old ≤ K.faults out.new }
-    ensures quiet { OnOk result (K.faults out.new ≡ K.faults out.old) }
-    ensures no_memory { IsErrOf result NoMemory → K.faults out.new ≡ K.faults out.old }
+    ensures simulated { HasSimulated K.Sink out.old out.new result (meaning_of model) terms (Lines false) state }
+    ensures handed { HandsOn K.Sink out.new result }
 {
-    let outcome = resume_at(rt, alloc, gate, model, terms, state, out);
-    out.flush()?;
-    outcome
+    let outcome = resume_at(stage, model, terms, state, out);
+    hand_on(outcome, out)
 }

@@ -7,3 +7,4 @@ pub mod SummaryLemmas
 pub mod Told
 pub mod UnderWay
 pub mod WritingLemmas
+pub mod WrittenLemmas

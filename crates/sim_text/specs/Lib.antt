@@ -1,3 +1,4 @@
 pub mod Reports
 pub mod Rest
 pub mod WholeTexts
+pub mod Written

@@ -1,14 +1,11 @@
 //! The first cycles of a simulation.
-ghost use Rattle.std.specs.Prelude.{◌≡◌, ◌≤◌, OnOk, OnErr, IsErrOf, None};
-ghost use Rattle.std.specs.Io.KnownBytes.{Appends};
+ghost use Rattle.std.specs.Prelude.{◌≡◌, OnOk, None};
 ghost use Rattle.sim_spec.specs.Cycles.{cycles_for};
 ghost use Rattle.sim_spec.specs.State.{State};
 ghost use Rattle.sim_spec.specs.Standing.{Standing, ended, DoesCycles};
-ghost use Rattle.sim_io.specs.Causes.{Rose};
-ghost use Rattle.sim_io.specs.Transfers.{AppendsPrefix};
 ghost use Rattle.sim_text.specs.Rest.{BeginsAt, StandsAtState};
 ghost use Rattle.sim_text.specs.WholeTexts.{first_lines};
-ghost use Rattle.sim_text.specs.declared.unfinished.Unfinished.TheVariants.{WriteFault, OutOfMemory as NoMemory};
+ghost use Rattle.sim_text.specs.Written.{HasWritten};
 
 use crate::bucket_text::put_records;
 use crate::unfinished::Unfinished;
@@ -40,18 +37,12 @@ pub fn simulate_first<
     requires begins { (from : State) × BeginsAt (M.meaning model.now) terms.now E.stands_at engine.old from }
     requires may { (e : _) (at : Standing) → E.stands_at e.now at → ended (E.meaning e.now) (E.terms e.now) at ≡ None → F.pre cycle.now e alloc }
     requires does { (e : _) (r : _) (f : _) → F.post cycle.now e alloc r f → DoesCycles E.meaning E.terms E.stands_at e.now r f.now }
-    ensures whole { (from : State) → BeginsAt (M.meaning model.now) terms.now E.stands_at engine.old from
-        → OnOk result (Appends (K.told sink.old) (K.told sink.new) (first_lines (M.meaning model.now) terms.now most from)) }
+    ensures written { (from : State) → BeginsAt (M.meaning model.now) terms.now E.stands_at engine.old from
+        → HasWritten K.Sink sink.old sink.new result (first_lines (M.meaning model.now) terms.now most from) }
     ensures state { (from : State) → BeginsAt (M.meaning model.now) terms.now E.stands_at engine.old from
         → OnOk result (StandsAtState E.stands_at engine.new (cycles_for most (M.meaning model.now) terms.now from).last) }
     ensures meaning { OnOk result (E.meaning engine.new ≡ M.meaning model.now) }
     ensures terms { OnOk result (E.terms engine.new ≡ terms.now) }
-    ensures prefix { (from : State) → BeginsAt (M.meaning model.now) terms.now E.stands_at engine.old from
-        → OnErr result (AppendsPrefix (K.told sink.old) (K.told sink.new) (first_lines (M.meaning model.now) terms.now most from)) }
-    ensures fault { IsErrOf result WriteFault → Rose (K.faults sink.old) (K.faults sink.new) }
-    ensures later { K.faults sink.old ≤ K.faults sink.new }
-    ensures quiet { OnOk result (K.faults sink.new ≡ K.faults sink.old) }
-    ensures no_memory { IsErrOf result NoMemory → K.faults sink.new ≡ K.faults sink.old }
 {
     law_next(model, terms);
     law_bucket(model, terms);

@@ -1,14 +1,9 @@
 //! A whole simulation, and its text.
-ghost use Rattle.std.specs.Prelude.{◌≡◌, ◌≤◌, IfOk, OnOk, OnErr, IsErrOf, None};
-ghost use Rattle.std.specs.Io.KnownBytes.{Appends};
+ghost use Rattle.std.specs.Prelude.{◌≡◌, None};
 ghost use Rattle.sim_spec.specs.State.{State};
 ghost use Rattle.sim_spec.specs.Standing.{Standing, ended, DoesCycles};
-ghost use Rattle.sim_spec.specs.Run.{run};
-ghost use Rattle.sim_io.specs.Causes.{Rose};
-ghost use Rattle.sim_io.specs.Transfers.{AppendsPrefix};
 ghost use Rattle.sim_text.specs.Rest.{BeginsAt, CanBeTold};
-ghost use Rattle.sim_text.specs.WholeTexts.{text_from};
-ghost use Rattle.sim_text.specs.declared.unfinished.Unfinished.TheVariants.{WriteFault, OutOfMemory as NoMemory};
+ghost use Rattle.sim_text.specs.Written.{HasSimulated};
 
 use crate::report::Report;
 use crate::telling::Telling;
@@ -38,16 +33,8 @@ pub fn simulate<M: Model, E: Engine, F: Fn(&mut E, Global) -> Result<Bucket, Out
     requires begins { (from : State) × BeginsAt (M.meaning model.now) terms.now E.stands_at engine.old from × CanBeTold (M.meaning model.now) telling from }
     requires may { (e : _) (at : Standing) → E.stands_at e.now at → ended (E.meaning e.now) (E.terms e.now) at ≡ None → F.pre cycle.now e alloc }
     requires does { (e : _) (r : _) (f : _) → F.post cycle.now e alloc r f → DoesCycles E.meaning E.terms E.stands_at e.now r f.now }
-    ensures whole { (from : State) → BeginsAt (M.meaning model.now) terms.now E.stands_at engine.old from → CanBeTold (M.meaning model.now) telling from
-        → OnOk result (Appends (K.told sink.old) (K.told sink.new) (text_from (M.meaning model.now) terms.now telling from)) }
-    ensures stop { (from : State) → BeginsAt (M.meaning model.now) terms.now E.stands_at engine.old from → CanBeTold (M.meaning model.now) telling from
-        → IfOk result (λ stop. stop ≡ (run (M.meaning model.now) terms.now from).stop) }
-    ensures prefix { (from : State) → BeginsAt (M.meaning model.now) terms.now E.stands_at engine.old from → CanBeTold (M.meaning model.now) telling from
-        → OnErr result (AppendsPrefix (K.told sink.old) (K.told sink.new) (text_from (M.meaning model.now) terms.now telling from)) }
-    ensures fault { IsErrOf result WriteFault → Rose (K.faults sink.old) (K.faults sink.new) }
-    ensures later { K.faults sink.old ≤ K.faults sink.new }
-    ensures quiet { OnOk result (K.faults sink.new ≡ K.faults sink.old) }
-    ensures no_memory { IsErrOf result NoMemory → K.faults sink.new ≡ K.faults sink.old }
+    ensures { (from : State) → BeginsAt (M.meaning model.now) terms.now E.stands_at engine.old from → CanBeTold (M.meaning model.now) telling from
+        → HasSimulated K.Sink sink.old sink.new result (M.meaning model.now) terms.now telling from }
 {
     law_next(model, terms);
     law_bucket(model, terms);
@@ -57,7 +44,7 @@ pub fn simulate<M: Model, E: Engine, F: Fn(&mut E, Global) -> Result<Bucket, Out
     let mut report = Report::new(alloc, model.objects(), telling)?;
     let mut text = Vec::new(alloc);
     let mut number = 1;
-    'cycles: loop {
+    loop {
         text.clear();
         if let Some(stop) = engine.ended() {
             let count = engine.count();

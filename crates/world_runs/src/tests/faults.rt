@@ -1,7 +1,7 @@
 //! Where a simulation on nodes faults, however far ahead they run.
 use super::texts::FALSE_FAULT_TEXT;
 use super::{FALSE_FAULT, network_of};
-use model_runs::{Machine, Spread, run_model};
+use model_runs::{Job, Machine, Spread, Stage, run_model};
 use node_team::Open;
 use sim_io::MemSink;
 use sim_spec::{Placement, Stop};
@@ -121,9 +121,19 @@ fn told_of<R: Abort + Threads + Sync>(
         workers: None,
         moves: None,
     });
-    let records = Telling::Lines { cycles: false };
+    let stage = Stage {
+        rt,
+        alloc,
+        gate: &Open,
+    };
+    let job = Job {
+        model,
+        terms,
+        machine,
+        telling: Telling::Lines { cycles: false },
+    };
     let mut out = MemSink::new(alloc, 2_000_000, Vec::new(alloc), Vec::new(alloc), 65_536)?;
-    let Ok(stop) = run_model(rt, alloc, &Open, model, terms, machine, records, &mut out) else {
+    let Ok(stop) = run_model(stage, job, &mut out) else {
         return Err(Fail::from("the text isn't whole"));
     };
     Ok((fault_code(&stop), out))

@@ -1,5 +1,5 @@
 //! A long model, from its bytes to its text.
-use model_runs::{DEFAULT_SPREAD, Machine, run_model};
+use model_runs::{DEFAULT_SPREAD, Job, Machine, Stage, run_model};
 use model_text::read_model;
 use node_team::Open;
 use sim_io::{MemSink, MemSource, read_all};
@@ -48,8 +48,19 @@ fn a_model_of_many_pieces_is_read_and_run(rt: HostRuntime) -> Result<(), Fail> {
         let Ok((model, terms)) = read_model(alloc, bytes.as_slice()) else {
             return Err(Fail::from("the model is refused"));
         };
+        let stage = Stage {
+            rt: &rt,
+            alloc,
+            gate: &Open,
+        };
+        let job = Job {
+            model,
+            terms,
+            machine: ON_NODES,
+            telling: RECORDS,
+        };
         let mut out = MemSink::new(alloc, 4_096, Vec::new(alloc), Vec::new(alloc), 4_096)?;
-        let Ok(_) = run_model(&rt, alloc, &Open, model, terms, ON_NODES, RECORDS, &mut out) else {
+        let Ok(_) = run_model(stage, job, &mut out) else {
             return Err(Fail::from("the text isn't whole"));
         };
         let told = std::str::from_utf8(out.bytes())?;

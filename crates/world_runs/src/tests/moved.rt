@@ -1,7 +1,7 @@
 //! Models whose objects move between the nodes.
 use super::texts::{FALSE_FAULT_TEXT, SHOP_TEXT};
 use super::{FALSE_FAULT, SHOP, network_of};
-use model_runs::{Machine, Spread, run_model};
+use model_runs::{Job, Machine, Spread, Stage, run_model};
 use node_team::Open;
 use sim_io::{MemSink, Moves};
 use sim_spec::Placement;
@@ -65,9 +65,19 @@ fn told_of<R: Abort + Threads + Sync>(rt: &R, alloc: Global, case: &Case) -> Res
         workers: None,
         moves: Some(case.moves),
     });
-    let records = Telling::Lines { cycles: false };
+    let stage = Stage {
+        rt,
+        alloc,
+        gate: &Open,
+    };
+    let job = Job {
+        model,
+        terms,
+        machine,
+        telling: Telling::Lines { cycles: false },
+    };
     let mut out = MemSink::new(alloc, 65_536, Vec::new(alloc), Vec::new(alloc), 65_536)?;
-    let Ok(_) = run_model(rt, alloc, &Open, model, terms, machine, records, &mut out) else {
+    let Ok(_) = run_model(stage, job, &mut out) else {
         return Err(Fail::from("the text isn't whole"));
     };
     Ok(out)

@@ -1,7 +1,7 @@
 //! The text of a world, on any number of nodes and with objects placed either way.
 use super::world_run::run_world;
 use super::{FALSE_FAULT, PLACEMENTS, SHOP, network_of};
-use model_runs::{Machine, run_model};
+use model_runs::{Job, Machine, Stage, run_model};
 use node_team::Open;
 use sim_io::MemSink;
 use sim_spec::Placement;
@@ -229,17 +229,19 @@ fn a_bank_has_the_text_of_the_engine_for_one_thread(rt: HostRuntime) -> Result<(
         text: "",
     };
     let (model, terms) = network_of(alloc, bank.head, bank.objects)?;
-    let mut one = sink(alloc)?;
-    let Ok(_) = run_model(
-        &rt,
+    let stage = Stage {
+        rt: &rt,
         alloc,
-        &Open,
+        gate: &Open,
+    };
+    let job = Job {
         model,
         terms,
-        Machine::OneThread,
-        Telling::Lines { cycles: true },
-        &mut one,
-    ) else {
+        machine: Machine::OneThread,
+        telling: Telling::Lines { cycles: true },
+    };
+    let mut one = sink(alloc)?;
+    let Ok(_) = run_model(stage, job, &mut one) else {
         return Err(Fail::from("the text isn't whole"));
     };
     for (nodes, placement) in [

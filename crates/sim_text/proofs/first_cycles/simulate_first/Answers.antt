@@ -5,7 +5,6 @@ use Rattle.std.specs.Io.KnownBytes.{Appends}
 use Rattle.std.specs.Prelude.{List, None}
 use Rattle.event_key.specs.declared.key.Key.{Key}
 use Rattle.model_core.specs.declared.note.Note.{Note}
-use Rattle.model_core.proofs.Results.{on_err}
 use Rattle.sim_spec.specs.Cycles.{records_of_buckets}
 use Rattle.sim_spec.specs.Standing.{stands}
 use Rattle.sim_io.specs.Texts.{record_lines}
@@ -15,6 +14,7 @@ use Rattle.sim_text.specs.WholeTexts.{first_lines}
 use Rattle.sim_text.proofs.WritingLemmas.{writes_prefix}
 use Rattle.sim_text.proofs.First.{none_first, lines-begin, all-ended, all-done, one_more, at_objects, lines-more, lines-go_on, is_none, is_some_of, stands_so, put_told}
 use Rattle.sim_text.proofs.UnderWay.{held, ended-same, has_done}
+use Rattle.sim_text.proofs.WrittenLemmas.{rose_after, all_written, written_before, failed_before}
 use Rattle.sim_text.proofs.first_cycles.simulate_first.Goals as goal
 
 pub loop-done-init : goal.loop-done-init
@@ -41,14 +41,14 @@ cycle-requires g c =
     let r = i.first c.requires.begins.0 c.requires.begins.1 in
     c.requires.may _ r.at r.stands (sym (c.ended.ensures r.at r.stands) ∙ is_none _ (sym c.if-is_some.ensures))
 
-pub returns-then-is_some-clause-whole : goal.returns-then-is_some-clause-whole
-returns-then-is_some-clause-whole g c = λ from starts.
+pub returns-then-is_some-clause-written : goal.returns-then-is_some-clause-written
+returns-then-is_some-clause-written g c = λ from starts.
     let i = c.loop-done.invariant in
     let r = i.first from starts in
     let some = is_some_of _ (sym c.if-is_some.ensures) in
     let ended = ended-same _ _ _ _ _ _ i.meaning i.terms (sym some.1 ∙ c.ended.ensures r.at r.stands) in
     let all = all-ended _ _ _ _ i.so_far r.first c.args.most some.0 (omega (arith, i.numbered, c.loop-done-test.true)) ended in
-    subst (Appends (g.K.Sink.told c.args.sink.now) (g.K.Sink.told c.loop-done.sink)) (sym all.lines) i.told
+    all_written _ _ _ _ _ (subst (Appends (g.K.Sink.told c.args.sink.now) (g.K.Sink.told c.loop-done.sink)) (sym all.lines) i.told) i.quiet
 
 pub returns-then-is_some-clause-state : goal.returns-then-is_some-clause-state
 returns-then-is_some-clause-state g c = λ from starts.
@@ -59,15 +59,15 @@ returns-then-is_some-clause-state g c = λ from starts.
     let all = all-ended _ _ _ _ i.so_far r.first c.args.most some.0 (omega (arith, i.numbered, c.loop-done-test.true)) ended in
     stands_so g.E.Engine.stands_at c.loop-done.engine r.at r.stands _ r.first.state r.first.fault r.first.at_state all.last
 
-pub returns-in_err-bucket-clause-prefix : goal.returns-in_err-bucket-clause-prefix
-returns-in_err-bucket-clause-prefix g c = λ from starts.
+pub returns-in_err-bucket-clause-written : goal.returns-in_err-bucket-clause-written
+returns-in_err-bucket-clause-written g c = λ from starts.
     let i = c.loop-done.invariant in
     let r = i.first from starts in
     let begins = lines-begin _ _ _ _ i.so_far r.first c.args.most (omega (arith, i.numbered, c.loop-done-test.true)) in
     let m = g.M.Model.meaning c.args.model.now in
     let part : AppendsPrefix (g.K.Sink.told c.args.sink.now) (g.K.Sink.told c.loop-done.sink) (first_lines m c.args.terms.now c.args.most from) =
     (record_lines m (records_of_buckets i.so_far), begins.0, begins.1, i.told) in
-    on_err _ part
+    written_before _ _ _ _ _ c.from_residual.ensures.1 part i.quiet
 
 pub put_records-requires-after_bounds : goal.put_records-requires-after_bounds
 put_records-requires-after_bounds g c κs within =
@@ -80,18 +80,18 @@ put_records-requires-after_bounds g c κs within =
     let P : List (Key × Note) → Type 0 = AllAtObjects (g.M.Model.meaning c.args.model.now) in
     subst P (sym c.as_buffer.ensures) (at_objects _ _ _ _ i.so_far r.first i.buckets c.in_ok-bucket.bucket _ not_ended done.cycle i.next)
 
-pub returns-in_err-put_records-clause-prefix : goal.returns-in_err-put_records-clause-prefix
-returns-in_err-put_records-clause-prefix g c = λ from starts.
+pub returns-in_err-put_records-clause-written : goal.returns-in_err-put_records-clause-written
+returns-in_err-put_records-clause-written g c = λ from starts.
     let i = c.loop-done.invariant in
     let r = i.first from starts in
     let begins = lines-begin _ _ _ _ i.so_far r.first c.args.most (omega (arith, i.numbered, c.loop-done-test.true)) in
     let m = g.M.Model.meaning c.args.model.now in
     let part : AppendsPrefix (g.K.Sink.told c.args.sink.now) (g.K.Sink.told c.loop-done.sink) (first_lines m c.args.terms.now c.args.most from) =
     (record_lines m (records_of_buckets i.so_far), begins.0, begins.1, i.told) in
-    on_err _ part
+    written_before _ _ _ _ _ c.from_residual-in_err-put_records.ensures.1 part i.quiet
 
-pub returns-in_err-write_all-clause-prefix : goal.returns-in_err-write_all-clause-prefix
-returns-in_err-write_all-clause-prefix g c = λ from starts.
+pub returns-in_err-write_all-clause-written : goal.returns-in_err-write_all-clause-written
+returns-in_err-write_all-clause-written g c = λ from starts.
     let i = c.loop-done.invariant in
     let r = i.first from starts in
     let own_none = sym (c.ended.ensures r.at r.stands) ∙ is_none _ (sym c.if-is_some.ensures) in
@@ -102,8 +102,10 @@ returns-in_err-write_all-clause-prefix g c = λ from starts.
     let goes = lines-go_on _ _ _ _ i.so_far r.first i.buckets c.in_ok-bucket.bucket _ not_ended done.cycle c.args.most (omega (arith, i.numbered, c.loop-done-test.true)) in
     let P : List ℕ → Type 0 = AppendsPrefix (g.K.Sink.told c.loop-done.sink) (g.K.Sink.told c.write_all.new.sink) in
     let lines = held _ _ _ _ c.clear.ensures.items (put_told m _ _ _ _ c.as_buffer.ensures c.in_ok-put_records.ensures) c.as_slice.ensures.value in
-    on_err _ (writes_prefix _ _ _ (first_lines m c.args.terms.now c.args.most from) (record_lines m c.in_ok-bucket.bucket.done ++ goes.0) (record_lines m c.in_ok-bucket.bucket.done) goes.0
+    failed_before _ _ _ _ _ c.from_residual-in_err-write_all.ensures.1
+    (writes_prefix _ _ _ (first_lines m c.args.terms.now c.args.most from) (record_lines m c.in_ok-bucket.bucket.done ++ goes.0) (record_lines m c.in_ok-bucket.bucket.done) goes.0
     (record_lines m (records_of_buckets i.so_far), i.told, goes.1) refl (subst P lines c.in_err-write_all.ensures.prefix))
+    (omega (arith, i.later, c.in_err-write_all.ensures.cause.later)) (rose_after _ _ _ i.quiet c.in_err-write_all.ensures.cause.failed)
 
 pub loop-done-preserved : goal.loop-done-preserved
 loop-done-preserved g c =
@@ -138,12 +140,12 @@ loop-done-preserved g c =
       quiet = c.in_ok-write_all.ensures.quiet ∙ i.quiet;
     }
 
-pub returns-clause-whole : goal.returns-clause-whole
-returns-clause-whole g c = λ from starts.
+pub returns-clause-written : goal.returns-clause-written
+returns-clause-written g c = λ from starts.
     let i = c.loop-done.invariant in
     let r = i.first from starts in
     let all = all-done _ _ _ _ i.so_far r.first c.args.most (omega (arith, i.numbered, c.loop-done-test.false)) in
-    subst (Appends (g.K.Sink.told c.args.sink.now) (g.K.Sink.told c.loop-done.sink)) (sym all.lines) i.told
+    all_written _ _ _ _ _ (subst (Appends (g.K.Sink.told c.args.sink.now) (g.K.Sink.told c.loop-done.sink)) (sym all.lines) i.told) i.quiet
 
 pub returns-clause-state : goal.returns-clause-state
 returns-clause-state g c = λ from starts.

@@ -4,7 +4,6 @@ use Rattle.std.proofs.KnownBytes.{Appends-nil}
 use Rattle.std.specs.Io.KnownBytes.{Appends}
 use Rattle.std.specs.List.{AllPairs}
 use Rattle.std.specs.Prelude.{None}
-use Rattle.model_core.proofs.Results.{on_err}
 use Rattle.event_key.specs.declared.key.Key.{Key}
 use Rattle.event_key.specs.Keys.{key_lt}
 use Rattle.model_core.specs.declared.note.Note.{Note}
@@ -13,10 +12,11 @@ use Rattle.sim_io.specs.Transfers.{AppendsPrefix}
 use Rattle.sim_text.specs.Reports.{report_of}
 use Rattle.sim_text.proofs.Told.{none_so_far, can_go_on, has_objects, told-prefix, bucket-prefix, bucket-told, end-prefix, end-told}
 use Rattle.sim_text.proofs.UnderWay.{begins, counted-here, held, held_both, none_of, ended-same, has_done, stop-at_object, stop-of_run, ends_so, bucket-at_objects, bucket-in_time, bucket-has_room, all-with_bucket, goes_on, few_cycles}
+use Rattle.sim_text.proofs.WrittenLemmas.{no_prefix, rose_after, all_written, simulated_before, simulated_failed}
 use Rattle.sim_text.proofs.simulation.simulate.Goals as goal
 
-pub cycles-init : goal.cycles-init
-cycles-init g c =
+pub loop-stop-init : goal.loop-stop-init
+loop-stop-init g c =
     let m = g.M.Model.meaning c.args.model.now in
     let t = c.args.terms.now in
     let Ascends : List (Key × Note) → Type 0 = AllPairs (λ (earlier later : Key × Note). key_lt earlier.0 later.0 ≡ true) in
@@ -46,138 +46,143 @@ cycles-init g c =
       quiet = refl;
     }
 
+pub returns-in_err-report : goal.returns-in_err-report
+returns-in_err-report g c = λ from starts can. simulated_before _ _ _ _ _ _ _ _ c.from_residual.ensures.1 (no_prefix _ _) refl
+
 pub put-requires-after_bounds : goal.put-requires-after_bounds
 put-requires-after_bounds g c κs within =
-    let i = c.cycles.invariant in
+    let i = c.loop-stop.invariant in
     has_objects _ c.args.telling _ i.so_far i.kept
 
-pub returns-in_err-put-clause-prefix : goal.returns-in_err-put-clause-prefix
-returns-in_err-put-clause-prefix g c = λ from starts can.
-    let i = c.cycles.invariant in
+pub returns-in_err-put : goal.returns-in_err-put
+returns-in_err-put g c = λ from starts can.
+    let i = c.loop-stop.invariant in
     let r = i.runs from starts can in
-    on_err _ (told-prefix _ _ _ c.args.telling _ _ i.so_far i.told _ r.way.buckets)
+    simulated_before _ _ _ _ _ _ _ _ c.from_residual-in_err-put.ensures.1 (told-prefix _ _ _ c.args.telling _ _ i.so_far i.told _ r.way.buckets) i.quiet
 
 pub put_stop-requires-after_bounds : goal.put_stop-requires-after_bounds
 put_stop-requires-after_bounds g c κs within =
-    let i = c.cycles.invariant in
+    let i = c.loop-stop.invariant in
     let r = i.runs c.requires.begins.0 c.requires.begins.1 c.requires.begins.2 in
     let ended = ended-same _ _ _ _ _ _ i.meaning i.terms (sym c.in-Some.is ∙ c.ended.ensures r.at r.stands) in
     stop-at_object _ _ _ r.laws _ i.so_far r.way c.in-Some.stop ended
 
-pub returns-in_err-put_stop-clause-prefix : goal.returns-in_err-put_stop-clause-prefix
-returns-in_err-put_stop-clause-prefix g c = λ from starts can.
-    let i = c.cycles.invariant in
+pub returns-in_err-put_stop : goal.returns-in_err-put_stop
+returns-in_err-put_stop g c = λ from starts can.
+    let i = c.loop-stop.invariant in
     let r = i.runs from starts can in
-    on_err _ (told-prefix _ _ _ c.args.telling _ _ i.so_far i.told _ r.way.buckets)
+    simulated_before _ _ _ _ _ _ _ _ c.from_residual-in_err-put_stop.ensures.1 (told-prefix _ _ _ c.args.telling _ _ i.so_far i.told _ r.way.buckets) i.quiet
 
-pub returns-in_err-write_all-clause-prefix : goal.returns-in_err-write_all-clause-prefix
-returns-in_err-write_all-clause-prefix g c = λ from starts can.
-    let i = c.cycles.invariant in
+pub returns-in_err-write_all : goal.returns-in_err-write_all
+returns-in_err-write_all g c = λ from starts can.
+    let i = c.loop-stop.invariant in
     let r = i.runs from starts can in
     let ended = ended-same _ _ _ _ _ _ i.meaning i.terms (sym c.in-Some.is ∙ c.ended.ensures r.at r.stands) in
     let counted = counted-here _ _ _ _ i.so_far r.way _ (c.count-count.ensures r.at r.stands) in
     let ends = ends_so _ _ _ r.laws _ i.so_far r.way c.in-Some.stop c.count-count.result ended counted in
-    let P : List ℕ → Type 0 = AppendsPrefix (g.K.Sink.told c.cycles.sink) (g.K.Sink.told c.write_all.new.sink) in
+    let P : List ℕ → Type 0 = AppendsPrefix (g.K.Sink.told c.loop-stop.sink) (g.K.Sink.told c.write_all.new.sink) in
     let lines = held_both _ _ _ _ _ _ c.clear.ensures.items c.in_ok-put.ensures c.in_ok-put_stop.ensures.ok c.as_slice.ensures.value in
-    on_err _ (end-prefix _ _ _ c.args.telling _ _ i.so_far i.told c.cycles.report i.kept c.count-count.result c.in-Some.stop ends _ (subst P lines c.in_err-write_all.ensures.prefix))
+    simulated_failed _ _ _ _ _ _ _ _ c.from_residual-in_err-write_all.ensures.1
+    (end-prefix _ _ _ c.args.telling _ _ i.so_far i.told c.loop-stop.report i.kept c.count-count.result c.in-Some.stop ends _ (subst P lines c.in_err-write_all.ensures.prefix))
+    (omega (arith, i.later, c.in_err-write_all.ensures.cause.later)) (rose_after _ _ _ i.quiet c.in_err-write_all.ensures.cause.failed)
 
-pub returns-in-Some-clause-whole : goal.returns-in-Some-clause-whole
-returns-in-Some-clause-whole g c = λ from starts can.
-    let i = c.cycles.invariant in
+pub returns-in-Some : goal.returns-in-Some
+returns-in-Some g c = λ from starts can.
+    let i = c.loop-stop.invariant in
     let r = i.runs from starts can in
     let ended = ended-same _ _ _ _ _ _ i.meaning i.terms (sym c.in-Some.is ∙ c.ended.ensures r.at r.stands) in
     let counted = counted-here _ _ _ _ i.so_far r.way _ (c.count-count.ensures r.at r.stands) in
     let ends = ends_so _ _ _ r.laws _ i.so_far r.way c.in-Some.stop c.count-count.result ended counted in
-    let P : List ℕ → Type 0 = Appends (g.K.Sink.told c.cycles.sink) (g.K.Sink.told c.write_all.new.sink) in
+    let P : List ℕ → Type 0 = Appends (g.K.Sink.told c.loop-stop.sink) (g.K.Sink.told c.write_all.new.sink) in
     let lines = held_both _ _ _ _ _ _ c.clear.ensures.items c.in_ok-put.ensures c.in_ok-put_stop.ensures.ok c.as_slice.ensures.value in
-    end-told _ _ _ c.args.telling _ _ i.so_far i.told c.cycles.report i.kept c.count-count.result c.in-Some.stop ends _ (subst P lines c.in_ok-write_all.ensures.all)
-
-pub returns-in-Some-clause-stop : goal.returns-in-Some-clause-stop
-returns-in-Some-clause-stop g c = λ from starts can.
-    let i = c.cycles.invariant in
-    let r = i.runs from starts can in
-    let ended = ended-same _ _ _ _ _ _ i.meaning i.terms (sym c.in-Some.is ∙ c.ended.ensures r.at r.stands) in
-    sym (stop-of_run _ _ _ r.laws _ i.so_far r.way c.in-Some.stop ended)
+    record {
+      written = all_written _ _ _ _ c.in-Some.stop
+          (end-told _ _ _ c.args.telling _ _ i.so_far i.told c.loop-stop.report i.kept c.count-count.result c.in-Some.stop ends _ (subst P lines c.in_ok-write_all.ensures.all))
+          (c.in_ok-write_all.ensures.quiet ∙ i.quiet);
+      stop = sym (stop-of_run _ _ _ r.laws _ i.so_far r.way c.in-Some.stop ended);
+    }
 
 pub cycle-requires : goal.cycle-requires
 cycle-requires g c =
-    let i = c.cycles.invariant in
+    let i = c.loop-stop.invariant in
     let r = i.runs c.requires.begins.0 c.requires.begins.1 c.requires.begins.2 in
     c.requires.may _ r.at r.stands (sym (c.ended.ensures r.at r.stands) ∙ none_of _ c.in_default.not-Some)
 
-pub returns-in_err-bucket-clause-prefix : goal.returns-in_err-bucket-clause-prefix
-returns-in_err-bucket-clause-prefix g c = λ from starts can.
-    let i = c.cycles.invariant in
+pub returns-in_err-bucket : goal.returns-in_err-bucket
+returns-in_err-bucket g c = λ from starts can.
+    let i = c.loop-stop.invariant in
     let r = i.runs from starts can in
-    on_err _ (told-prefix _ _ _ c.args.telling _ _ i.so_far i.told _ r.way.buckets)
+    simulated_before _ _ _ _ _ _ _ _ c.from_residual-in_err-bucket.ensures.1 (told-prefix _ _ _ c.args.telling _ _ i.so_far i.told _ r.way.buckets) i.quiet
 
 pub add-requires-clause-objects : goal.add-requires-clause-objects
 add-requires-clause-objects g c κs within =
-    let i = c.cycles.invariant in
+    let i = c.loop-stop.invariant in
     let r = i.runs c.requires.begins.0 c.requires.begins.1 c.requires.begins.2 in
     let own_none = sym (c.ended.ensures r.at r.stands) ∙ none_of _ c.in_default.not-Some in
     let not_ended = ended-same _ _ _ _ _ _ i.meaning i.terms (sym own_none) in
-    let done = has_done (g.M.Model.meaning c.args.model.now) c.args.terms.now g.E.Engine.meaning g.E.Engine.terms g.E.Engine.stands_at c.cycles.engine r.at c.cycle.result c.in_ok-bucket.bucket c.cycle.new.arg2 i.meaning i.terms c.in_ok-bucket.was
+    let done = has_done (g.M.Model.meaning c.args.model.now) c.args.terms.now g.E.Engine.meaning g.E.Engine.terms g.E.Engine.stands_at c.loop-stop.engine r.at c.cycle.result c.in_ok-bucket.bucket c.cycle.new.arg2 i.meaning i.terms c.in_ok-bucket.was
     (c.requires.does _ c.cycle.result _ c.cycle.ensures r.at r.stands own_none) in
     bucket-at_objects _ _ _ r.laws _ i.so_far r.way _ _ not_ended done.cycle
 
 pub add-requires-clause-sums : goal.add-requires-clause-sums
 add-requires-clause-sums g c κs within =
-    let i = c.cycles.invariant in
+    let i = c.loop-stop.invariant in
     has_objects _ c.args.telling _ i.so_far i.kept
 
 pub add-requires-clause-goes_on : goal.add-requires-clause-goes_on
 add-requires-clause-goes_on g c κs within =
-    let i = c.cycles.invariant in
+    let i = c.loop-stop.invariant in
     let r = i.runs c.requires.begins.0 c.requires.begins.1 c.requires.begins.2 in
     let own_none = sym (c.ended.ensures r.at r.stands) ∙ none_of _ c.in_default.not-Some in
     let not_ended = ended-same _ _ _ _ _ _ i.meaning i.terms (sym own_none) in
-    let done = has_done (g.M.Model.meaning c.args.model.now) c.args.terms.now g.E.Engine.meaning g.E.Engine.terms g.E.Engine.stands_at c.cycles.engine r.at c.cycle.result c.in_ok-bucket.bucket c.cycle.new.arg2 i.meaning i.terms c.in_ok-bucket.was
+    let done = has_done (g.M.Model.meaning c.args.model.now) c.args.terms.now g.E.Engine.meaning g.E.Engine.terms g.E.Engine.stands_at c.loop-stop.engine r.at c.cycle.result c.in_ok-bucket.bucket c.cycle.new.arg2 i.meaning i.terms c.in_ok-bucket.was
     (c.requires.does _ c.cycle.result _ c.cycle.ensures r.at r.stands own_none) in
     let few = few_cycles _ _ _ r.laws _ i.so_far r.way in
-    can_go_on _ c.args.telling c.cycles.report i.so_far c.in_ok-bucket.bucket.done i.kept
+    can_go_on _ c.args.telling c.loop-stop.report i.so_far c.in_ok-bucket.bucket.done i.kept
     (λ totals. bucket-in_time _ _ _ r.laws _ i.so_far r.way _ _ not_ended done.cycle (c.requires.begins.2 totals))
     (bucket-has_room _ _ _ r.laws _ i.so_far r.way _ _ not_ended done.cycle)
     (omega (arith, few, c.args.terms.now.limit_in_range))
 
-pub returns-in_err-add-clause-prefix : goal.returns-in_err-add-clause-prefix
-returns-in_err-add-clause-prefix g c = λ from starts can.
-    let i = c.cycles.invariant in
+pub returns-in_err-add : goal.returns-in_err-add
+returns-in_err-add g c = λ from starts can.
+    let i = c.loop-stop.invariant in
     let r = i.runs from starts can in
-    on_err _ (told-prefix _ _ _ c.args.telling _ _ i.so_far i.told _ r.way.buckets)
+    simulated_before _ _ _ _ _ _ _ _ c.from_residual-in_err-add.ensures.1 (told-prefix _ _ _ c.args.telling _ _ i.so_far i.told _ r.way.buckets) i.quiet
 
-pub returns-in_err-write_all-2-clause-prefix : goal.returns-in_err-write_all-2-clause-prefix
-returns-in_err-write_all-2-clause-prefix g c = λ from starts can.
-    let i = c.cycles.invariant in
+pub returns-in_err-write_all-2 : goal.returns-in_err-write_all-2
+returns-in_err-write_all-2 g c = λ from starts can.
+    let i = c.loop-stop.invariant in
     let r = i.runs from starts can in
     let own_none = sym (c.ended.ensures r.at r.stands) ∙ none_of _ c.in_default.not-Some in
     let not_ended = ended-same _ _ _ _ _ _ i.meaning i.terms (sym own_none) in
-    let done = has_done (g.M.Model.meaning c.args.model.now) c.args.terms.now g.E.Engine.meaning g.E.Engine.terms g.E.Engine.stands_at c.cycles.engine r.at c.cycle.result c.in_ok-bucket.bucket c.cycle.new.arg2 i.meaning i.terms c.in_ok-bucket.was
+    let done = has_done (g.M.Model.meaning c.args.model.now) c.args.terms.now g.E.Engine.meaning g.E.Engine.terms g.E.Engine.stands_at c.loop-stop.engine r.at c.cycle.result c.in_ok-bucket.bucket c.cycle.new.arg2 i.meaning i.terms c.in_ok-bucket.was
     (c.requires.does _ c.cycle.result _ c.cycle.ensures r.at r.stands own_none) in
     let all = all-with_bucket _ _ _ r.laws _ i.so_far r.way _ _ not_ended done.cycle in
-    let P : List ℕ → Type 0 = AppendsPrefix (g.K.Sink.told c.cycles.sink) (g.K.Sink.told c.write_all-in-cycles.new.sink) in
-    let lines = held _ _ _ _ c.clear.ensures.items c.in_ok-add.ensures.told c.as_slice-in-cycles.ensures.value in
-    on_err _ (bucket-prefix _ _ _ c.args.telling _ _ i.so_far i.told c.cycles.report i.kept c.in_ok-bucket.bucket c.cycles.number all.0 _ i.numbered all.1 (subst P lines c.in_err-write_all-2.ensures.prefix))
+    let P : List ℕ → Type 0 = AppendsPrefix (g.K.Sink.told c.loop-stop.sink) (g.K.Sink.told c.write_all-in-loop-stop.new.sink) in
+    let lines = held _ _ _ _ c.clear.ensures.items c.in_ok-add.ensures.told c.as_slice-in-loop-stop.ensures.value in
+    simulated_failed _ _ _ _ _ _ _ _ c.from_residual-in_err-write_all-2.ensures.1
+    (bucket-prefix _ _ _ c.args.telling _ _ i.so_far i.told c.loop-stop.report i.kept c.in_ok-bucket.bucket c.loop-stop.number all.0 _ i.numbered all.1 (subst P lines c.in_err-write_all-2.ensures.prefix))
+    (omega (arith, i.later, c.in_err-write_all-2.ensures.cause.later)) (rose_after _ _ _ i.quiet c.in_err-write_all-2.ensures.cause.failed)
 
-pub cycles-smaller : goal.cycles-smaller
-cycles-smaller g c =
-    let i = c.cycles.invariant in
+pub loop-stop-smaller : goal.loop-stop-smaller
+loop-stop-smaller g c =
+    let i = c.loop-stop.invariant in
     let r = i.runs c.requires.begins.0 c.requires.begins.1 c.requires.begins.2 in
     let few = few_cycles _ _ _ r.laws _ i.so_far r.way in
     omega (arith, few, i.numbered)
 
-pub cycles-preserved : goal.cycles-preserved
-cycles-preserved g c =
-    let i = c.cycles.invariant in
+pub loop-stop-preserved : goal.loop-stop-preserved
+loop-stop-preserved g c =
+    let i = c.loop-stop.invariant in
     let m = g.M.Model.meaning c.args.model.now in
     let t = c.args.terms.now in
     let b = c.in_ok-bucket.bucket in
     let some = i.runs c.requires.begins.0 c.requires.begins.1 c.requires.begins.2 in
     let some_none = sym (c.ended.ensures some.at some.stands) ∙ none_of _ c.in_default.not-Some in
-    let some_done = has_done m t g.E.Engine.meaning g.E.Engine.terms g.E.Engine.stands_at c.cycles.engine some.at c.cycle.result b c.cycle.new.arg2 i.meaning i.terms c.in_ok-bucket.was
+    let some_done = has_done m t g.E.Engine.meaning g.E.Engine.terms g.E.Engine.stands_at c.loop-stop.engine some.at c.cycle.result b c.cycle.new.arg2 i.meaning i.terms c.in_ok-bucket.was
     (c.requires.does _ c.cycle.result _ c.cycle.ensures some.at some.stands some_none) in
-    let P : List ℕ → Type 0 = Appends (g.K.Sink.told c.cycles.sink) (g.K.Sink.told c.write_all-in-cycles.new.sink) in
-    let lines = held _ _ _ _ c.clear.ensures.items c.in_ok-add.ensures.told c.as_slice-in-cycles.ensures.value in
+    let P : List ℕ → Type 0 = Appends (g.K.Sink.told c.loop-stop.sink) (g.K.Sink.told c.write_all-in-loop-stop.new.sink) in
+    let lines = held _ _ _ _ c.clear.ensures.items c.in_ok-add.ensures.told c.as_slice-in-loop-stop.ensures.value in
     record {
       meaning = c.give_back.ensures.meaning ∙ some_done.meaning_is;
       terms = c.give_back.ensures.terms ∙ some_done.terms_is;
@@ -186,12 +191,12 @@ cycles-preserved g c =
           let r = i.runs from starts can in
           let own_none = sym (c.ended.ensures r.at r.stands) ∙ none_of _ c.in_default.not-Some in
           let not_ended = ended-same _ _ _ _ _ _ i.meaning i.terms (sym own_none) in
-          let done = has_done m t g.E.Engine.meaning g.E.Engine.terms g.E.Engine.stands_at c.cycles.engine r.at c.cycle.result b c.cycle.new.arg2 i.meaning i.terms c.in_ok-bucket.was
+          let done = has_done m t g.E.Engine.meaning g.E.Engine.terms g.E.Engine.stands_at c.loop-stop.engine r.at c.cycle.result b c.cycle.new.arg2 i.meaning i.terms c.in_ok-bucket.was
           (c.requires.does _ c.cycle.result _ c.cycle.ensures r.at r.stands own_none) in
           record { laws = r.laws; at = done.left; stands = c.give_back.ensures.stands done.left done.stands; way = goes_on _ _ _ r.laws _ i.so_far r.way b _ not_ended done.cycle };
       numbered = ap (λ n. n + 1) (i.numbered ∙ sym (length-append i.so_far (b ∷ [])));
       kept = c.add.ensures.kept _ c.args.telling i.so_far i.kept;
-      told = bucket-told _ t c.requires.begins.0 c.args.telling _ _ i.so_far i.told c.cycles.report i.kept b c.cycles.number _ i.numbered (subst P lines c.in_ok-write_all-2.ensures.all);
+      told = bucket-told _ t c.requires.begins.0 c.args.telling _ _ i.so_far i.told c.loop-stop.report i.kept b c.loop-stop.number _ i.numbered (subst P lines c.in_ok-write_all-2.ensures.all);
       later = omega (arith, i.later, c.in_ok-write_all-2.ensures.cause.later);
       quiet = c.in_ok-write_all-2.ensures.quiet ∙ i.quiet;
     }

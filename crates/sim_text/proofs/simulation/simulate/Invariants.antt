@@ -8,8 +8,8 @@ use Rattle.sim_text.proofs.Told.{lines_so_far}
 use Rattle.sim_text.proofs.UnderWay.{RunsOn}
 use Rattle.sim_text.proofs.simulation.simulate.Given as goal
 
-abbrev pub invariant-cycles : goal.invariant-cycles
-invariant-cycles g l =
+abbrev pub invariant-loop-stop : goal.invariant-loop-stop
+invariant-loop-stop g l =
     let m = g.M.Model.meaning l.model in
     record {
       meaning : g.E.Engine.meaning l.engine ≡ m;
@@ -23,5 +23,5 @@ invariant-cycles g l =
       quiet : g.K.Sink.faults l.sink ≡ g.K.Sink.faults l.fn.sink;
     }
 
-abbrev pub decreases-cycles : goal.decreases-cycles
-decreases-cycles g l = (l.terms.limit + 3) - l.number
+abbrev pub decreases-loop-stop : goal.decreases-loop-stop
+decreases-loop-stop g l = (l.terms.limit + 3) - l.number
