@@ -1,7 +1,11 @@
 pub mod JobLemmas
+pub mod NumberLemmas
 pub mod RowLemmas
 pub mod SeenLemmas
 pub mod StayLemmas
 pub mod TableLemmas
 pub mod TextLemmas
+pub mod WalkLemmas
+pub mod WindowLaw
 pub mod WindowLemmas
+pub mod WorkedWindows

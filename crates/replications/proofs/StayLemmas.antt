@@ -33,7 +33,7 @@ spent-cons of first last a rest =
 no_ticks : (tick first : ℕ) → tick - max tick first ≡ 0
 no_ticks tick first = omega arith
 
-spent-none : (of : Occupancy → ℕ) (first last : ℕ) → spent of first last [] ≡ 0
+pub spent-none : (of : Occupancy → ℕ) (first last : ℕ) → spent of first last [] ≡ 0
 unfolding spent stays
 spent-none of first last = refl
 

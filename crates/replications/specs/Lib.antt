@@ -1,7 +1,9 @@
 pub mod Families
 pub mod Parts
+pub mod ReplicateWords
 pub mod Rows
 pub mod Stays
 pub mod Studies
 pub mod Tables
 pub mod Windows
+pub mod WindowLaws

@@ -3,6 +3,7 @@
 
 mod batch;
 mod job;
+pub mod laws;
 mod left;
 mod replication;
 mod rows;
@@ -12,6 +13,7 @@ mod study;
 mod table;
 mod window;
 mod windows;
+mod words;
 
 pub use replication::replicate_once;
 pub use seeds::Seeds;
@@ -20,3 +22,4 @@ pub use study::Study;
 pub use table::write_table;
 pub use window::{Columns, Window};
 pub use windows::Windows;
+pub use words::{Replicate, read_replicate_words};

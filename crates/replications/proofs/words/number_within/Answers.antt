@@ -1,0 +1,12 @@
+use Rattle.std.proofs.Common.{◌≡◌, true}
+use Rattle.std.proofs.lemmas.Grind.{common_steps}
+use Rattle.std.proofs.Common.{arith}
+use Rattle.replications.specs.ReplicateWords.{is_number}
+use Rattle.replications.proofs.NumberLemmas.{parsed}
+use Rattle.replications.proofs.words.number_within.Goals as goal
+
+-- `parse` reads each number of nineteen digits at most
+pub returns-in_default-3-clause-value : goal.returns-in_default-3-clause-value
+returns-in_default-3-clause-value c =
+    let is : is_number c.args.word.now ≡ true = grind (arith, common_steps, c.is_number.ensures, c.if-not-is_number.false) in
+    absurd (c.in_default.ensures.value.0 (parsed c.args.word.now is))

@@ -1,0 +1,214 @@
+//! The words of `replicate`.
+ghost use Rattle.std.specs.Prelude.{◌≡◌, ◌≤◌, IfSome};
+ghost use Rattle.std.specs.Char.{is_ascii_digit};
+ghost use Rattle.std.specs.List.{list_all};
+ghost use Rattle.sim_io.specs.Words.{texts_of};
+ghost use Rattle.replications.specs.ReplicateWords.{choice_named, chosen, given_with, has_value, has_zero_first, is_number, number_within, replicate_settings, value_of, walked, with_number};
+
+use event_key::LAST_TICK;
+use sim_io::WordFault;
+
+/// How many replications there are at most.
+pub const MOST_REPLICATIONS: u64 = 100_000;
+
+/// The greatest seed: 2^63 - 1.
+pub const LAST_SEED: u64 = 9_223_372_036_854_775_807;
+
+/// How many workers there are at most.
+pub const MOST_WORKERS: u64 = 64;
+
+/// How many workers there are where nothing is asked for.
+pub const DEFAULT_WORKERS: u64 = 4;
+
+/// What is to be done.
+#[derive(Clone, Copy, Debug, PartialEq, Eq)]
+pub struct Replicate {
+    /// How many replications, 1 to `MOST_REPLICATIONS`.
+    pub count: u64,
+    /// The seed of the first one, at most `LAST_SEED`, where it isn't the model's own.
+    pub first_seed: Option<u64>,
+    /// The first tick of the window, at most `LAST_TICK`.
+    pub from: u64,
+    /// How many workers, 1 to `MOST_WORKERS`.
+    pub workers: u64,
+}
+
+/// An option.
+#[derive(Clone, Copy, Debug, PartialEq, Eq)]
+pub enum Choice {
+    First,
+    From,
+    Workers,
+}
+
+/// What options gave.
+#[derive(Clone, Copy, Debug, PartialEq, Eq)]
+pub struct Given {
+    pub first: Option<u64>,
+    pub from: Option<u64>,
+    pub workers: Option<u64>,
+}
+
+/// The option that a word names.
+fn choice_named(word: &str) -> Option<Choice>
+    ensures { result ≡ choice_named word.now }
+{
+    match word {
+        "--first" => Some(Choice::First),
+        "--from" => Some(Choice::From),
+        "--workers" => Some(Choice::Workers),
+        _ => None,
+    }
+}
+
+/// Whether a word has no byte that isn't a digit.
+fn has_digits(word: &str) -> bool
+    ensures { result ≡ list_all is_ascii_digit word.now }
+{
+    word.as_bytes().iter().all(|byte| byte.is_ascii_digit())
+}
+
+/// Whether a zero stands before others.
+fn has_zero_first(word: &str) -> bool
+    ensures { result ≡ has_zero_first word.now }
+{
+    word.len() > 1 && word.as_bytes().starts_with(b"0")
+}
+
+/// Whether a word is one to nineteen digits, without a zero before others.
+fn is_number(word: &str) -> bool
+    ensures { result ≡ is_number word.now }
+{
+    !word.is_empty() && word.len() <= 19 && has_digits(word) && !has_zero_first(word)
+}
+
+/// The number that a word writes, where it lies between two.
+fn number_within(least: u64, most: u64, word: &str) -> Option<u64>
+    ensures value { result ≡ number_within least most word.now }
+    ensures within { IfSome result (λ number. (least ≤ number) × (number ≤ most)) }
+{
+    if !is_number(word) {
+        return None;
+    }
+    match word.parse::<u64>() {
+        Ok(number) if least <= number && number <= most => Some(number),
+        _ => None,
+    }
+}
+
+impl Choice {
+    /// The number that a word gives it.
+    fn value(self, word: &str) -> Option<u64>
+        ensures { result ≡ value_of self word.now }
+    {
+        match self {
+            Choice::First => number_within(0, LAST_SEED, word),
+            Choice::From => number_within(0, LAST_TICK, word),
+            Choice::Workers => number_within(1, MOST_WORKERS, word),
+        }
+    }
+}
+
+impl Given {
+    /// Whether an option was given.
+    fn has(&self, choice: Choice) -> bool
+        ensures { result ≡ has_value self.now choice }
+    {
+        match choice {
+            Choice::First => self.first.is_some(),
+            Choice::From => self.from.is_some(),
+            Choice::Workers => self.workers.is_some(),
+        }
+    }
+
+    /// With the number of an option.
+    fn with(self, choice: Choice, number: u64) -> Given
+        ensures { result ≡ with_number self choice number }
+    {
+        match choice {
+            Choice::First => Given {
+                first: Some(number),
+                ..self
+            },
+            Choice::From => Given {
+                from: Some(number),
+                ..self
+            },
+            Choice::Workers => Given {
+                workers: Some(number),
+                ..self
+            },
+        }
+    }
+
+    /// The option that a word names, where it wasn't given before.
+    fn choose(&self, word: &str) -> Result<Choice, WordFault>
+        ensures { result ≡ chosen self.now word.now }
+    {
+        let Some(choice) = choice_named(word) else {
+            return Err(if word.as_bytes().starts_with(b"-") {
+                WordFault::UnknownOption
+            } else {
+                WordFault::ExtraWord
+            });
+        };
+        if self.has(choice) {
+            return Err(WordFault::RepeatedOption);
+        }
+        Ok(choice)
+    }
+
+    /// With what a word gives an option.
+    fn take(self, choice: Choice, word: &str) -> Result<Given, WordFault>
+        ensures { result ≡ given_with self choice word.now }
+    {
+        match choice.value(word) {
+            Some(number) => Ok(self.with(choice, number)),
+            None => Err(WordFault::BadValue),
+        }
+    }
+}
+
+/// What options give after those before them, each a word and its value.
+#[tactic(auto, unfolding(crate::specs::ReplicateWords::walked))]
+fn options(given: Given, words: &[String]) -> Result<Given, WordFault>
+    ensures { result ≡ walked given (texts_of words.now) }
+{
+    match words {
+        [] => Ok(given),
+        [word] => {
+            given.choose(word.as_str())?;
+            Err(WordFault::MissingValue)
+        }
+        [word, value, rest @ ..] => {
+            let choice = given.choose(word.as_str())?;
+            let next = given.take(choice, value.as_str())?;
+            options(next, rest)
+        }
+    }
+}
+
+/// Reads the words that follow the program's name. It takes no memory.
+#[tactic(auto, unfolding(crate::specs::ReplicateWords::replicate_settings))]
+pub fn read_replicate_words(words: &Vec<String>) -> Result<Replicate, WordFault>
+    ensures { result ≡ replicate_settings (texts_of words.now.items) }
+{
+    let [count, rest @ ..] = words.as_slice() else {
+        return Err(WordFault::MissingValue);
+    };
+    let Some(count) = number_within(1, MOST_REPLICATIONS, count.as_str()) else {
+        return Err(WordFault::BadValue);
+    };
+    let none = Given {
+        first: None,
+        from: None,
+        workers: None,
+    };
+    let given = options(none, rest)?;
+    Ok(Replicate {
+        count,
+        first_seed: given.first,
+        from: given.from.unwrap_or(0),
+        workers: given.workers.unwrap_or(DEFAULT_WORKERS),
+    })
+}
