@@ -13,6 +13,3 @@ pub use balance::plan_by_load;
 pub use model_core::OutOfMemory;
 pub use moves::Move;
 pub use moving::move_objects;
-
-#[cfg(test)]
-mod tests;

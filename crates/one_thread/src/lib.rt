@@ -13,6 +13,3 @@ mod sending;
 mod turn;
 
 pub use engine::OneThread;
-
-#[cfg(test)]
-mod tests;

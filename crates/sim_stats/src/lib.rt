@@ -9,6 +9,3 @@ mod totals;
 pub use occupancy::Occupancy;
 pub use sums::{is_arrival, is_service};
 pub use totals::Totals;
-
-#[cfg(test)]
-mod tests;

@@ -1,9 +1,0 @@
-use Rattle.std.proofs.Common.{◌≡◌, ◌≤◌, length}
-use Rattle.sim_stats.proofs.tests.crowded.Given as goal
-
-abbrev pub invariant-loop : goal.invariant-loop
-invariant-loop l = record {
-  objects : length l.totals.objects ≡ 2;
-  records : l.totals.records ≤ l.counter;
-  last : l.totals.last ≡ 0;
-}
