@@ -17,9 +17,9 @@ use Rattle.worked_examples.specs.Summaries.{key_at, told_at, whole_bucket, item_
 unfoldable pub shop : Meaning
 shop =
     network_meaning (network_of 0 (
-    item_of (codes "source") (Source 1 (Fixed 2) 3 1)
-    ∷ item_of (codes "station") (Station 1 (Fixed 3) 10 false 2)
-    ∷ item_of (codes "sink") (Sink None)
+    item_of (codes "source") (Source (record { first = 1; every = Fixed 2; count = 3; next = 1 }))
+    ∷ item_of (codes "station") (Station (record { servers = 1; service = Fixed 3; line = 10; strict = false; next = 2 }))
+    ∷ item_of (codes "sink") (Sink (record { due = None }))
     ∷ []) [])
 
 unfoldable pub to_twenty : Terms

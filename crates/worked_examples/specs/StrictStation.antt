@@ -20,8 +20,8 @@ use Rattle.worked_examples.specs.Summaries.{key_at, told_at, whole_bucket, entry
 unfoldable pub strict_station : ℕ → List Entry → Meaning
 strict_station service jobs =
     network_meaning (network_of 0 (
-    item_of (codes "station") (Station 1 (Fixed service) 1 true 1)
-    ∷ item_of (codes "sink") (Sink None)
+    item_of (codes "station") (Station (record { servers = 1; service = Fixed service; line = 1; strict = true; next = 1 }))
+    ∷ item_of (codes "sink") (Sink (record { due = None }))
     ∷ []) jobs)
 
 unfoldable pub to_thirty : Terms
