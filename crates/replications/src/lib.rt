@@ -23,3 +23,6 @@ pub use table::write_table;
 pub use window::{Columns, Window};
 pub use windows::Windows;
 pub use words::{Replicate, read_replicate_words};
+
+#[cfg(test)]
+mod tests;
