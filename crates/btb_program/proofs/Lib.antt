@@ -1,3 +1,5 @@
+pub mod EndingLemmas
+pub mod InputLemmas
 pub mod ReadingLemmas
 pub mod SavedRunsLaw
 pub mod SmallAnswers

@@ -10,7 +10,7 @@ use Rattle.sim_io.specs.Transfers.{TakesUpTo}
 use Rattle.run_save.specs.Checks as states
 use Rattle.run_save.specs.SavedStates.{SavedState, state_of}
 use Rattle.run_save.specs.declared.reading.TheConstants.{MOST_STATE_BYTES}
-use Rattle.btb_program.specs.Answer.{Answer, answer_to_model, answer_to_state}
+use Rattle.btb_program.specs.Answer.{answer_to_model, answer_to_state}
 use Rattle.model_core.specs.declared.limits.TheConstants.{MOST_TEXT_BYTES}
 use Rattle.sim_io.specs.declared.streams.reading.TheConstants.{ENOUGH_BYTES}
 
@@ -40,35 +40,27 @@ state_of-take bytes = by_length (leb (length bytes) MOST_STATE_BYTES) refl
     by_length true h = ap state_of (take_all (MOST_STATE_BYTES + 1) bytes (omega (arith, leb-true _ _ h)))
     by_length false h = rw (long h, h) refl
 
-module _ (old new : Option (List ℕ)) (taken slice : List ℕ) (chosen : Settings) where
-  -- a fact about the answer to what was read is one about the answer to the input
-  pub answers_all : (Q : Answer → Type 0) (read : Checked ModelOf) → TakesUpTo ENOUGH_BYTES old new taken → slice ≡ taken → model_of slice ≡ read → Q (answer_to_model chosen slice read)
-      → IfSome old (λ bytes. Q (answer_to_model chosen bytes (model_of bytes)))
-  answers_all Q read took is_slice is_read fact = by_left old took
-    where
-      by_left : (left : Option (List ℕ)) → TakesUpTo ENOUGH_BYTES left new taken → IfSome left (λ bytes. Q (answer_to_model chosen bytes (model_of bytes)))
-      by_left None took = tt
-      by_left (Some bytes) took = from_new new took
-        where
-          from_new : (rest : Option (List ℕ)) → TakesUpTo ENOUGH_BYTES (Some bytes) rest taken → Q (answer_to_model chosen bytes (model_of bytes))
-          from_new None took = absurd took
-          from_new (Some rest) took =
-              let R : Checked ModelOf → Type 0 = λ read. Q (answer_to_model chosen slice read) in
-              let S : List ℕ → Type 0 = λ xs. Q (answer_to_model chosen xs (model_of xs)) in
-              subst Q (answer-take chosen bytes) (subst S (is_slice ∙ took.0) (subst R (sym is_read) fact))
-
 module _ (old new : Option (List ℕ)) (taken slice : List ℕ) where
-  -- a fact about the answer to the state text that was read is one about the answer to the input
-  pub states_all : (Q : Answer → Type 0) (read : states.Checked SavedState) → TakesUpTo (MOST_STATE_BYTES + 1) old new taken → slice ≡ taken → state_of slice ≡ read → Q (answer_to_state read)
-      → IfSome old (λ bytes. Q (answer_to_state (state_of bytes)))
-  states_all Q read took is_slice is_read fact = by_left old new took
+  -- the answer to the model that was read is the one to the whole input
+  pub model_answers : (chosen : Settings) (read : Checked ModelOf) → TakesUpTo ENOUGH_BYTES old new taken → slice ≡ taken → model_of slice ≡ read
+      → IfSome old (λ bytes. answer_to_model chosen slice read ≡ answer_to_model chosen bytes (model_of bytes))
+  model_answers chosen read took is_slice is_read = by_left old new took
     where
-      by_left : (left rest : Option (List ℕ)) → TakesUpTo (MOST_STATE_BYTES + 1) left rest taken → IfSome left (λ bytes. Q (answer_to_state (state_of bytes)))
+      by_left : (left rest : Option (List ℕ)) → TakesUpTo ENOUGH_BYTES left rest taken → IfSome left (λ bytes. answer_to_model chosen slice read ≡ answer_to_model chosen bytes (model_of bytes))
       by_left None rest took = tt
       by_left (Some bytes) None took = absurd took
       by_left (Some bytes) (Some rest) took =
-          let R : states.Checked SavedState → Type 0 = λ read. Q (answer_to_state read) in
-          subst R (sym is_read ∙ ap state_of (is_slice ∙ took.0) ∙ state_of-take bytes) fact
+          ap (answer_to_model chosen slice) (sym is_read) ∙ ap (λ xs. answer_to_model chosen xs (model_of xs)) (is_slice ∙ took.0) ∙ answer-take chosen bytes
+
+  -- so it is with a saved state
+  pub state_answers : (read : states.Checked SavedState) → TakesUpTo (MOST_STATE_BYTES + 1) old new taken → slice ≡ taken → state_of slice ≡ read
+      → IfSome old (λ bytes. answer_to_state read ≡ answer_to_state (state_of bytes))
+  state_answers read took is_slice is_read = by_left old new took
+    where
+      by_left : (left rest : Option (List ℕ)) → TakesUpTo (MOST_STATE_BYTES + 1) left rest taken → IfSome left (λ bytes. answer_to_state read ≡ answer_to_state (state_of bytes))
+      by_left None rest took = tt
+      by_left (Some bytes) None took = absurd took
+      by_left (Some bytes) (Some rest) took = ap answer_to_state (sym is_read ∙ ap state_of (is_slice ∙ took.0) ∙ state_of-take bytes)
 
 -- what is left is what comes behind
 pub leaves_rest : (most : ℕ) (old new : Option (List ℕ)) (taken : List ℕ) → TakesUpTo most old new taken → IfSome old (λ bytes. new ≡ Some (drop most bytes))

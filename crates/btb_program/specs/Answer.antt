@@ -162,14 +162,6 @@ abbrev pub most_read : Result Settings WordFault → ℕ
 most_read (Err fault) = 0
 most_read (Ok chosen) = most_taken chosen
 
--- this holds of the answer to a model alone
-abbrev pub OfModelAnswer : Settings → Option (List ℕ) → (Answer → Type 0) → Type 0
-OfModelAnswer chosen left P = IfSome left (λ bytes. P (answer_to_model chosen bytes (model_of bytes)))
-
--- and this of the answer to a saved state alone
-abbrev pub OfStateAnswer : Option (List ℕ) → (Answer → Type 0) → Type 0
-OfStateAnswer left P = IfSome left (λ bytes. P (answer_to_state (state_of bytes)))
-
 -- the output of the answer was written, or a prefix of it
 abbrev pub WritesOutput : Option (List ℕ) → Option (List ℕ) → Answer → Type 0
 WritesOutput old new a = Appends old new a.output

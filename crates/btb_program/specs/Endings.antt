@@ -1,8 +1,9 @@
 -- How the program ends, with which status and with which line among the notes.
-use Rattle.std.specs.Prelude.{◌≡◌, ◌≢◌, ◌⊎◌, ◌==◌, if◌then◌else◌, ℕ, List, [], Option, codes}
+use Rattle.std.specs.Prelude.{◌≡◌, ◌≢◌, ◌⊎◌, ◌==◌, if◌then◌else◌, ℕ, List, [], Option, Result, Ok, Err, codes}
 use Rattle.std.specs.Io.KnownBytes.{Appends}
-use Rattle.sim_io.specs.declared.words.WordFault.TheVariants.{BadValue}
 use Rattle.sim_io.specs.Transfers.{AppendsPrefix}
+use Rattle.sim_spec.specs.declared.stop.Stop.{Stop}
+use Rattle.sim_text.specs.declared.unfinished.Unfinished.{Unfinished}
 use Rattle.btb_program.specs.declared.ending.Ending.{Ending}
 use Rattle.btb_program.specs.declared.ending.Ending.TheVariants.{Stopped, Saved, RefusedWords, RefusedModel, RefusedState, ReadFault, WriteFault, OutOfMemory}
 use Rattle.btb_program.specs.declared.status.TheConstants.{END, WORDS, MODEL, STATE, READ_FAULT, WRITE_FAULT, OUT_OF_MEMORY}
@@ -28,37 +29,18 @@ line_of_ending ReadFault = codes "read failed\n"
 line_of_ending WriteFault = codes "write failed\n"
 line_of_ending OutOfMemory = codes "out of memory\n"
 
--- how the program may end where its words can't be read: for want of memory, or since one of them is no text
-abbrev pub EndsUnread : Ending → Type 0
-EndsUnread (Stopped stop) = ⊥
-EndsUnread Saved = ⊥
-EndsUnread (RefusedWords fault) = fault ≡ BadValue
-EndsUnread (RefusedModel line) = ⊥
-EndsUnread (RefusedState line) = ⊥
-EndsUnread ReadFault = ⊥
-EndsUnread WriteFault = ⊥
-EndsUnread OutOfMemory = Unit {0}
+-- why a simulation is unfinished
+abbrev pub ending_of_cause : Unfinished → Ending
+ending_of_cause Unfinished.WriteFault = WriteFault
+ending_of_cause Unfinished.OutOfMemory = OutOfMemory
 
--- the simulation stopped or was saved, or the words, the model or the state were refused: the answer is whole
-abbrev pub IsAnswered : Ending → Type 0
-IsAnswered (Stopped stop) = Unit {0}
-IsAnswered Saved = Unit {0}
-IsAnswered (RefusedWords fault) = Unit {0}
-IsAnswered (RefusedModel line) = Unit {0}
-IsAnswered (RefusedState line) = Unit {0}
-IsAnswered ReadFault = ⊥
-IsAnswered WriteFault = ⊥
-IsAnswered OutOfMemory = ⊥
+abbrev pub ending_of : Result Stop Unfinished → Ending
+ending_of (Ok stop) = Stopped stop
+ending_of (Err cause) = ending_of_cause cause
 
-abbrev pub RefusesWords : Ending → Type 0
-RefusesWords (Stopped stop) = ⊥
-RefusesWords Saved = ⊥
-RefusesWords (RefusedWords fault) = Unit {0}
-RefusesWords (RefusedModel line) = ⊥
-RefusesWords (RefusedState line) = ⊥
-RefusesWords ReadFault = ⊥
-RefusesWords WriteFault = ⊥
-RefusesWords OutOfMemory = ⊥
+-- what was given is refused, which this line tells, unless there was no memory for the line
+abbrev pub IsRefusal : ℕ → List ℕ → Ending → Type 0
+IsRefusal status line ending = (ending ≡ OutOfMemory) ⊎ ((status_of_ending ending ≡ status) × (line_of_ending ending ≡ line))
 
 -- a status with which the answer is whole
 abbrev pub IsAnswering : ℕ → Type 0

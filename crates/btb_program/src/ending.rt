@@ -1,11 +1,13 @@
 //! How the program ends.
 ghost use Rattle.std.specs.Prelude.{◌≡◌};
+ghost use Rattle.btb_program.specs.Endings.{ending_of};
 
 use crate::status::{
     END, EVENT_FAULT, EVENT_LIMIT, MODEL, OUT_OF_MEMORY, READ_FAULT, STATE, WORDS, WRITE_FAULT,
 };
 use sim_io::WordFault;
 use sim_spec::Stop;
+use sim_text::Unfinished;
 
 /// How the program ends.
 #[derive(Debug, Drop)]
@@ -46,5 +48,29 @@ impl Ending {
             Ending::WriteFault => WRITE_FAULT,
             Ending::OutOfMemory => OUT_OF_MEMORY,
         }
+    }
+}
+
+impl From<Unfinished> for Ending {
+    ghost use Rattle.std.specs.Prelude.{◌≡◌};
+    ghost use Rattle.btb_program.specs.Endings.{ending_of_cause};
+
+    ghost from_gives = { λ cause ending. ending ≡ ending_of_cause cause };
+
+    fn from(cause: Unfinished) -> Ending {
+        match cause {
+            Unfinished::WriteFault => Ending::WriteFault,
+            Unfinished::OutOfMemory => Ending::OutOfMemory,
+        }
+    }
+}
+
+/// How the program ends where a simulation has ended so.
+pub fn ending_of(outcome: Result<Stop, Unfinished>) -> Ending
+    ensures { result ≡ ending_of outcome }
+{
+    match outcome {
+        Ok(stop) => Ending::Stopped(stop),
+        Err(cause) => Ending::from(cause),
     }
 }

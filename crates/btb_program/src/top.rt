@@ -1,14 +1,9 @@
 //! All that the program does, over any input and output.
-ghost use Rattle.std.specs.Prelude.{◌≡◌, ◌≢◌, ◌≤◌, ◌⊎◌, ◌↔◌, true, false, IfSome, IsErr, Some, drop};
-ghost use Rattle.std.specs.Io.KnownBytes.{Keeps};
-ghost use Rattle.sim_io.specs.Causes.{Rose};
-ghost use Rattle.sim_io.specs.Words.{settings, texts_of};
-ghost use Rattle.btb_program.specs.Answer.{most_read, takes_input, OfAnswer, OfAccepted, HandsOnPrefix, WritesOutput, WritesPrefix};
-ghost use Rattle.btb_program.specs.declared.status.TheConstants.{WORDS, READ_FAULT, WRITE_FAULT, STATE};
-ghost use Rattle.btb_program.specs.Endings.{IsAnswering, NotesLine, NotesPrefix, IsComplete};
+ghost use Rattle.btb_program.specs.Answered.{AnswersWords, streams};
 
 use crate::notes::conclude;
 use crate::running::run_words;
+use model_runs::Stage;
 use node_team::Gate;
 use sim_io::{Sink, Source};
 use std::alloc::AllocGlobal;
@@ -38,41 +33,13 @@ pub fn btb<R: AllocGlobal + Threads + Sync, S: Source, K: Sink, N: Sink, G: Gate
     notes: &mut N,
     gate: &G,
 ) -> u8
-    ensures known { result ≤ STATE }
-
-    // What is written is the answer, or a prefix of it.
-    ensures output { IsAnswering result → OfAnswer words.now.items (S.left source.old) (WritesOutput (K.told out.old) (K.told out.new)) }
-    ensures status { IsAnswering result → OfAnswer words.now.items (S.left source.old) (λ answer. result ≡ answer.status) }
-    ensures prefix { OfAnswer words.now.items (S.left source.old) (WritesPrefix (K.told out.old) (K.told out.new)) }
-
-    // It is handed on: all of it with the answer, where nothing was kept back before, and else a prefix of it.
-    ensures handed { IsAnswering result → Keeps (K.told out.old) (K.handed out.old)
-        → OfAnswer words.now.items (S.left source.old) (WritesOutput (K.told out.old) (K.handed out.new)) }
-    ensures handed_prefix { OfAnswer words.now.items (S.left source.old) (HandsOnPrefix (K.told out.old) (K.handed out.new)) }
-
-    // The input is read to its end, or until it is too long, but where the words are refused, and for a demo.
-    ensures refused_words { (result ≡ WORDS) ↔ IsErr (settings (texts_of words.now.items)) }
-    ensures unread { takes_input (settings (texts_of words.now.items)) ≡ false → source.new ≡ source.old }
-    ensures read { IsAnswering result → takes_input (settings (texts_of words.now.items)) ≡ true
-        → IfSome (S.left source.old) (λ bytes. S.left source.new ≡ Some (drop (most_read (settings (texts_of words.now.items))) bytes)) }
-    ensures reads { result ≡ READ_FAULT → takes_input (settings (texts_of words.now.items)) ≡ true }
-
-    // Faults have causes, and each is told.
-    ensures read_fault { result ≡ READ_FAULT → Rose (S.faults source.old) (S.faults source.new) }
-    ensures write_fault { result ≡ WRITE_FAULT → Rose (K.faults out.old) (K.faults out.new) }
-    ensures read_quiet { result ≢ READ_FAULT → S.faults source.new ≡ S.faults source.old }
-    ensures write_quiet { result ≢ WRITE_FAULT → K.faults out.new ≡ K.faults out.old }
-    ensures unwritten { (result ≡ WORDS) ⊎ (result ≡ READ_FAULT) → out.new ≡ out.old }
-
-    // One line is noted, or a prefix of it.
-    ensures notes_prefix { OfAnswer words.now.items (S.left source.old) (NotesPrefix result (N.told notes.old) (N.told notes.new)) }
-    ensures notes_whole { OfAnswer words.now.items (S.left source.old) (λ answer.
-        NotesLine result (N.told notes.old) (N.told notes.new) answer ⊎ Rose (N.faults notes.old) (N.faults notes.new)) }
-
-    // Accepted words, an input that they accept and no fault give the whole answer, or want of memory.
-    ensures complete { OfAccepted words.now.items (S.left source.old) (λ answer.
-        IsComplete result answer.status (Rose (S.faults source.old) (S.faults source.new)) (Rose (K.faults out.old) (K.faults out.new))) }
+    ensures { AnswersWords S.Source K.Sink N.Sink result (streams source.old out.old notes.old) (streams source.new out.new notes.new) words.now.items }
 {
-    let ending = run_words(rt, gate, words, source, out);
+    let stage = Stage {
+        rt,
+        alloc: rt.alloc(),
+        gate,
+    };
+    let ending = run_words(stage, words, source, out);
     conclude(&ending, notes)
 }

@@ -1,39 +1,16 @@
 -- Words that can't be read are answered by a line and a status, and nothing else.
-use Rattle.std.proofs.Common.{◌≡◌, ◌≢◌, ◌⊎◌, sym, ap, ◌∙◌, subst}
+use Rattle.std.proofs.Common.{refl, sym, ap, ◌∙◌, subst}
 use Rattle.std.specs.Prelude.{IfErr}
-use Rattle.std.specs.Io.KnownBytes.{Appends}
-use Rattle.std.specs.declared.io.ErrorKind.{ErrorKind}
-use Rattle.model_core.proofs.Results.{on_err}
-use Rattle.sim_io.specs.Causes.{Rose}
-use Rattle.sim_io.specs.Transfers.{AppendsPrefix}
-use Rattle.btb_program.specs.declared.status.TheConstants.{WORDS, OUT_OF_MEMORY}
+use Rattle.btb_program.specs.Answered.{AnswersNoWords, streams}
 use Rattle.btb_program.specs.Endings.{status_of_ending}
-use Rattle.btb_program.proofs.TopLemmas.{unread_noted, unread_reads, unread_writes}
+use Rattle.btb_program.proofs.TopLemmas.{answers_no_words}
 use Rattle.btb_program.proofs.program.run_program.Goals as goal
 
-pub returns-in-Err-clause-read_fault : goal.returns-in-Err-clause-read_fault
-returns-in-Err-clause-read_fault g c = λ is. absurd (unread_reads c.unread_words.result c.unread_words.ensures.no_other (sym c.conclude.ensures.status ∙ is))
-
-pub returns-in-Err-clause-write_fault : goal.returns-in-Err-clause-write_fault
-returns-in-Err-clause-write_fault g c = λ is. absurd (unread_writes c.unread_words.result c.unread_words.ensures.no_other (sym c.conclude.ensures.status ∙ is))
-
-pub returns-in-Err-clause-no_memory : goal.returns-in-Err-clause-no_memory
-returns-in-Err-clause-no_memory g c =
-    subst (λ words. IfErr words (λ kind. kind ≡ ErrorKind.OutOfMemory → c.conclude.result ≡ OUT_OF_MEMORY)) (sym c.in-Err.is)
-    (λ is. c.conclude.ensures.status ∙ ap status_of_ending (c.unread_words.ensures.no_memory is))
-
-pub returns-in-Err-clause-no_text : goal.returns-in-Err-clause-no_text
-returns-in-Err-clause-no_text g c =
-    subst (λ words. IfErr words (λ kind. kind ≢ ErrorKind.OutOfMemory → c.conclude.result ≡ WORDS)) (sym c.in-Err.is)
-    (λ other. c.conclude.ensures.status ∙ ap status_of_ending (c.unread_words.ensures.no_text other))
-
-pub returns-in-Err-clause-line_prefix : goal.returns-in-Err-clause-line_prefix
-returns-in-Err-clause-line_prefix g c =
-    on_err _ (unread_noted c.unread_words.result c.conclude.result c.conclude.ensures.status c.unread_words.ensures.no_other
-    (AppendsPrefix (g.N.Sink.told c.args.notes.now) (g.N.Sink.told c.conclude.new.notes)) c.conclude.ensures.prefix)
-
-pub returns-in-Err-clause-line_whole : goal.returns-in-Err-clause-line_whole
-returns-in-Err-clause-line_whole g c =
-    on_err _ (unread_noted c.unread_words.result c.conclude.result c.conclude.ensures.status c.unread_words.ensures.no_other
-    (λ line. Appends (g.N.Sink.told c.args.notes.now) (g.N.Sink.told c.conclude.new.notes) line ⊎ Rose (g.N.Sink.faults c.args.notes.now) (g.N.Sink.faults c.conclude.new.notes))
-    c.conclude.ensures.whole)
+pub returns-in-Err-clause-unread : goal.returns-in-Err-clause-unread
+returns-in-Err-clause-unread g c =
+    let old = streams c.args.source.now c.args.out.now c.args.notes.now in
+    let new = streams c.args.source.now c.args.out.now c.conclude.new.notes in
+    subst (λ words. IfErr words (AnswersNoWords g.S.Source g.K.Sink g.N.Sink c.conclude.result old new)) (sym c.in-Err.is)
+    (subst (λ status. AnswersNoWords g.S.Source g.K.Sink g.N.Sink status old new c.in-Err.kind) (sym c.conclude.ensures.status)
+    (answers_no_words _ _ _ _ _ _ c.conclude.ensures.prefix c.conclude.ensures.whole c.in-Err.kind c.unread_words.ensures.refusal
+    (λ is. ap status_of_ending (c.unread_words.ensures.no_memory is)) (λ other. ap status_of_ending (c.unread_words.ensures.no_text other)) refl refl))

@@ -1,0 +1,24 @@
+-- The summary of the ring.
+use Rattle.std.proofs.Common.{◌≡◌, ap, ◌∙◌, subst}
+use Rattle.model_core.specs.Meaning.{Meaning}
+use Rattle.model_text.specs.ModelTexts.{ModelOf}
+use Rattle.queue_models.specs.Meaning.{network_meaning}
+use Rattle.queue_models.specs.Rings.{ring_parts}
+use Rattle.sim_spec.specs.declared.terms.Terms.{Terms}
+use Rattle.sim_spec.specs.State.{initial_state}
+use Rattle.sim_text.specs.declared.telling.Telling.{Telling}
+use Rattle.btb_program.specs.Answer.{answer_from}
+use Rattle.btb_program.specs.Answered.{EndsModel}
+use Rattle.btb_program.proofs.EndingLemmas.{no_memory_left, run_ends}
+use Rattle.btb_program.proofs.running.run_demo.Goals as goal
+
+pub returns-in-Ok : goal.returns-in-Ok
+returns-in-Ok g c =
+    let with_meaning : Meaning → ModelOf = λ m. record { meaning = m; terms = c.in-Ok.terms } in
+    let with_terms : Terms → ModelOf = λ t. record { meaning = network_meaning (ring_parts c.args.n); terms = t } in
+    let Told : ModelOf → Type 0 = λ model. EndsModel g.K.Sink c.args.out.now c.run_model.new.out c.ending_of.result (answer_from (Telling.Demo c.args.n) model (initial_state model.meaning)) in
+    subst Told (ap with_meaning c.in-Ok.ensures.network ∙ ap with_terms c.in-Ok.ensures.terms)
+    (run_ends _ _ _ _ _ _ _ _ _ _ c.run_model.ensures.simulated c.run_model.ensures.handed c.ending_of.ensures c.telling_of.ensures)
+
+pub returns-in-Err : goal.returns-in-Err
+returns-in-Err g c = no_memory_left _ _ _
