@@ -1,7 +1,8 @@
 -- What is said of each place of two lists.
-use Rattle.std.proofs.Common.{◌≡◌, ℕ, suc, ◌<◌, List, [], ◌∷◌, length, get_or, arith}
-use Rattle.std.specs.Prelude.{Result, Ok, Err, IfOk}
+use Rattle.std.proofs.Common.{◌≡◌, ℕ, suc, ◌<◌, List, [], ◌∷◌, length, get_or, refl, arith}
+use Rattle.std.specs.Prelude.{Result, Ok, Err, IfOk, OnOk}
 use Rattle.std.specs.List.{AllZip}
+use Rattle.cycle_core.specs.Places.{EachPair}
 
 pub each-zip : {A : Type 0} (R : A → A → Type 0) (xs ys : List A) → length ys ≡ length xs → ((i : ℕ) (d : A) → i < length xs → R (get_or xs i d) (get_or ys i d)) → AllZip R xs ys
 each-zip R [] [] many each = tt
@@ -19,3 +20,16 @@ zip-into Q R into (x ∷ xs) (y ∷ ys) all = (into x y all.0, zip-into Q R into
 pub if-ok : {A E : Type 0} {P Q : A → Type 0} (r : Result A E) → ((x : A) → P x → Q x) → IfOk r P → IfOk r Q
 if-ok (Ok x) into is = into x is
 if-ok (Err e) into is = tt
+
+pub on-ok-both : {A E : Type 0} {P Q R : Type 0} (r : Result A E) → (P → Q → R) → OnOk r P → OnOk r Q → OnOk r R
+on-ok-both (Ok x) both p q = both p q
+on-ok-both (Err e) both p q = tt
+
+module _ {A : Type 0} (R : A → A → Type 0) where
+  -- what is said of each pair is said of the pairs in turn
+  pub pairs-zip : (xs ys : List A) → EachPair R xs ys → AllZip R xs ys
+  pairs-zip [] [] pairs = tt
+  pairs-zip [] (y ∷ ys) pairs = absurd (let many = pairs.many in omega arith)
+  pairs-zip (x ∷ xs) [] pairs = absurd (let many = pairs.many in omega arith)
+  pairs-zip (x ∷ xs) (y ∷ ys) pairs =
+      (pairs.pairs 0 x y refl refl, pairs-zip xs ys (record { many = (let many = pairs.many in omega arith); pairs = λ k a b at_a at_b. pairs.pairs (suc k) a b at_a at_b }))

@@ -20,58 +20,6 @@ use Rattle.node_team.proofs.SeatingLemmas.{at-each-place}
 use Rattle.node_team.specs.Releases.{arrived_in, AreFree, HasPosted, HavePosted}
 
 module _ {E : Type 0} (lanes : NodeEnd E) where
-  -- the ends of the first so many nodes have posted, and the others wait
-  pub record HavePostedUpto (place : ℕ) (handed commits : List Committed) (befores inboxes : List Inbox) (old new : List E) : Type 0 where
-    pub as_many_commits : length commits ≡ length handed
-    pub as_many_inboxes : length inboxes ≡ length befores
-    pub as_many_ends : length new ≡ length old
-    pub each : (number : ℕ) (c d : Committed) (a b : Inbox) (x y : E) → number < place → slice_get handed number ≡ Some c → slice_get commits number ≡ Some d
-        → slice_get befores number ≡ Some a → slice_get inboxes number ≡ Some b → slice_get old number ≡ Some x → slice_get new number ≡ Some y
-        → HasPosted lanes number c d a b x y
-    pub same_commits : (number : ℕ) → place ≤ number → slice_get commits number ≡ slice_get handed number
-    pub same_inboxes : (number : ℕ) → place ≤ number → slice_get inboxes number ≡ slice_get befores number
-    pub same_ends : (number : ℕ) → place ≤ number → slice_get new number ≡ slice_get old number
-
-  -- one more
-  pub posted-more : (place : ℕ) (handed commits : List Committed) (befores inboxes : List Inbox) (old new : List E) (c d : Committed) (a b : Inbox) (x y : E)
-      → HavePostedUpto place handed commits befores inboxes old new → slice_get commits place ≡ Some c → slice_get inboxes place ≡ Some a → slice_get new place ≡ Some x → HasPosted lanes place c d a b x y
-      → HavePostedUpto (place + 1) handed (slice_set commits place d) befores (slice_set inboxes place b) old (slice_set new place y)
-  posted-more place handed commits befores inboxes old new c d a b x y upto at_c at_a at_x posted = record {
-    as_many_commits = length-set commits place d ∙ upto.as_many_commits;
-    as_many_inboxes = length-set inboxes place b ∙ upto.as_many_inboxes;
-    as_many_ends = length-set new place y ∙ upto.as_many_ends;
-    each = λ number c' d' a' b' x' y' below. by_place number c' d' a' b' x' y' below (eqb number place) refl;
-    same_commits = λ number from. at-other commits place number d (λ same. omega arith) ∙ upto.same_commits number (omega arith);
-    same_inboxes = λ number from. at-other inboxes place number b (λ same. omega arith) ∙ upto.same_inboxes number (omega arith);
-    same_ends = λ number from. at-other new place number y (λ same. omega arith) ∙ upto.same_ends number (omega arith);
-  }
-    where
-      by_place : (number : ℕ) (c' d' : Committed) (a' b' : Inbox) (x' y' : E) → number < place + 1 → (t : Bool) → eqb number place ≡ t
-          → slice_get handed number ≡ Some c' → slice_get (slice_set commits place d) number ≡ Some d' → slice_get befores number ≡ Some a' → slice_get (slice_set inboxes place b) number ≡ Some b' → slice_get old number ≡ Some x'
-          → slice_get (slice_set new place y) number ≡ Some y' → HasPosted lanes number c' d' a' b' x' y'
-      by_place number c' d' a' b' x' y' below true h at_c' at_d' at_a' at_b' at_x' at_y' =
-          let same = eqb-true number place h in
-          let is_c : c ≡ c' = same-some c c' (sym at_c ∙ upto.same_commits place (omega arith) ∙ ap (slice_get handed) (sym same) ∙ at_c') in
-          let is_a : a ≡ a' = same-some a a' (sym at_a ∙ upto.same_inboxes place (omega arith) ∙ ap (slice_get befores) (sym same) ∙ at_a') in
-          let is_x : x ≡ x' = same-some x x' (sym at_x ∙ upto.same_ends place (omega arith) ∙ ap (slice_get old) (sym same) ∙ at_x') in
-          let is_d : d ≡ d' = same-some d d' (sym (at-set commits place d (slice_get_within commits place c at_c)) ∙ ap (slice_get (slice_set commits place d)) (sym same) ∙ at_d') in
-          let is_b : b ≡ b' = same-some b b' (sym (at-set inboxes place b (slice_get_within inboxes place a at_a)) ∙ ap (slice_get (slice_set inboxes place b)) (sym same) ∙ at_b') in
-          let is_y : y ≡ y' = same-some y y' (sym (at-set new place y (slice_get_within new place x at_x)) ∙ ap (slice_get (slice_set new place y)) (sym same) ∙ at_y') in
-          rw (same, ← is_c, ← is_d, ← is_a, ← is_b, ← is_x, ← is_y) posted
-      by_place number c' d' a' b' x' y' below false h at_c' at_d' at_a' at_b' at_x' at_y' =
-          let apart = eqb-false number place h in
-          upto.each number c' d' a' b' x' y' (omega arith) at_c' (sym (at-other commits place number d apart) ∙ at_d') at_a' (sym (at-other inboxes place number b apart) ∙ at_b') at_x'
-          (sym (at-other new place number y apart) ∙ at_y')
-
-  pub posted-all : (place : ℕ) (handed commits : List Committed) (befores inboxes : List Inbox) (old new : List E) → length handed ≤ place → HavePostedUpto place handed commits befores inboxes old new
-      → HavePosted lanes handed commits befores inboxes old new
-  posted-all place handed commits befores inboxes old new far upto = record {
-    as_many_commits = upto.as_many_commits;
-    as_many_inboxes = upto.as_many_inboxes;
-    as_many_ends = upto.as_many_ends;
-    each = λ number c d a b x y at_c. upto.each number c d a b x y (let lt = slice_get_within handed number c at_c in omega arith) at_c;
-  }
-
   module _ (handed commits : List Committed) (befores inboxes : List Inbox) (old new : List E) (posted : HavePosted lanes handed commits befores inboxes old new)
       (as_many : length befores ≡ length handed) (as_wide : length old ≡ length handed) where
     one-posted : (number : ℕ) (c : Committed) (x y : E) → slice_get handed number ≡ Some c → slice_get old number ≡ Some x → slice_get new number ≡ Some y

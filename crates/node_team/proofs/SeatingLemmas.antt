@@ -28,8 +28,9 @@ use Rattle.cycle_core.specs.Works.{IsSmall}
 use Rattle.cycle_core.proofs.PlaceLemmas.{same-some}
 use Rattle.node_team.specs.declared.seating.Seated.{Seated}
 use Rattle.node_team.specs.Advances.{AreFrom, CanAdvance}
-use Rattle.node_team.specs.Forks.{CanGo, AllCanGo, HasGone, AllHaveGone, HasRun, AllHaveRun, CanAllRun}
-use Rattle.node_team.specs.Teams.{node_in, IsFloorOf, AreSeatedWith, AllAnswered}
+use Rattle.node_team.specs.Forks.{CanGo, HasRun, AllHaveRun, CanAllRun}
+use Rattle.node_team.specs.Teams.{IsFloorOf}
+use Rattle.node_team.specs.Turns.{node_in, AllAnswered, AllCanGo, AllHaveGone, AreSeatedWith, HasGone}
 
 each-from : (P : Event → Type 0) (xs : List Event) → ((e : Event) → Contains xs e → P e) → Each P xs
 each-from P [] all = tt

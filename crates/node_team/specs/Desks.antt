@@ -1,5 +1,6 @@
--- Nodes that release at their desks.
-use Rattle.std.specs.Prelude.{◌≡◌, ℕ, ◌*◌, ◌<◌, ◌^◌, All, List, [], length, map, IsOk, OnOk}
+-- Nodes that release, each beside what it releases by.
+use Rattle.std.specs.Prelude.{◌≡◌, ℕ, ◌*◌, ◌<◌, ◌^◌, List, [], ◌∷◌, length}
+use Rattle.std.specs.List.{AllByRecursion, AllZip}
 use Rattle.model_core.specs.Meaning.{Meaning}
 use Rattle.world_spec.specs.Moves.{IsDueDone}
 use Rattle.release_lanes.specs.declared.lanes.NodeEnd.{Ghosts as NodeEnd}
@@ -8,45 +9,47 @@ use Rattle.node_core.specs.declared.committed.Committed.{Committed}
 use Rattle.node_core.specs.Blank.{IsBlank}
 use Rattle.node_core.specs.Calls.{HasCommitted}
 use Rattle.node_core.specs.Nodes.{NodeView, home, data_of}
+use Rattle.cycle_core.specs.Blank.{AreBlank}
+use Rattle.cycle_core.specs.Cuts.{CanEnd}
+use Rattle.cycle_core.specs.Ends.{CommitUpto}
 use Rattle.cycle_core.specs.Places.{AtEach}
-use Rattle.node_team.specs.declared.desks.Desk.{Desk}
-use Rattle.node_team.specs.declared.parts.Due.{Due}
-use Rattle.node_team.specs.declared.parts.Parts.{Parts}
-use Rattle.node_team.specs.Releases.{HasPosted}
+use Rattle.node_team.specs.declared.releasing.Due.{Due}
+use Rattle.node_team.specs.Releases.{AreClear, AreFree, HasPosted, HavePosted}
+
+-- a node, its end of the lanes, what it commits, and what comes to it
+pub record Desk (M E : Type 0) : Type 0 where
+  pub node : NodeView M
+  pub end : E
+  pub commit : Committed
+  pub inbox : Inbox
+
+-- those of several nodes, in four lists
+pub record Desks (M E : Type 0) : Type 0 where
+  pub nodes : List (NodeView M)
+  pub ends : List E
+  pub committed : List Committed
+  pub inboxes : List Inbox
 
 module _ {M E : Type 0} where
-  abbrev pub node_at : Desk M E → NodeView M
-  node_at desk = desk.node
+  abbrev pub desk_of : NodeView M → E → Committed → Inbox → Desk M E
+  desk_of node end commit inbox = record { node = node; end = end; commit = commit; inbox = inbox }
 
-  abbrev pub end_at : Desk M E → E
-  end_at desk = desk.end
-
-  abbrev pub commit_at : Desk M E → Committed
-  commit_at desk = desk.commit
-
-  abbrev pub inbox_at : Desk M E → Inbox
-  inbox_at desk = desk.inbox
+  abbrev pub desks_of : List (NodeView M) → List E → List Committed → List Inbox → Desks M E
+  desks_of nodes ends committed inboxes = record { nodes = nodes; ends = ends; committed = committed; inboxes = inboxes }
 
   -- as many of each part as there are nodes
-  pub record AreAsMany (parts : Parts M E) : Type 0 where
-    pub ends : length parts.ends.items ≡ length parts.nodes.items
-    pub committed : length parts.committed.items ≡ length parts.nodes.items
-    pub inboxes : length parts.inboxes.items ≡ length parts.nodes.items
+  pub record AreAsMany (all : Desks M E) : Type 0 where
+    pub ends : length all.ends ≡ length all.nodes
+    pub committed : length all.committed ≡ length all.nodes
+    pub inboxes : length all.inboxes ≡ length all.nodes
 
-  -- at these desks are these parts, each at its place
-  pub record HaveParts (parts : Parts M E) (desks : List (Desk M E)) : Type 0 where
-    pub nodes : map node_at desks ≡ parts.nodes.items
-    pub ends : map end_at desks ≡ parts.ends.items
-    pub committed : map commit_at desks ≡ parts.committed.items
-    pub inboxes : map inbox_at desks ≡ parts.inboxes.items
+  -- what stands at the same place of four lists, place by place
+  unfoldable pub zip_desks : List (NodeView M) → List E → List Committed → List Inbox → List (Desk M E)
+  zip_desks (n ∷ ns) (e ∷ es) (c ∷ cs) (i ∷ is) = desk_of n e c i ∷ zip_desks ns es cs is
+  zip_desks ns es cs is = []
 
-  -- each has the number of its place
-  abbrev pub AreNumbered : List (Desk M E) → Type 0
-  AreNumbered = AtEach (λ place desk. desk.number ≡ place)
-
-  -- no release was refused
-  abbrev pub AllAnswered : List (Desk M E) → Type 0
-  AllAnswered = All (λ desk. IsOk desk.answer)
+  abbrev pub desks_in : Desks M E → List (Desk M E)
+  desks_in all = zip_desks all.nodes all.ends all.committed all.inboxes
 
   module _ (lanes : NodeEnd E) (meaning_of : M → Meaning) (due : Due) where
     -- the node can commit what is due, and its end can post it
@@ -55,7 +58,7 @@ module _ {M E : Type 0} where
       pub few : 8 * length desk.node.processed < 2 ^ 60
       pub blank : IsBlank desk.node.homes.nodes desk.commit
       pub early : desk.inbox.early.items ≡ []
-      pub number : lanes.number desk.end ≡ desk.number
+      pub number : lanes.number desk.end ≡ desk.node.number
       pub wide : lanes.nodes desk.end ≡ desk.node.homes.nodes
       pub narrow : desk.node.homes.nodes < 2 ^ 32
       pub free : (to : ℕ) → to < desk.node.homes.nodes → lanes.is_free desk.end to
@@ -64,8 +67,29 @@ module _ {M E : Type 0} where
     pub record HasReleased (old new : Desk M E) : Type 0 where
       pub handed : Committed
       pub commits : HasCommitted (meaning_of old.node.model) due.bound due.below old.node new.node handed.done.items handed.out.items
-      pub posted : HasPosted lanes old.number handed new.commit old.inbox new.inbox old.end new.end
+      pub posted : HasPosted lanes old.node.number handed new.commit old.inbox new.inbox old.end new.end
 
-    -- it has, unless it was refused
-    abbrev pub HasServed : Desk M E → Desk M E → Type 0
-    HasServed old new = OnOk new.answer (HasReleased old new)
+    -- each of these can
+    pub record CanServe (all : Desks M E) : Type 0 where
+      pub many : AreAsMany all
+      pub each : AllByRecursion CanRelease (desks_in all)
+
+    -- each has
+    pub record HaveServed (old new : Desks M E) : Type 0 where
+      pub many : AreAsMany new
+      pub each : AllZip HasReleased (desks_in old) (desks_in new)
+
+    -- the nodes of a world can, as one
+    pub record CanAllRelease (all : Desks M E) : Type 0 where
+      pub can : CanEnd meaning_of due.bound due.below all.nodes
+      pub numbered : AtEach (λ place n. n.number ≡ place) all.nodes
+      pub free : AreFree lanes (length all.nodes) all.ends
+      pub blank : AreBlank (length all.nodes) all.committed
+      pub clear : AreClear (length all.nodes) all.inboxes
+      pub few : length all.nodes < 2 ^ 32
+
+    -- each of them has committed what was due, and its end has posted it
+    pub record HaveReleased (old new : Desks M E) : Type 0 where
+      pub handed : List Committed
+      pub committed : CommitUpto meaning_of due.bound due.below (length old.nodes) old.nodes new.nodes handed
+      pub posted : HavePosted lanes handed new.committed old.inboxes new.inboxes old.ends new.ends

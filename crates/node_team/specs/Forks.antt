@@ -1,31 +1,17 @@
--- What a fork over nodes at their seats needs, and what it leaves.
-use Rattle.std.specs.Prelude.{◌≡◌, ℕ, All, List, OnOk}
-use Rattle.std.specs.List.{AllZip}
+-- What the advance of several nodes needs, and what it leaves.
+use Rattle.std.specs.Prelude.{◌≡◌, ℕ, All, List}
 use Rattle.model_core.specs.Meaning.{Meaning}
 use Rattle.horizon_word.specs.Views.{WordId, SeatView, IsSeatOf}
 use Rattle.node_core.specs.Nodes.{NodeView}
 use Rattle.cycle_core.specs.Places.{AtEach, EachPair}
 use Rattle.cycle_core.specs.Works.{WorksOn}
-use Rattle.node_team.specs.declared.seating.Seated.{Seated}
-use Rattle.node_team.specs.Advances.{CanAdvance, IsAdvanced, IsDeep}
+use Rattle.node_team.specs.Advances.{CanAdvance, IsDeep}
 
 module _ {M : Type 0} (meaning_of : M → Meaning) (word : WordId) where
   -- a node can advance with a seat of the word
   pub record CanGo (n : NodeView M) (seat : SeatView) : Type 0 where
     pub seat_of : IsSeatOf word seat
     pub can : CanAdvance (meaning_of n.model) n seat
-
-  -- it has advanced with it
-  pub record HasGone (ahead : ℕ) (old new : Seated M) : Type 0 where
-    pub works : WorksOn (meaning_of old.node.model) old.node new.node
-    pub seat_of : IsSeatOf word new.seat
-    pub advanced : OnOk new.answer (IsAdvanced (meaning_of old.node.model) ahead old.node old.seat new.node new.seat)
-
-  abbrev pub AllCanGo : List (Seated M) → Type 0
-  AllCanGo = All (λ seated. CanGo seated.node seated.seat)
-
-  abbrev pub AllHaveGone : ℕ → List (Seated M) → List (Seated M) → Type 0
-  AllHaveGone ahead = AllZip (HasGone ahead)
 
   -- each node can advance with a seat like these, which are alike
   pub record CanAllRun (nodes : List (NodeView M)) (seats : List SeatView) : Type 0 where

@@ -3,6 +3,8 @@ pub mod Cycles
 pub mod Desks
 pub mod Forks
 pub mod Handings
+pub mod Readiness
 pub mod Releases
 pub mod Rises
 pub mod Teams
+pub mod Turns

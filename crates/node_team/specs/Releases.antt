@@ -1,19 +1,17 @@
--- What nodes release at the end of a cycle, and what comes to them.
-use Rattle.std.specs.Prelude.{◌≡◌, ℕ, ◌<◌, ◌^◌, All, List, [], length, map, slice_get, Some}
+-- What the ends of nodes post, and what comes to them.
+use Rattle.std.specs.Prelude.{◌≡◌, ℕ, ◌<◌, All, List, [], length, map, slice_get, slice_index_or, Option, Some, IsPermutation}
 use Rattle.std.specs.List.{range_with_len}
+use Rattle.event_key.specs.declared.key.Key.{Key}
 use Rattle.model_core.specs.declared.event.Event.{Event}
 use Rattle.model_core.specs.Meaning.{Meaning}
 use Rattle.release_lanes.specs.declared.lanes.NodeEnd.{Ghosts as NodeEnd}
 use Rattle.parcel_exchange.specs.declared.inbox.Inbox.{Inbox}
 use Rattle.parcel_exchange.specs.Exchange.{HasExchanged}
 use Rattle.node_core.specs.declared.committed.Committed.{Committed}
-use Rattle.cycle_core.specs.Blank.{AreBlank}
-use Rattle.cycle_core.specs.Cuts.{CanEnd}
-use Rattle.cycle_core.specs.Ends.{CommitUpto}
+use Rattle.node_core.specs.Nodes.{NodeView}
+use Rattle.cycle_core.specs.Ends.{CommitUpto, sent_to}
 use Rattle.cycle_core.specs.Places.{AtEach}
-use Rattle.cycle_core.specs.Sendings.{HasSent}
-use Rattle.node_team.specs.declared.parts.Due.{Due}
-use Rattle.node_team.specs.declared.parts.Parts.{Parts}
+use Rattle.cycle_core.specs.Sendings.{HasSent, HaveSent}
 
 abbrev pub arrived_in : Inbox → List Event
 arrived_in inbox = inbox.arrived
@@ -47,17 +45,11 @@ module _ {E : Type 0} (lanes : NodeEnd E) where
         → slice_get befores number ≡ Some a → slice_get inboxes number ≡ Some b → slice_get old number ≡ Some x → slice_get new number ≡ Some y
         → HasPosted number c d a b x y
 
-  module _ {M : Type 0} (meaning_of : M → Meaning) (due : Due) where
-    -- these nodes can commit what is due, and their ends can post it
-    pub record CanAllRelease (parts : Parts M E) : Type 0 where
-      pub can : CanEnd meaning_of due.bound due.below parts.nodes.items
-      pub free : AreFree (length parts.nodes.items) parts.ends.items
-      pub blank : AreBlank (length parts.nodes.items) parts.committed.items
-      pub clear : AreClear (length parts.nodes.items) parts.inboxes.items
-      pub few : length parts.nodes.items < 2 ^ 32
-
-    -- each node has committed what was due, and its end has posted it
-    pub record HaveReleased (old new : Parts M E) : Type 0 where
-      pub handed : List Committed
-      pub committed : CommitUpto meaning_of due.bound due.below (length old.nodes.items) old.nodes.items new.nodes.items handed
-      pub posted : HavePosted handed new.committed.items old.inboxes.items new.inboxes.items old.ends.items new.ends.items
+-- what is due at these nodes is committed, which leaves these lists, and all that it sent has arrived in these inboxes
+pub record HaveCome {M : Type 0} (meaning_of : M → Meaning) (bound : ℕ) (cut : Option Key) (old new : List (NodeView M)) (commits : List Committed) (inboxes : List Inbox) : Type 0 where
+  pub handed : List Committed
+  pub committed : CommitUpto meaning_of bound cut (length old) old new handed
+  pub sent : HaveSent handed commits
+  pub many : length inboxes ≡ length old
+  pub early : AtEach (λ place inbox. inbox.early.items ≡ []) inboxes
+  pub comes : (to : ℕ) → to < length old → IsPermutation (sent_to to handed) (slice_index_or (map arrived_in inboxes) to [])

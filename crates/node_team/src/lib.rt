@@ -4,17 +4,16 @@
 mod advancing;
 mod arriving;
 mod cycling;
-mod desks;
 mod ending;
+mod floor;
 mod gate;
 mod handing;
 mod kept;
-mod parts;
 mod paying;
-mod posting;
 mod releasing;
 mod running;
 mod seating;
+mod setting;
 mod stealing;
 mod team;
 

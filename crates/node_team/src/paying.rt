@@ -1,4 +1,5 @@
 //! When a fork pays.
+ghost use Rattle.std.specs.Prelude.{◌<◌};
 
 /// In how many threads a phase of a cycle runs at most. Beyond that a thread does several nodes one after another: a fork in
 /// four costs 65 microseconds on an idle machine, in eight 190, in sixteen 500 and more, while few programs have more than
@@ -40,17 +41,31 @@ impl Load {
     }
 
     /// In how many threads the nodes advance.
-    pub fn advance_threads(&self) -> usize {
+    pub fn advance_threads(&self) -> usize
+        ensures { 0 < result }
+    {
         threads(self.processed >= MANY_EVENTS)
     }
 
     /// In how many threads they commit.
-    pub fn commit_threads(&self) -> usize {
+    pub fn commit_threads(&self) -> usize
+        ensures { 0 < result }
+    {
         threads(self.committed >= MANY_EVENTS)
     }
 }
 
+/// How many of so many nodes one of so many threads serves at most, at least one.
+pub fn share(nodes: usize, threads: usize) -> usize
+    requires { 0 < threads }
+    ensures { 0 < result }
+{
+    nodes.div_ceil(threads).max(1)
+}
+
 /// The calling thread alone, unless a fork pays.
-fn threads(pays: bool) -> usize {
+fn threads(pays: bool) -> usize
+    ensures { 0 < result }
+{
     if pays { MOST_THREADS } else { 1 }
 }

@@ -1,14 +1,13 @@
-//! The word's floor, and nodes that advance at their seats.
-ghost use Rattle.std.specs.Prelude.{◌≡◌, ◌<◌, ◌≤◌, All, length, map, IfOk, OnOk};
+//! Nodes that advance at their seats, for a fork.
+ghost use Rattle.std.specs.Prelude.{◌≡◌, ◌<◌, ◌≤◌, All, IfOk, OnOk, length, map};
 ghost use Rattle.std.specs.Thread.{IsSend, IsSync};
 ghost use Rattle.horizon_word.specs.Views.{SeatView};
-ghost use Rattle.cycle_core.specs.Places.{AtEach};
-ghost use Rattle.node_team.specs.Forks.{AllCanGo, AllHaveGone, CanGo, HasGone};
-ghost use Rattle.node_team.specs.Teams.{node_in, AllAnswered, AreSeatedWith, IsFloorOf};
+ghost use Rattle.node_team.specs.Forks.{CanGo};
+ghost use Rattle.node_team.specs.Turns.{node_in, AllAnswered, AllCanGo, AllHaveGone, AreSeatedWith, HasGone};
 
 use crate::advancing::advance;
 use crate::gate::Gate;
-use cycle_core::know;
+use crate::setting::Setting;
 use horizon_word::{HorizonWord, WordSeat};
 use model_core::OutOfMemory;
 use model_core::model::Model as SimulationModel;
@@ -16,7 +15,7 @@ use node_core::Node;
 use std::alloc::Global;
 use std::thread::{Threads, for_each_mut};
 
-/// A node, its seat on the word, and what its advance answered.
+/// A node, its seat on the word, and what its advance answered: one turn of a fork.
 #[derive(Drop)]
 pub struct Seated<M: SimulationModel> {
     pub node: Node<M>,
@@ -25,62 +24,40 @@ pub struct Seated<M: SimulationModel> {
 }
 
 /// Advances the node of one seat.
-pub fn go<M: SimulationModel, G: Gate>(
-    alloc: Global,
+pub fn advance_seated<R, M: SimulationModel, G: Gate>(
+    setting: &Setting<R, G>,
     word: &HorizonWord,
-    ahead: u32,
-    gate: &G,
     seated: &mut Seated<M>,
 )
     requires { CanGo M.meaning word.now seated.old.node seated.old.seat }
-    ensures { HasGone M.meaning word.now ahead seated.old seated.new }
+    ensures { HasGone M.meaning word.now setting.now.ahead seated.old seated.new }
 {
-    seated.answer = advance(alloc, &mut seated.node, word, &mut seated.seat, ahead, gate);
+    seated.answer = advance(
+        setting.alloc,
+        &mut seated.node,
+        word,
+        &mut seated.seat,
+        setting.ahead,
+        setting.gate,
+    );
 }
 
 /// Advances each node, in so many threads at most, the calling one among them.
 pub fn advance_all<R: Threads + Sync, M: SimulationModel, G: Gate>(
-    rt: &R,
-    alloc: Global,
+    setting: &Setting<R, G>,
     word: &HorizonWord,
-    ahead: u32,
-    gate: &G,
     threads: usize,
     all: &mut [Seated<M>],
 )
     requires threads { 0 < threads }
     requires can { AllCanGo M.meaning word.now all.old }
-    ensures { AllHaveGone M.meaning word.now ahead all.old all.new }
+    ensures { AllHaveGone M.meaning word.now setting.now.ahead all.old all.new }
 {
     let work = |_place: usize, seated: &mut Seated<M>|
-        requires { IsSync G.row × IsSend M.row × IsSync M.row × CanGo M.meaning word.now seated.old.node seated.old.seat }
-        ensures { HasGone M.meaning word.entry.now ahead seated.old seated.new }
-    { go(alloc, word, ahead, gate, seated) };
-    for_each_mut(rt, all, threads, &work);
-}
-
-/// The lesser of a floor, and one more than the least stamp of a node's events.
-fn lower_floor<M: SimulationModel>(node: &Node<M>, floor: u64) -> u64
-    ensures lower { result ≤ floor }
-    ensures floor { IsFloorOf (M.meaning node.now.model) result node.now }
-{
-    know(node);
-    match node.least() {
-        Some(key) if key.stamp < floor => key.stamp + 1,
-        _ => floor,
-    }
-}
-
-/// One more than the least stamp of the nodes' events, or the end.
-pub fn floor_of<M: SimulationModel>(nodes: &[Node<M>], end: u64) -> u64
-    ensures end { result ≤ end }
-    ensures floor { AtEach (λ number n. IsFloorOf (M.meaning n.model) result n) nodes.now }
-{
-    let mut floor = end;
-    for node in nodes {
-        floor = lower_floor(node, floor);
-    }
-    floor
+        requires { IsSync R.row × IsSync G.row × IsSend M.row × IsSync M.row × CanGo M.meaning word.now seated.old.node seated.old.seat }
+        ensures { HasGone M.meaning word.entry.now setting.entry.now.ahead seated.old seated.new }
+    { advance_seated(setting, word, seated) };
+    for_each_mut(setting.rt, all, threads, &work);
 }
 
 /// Gives each node a seat, taken from a list.
@@ -107,6 +84,16 @@ pub fn seat_all<M: SimulationModel>(
     Ok(all)
 }
 
+/// Answers the refusal of an advance, if one was refused.
+fn answer_of<M: SimulationModel>(all: &[Seated<M>]) -> Result<(), OutOfMemory>
+    ensures { OnOk result (AllAnswered all.now) }
+{
+    for seated in all {
+        seated.answer?;
+    }
+    Ok(())
+}
+
 /// Takes the nodes from their seats. Where an advance was refused, so is this.
 pub fn unseat_all<M: SimulationModel>(
     alloc: Global,
@@ -115,15 +102,10 @@ pub fn unseat_all<M: SimulationModel>(
     ensures nodes { IfOk result (λ nodes. nodes.items ≡ map node_in all.items) }
     ensures answers { OnOk result (AllAnswered all.items) }
 {
+    answer_of(&all)?;
     let mut nodes = Vec::with_capacity(alloc, all.len())?;
-    for each in all {
-        let Seated {
-            node,
-            seat: _,
-            answer,
-        } = each;
-        answer?;
-        nodes.push(node)?;
+    for seated in all {
+        nodes.push_reserved(seated.node);
     }
     Ok(nodes)
 }

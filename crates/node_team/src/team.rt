@@ -12,6 +12,7 @@ ghost use Rattle.node_team.specs.Cycles.{HasDoneCycle};
 use crate::cycling::cycle;
 use crate::gate::Gate;
 use crate::kept::Kept;
+use crate::setting::Setting;
 use cycle_core::{State, World};
 use model_core::model::Model as SimulationModel;
 use model_core::{OutOfMemory, Records};
@@ -29,22 +30,20 @@ use std::thread::Threads;
 #[derive(Drop)]
 pub struct Team<M: SimulationModel, L: Lanes> {
     world: World<M>,
-    lanes: L,
     ahead: u32,
-    kept: Kept,
+    kept: Kept<L>,
 }
 
 impl<M: SimulationModel, L: Lanes> Model for Team<M, L> {
     ghost use Rattle.std.specs.Prelude.{◌≡◌, false};
-    ghost use Rattle.node_team.specs.Releases.{AreClear};
+    ghost use Rattle.node_team.specs.Readiness.{IsReady};
     ghost use Rattle.node_team.specs.Teams.{TeamView};
 
     ghost Value = { TeamView M };
 
     ghost view = { λ team. record { world = team.world; ahead = team.ahead } };
 
-    ghost invariant = { λ team. (L.nodes team.lanes ≡ team.world.homes.nodes)
-        × (team.world.is_spent ≡ false → L.are_at_rest team.lanes × AreClear team.world.homes.nodes team.kept.inboxes.items) };
+    ghost invariant = { λ team. team.world.is_spent ≡ false → IsReady L.nodes L.are_at_rest team.world.homes.nodes team.kept };
 }
 
 impl<M: SimulationModel, L: Lanes + Drop> Team<M, L> {
@@ -61,13 +60,8 @@ impl<M: SimulationModel, L: Lanes + Drop> Team<M, L> {
         ensures world { IfOk result (λ team. team.world ≡ world) }
         ensures ahead { IfOk result (λ team. team.ahead ≡ ahead) }
     {
-        let kept = Kept::new(alloc, world.nodes())?;
-        Ok(Team {
-            world,
-            lanes,
-            ahead,
-            kept,
-        })
+        let kept = Kept::new(alloc, lanes, world.nodes())?;
+        Ok(Team { world, ahead, kept })
     }
 
     /// The world.
@@ -149,16 +143,14 @@ impl<M: SimulationModel, L: Lanes + Drop> Team<M, L> {
         requires { CanCycle (M.meaning self.old.world.model) self.old.world }
         ensures { HasDoneCycle M.meaning self.old result self.new }
     {
-        cycle(
+        let setting = Setting {
             rt,
             alloc,
-            &mut self.world,
-            &mut self.lanes,
-            &mut self.kept,
-            self.ahead,
-            None,
             gate,
-        )
+            ahead: self.ahead,
+            workers: None,
+        };
+        cycle(&setting, &mut self.world, &mut self.kept)
     }
 
     /// One cycle, in which so many workers, 1 to 64, take the nodes' turns of the advance and steal them from each other,
@@ -174,15 +166,13 @@ impl<M: SimulationModel, L: Lanes + Drop> Team<M, L> {
         requires can { CanCycle (M.meaning self.old.world.model) self.old.world }
         ensures { HasDoneCycle M.meaning self.old result self.new }
     {
-        cycle(
+        let setting = Setting {
             rt,
             alloc,
-            &mut self.world,
-            &mut self.lanes,
-            &mut self.kept,
-            self.ahead,
-            Some(workers),
             gate,
-        )
+            ahead: self.ahead,
+            workers: Some(workers),
+        };
+        cycle(&setting, &mut self.world, &mut self.kept)
     }
 }

@@ -9,6 +9,7 @@ mod refusals;
 mod saved;
 mod team_run;
 mod texts;
+mod threads;
 mod world_run;
 
 use model_text::{AnyModel, read_model};

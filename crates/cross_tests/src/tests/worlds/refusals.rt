@@ -5,6 +5,7 @@ use super::{SHOP, network_of};
 use crate::tests::stingy::Stingy;
 use model_core::model::Model as SimulationModel;
 use model_text::AnyModel;
+use node_team::Open;
 use sim_io::put_done;
 use sim_spec::Bucket;
 use std::alloc::Global;
@@ -39,7 +40,7 @@ fn told_by<R: Abort + Threads + Sync, M: SimulationModel>(
 ) -> Result<(Vec<u8>, bool), Fail> {
     let mut text = Vec::new(alloc);
     for _ in 0..13 {
-        match run.next(rt, alloc) {
+        match run.next(rt, alloc, &Open) {
             Ok(Some(bucket)) => put_bucket(rt, alloc, names, &bucket, &mut text)?,
             Ok(None) => return Ok((text, true)),
             Err(_) => return Ok((text, false)),
@@ -63,8 +64,8 @@ fn ends_after<R: Abort + Threads + Sync>(rt: &R, alloc: Global, before: u64) -> 
         assert!(rt; text.as_slice() == records.as_bytes());
     } else {
         assert!(rt; records.as_bytes().starts_with(text.as_slice()));
-        assert!(rt; run.next(rt, alloc).is_err());
-        assert!(rt; run.next(rt, alloc).is_err());
+        assert!(rt; run.next(rt, alloc, &Open).is_err());
+        assert!(rt; run.next(rt, alloc, &Open).is_err());
     }
     Ok(ended)
 }

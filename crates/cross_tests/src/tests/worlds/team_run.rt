@@ -5,7 +5,7 @@ ghost use Rattle.model_core.specs.declared.limits.TheConstants.{MOST_NODES};
 use cycle_core::World;
 use model_core::OutOfMemory;
 use model_core::model::Model as SimulationModel;
-use node_team::{Open, Team};
+use node_team::{Gate, Team};
 use release_lanes::RingLanes;
 use sim_spec::{Bucket, Placement, Terms};
 use std::alloc::Global;
@@ -50,15 +50,34 @@ impl<M: SimulationModel> TeamRun<M> {
         })
     }
 
-    /// One cycle, unless the simulation has ended.
-    pub fn next<R: Threads + Sync>(
+    /// How many events are done.
+    pub fn count(&self) -> u64 {
+        self.team.count()
+    }
+
+    /// One cycle, of which a gate is told, unless the simulation has ended.
+    pub fn next<R: Threads + Sync, G: Gate>(
         &mut self,
         rt: &R,
         alloc: Global,
+        gate: &G,
     ) -> Result<Option<Bucket>, OutOfMemory> {
         match self.team.ended() {
             Some(_) => Ok(None),
-            None => Ok(Some(self.team.cycle(rt, alloc, &Open)?)),
+            None => Ok(Some(self.team.cycle(rt, alloc, gate)?)),
+        }
+    }
+
+    /// The same, but two workers steal the nodes' turns from each other.
+    pub fn next_by_two<R: Threads + Sync, G: Gate>(
+        &mut self,
+        rt: &R,
+        alloc: Global,
+        gate: &G,
+    ) -> Result<Option<Bucket>, OutOfMemory> {
+        match self.team.ended() {
+            Some(_) => Ok(None),
+            None => Ok(Some(self.team.cycle_by(rt, alloc, 2, gate)?)),
         }
     }
 }

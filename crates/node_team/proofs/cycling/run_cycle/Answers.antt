@@ -11,7 +11,7 @@ commit_cut-requires-after_bounds g c lifetimes outlives =
     let w0 = c.args.world.now in
     let w1 = c.advance_world.new.world in
     let w2 = c.close_cycle.new.self in
-    let works = run-works g.M.Model.meaning c.args.ahead w0.nodes w1.nodes c.in_ok-advance_world.ensures.run in
+    let works = run-works g.M.Model.meaning c.args.setting.now.ahead w0.nodes w1.nodes c.in_ok-advance_world.ensures.run in
     (stands-two g.M.Model.meaning w0 w1 w2 c.in_ok-bound.bound c.in_ok-advance_world.ensures.world works (λ s at. c.in_ok-advance_world.ensures.stands s at)
     c.close_cycle.ensures.world c.close_cycle.ensures.works c.in_ok-bound.ensures.closed (λ s at. c.close_cycle.ensures.stands s at) c.requires.stands.0 c.requires.stands.1).has
 
@@ -20,7 +20,7 @@ end_world-requires-clause-stands g c lifetimes outlives =
     let w0 = c.args.world.now in
     let w1 = c.advance_world.new.world in
     let w2 = c.close_cycle.new.self in
-    let works = run-works g.M.Model.meaning c.args.ahead w0.nodes w1.nodes c.in_ok-advance_world.ensures.run in (
+    let works = run-works g.M.Model.meaning c.args.setting.now.ahead w0.nodes w1.nodes c.in_ok-advance_world.ensures.run in (
       c.requires.stands.0,
       stands-two g.M.Model.meaning w0 w1 w2 c.in_ok-bound.bound c.in_ok-advance_world.ensures.world works (λ s at. c.in_ok-advance_world.ensures.stands s at)
           c.close_cycle.ensures.world c.close_cycle.ensures.works c.in_ok-bound.ensures.closed (λ s at. c.close_cycle.ensures.stands s at) c.requires.stands.0 c.requires.stands.1,
@@ -31,7 +31,7 @@ end_world-requires-clause-closed g c lifetimes outlives =
     let w0 = c.args.world.now in
     let w1 = c.advance_world.new.world in
     let w2 = c.close_cycle.new.self in
-    let works = run-works g.M.Model.meaning c.args.ahead w0.nodes w1.nodes c.in_ok-advance_world.ensures.run in
+    let works = run-works g.M.Model.meaning c.args.setting.now.ahead w0.nodes w1.nodes c.in_ok-advance_world.ensures.run in
     closed-two g.M.Model.meaning w0 w1 w2 c.in_ok-bound.bound c.in_ok-advance_world.ensures.world works (λ s at. c.in_ok-advance_world.ensures.stands s at)
     c.close_cycle.ensures.world c.close_cycle.ensures.works c.in_ok-bound.ensures.closed (λ s at. c.close_cycle.ensures.stands s at)
 
@@ -40,7 +40,7 @@ finish-requires-clause-nodes g c lifetimes outlives =
     let w0 = c.args.world.now in
     let w1 = c.advance_world.new.world in
     let w2 = c.close_cycle.new.self in
-    let works = run-works g.M.Model.meaning c.args.ahead w0.nodes w1.nodes c.in_ok-advance_world.ensures.run in
+    let works = run-works g.M.Model.meaning c.args.setting.now.ahead w0.nodes w1.nodes c.in_ok-advance_world.ensures.run in
     let records = c.in_ok-records.records.items in
     let cycled = threaded-cycle g.M.Model.meaning w0 w1 w2 c.in_ok-bound.bound c.in_ok-advance_world.ensures.world works (λ s at. c.in_ok-advance_world.ensures.stands s at)
     c.close_cycle.ensures.world c.close_cycle.ensures.works c.in_ok-bound.ensures.closed (λ s at. c.close_cycle.ensures.stands s at) c.end_world.ensures.laws (λ place x at. c.in_ok-records.ensures.known place x at)
@@ -52,7 +52,7 @@ finish-requires-clause-count g c lifetimes outlives =
     let w0 = c.args.world.now in
     let w1 = c.advance_world.new.world in
     let w2 = c.close_cycle.new.self in
-    let works = run-works g.M.Model.meaning c.args.ahead w0.nodes w1.nodes c.in_ok-advance_world.ensures.run in
+    let works = run-works g.M.Model.meaning c.args.setting.now.ahead w0.nodes w1.nodes c.in_ok-advance_world.ensures.run in
     let records = c.in_ok-records.records.items in
     let cycled = threaded-cycle g.M.Model.meaning w0 w1 w2 c.in_ok-bound.bound c.in_ok-advance_world.ensures.world works (λ s at. c.in_ok-advance_world.ensures.stands s at)
     c.close_cycle.ensures.world c.close_cycle.ensures.works c.in_ok-bound.ensures.closed (λ s at. c.close_cycle.ensures.stands s at) c.end_world.ensures.laws (λ place x at. c.in_ok-records.ensures.known place x at)
@@ -66,7 +66,7 @@ returns-clause-bucket g c s stands =
     let w0 = c.args.world.now in
     let w1 = c.advance_world.new.world in
     let w2 = c.close_cycle.new.self in
-    let works = run-works g.M.Model.meaning c.args.ahead w0.nodes w1.nodes c.in_ok-advance_world.ensures.run in
+    let works = run-works g.M.Model.meaning c.args.setting.now.ahead w0.nodes w1.nodes c.in_ok-advance_world.ensures.run in
     let records = c.in_ok-records.records.items in
     let cycled = threaded-cycle g.M.Model.meaning w0 w1 w2 c.in_ok-bound.bound c.in_ok-advance_world.ensures.world works (λ s at. c.in_ok-advance_world.ensures.stands s at)
     c.close_cycle.ensures.world c.close_cycle.ensures.works c.in_ok-bound.ensures.closed (λ s at. c.close_cycle.ensures.stands s at) c.end_world.ensures.laws (λ place x at. c.in_ok-records.ensures.known place x at)
@@ -78,7 +78,7 @@ returns-clause-stands g c s stands =
     let w0 = c.args.world.now in
     let w1 = c.advance_world.new.world in
     let w2 = c.close_cycle.new.self in
-    let works = run-works g.M.Model.meaning c.args.ahead w0.nodes w1.nodes c.in_ok-advance_world.ensures.run in
+    let works = run-works g.M.Model.meaning c.args.setting.now.ahead w0.nodes w1.nodes c.in_ok-advance_world.ensures.run in
     let records = c.in_ok-records.records.items in
     let cycled = threaded-cycle g.M.Model.meaning w0 w1 w2 c.in_ok-bound.bound c.in_ok-advance_world.ensures.world works (λ s at. c.in_ok-advance_world.ensures.stands s at)
     c.close_cycle.ensures.world c.close_cycle.ensures.works c.in_ok-bound.ensures.closed (λ s at. c.close_cycle.ensures.stands s at) c.end_world.ensures.laws (λ place x at. c.in_ok-records.ensures.known place x at)
@@ -94,7 +94,7 @@ returns-clause-carried g c s stands =
     let w0 = c.args.world.now in
     let w1 = c.advance_world.new.world in
     let w2 = c.close_cycle.new.self in
-    let works = run-works g.M.Model.meaning c.args.ahead w0.nodes w1.nodes c.in_ok-advance_world.ensures.run in
+    let works = run-works g.M.Model.meaning c.args.setting.now.ahead w0.nodes w1.nodes c.in_ok-advance_world.ensures.run in
     let records = c.in_ok-records.records.items in
     let cycled = threaded-cycle g.M.Model.meaning w0 w1 w2 c.in_ok-bound.bound c.in_ok-advance_world.ensures.world works (λ s at. c.in_ok-advance_world.ensures.stands s at)
     c.close_cycle.ensures.world c.close_cycle.ensures.works c.in_ok-bound.ensures.closed (λ s at. c.close_cycle.ensures.stands s at) c.end_world.ensures.laws (λ place x at. c.in_ok-records.ensures.known place x at)
@@ -107,5 +107,5 @@ returns-clause-work g c =
     let w1 = c.advance_world.new.world in
     let w2 = c.close_cycle.new.self in
     rw c.finish.ensures
-    (all-rise g.M.Model.meaning c.args.ahead c.in_ok-bound.bound c.in_ok-cut.cut.below w0.nodes w1.nodes w2.nodes c.end_world.new.world.nodes c.in_ok-records.records.items c.in_ok-advance_world.ensures.run
+    (all-rise g.M.Model.meaning c.args.setting.now.ahead c.in_ok-bound.bound c.in_ok-cut.cut.below w0.nodes w1.nodes w2.nodes c.end_world.new.world.nodes c.in_ok-records.records.items c.in_ok-advance_world.ensures.run
     c.close_cycle.ensures.works c.in_ok-records.ensures.ended)

@@ -1,26 +1,38 @@
-use Rattle.std.proofs.Common.{◌≡◌, List, length, sym, ap, ◌∙◌, subst}
-use Rattle.std.specs.Prelude.{slice_get}
-use Rattle.node_core.specs.Nodes.{NodeView}
-use Rattle.cycle_core.specs.Ends.{CommitUpto}
-use Rattle.cycle_core.proofs.CyclingLemmas.{sends-to}
-use Rattle.std.proofs.lemmas.List.{with_items_is}
-use Rattle.node_team.proofs.ReleaseLemmas.{free-many}
+use Rattle.std.proofs.Common.{◌≡◌, ◌+◌, List, sym, ◌∙◌, subst, arith, add-one, length}
+use Rattle.std.proofs.lemmas.Option.{slice_get-get_or}
+use Rattle.cycle_core.proofs.PlaceLemmas.{IsUpto, upto-more}
+use Rattle.node_team.specs.Desks.{Desk, desk_of, desks_of, zip_desks, CanRelease, HasReleased}
+use Rattle.node_team.proofs.DeskLemmas.{each-at, served-all, zip-at, zip-set}
 use Rattle.node_team.proofs.releasing.release_in_turn.Goals as goal
 
-pub post_in_turn-requires-clause-ends : goal.post_in_turn-requires-clause-ends
-post_in_turn-requires-clause-ends g c lifetimes outlives =
-    let nodes = length c.args.parts.nodes.items in
-    let long : length c.commit_all.new.committed ≡ length c.args.parts.committed.items = c.commit_all.auto.committed ∙ ap length c.as_mut_slice-2.ensures.value in
-    let over = c.as_mut_slice-4.ensures.value ∙ with_items_is c.args.parts.committed c.commit_all.new.committed (long ∙ sym c.args.parts.committed.ok.0) in
-    ap length c.as_mut_slice-3.ensures.value ∙ free-many g.E.NodeEnd nodes c.args.parts.ends.items c.requires.free ∙ sym (ap length over ∙ long ∙ c.requires.blank.many)
+pub release-requires-after_bounds : goal.release-requires-after_bounds
+release-requires-after_bounds g c lifetimes outlives =
+    let i = c.loop-i.i in
+    let many = c.requires.many in
+    let at_node = slice_get-get_or c.loop-i.nodes i c.index-nodes-i.result (omega arith) in
+    let at_end = slice_get-get_or c.loop-i.ends i c.index-ends-i.result (omega arith) in
+    let at_commit = slice_get-get_or c.loop-i.committed i c.index-committed-i.result (omega arith) in
+    let at_inbox = slice_get-get_or c.loop-i.inboxes i c.index-inboxes-i.result (omega arith) in
+    let here = zip-at c.loop-i.nodes c.loop-i.ends c.loop-i.committed c.loop-i.inboxes i _ _ _ _ at_node at_end at_commit at_inbox in
+    each-at (CanRelease g.E.NodeEnd g.M.Model.meaning c.args.due.now) _ c.requires.each i _ (sym (c.loop-i.invariant.rest i (omega arith)) ∙ here)
 
-pub post_in_turn-requires-clause-wide : goal.post_in_turn-requires-clause-wide
-post_in_turn-requires-clause-wide g c lifetimes outlives place x at =
-    let nodes = c.args.parts.nodes.items in
-    let commits = c.commit_all.new.committed in
-    let long : length commits ≡ length c.args.parts.committed.items = c.commit_all.auto.committed ∙ ap length c.as_mut_slice-2.ensures.value in
-    let over = c.as_mut_slice-4.ensures.value ∙ with_items_is c.args.parts.committed commits (long ∙ sym c.args.parts.committed.ok.0) in
-    let C : List (NodeView g.row.M.Denot) → Type 0 = λ ns. CommitUpto g.M.Model.meaning c.args.due.now.bound c.args.due.now.below (length ns) ns c.commit_all.new.nodes commits in
-    let commit = subst C c.as_mut_slice.ensures.value c.in_ok-commit_all.ensures in
-    (sends-to g.M.Model.meaning c.args.due.now.bound c.args.due.now.below nodes c.commit_all.new.nodes commits c.requires.can.wide commit place x (ap (λ l. slice_get l place) (sym over) ∙ at)).long
-    ∙ sym (ap length over ∙ commit.count)
+pub loop-i-preserved : goal.loop-i-preserved
+loop-i-preserved g c =
+    let i = c.loop-i.i in
+    let many = c.requires.many in
+    let at_node = slice_get-get_or c.loop-i.nodes i c.index-nodes-i.result (omega arith) in
+    let at_end = slice_get-get_or c.loop-i.ends i c.index-ends-i.result (omega arith) in
+    let at_commit = slice_get-get_or c.loop-i.committed i c.index-committed-i.result (omega arith) in
+    let at_inbox = slice_get-get_or c.loop-i.inboxes i c.index-inboxes-i.result (omega arith) in
+    let here = zip-at c.loop-i.nodes c.loop-i.ends c.loop-i.committed c.loop-i.inboxes i _ _ _ _ at_node at_end at_commit at_inbox in
+    let R : Desk _ _ → Desk _ _ → Type 0 = HasReleased g.E.NodeEnd g.M.Model.meaning c.args.due.now in
+    let old = zip_desks c.args.nodes.now c.args.ends.now c.args.committed.now c.args.inboxes.now in
+    let P : List (Desk _ _) → Type 0 = λ l. IsUpto R (i + 1) old l in
+    let more = upto-more R i old (zip_desks c.loop-i.nodes c.loop-i.ends c.loop-i.committed c.loop-i.inboxes) _ (desk_of c.release.new.node c.release.new.end c.release.new.commit c.release.new.inbox) c.loop-i.invariant here c.in_ok-release.ensures in
+    subst P (sym (zip-set c.loop-i.nodes c.loop-i.ends c.loop-i.committed c.loop-i.inboxes (omega arith) (omega arith) (omega arith) i _ _ _ _)) (rw add-one more)
+
+pub returns : goal.returns
+returns g c =
+    let many = c.requires.many in
+    served-all g.E.NodeEnd g.M.Model.meaning c.args.due.now c.loop-i.i (desks_of c.args.nodes.now c.args.ends.now c.args.committed.now c.args.inboxes.now)
+    (desks_of c.loop-i.nodes c.loop-i.ends c.loop-i.committed c.loop-i.inboxes) c.requires.many (record { ends = omega arith; committed = omega arith; inboxes = omega arith }) (omega arith) c.loop-i.invariant

@@ -26,7 +26,7 @@ loop-node-preserved g c =
     let before = c.loop-node.invariant in
     let at = slice_get-get_or c.loop-node.nodes c.loop-node.node-index c.node-item.result (omega arith) in (
       rw add-one
-          (upto-more (λ old new. HasRun (g.M.Model.meaning old.model) c.args.ahead old new) c.loop-node.node-index c.args.nodes.now c.loop-node.nodes _ c.advance.new.node before.0 at
+          (upto-more (λ old new. HasRun (g.M.Model.meaning old.model) c.args.setting.now.ahead old new) c.loop-node.node-index c.args.nodes.now c.loop-node.nodes _ c.advance.new.node before.0 at
           (record { works = c.advance.ensures.works; deep = c.in_ok-advance.ensures.deep })),
       search rules,
       λ seat alike. (popped (λ each. each ≡ seat) c.loop-node.seats.items c.pop.new.self.items c.pop.result c.in-Some.seat c.pop.ensures.items c.in-Some.is (before.2 seat alike)).1,
@@ -36,4 +36,4 @@ pub returns : goal.returns
 returns g c =
     let before = c.loop-node.invariant.0 in
     let many = before.many in
-    upto-all (λ old new. HasRun (g.M.Model.meaning old.model) c.args.ahead old new) c.loop-node.node-index c.args.nodes.now c.loop-node.nodes (omega arith) before
+    upto-all (λ old new. HasRun (g.M.Model.meaning old.model) c.args.setting.now.ahead old new) c.loop-node.node-index c.args.nodes.now c.loop-node.nodes (omega arith) before

@@ -2,8 +2,7 @@ use Rattle.std.proofs.Common.{◌≡◌, sym, ap, ◌∙◌, subst, length, map}
 use Rattle.std.specs.Prelude.{IfOk, OnOk}
 use Rattle.std.proofs.lemmas.Slice.Zip.{AllZip-long}
 use Rattle.std.proofs.lemmas.List.{with_items_is}
-use Rattle.node_team.specs.Forks.{AllCanGo, HasGone}
-use Rattle.node_team.specs.Teams.{node_in, AllAnswered}
+use Rattle.node_team.specs.Turns.{node_in, AllAnswered, AllCanGo, HasGone}
 use Rattle.node_team.proofs.SeatingLemmas.{all-can-go, unseated-run}
 use Rattle.node_team.proofs.running.advance_nodes.Goals as goal
 
@@ -20,8 +19,8 @@ returns-in_ok-all-in-InParts g c =
     let all = c.in_ok-all-in-InParts.all in
     let slice = c.as_mut_slice-in-InParts in
     let are : map node_in slice.result.now ≡ c.args.nodes.items = ap (map node_in) slice.ensures.value ∙ c.in_ok-all-in-InParts.ensures.nodes in
-    let over = with_items_is all new (AllZip-long (HasGone (g.M.Model.meaning) c.args.word.now c.args.ahead) slice.result.now new gone ∙ ap length slice.ensures.value ∙ sym all.ok.0) in
-    unseated-run (g.M.Model.meaning) c.args.word.now c.args.ahead c.args.nodes.items slice.result.now new c.unseat_all.result are gone
+    let over = with_items_is all new (AllZip-long (HasGone (g.M.Model.meaning) c.args.word.now c.args.setting.now.ahead) slice.result.now new gone ∙ ap length slice.ensures.value ∙ sym all.ok.0) in
+    unseated-run (g.M.Model.meaning) c.args.word.now c.args.setting.now.ahead c.args.nodes.items slice.result.now new c.unseat_all.result are gone
     (subst (λ ns. IfOk c.unseat_all.result (λ now. now.items ≡ map node_in ns)) over c.unseat_all.ensures.nodes)
     (subst (λ ns. OnOk c.unseat_all.result (AllAnswered ns)) over c.unseat_all.ensures.answers)
 
@@ -35,5 +34,5 @@ pub returns-in_ok-all-in-Stolen-2 : goal.returns-in_ok-all-in-Stolen-2
 returns-in_ok-all-in-Stolen-2 g c =
     let before = c.in_ok-all-in-Stolen in
     let after = c.in_ok-all-in-Stolen-2 in
-    unseated-run (g.M.Model.meaning) c.args.word.now c.args.ahead c.args.nodes.items before.all.items after.all.items c.unseat_all-in-Stolen.result before.ensures.nodes after.ensures c.unseat_all-in-Stolen.ensures.nodes
+    unseated-run (g.M.Model.meaning) c.args.word.now c.args.setting.now.ahead c.args.nodes.items before.all.items after.all.items c.unseat_all-in-Stolen.result before.ensures.nodes after.ensures c.unseat_all-in-Stolen.ensures.nodes
     c.unseat_all-in-Stolen.ensures.answers

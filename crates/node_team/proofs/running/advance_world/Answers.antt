@@ -27,14 +27,14 @@ advance_nodes-requires-clause-can g c lifetimes outlives =
 pub put_nodes-requires-clause-nodes : goal.put_nodes-requires-clause-nodes
 put_nodes-requires-clause-nodes g c lifetimes outlives =
     let w = c.args.world.now in
-    let run = subst (λ ns. AllHaveRun (g.M.Model.meaning) c.args.ahead ns c.in_ok-nodes.nodes.items) c.take_nodes-nodes.ensures.nodes c.in_ok-nodes.ensures in
-    subst (λ v. AreNodesOf v.model v.terms v.homes c.in_ok-nodes.nodes.items) (sym c.take_nodes-nodes.ensures.world) (run-nodes (g.M.Model.meaning) w c.args.ahead c.in_ok-nodes.nodes.items run c.requires.stands.0 c.requires.stands.1)
+    let run = subst (λ ns. AllHaveRun (g.M.Model.meaning) c.args.setting.now.ahead ns c.in_ok-nodes.nodes.items) c.take_nodes-nodes.ensures.nodes c.in_ok-nodes.ensures in
+    subst (λ v. AreNodesOf v.model v.terms v.homes c.in_ok-nodes.nodes.items) (sym c.take_nodes-nodes.ensures.world) (run-nodes (g.M.Model.meaning) w c.args.setting.now.ahead c.in_ok-nodes.nodes.items run c.requires.stands.0 c.requires.stands.1)
 
 pub returns-clause-stands : goal.returns-clause-stands
 returns-clause-stands g c s stands =
     let w = c.args.world.now in
-    let run = subst (λ ns. AllHaveRun (g.M.Model.meaning) c.args.ahead ns c.in_ok-nodes.nodes.items) c.take_nodes-nodes.ensures.nodes c.in_ok-nodes.ensures in
+    let run = subst (λ ns. AllHaveRun (g.M.Model.meaning) c.args.setting.now.ahead ns c.in_ok-nodes.nodes.items) c.take_nodes-nodes.ensures.nodes c.in_ok-nodes.ensures in
     let with_nodes : WorldView _ → WorldView _ = λ v. record v { nodes = c.in_ok-nodes.nodes.items } in
     let world : c.put_nodes.new.self ≡ record w { nodes = c.in_ok-nodes.nodes.items } = c.put_nodes.ensures.world ∙ ap with_nodes c.take_nodes-nodes.ensures.world in
     let law = rw c.terms-terms.ensures at (rw c.model.ensures at c.law_world.ensures.steps) in
-    subst (λ v. StandsAt (g.M.Model.meaning w.model) v s) (sym world) (run-stands (g.M.Model.meaning) w c.args.ahead c.in_ok-nodes.nodes.items run law s stands)
+    subst (λ v. StandsAt (g.M.Model.meaning w.model) v s) (sym world) (run-stands (g.M.Model.meaning) w c.args.setting.now.ahead c.in_ok-nodes.nodes.items run law s stands)

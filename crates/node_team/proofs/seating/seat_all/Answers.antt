@@ -1,7 +1,7 @@
 use Rattle.std.proofs.Common.{rules, ◌≡◌, ◌∷◌, ◌++◌, [], ap, sym, ◌∙◌, append_assoc}
 use Rattle.std.proofs.lemmas.List.{map-append}
 use Rattle.std.proofs.lemmas.List.Elements.{All-push}
-use Rattle.node_team.specs.Teams.{node_in}
+use Rattle.node_team.specs.Turns.{node_in}
 use Rattle.node_team.proofs.SeatingLemmas.{popped}
 use Rattle.node_team.proofs.seating.seat_all.Goals as goal
 

@@ -3,7 +3,7 @@ use Rattle.std.proofs.lemmas.Option.{slice_get_read, slice_get_within}
 use Rattle.node_team.specs.Teams.{IsFloorOf}
 use Rattle.cycle_core.proofs.PlaceLemmas.{each-more}
 use Rattle.node_team.proofs.SeatingLemmas.{floor-lower}
-use Rattle.node_team.proofs.seating.floor_of.Goals as goal
+use Rattle.node_team.proofs.floor.floor_of.Goals as goal
 
 pub loop-node-preserved : goal.loop-node-preserved
 loop-node-preserved g c =

@@ -1,6 +1,6 @@
 use Rattle.std.proofs.Common.{arith, ◌+◌}
 use Rattle.node_team.proofs.SeatingLemmas.{floor-least, floor-none}
-use Rattle.node_team.proofs.seating.lower_floor.Goals as goal
+use Rattle.node_team.proofs.floor.lower_floor.Goals as goal
 
 pub returns-in-Some-clause-floor : goal.returns-in-Some-clause-floor
 returns-in-Some-clause-floor g c object at = floor-least (g.M.Model.meaning c.args.node.now.model) c.args.node.now c.in-Some.key (c.in-Some.key.stamp + 1) c.in-Some.ensures (omega arith) object at
