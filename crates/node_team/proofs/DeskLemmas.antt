@@ -1,5 +1,5 @@
 -- Nodes that release, each beside what it releases by.
-use Rattle.std.proofs.Common.{◌≡◌, ℕ, zero, suc, ◌+◌, ◌≤◌, List, [], ◌∷◌, ◌++◌, length, map, refl, sym, ap, ◌∙◌, subst, arith, slice_set}
+use Rattle.std.proofs.Common.{◌≡◌, ℕ, zero, suc, ◌≤◌, List, [], ◌∷◌, ◌++◌, length, map, refl, sym, ap, ◌∙◌, subst, arith, slice_set}
 use Rattle.std.proofs.lemmas.List.{length-append, length-map}
 use Rattle.std.proofs.lemmas.Option.{slice_get_past, slice_get_within}
 use Rattle.std.proofs.lemmas.Slice.Zip.{AllZip-long}
@@ -14,7 +14,7 @@ use Rattle.node_core.specs.declared.committed.Committed.{Committed}
 use Rattle.node_core.specs.Blank.{IsBlank}
 use Rattle.node_core.specs.Calls.{HasCommitted}
 use Rattle.node_core.specs.Nodes.{NodeView}
-use Rattle.cycle_core.proofs.PlaceLemmas.{IsUpto, at-some, each-of, same-some, upto-all, upto-more}
+use Rattle.cycle_core.proofs.PlaceLemmas.{IsUpto, at-some, each-of, same-some, upto-all}
 use Rattle.node_team.specs.declared.releasing.Due.{Due}
 use Rattle.node_team.specs.Desks.{Desk, Desks, desk_of, desks_of, zip_desks, desks_in, AreAsMany, CanRelease, HasReleased, CanServe, HaveServed, CanAllRelease, HaveReleased}
 use Rattle.node_team.specs.Releases.{HasPosted}
@@ -124,7 +124,7 @@ module _ {M E : Type 0} where
   halves-zip : (all front back : Desks M E) → AreHalves all front back → desks_in all ≡ desks_in front ++ desks_in back
   halves-zip all front back halves =
       let lists : desks_in all ≡ zip_desks (front.nodes ++ back.nodes) (front.ends ++ back.ends) (front.committed ++ back.committed) (front.inboxes ++ back.inboxes) =
-          λ k. zip_desks (halves.nodes k) (halves.ends k) (halves.committed k) (halves.inboxes k) in
+      λ k. zip_desks (halves.nodes k) (halves.ends k) (halves.committed k) (halves.inboxes k) in
       lists ∙ zip-append front.nodes back.nodes front.ends back.ends front.committed back.committed front.inboxes back.inboxes halves.many.ends halves.many.committed halves.many.inboxes
 
   whole-many : (g d : Desks M E) → AreAsMany g → AreAsMany d → AreAsMany (desks_of (g.nodes ++ d.nodes) (g.ends ++ d.ends) (g.committed ++ d.committed) (g.inboxes ++ d.inboxes))

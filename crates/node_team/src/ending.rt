@@ -43,22 +43,12 @@ fn end_nodes<R: Threads + Sync, M: SimulationModel, L: Lanes, G>(
     ensures ready { OnOk result (IsReady L.nodes L.are_at_rest (length nodes.old) kept.new) }
     ensures blank { OnOk result (AreBlankLists (length nodes.old) lists.new) }
 {
-    release_all(
-        setting,
-        due,
-        nodes,
-        lists.committed.as_mut_slice(),
-        kept,
-    )?;
+    release_all(setting, due, nodes, lists.committed.as_mut_slice(), kept)?;
     know_all(nodes);
     receive_arrived(setting.alloc, nodes, kept.inboxes.as_mut_slice())?;
     know_all(nodes);
     let told = mem::replace(&mut lists.told, RecordBuffer::new(setting.alloc));
-    let records = merge(
-        lists.committed.as_mut_slice(),
-        told,
-        &mut lists.spare,
-    )?;
+    let records = merge(lists.committed.as_mut_slice(), told, &mut lists.spare)?;
     Ok(records)
 }
 

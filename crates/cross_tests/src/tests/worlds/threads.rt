@@ -14,7 +14,8 @@ const NODES: u64 = 4;
 
 /// Four nodes with so many objects, each of which sends its event to the next one in five ticks.
 fn hops(alloc: Global, objects: u32) -> Result<TeamRun<AnyModel>, Fail> {
-    let text = format!(in alloc; "format = 1
+    let text = format!(in alloc;
+        "format = 1
 model = \"phold\"
 end = 1000
 
@@ -23,7 +24,8 @@ objects = {objects}
 delay = {{ law = \"fixed\", value = 5 }}
 to = \"next\"
 each = 1
-")?;
+"
+    )?;
     let Ok((model, terms)) = read_model(alloc, text.as_bytes()) else {
         return Err(Fail::from("the model is refused"));
     };

@@ -5,7 +5,6 @@ use Rattle.std.specs.Vec.{with_items}
 use Rattle.std.proofs.lemmas.List.{length-map, with_items_is}
 use Rattle.parcel_exchange.specs.declared.inbox.Inbox.{Inbox}
 use Rattle.node_core.specs.declared.committed.Committed.{Committed}
-use Rattle.node_core.specs.Nodes.{NodeView}
 use Rattle.cycle_core.specs.Blank.{AreBlank}
 use Rattle.cycle_core.specs.Ends.{AllCanReceive, ReceiveUpto, told_by}
 use Rattle.cycle_core.specs.Places.{AtEach}

@@ -1,8 +1,7 @@
-use Rattle.std.proofs.Common.{◌≡◌, ◌<◌, ◌^◌, List, [], length, refl, sym, ap, ◌∙◌, subst, arith}
+use Rattle.std.proofs.Common.{◌≡◌, [], length, refl, sym, ap, ◌∙◌, subst}
 use Rattle.std.specs.Prelude.{slice_get}
 use Rattle.std.proofs.lemmas.List.{with_items_is}
 use Rattle.model_core.specs.Meaning.{MeaningLaws}
-use Rattle.node_core.specs.Nodes.{NodeView}
 use Rattle.cycle_core.specs.Cuts.{CanEnd, HaveEnded}
 use Rattle.cycle_core.specs.Known.{AreKnown}
 use Rattle.cycle_core.specs.Worlds.{WorldView, HasNodes, AreNodesOf}

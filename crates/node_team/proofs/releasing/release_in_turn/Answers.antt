@@ -1,4 +1,4 @@
-use Rattle.std.proofs.Common.{◌≡◌, ◌+◌, List, sym, ◌∙◌, subst, arith, add-one, length}
+use Rattle.std.proofs.Common.{◌+◌, List, sym, ◌∙◌, subst, arith, add-one}
 use Rattle.std.proofs.lemmas.Option.{slice_get-get_or}
 use Rattle.cycle_core.proofs.PlaceLemmas.{IsUpto, upto-more}
 use Rattle.node_team.specs.Desks.{Desk, desk_of, desks_of, zip_desks, CanRelease, HasReleased}
