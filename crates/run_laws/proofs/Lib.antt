@@ -2,5 +2,6 @@ pub mod CausalityLaw
 pub mod EnqueueSums
 pub mod Induction
 pub mod OrderLaw
+pub mod PrefixLaw
 pub mod ReachedLemmas
 pub mod Steps

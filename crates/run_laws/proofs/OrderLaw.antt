@@ -1,5 +1,5 @@
 -- The records of a run are in ascending order.
-use Rattle.std.proofs.Common.{◌≡◌, suc, ◌≤◌, true, List, [], ◌∷◌, ◌++◌, refl, sym, ap, ◌∙◌, subst, append-nil, arith, get_or}
+use Rattle.std.proofs.Common.{◌≡◌, ℕ, suc, ◌≤◌, true, List, [], ◌∷◌, ◌++◌, refl, sym, ap, ◌∙◌, subst, append-nil, arith, get_or}
 use Rattle.std.specs.Prelude.{All}
 use Rattle.std.specs.List.{AllPairs, AllByRecursion as Each}
 use Rattle.std.proofs.lemmas.List.Elements.{All-nil, All-push, All-weaker}
@@ -76,10 +76,10 @@ ordered_more m t s told after records lawful is_next before =
           (subst K (sym key) own);
     }
 
-pub records_ascend : (m : Meaning) (t : Terms) → MeaningLaws m → RecordsAscend m t
+ordered_run : (m : Meaning) (t : Terms) → MeaningLaws m → (n : ℕ) → Ordered (first_records n m t) (after_events n m t).pending
 unfolding gathered
-records_ascend m t laws n =
-    (each_number m t (λ n. Ordered (first_records n m t) (after_events n m t).pending)
+ordered_run m t laws =
+    each_number m t (λ n. Ordered (first_records n m t) (after_events n m t).pending)
     (record { ordered = λ i j d lt below. absurd (omega arith); later = All-nil (λ (r : Key × Note). AllLater r.0 (after_events 0 m t).pending) })
     (λ n stop is_next before.
     let R : List (Key × Note) → Type 0 = λ records. Ordered records (after_events (suc n) m t).pending in
@@ -92,4 +92,11 @@ records_ascend m t laws n =
     subst R (sym (gathered-more record_of m t n (does told after) is_next))
     (subst S (sym (after_events-does m t n told after is_next))
     (ordered_more m t (after_events n m t) told after (first_records n m t) (reached-lawful m t (after_events n m t) laws (n, refl)) is_next before)))
-    n).ordered
+
+pub records_ascend : (m : Meaning) (t : Terms) → MeaningLaws m → RecordsAscend m t
+records_ascend m t laws n = (ordered_run m t laws n).ordered
+
+-- each record has a lesser key than what is pending after it
+pub records_first : (m : Meaning) (t : Terms) → MeaningLaws m → (n : ℕ)
+    → All (λ (r : Key × Note). Each (λ (e : Event). key_lt r.0 e.key ≡ true) (after_events n m t).pending) (first_records n m t)
+records_first m t laws n = (ordered_run m t laws n).later

@@ -1,5 +1,6 @@
 //! Laws of every run. Each function does nothing: its contract is the law.
 ghost use Rattle.run_laws.specs.RunLaws.{AllReachedLawful, RunIsReached, RecordsAscend, EachHasACause};
+ghost use Rattle.run_laws.specs.RunLaws.{NothingIsForgotten, LongerRunGoesOn};
 
 use model_core::model::{Model, keeps_laws};
 use sim_spec::Terms;
@@ -20,10 +21,17 @@ pub fn law_order<M: Model>(model: &M, terms: &Terms)
     keeps_laws(model);
 }
 
-/// Causality: each event that happens is an initial one, or was sent by an event that happened before it, at an earlier
-/// stamp.
+/// Causality: each event that happens is an initial one of the model, or the very event that one before it sent, to a later
+/// stamp. And each initial event, and each that was sent, has happened or is pending.
 pub fn law_causality<M: Model>(model: &M, terms: &Terms)
-    ensures { EachHasACause (M.meaning model.now) terms.now }
+    ensures causes { EachHasACause (M.meaning model.now) terms.now }
+    ensures none_forgotten { NothingIsForgotten (M.meaning model.now) terms.now }
 {
     keeps_laws(model);
 }
+
+/// A longer run begins with the shorter one: under a later end or a greater limit the records of the shorter run come
+/// first, and then those of a run from its last state.
+pub fn law_prefix<M: Model>(model: &M)
+    ensures { LongerRunGoesOn (M.meaning model.now) }
+{}

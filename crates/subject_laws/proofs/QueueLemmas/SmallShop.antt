@@ -15,7 +15,7 @@ use Rattle.sim_spec.specs.declared.terms.Terms.{Terms}
 use Rattle.key_order.specs.Pending.{enqueue, enqueue_all}
 use Rattle.sim_spec.specs.Firing.{has_endless_chain, emissions, fired_by, fire}
 use Rattle.sim_spec.specs.State.{State, initial_state}
-use Rattle.sim_spec.specs.Run.{next, next_of, next_fired}
+use Rattle.sim_spec.specs.Run.{next, next_of, next_fired, run, run_for, run_on}
 use Rattle.queue_models.specs.declared.station.Station.{Station as StationOver}
 use Rattle.queue_models.specs.declared.kind.KindOver.TheVariants.{Source, Station, Sink}
 use Rattle.queue_models.specs.Meaning.{plain_meaning, network_meaning, start_of}
@@ -51,7 +51,7 @@ to_fifty = record { end = 50; limit = 100; end_in_range = lit< tt; some_event = 
 abbrev pub key_at : ℕ → ℕ → ℕ → ℕ → ℕ → Key
 key_at time step dest src serial = record { stamp = stamp_at time step; rank = 0; dest = dest; src = src; serial = serial }
 
-abbrev told_at : Key → ℕ → ℕ → ℕ → Key × Note
+abbrev pub told_at : Key → ℕ → ℕ → ℕ → Key × Note
 told_at key word a b = (key, record { word = word; a = a; b = b } ∷ [])
 
 -- two jobs are made; the first is taken, and the second waits
@@ -65,18 +65,39 @@ unfolding gathered shop counter to_fifty draw drawn_value words_read start_of so
 four_records = refl
 
 -- the third of them sent the event of the fourth, one step later
+third_event : Event
+third_event = record { key = key_at 3 0 0 0 1; kind = 1; a = 0; b = 0 }
+
 second_arrival : Event
 second_arrival = record { key = key_at 3 1 1 0 2; kind = 3; a = 2; b = 3 }
 
-cause_of_fourth : IsCause (network_meaning shop) to_fifty 2 (key_at 3 1 1 0 2)
-unfolding second_arrival sent_next shop counter to_fifty draw drawn_value words_read start_of sources_below place_changes idle_effect last_effect make_effect source_effect sink_effect take_effect wait_effect lose_effect arrival_outcome serve_effect free_effect done_effect station_effect plain_meaning network_meaning key_lt key_cmp next_stamp has_no_step cells_after_all inverses_of enqueue enqueue_all has_endless_chain emissions fired_by fire initial_state next next_of next_fired left_by after_events
+cause_of_fourth : IsCause (network_meaning shop) to_fifty 2 second_arrival
+unfolding third_event second_arrival sent_next shop counter to_fifty draw drawn_value words_read start_of sources_below place_changes idle_effect last_effect make_effect source_effect sink_effect take_effect wait_effect lose_effect arrival_outcome serve_effect free_effect done_effect station_effect plain_meaning network_meaning key_lt key_cmp next_stamp has_no_step cells_after_all inverses_of enqueue enqueue_all has_endless_chain emissions fired_by fire initial_state next next_of next_fired left_by after_events
 cause_of_fourth = record {
-  told = told_at (key_at 3 0 0 0 1) 2 2 2;
-  after = after_events 3 (network_meaning shop) to_fifty;
-  happens = refl;
-  sent = (second_arrival, (0, lit< tt, refl), refl);
+  cause = third_event;
+  happens = record {
+    rest = record { key = key_at 6 0 1 1 0; kind = 2; a = 1; b = 1 } ∷ [];
+    told = told_at (key_at 3 0 0 0 1) 2 2 2;
+    after = after_events 3 (network_meaning shop) to_fifty;
+    pending = refl;
+    goes = refl;
+  };
+  sent = (0, lit< tt, refl);
   earlier = lit< tt;
 }
+
+-- the run to tick 3 has these four records alone
+to_three : Terms
+to_three = record { end = 3; limit = 100; end_in_range = lit< tt; some_event = lit≤ tt; limit_in_range = lit≤ tt }
+
+short_run : (run (network_meaning shop) to_three (initial_state (network_meaning shop))).records ≡
+    told_at (key_at 1 0 0 INITIAL 0) 2 1 3
+    ∷ told_at (key_at 1 1 1 0 0) 3 1 0
+    ∷ told_at (key_at 3 0 0 0 1) 2 2 2
+    ∷ told_at (key_at 3 1 1 0 2) 4 2 1
+    ∷ []
+unfolding run run_for run_on to_three shop counter to_fifty draw drawn_value words_read start_of sources_below place_changes idle_effect last_effect make_effect source_effect sink_effect take_effect wait_effect lose_effect arrival_outcome serve_effect free_effect done_effect station_effect plain_meaning network_meaning key_lt key_cmp next_stamp has_no_step cells_after_all inverses_of enqueue enqueue_all has_endless_chain emissions fired_by fire initial_state next next_of next_fired left_by after_events
+short_run = refl
 
 -- six events are done: three jobs were made; the first is served, the others wait
 pub three_here : State
