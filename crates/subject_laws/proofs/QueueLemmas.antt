@@ -7,3 +7,4 @@ pub mod OrderLaw
 pub mod PlainRuns
 pub mod ServersLaw
 pub mod SmallShop
+pub mod TellingLaw

@@ -10,4 +10,5 @@ pub mod Places
 pub mod ServerLaws
 pub mod Settled
 pub mod Stations
+pub mod TellingLaws
 pub mod TotalLaws

@@ -9,4 +9,5 @@ pub mod order;
 pub mod population;
 pub mod servers;
 pub mod settled;
+pub mod telling;
 pub mod totals;
