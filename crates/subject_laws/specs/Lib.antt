@@ -3,6 +3,7 @@ pub mod DrawLaws
 pub mod Draws
 pub mod JobLaws
 pub mod Jobs
+pub mod LossLaws
 pub mod OrderLaws
 pub mod Orders
 pub mod PholdLaws

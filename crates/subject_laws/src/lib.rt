@@ -5,6 +5,7 @@
 pub mod circuit_examples;
 pub mod draws;
 pub mod jobs;
+pub mod losses;
 pub mod order;
 pub mod population;
 pub mod servers;
