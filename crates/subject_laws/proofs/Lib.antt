@@ -3,4 +3,5 @@ pub mod DrawLemmas
 pub mod JobLemmas
 pub mod PholdLemmas
 pub mod QueueLemmas
+pub mod TimeLemmas
 pub mod TotalLemmas

@@ -12,4 +12,6 @@ pub mod ServerLaws
 pub mod Settled
 pub mod Stations
 pub mod TellingLaws
+pub mod TimeLaws
+pub mod Times
 pub mod TotalLaws

@@ -5,6 +5,7 @@
 pub mod circuit_examples;
 pub mod draws;
 pub mod jobs;
+pub mod little;
 pub mod losses;
 pub mod order;
 pub mod population;
@@ -12,3 +13,4 @@ pub mod servers;
 pub mod settled;
 pub mod telling;
 pub mod totals;
+pub mod utilisation;

@@ -116,14 +116,14 @@ drew_one p i s after drawn new one moves before =
     })
 
 -- what is drawn in the run of the plain meaning
-abbrev plain_draws : NetworkParts → ℕ → State → Next → List ℕ
+abbrev pub plain_draws : NetworkParts → ℕ → State → Next → List ℕ
 plain_draws p i = draws_next (plain_meaning p) (object_at p.objects i).kind i
 
-abbrev plain_drawn : NetworkParts → Terms → ℕ → ℕ → List ℕ
+abbrev pub plain_drawn : NetworkParts → Terms → ℕ → ℕ → List ℕ
 plain_drawn p t i n = gathered (plain_draws p i) n (plain_meaning p) t
 
 -- what an event draws at its object and elsewhere
-drawn_here : (p : NetworkParts) (t : Terms) (s : State) (told : Key × Note) (after : State) (n : IsNetworkStep p t s told after) (i : ℕ) (here : Bool) → (n.step.event.key.dest == i) ≡ here
+pub drawn_here : (p : NetworkParts) (t : Terms) (s : State) (told : Key × Note) (after : State) (n : IsNetworkStep p t s told after) (i : ℕ) (here : Bool) → (n.step.event.key.dest == i) ≡ here
     → plain_draws p i s (does told after) ≡ (if here then shown_by (object_at p.objects i).kind n.step.effect.sends else [])
 drawn_here p t s told after n i here is_here =
     let kind : KindOver ℕ = (object_at p.objects i).kind in
@@ -201,7 +201,7 @@ draws-same p i s one other (both_stop stop) = refl
 draws-same p i s one other (both_do key cells x after) =
     ap (λ sends. if key.dest == i then shown_by (object_at p.objects i).kind sends else []) (first_sends-same p s s.pending)
 
-same_drawn : (p : NetworkParts) (t : Terms) (i n : ℕ) → drawn_by p t i n ≡ plain_drawn p t i n
+pub same_drawn : (p : NetworkParts) (t : Terms) (i n : ℕ) → drawn_by p t i n ≡ plain_drawn p t i n
 same_drawn p t i n =
     same_gathered p t (draws_next (network_meaning p) (object_at p.objects i).kind i) (plain_draws p i) (λ s. draws-same p i s _ _ (same_next p t s)) n
 

@@ -41,7 +41,7 @@ use Rattle.subject_laws.proofs.QueueLemmas.ServersLaw.{ends, ends_elsewhere, los
 use Rattle.subject_laws.proofs.QueueLemmas.PlainRuns.{same_after}
 
 -- the jobs of which a note tells
-jobs_of : (ℕ → Bool) → Note → List ℕ
+unfoldable pub jobs_of : (ℕ → Bool) → Note → List ℕ
 jobs_of is_word note = map (λ (part : Part). part.a) (filter (λ (part : Part). is_word part.word) note)
 
 pub empty_list : {A : Type 0} (xs : List A) → length xs ≡ 0 → xs ≡ []
@@ -169,12 +169,12 @@ moves_on site cells e station x stamp object serial others has busy full upto (f
     }
 
 -- what one event moves at a station, as the run tells it
-record IsMoved (p : NetworkParts) (s : State) (told : Key × Note) (after : State) (i : ℕ) (station : StationOver ℕ) : Type 0 where
+pub record IsMoved (p : NetworkParts) (s : State) (told : Key × Note) (after : State) (i : ℕ) (station : StationOver ℕ) : Type 0 where
   pub in_order : waiting_at s i ++ jobs_told is_coming i s (does told after) ≡ begins_at (plain_meaning p) i s (does told after) ++ waiting_at after i
   pub one_by_one : station.servers ≡ 1
       → numbers_of (in_service_at s i) ++ begins_at (plain_meaning p) i s (does told after) ≡ jobs_told is_done i s (does told after) ++ numbers_of (in_service_at after i)
 
-told_here : (is_word : ℕ → Bool) (i : ℕ) (s after : State) (told : Key × Note) (e : Event) (note : Note) (here : Bool) → told ≡ (e.key, note) → (e.key.dest == i) ≡ here
+pub told_here : (is_word : ℕ → Bool) (i : ℕ) (s after : State) (told : Key × Note) (e : Event) (note : Note) (here : Bool) → told ≡ (e.key, note) → (e.key.dest == i) ≡ here
     → jobs_told is_word i s (does told after) ≡ (if here then jobs_of is_word note else [])
 unfolding jobs_of
 told_here is_word i s after told e note here tells is_here =
@@ -193,7 +193,7 @@ served_after p t s told after n i up =
     let A : List Event → Type 0 = IsAscending in
     ap (filter (ends_service_at i)) is ∙ filter-enqueue_all (ends_service_at i) events n.step.rest (subst A is up)
 
-begins_are : (p : NetworkParts) (t : Terms) (s : State) (told : Key × Note) (after : State) (n : IsNetworkStep p t s told after) (i : ℕ)
+pub begins_are : (p : NetworkParts) (t : Terms) (s : State) (told : Key × Note) (after : State) (n : IsNetworkStep p t s told after) (i : ℕ)
     → begins_at (plain_meaning p) i s (does told after) ≡ numbers_of (filter (ends_service_at i) (first_firing s n.step.event n.step.effect).events)
 begins_are p t s told after n i =
     ap (λ (es : List Event). numbers_of (filter (ends_service_at i) es)) (sent_next-step (plain_meaning p) t s told after n.step)
@@ -258,7 +258,7 @@ moved_here p t s told after n station up is good =
     and_true true = refl
     and_true false = refl
 
-moved : (p : NetworkParts) (t : Terms) (s : State) (told : Key × Note) (after : State) (i : ℕ) (station : StationOver ℕ) → IsNetwork p → Reaches (plain_meaning p) t s
+pub moved : (p : NetworkParts) (t : Terms) (s : State) (told : Key × Note) (after : State) (i : ℕ) (station : StationOver ℕ) → IsNetwork p → Reaches (plain_meaning p) t s
     → next (plain_meaning p) t s ≡ does told after → IsStationAt p i station → IsMoved p s told after i station
 moved p t s told after i station fine reached is_next is = by (eqb i n.step.event.key.dest) refl
   where

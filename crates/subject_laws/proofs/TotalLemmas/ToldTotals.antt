@@ -112,7 +112,7 @@ step_sums p i s one other real plain loud same (both_do key cells x after) singl
         ∙ ap (λ (told : List TimedWord). sums_of told) (sym (words_told-elsewhere i plain (key, x.note) apart))
 
 -- an event has a note of one part, if no object is quiet or traced
-single_part : (p : NetworkParts) (t : Terms) (s : State) → IsNetwork p → Reaches (plain_meaning p) t s
+pub single_part : (p : NetworkParts) (t : Terms) (s : State) → IsNetwork p → Reaches (plain_meaning p) t s
     → (told : Key × Note) (after : State) → next (plain_meaning p) t s ≡ does told after → length told.1 ≡ 1
 unfolding plain_meaning network_meaning
 single_part p t s fine reached told after is_next =

@@ -168,7 +168,7 @@ unfolding sums_of
 last_is told = refl
 
 -- the totals over what would be told if no object were quiet or traced
-abbrev plain_totals_at : NetworkParts → Terms → ℕ → ℕ → Sums
+abbrev pub plain_totals_at : NetworkParts → Terms → ℕ → ℕ → Sums
 plain_totals_at p t i n = sums_of (words_told i (first_records n (plain_meaning p) t))
 
 -- a station after n events
@@ -195,6 +195,18 @@ told_before p t n told after fine is_next = λ k none within.
     let B : Key × Note → Type 0 = λ r. key_lt (get_or records k none).0 r.0 ≡ true in
     let le : (get_or records k none).0.stamp ≤ told.0.stamp = stamp-le (get_or records k none).0 told.0 (subst B last (subst A first lt)) in
     omega arith
+
+-- the last word of an object comes no later than a time by which each record came
+pub last_is_before : (p : NetworkParts) (t : Terms) (i n most : ℕ) → All (λ (told : Key × Note). time_part told.0.stamp ≤ most) (first_records n (plain_meaning p) t)
+    → (plain_totals_at p t i n).last ≤ most
+last_is_before p t i n most early =
+    let records = first_records n (plain_meaning p) t in
+    omega (arith, last_is (words_told i records), last_of_records i most records early 0 (omega arith))
+
+-- nor later than the next event
+pub last_is_early : (p : NetworkParts) (t : Terms) (n : ℕ) (told : Key × Note) (after : State) (i : ℕ) → IsNetwork p
+    → next (plain_meaning p) t (after_events n (plain_meaning p) t) ≡ does told after → (plain_totals_at p t i n).last ≤ time_part told.0.stamp
+last_is_early p t n told after i fine is_next = last_is_before p t i n (time_part told.0.stamp) (told_before p t n told after fine is_next)
 
 -- an event of the station
 told_here : (p : NetworkParts) (t : Terms) (n : ℕ) (told : Key × Note) (after : State) (station : StationOver ℕ) → IsNetwork p
@@ -225,9 +237,8 @@ told_here p t n told after station fine is_next step is before =
     ap (λ b. length (cond b (e ∷ filter (ends_service_at d) step.step.rest) (filter (ends_service_at d) step.step.rest))) ends in
     omega (arith, good.under_way) in
     let at : told ≡ (e.key, x.note) = step.step.tells in
-    let R : Key × Note → Type 0 = λ told. All (λ (r : Key × Note). time_part r.0.stamp ≤ time_part told.0.stamp) records in
-    let early : (sums_of (words_told d records)).last ≤ time_part e.key.stamp =
-    omega (arith, last_is (words_told d records), last_of_records d (time_part e.key.stamp) records (subst R at (told_before p t n told after fine is_next)) 0 (omega arith)) in
+    let R : Key × Note → Type 0 = λ told. (sums_of (words_told d records)).last ≤ time_part told.0.stamp in
+    let early : (sums_of (words_told d records)).last ≤ time_part e.key.stamp = subst R at (last_is_early p t n told after d fine is_next) in
     let on : Balanced station.servers (busy_servers (cells_after_all x.changes cells)) (waiting_jobs (cells_after_all x.changes cells))
     (sums_of (words_told d records ++ words_at (time_part e.key.stamp) x.note)) =
     moved_on (site_of p d) cells e station x (words_told d records) (time_part e.key.stamp) (station_shape station.servers station.line cells lawful)
@@ -291,7 +302,7 @@ accounts_halted p t i station n stop is_next before =
     (subst R (sym (gathered-more record_of m t n (stops stop) is_next ∙ append-nil (first_records n m t))) before)
 
 -- the law over the plain meaning
-plain_totals : (p : NetworkParts) (t : Terms) (i : ℕ) (station : StationOver ℕ) (n : ℕ) → IsNetwork p → IsStationAt p i station
+pub plain_totals : (p : NetworkParts) (t : Terms) (i : ℕ) (station : StationOver ℕ) (n : ℕ) → IsNetwork p → IsStationAt p i station
     → IsAccountedFor (plain_totals_at p t i n) (after_events n (plain_meaning p) t) i station
 unfolding Accounts
 plain_totals p t i station n fine is =
