@@ -1,0 +1,173 @@
+-- What each call leaves, from what it read and wrote.
+use Rattle.std.proofs.Common.{◌≡◌, ℕ, zero, suc, ◌+◌, ◌-◌, ◌<◌, ◌≤◌, ◌≢◌, List, [], ◌∷◌, ◌++◌, length, replicate, refl, sym, ap, ◌∙◌, arith, Some, get_or, true, nat_eq, ◌↔◌}
+use Rattle.std.proofs.Math.ListN.{set}
+use Rattle.std.specs.Prelude.{slice_index, slice_index_or}
+use Rattle.std.specs.List.{slice_get, sum_by}
+use Rattle.std.proofs.lemmas.Bool.Decides.{nat_tests}
+use Rattle.std.proofs.lemmas.List.{length-map}
+use Rattle.std.proofs.lemmas.List.Sums.{sum_by-cons}
+use Rattle.std.proofs.lemmas.Option.{slice_get_read, get_or_from_slice_get, slice_get_within}
+use Rattle.event_bags.specs.Views.{BagsView, bags_of, values_from, room_of, TakesFront}
+use Rattle.event_bags.specs.Chains.{Layout, layout, NO_PLACE, IsChain, AreChains, HoldBags}
+use Rattle.event_bags.proofs.ChainLemmas.{shows, chain_at}
+use Rattle.event_bags.proofs.Moves.{grows, reuses, pops}
+
+-- a number that was read, whatever stands for what isn't there
+reads : (xs : List ℕ) (i x : ℕ) → i < length xs → x ≡ get_or xs i x → slice_index xs i ≡ x
+reads xs i x within read = get_or_from_slice_get xs i x 0 (slice_get_read xs (length xs) i x refl within read)
+
+-- a bag that there is has a head
+pub there : {T : Type 0} (items : List T) (links heads : List ℕ) (spare : ℕ) (seen : BagsView T) (b : ℕ) → record { bags = bags_of items links heads; spare = spare } ≡ seen → b < length seen.bags → b < length heads
+there items links heads spare seen b view within =
+    let all : length (bags_of items links heads) ≡ length heads = length-map heads (values_from items links (length links)) in
+    let same : bags_of items links heads ≡ seen.bags = ap (λ (v : BagsView _). v.bags) view in
+    let long = ap length same in
+    omega arith
+
+-- the bags are what the caller sees
+pub sees : {T : Type 0} {items : List T} {links heads : List ℕ} {free unused : ℕ} {bags : List (List T)} {spare : ℕ} {seen : BagsView T} (held : HoldBags items links heads free unused bags)
+    → record { bags = bags_of items links heads; spare = spare } ≡ seen → seen.bags ≡ bags
+sees held view = sym (ap (λ (v : BagsView _). v.bags) view) ∙ shows held
+
+-- an unused place that there is
+unused_is : {T : Type 0} (items : List T) (links : List ℕ) (owner depth : ℕ → ℕ) (free : ℕ) (left : List T) → IsChain (layout items links owner depth) 0 free left → free ≢ NO_PLACE → free < length items
+unused_is items links owner depth free [] chain some = absurd (some chain)
+unused_is items links owner depth free (value ∷ rest) chain some = slice_get_within items free value chain.0
+
+pub unused_within : {T : Type 0} {items : List T} {links heads : List ℕ} {free unused : ℕ} {bags : List (List T)} (held : HoldBags items links heads free unused bags) → free ≢ NO_PLACE
+    → (free < length items) × (free < length links)
+unused_within {items = items} {links = links} {free = free} held some =
+    let within : free < length items = unused_is items links held.owner held.depth free held.left held.free_chain some in
+    let same = held.same_length in
+    (within, omega arith)
+
+-- the front of a bag that isn't empty
+pub front_within : {T : Type 0} {items : List T} {links heads : List ℕ} {free unused : ℕ} {bags : List (List T)} (held : HoldBags items links heads free unused bags) (b at : ℕ) → b < length heads
+    → at ≡ get_or heads b at → at ≢ NO_PLACE → (at < length items) × (at < length links)
+front_within {items = items} {links = links} {heads = heads} held b at within read some =
+    let e : slice_index heads b ≡ at = reads heads b at within read in
+    let popped = pops held b within (rw e some) in
+    let there : slice_index heads b < length items = slice_get_within items (slice_index heads b) popped.value popped.here in
+    let same = held.same_length in
+    (omega arith, omega arith)
+
+-- a bag is empty where it has no front
+ends : {T : Type 0} (items : List T) (links : List ℕ) (owner depth : ℕ → ℕ) (bag place : ℕ) (values : List T) → length items ≤ NO_PLACE → IsChain (layout items links owner depth) bag place values
+    → place ≡ NO_PLACE → values ≡ []
+ends items links owner depth bag place [] short chain none = refl
+ends items links owner depth bag place (value ∷ rest) short chain none =
+    let within = slice_get_within items place value chain.0 in
+    absurd (omega arith)
+
+begins : {T : Type 0} (items : List T) (links : List ℕ) (owner depth : ℕ → ℕ) (bag place : ℕ) (values : List T) → IsChain (layout items links owner depth) bag place values
+    → values ≡ [] → place ≡ NO_PLACE
+begins items links owner depth bag place [] chain none = chain
+begins items links owner depth bag place (value ∷ rest) chain none = absurd (cc none)
+
+pub none_if : {T : Type 0} {items : List T} {links heads : List ℕ} {free unused : ℕ} {bags : List (List T)} (held : HoldBags items links heads free unused bags) (b at : ℕ) → b < length heads
+    → at ≡ get_or heads b at → (at ≡ NO_PLACE → slice_index_or bags b [] ≡ []) × (slice_index_or bags b [] ≡ [] → at ≡ NO_PLACE)
+none_if {items = items} {links = links} {heads = heads} {bags = bags} held b at within read =
+    let e : slice_index heads b ≡ at = reads heads b at within read in
+    let chain = rw e at (chain_at (layout items links held.owner held.depth) 1 heads bags b within held.chains) in
+    let same = held.same_length in
+    let range = held.in_range in
+    (ends items links held.owner held.depth (1 + b) at (slice_index_or bags b []) (omega arith) chain, begins items links held.owner held.depth (1 + b) at (slice_index_or bags b []) chain)
+
+pub empty_test : {T : Type 0} (values : List T) (at : ℕ) → (at ≡ NO_PLACE → values ≡ []) × (values ≡ [] → at ≡ NO_PLACE) → nat_eq at NO_PLACE ≡ true ↔ values ≡ []
+empty_test values at both = (λ e. both.0 (grind (arith, nat_tests)), λ e. let no = both.1 e in grind (arith, nat_tests))
+
+-- `push` with a new place
+pub grown : {T : Type 0} {items items2 : List T} {links links2 heads : List ℕ} {free unused : ℕ} {bags : List (List T)} (held : HoldBags items links heads free unused bags) (b : ℕ) (value : T) (front place : ℕ)
+    → b < length heads → length links < NO_PLACE → front ≡ get_or heads b front → items2 ≡ items ++ value ∷ [] → links2 ≡ links ++ front ∷ [] → place ≡ length links
+    → HoldBags items2 links2 (set heads b place) free unused (set bags b (value ∷ slice_index_or bags b []))
+grown {heads = heads} held b value front place within room read new_items new_links new =
+    rw (new_items, new_links, new) (rw (reads heads b front within read) at (grows held b value within room))
+
+-- `push` with an unused place
+pub reused : {T : Type 0} {items : List T} {links heads : List ℕ} {free unused : ℕ} {bags : List (List T)} (held : HoldBags items links heads free unused bags) (b : ℕ) (value : T) (front next : ℕ)
+    → b < length heads → free ≢ NO_PLACE → front ≡ get_or heads b front → next ≡ get_or links free next
+    → HoldBags (set items free value) (set links free front) (set heads b free) next (unused - 1) (set bags b (value ∷ slice_index_or bags b []))
+reused {links = links} {heads = heads} {free = free} held b value front next within some read read_next =
+    let linked = unused_within held some in
+    rw (reads heads b front within read, reads links free next linked.1 read_next) at (reuses held b value within some)
+
+-- `pop`
+pub record Taken {T : Type 0} (items : List T) (links2 heads2 : List ℕ) (at unused : ℕ) (bags : List (List T)) (b : ℕ) (value : T) : Type 0 where
+  pub rest : List T
+  pub was : slice_index_or bags b [] ≡ value ∷ rest
+  pub held : HoldBags items links2 heads2 at (unused + 1) (set bags b rest)
+
+pub taken : {T : Type 0} {items : List T} {links heads : List ℕ} {free unused : ℕ} {bags : List (List T)} (held : HoldBags items links heads free unused bags) (b at next : ℕ) (value : T)
+    → b < length heads → at ≢ NO_PLACE → at ≡ get_or heads b at → next ≡ get_or links at next → value ≡ get_or items at value
+    → Taken items (set links at free) (set heads b next) at unused bags b value
+taken {T} {items = items} {links = links} {heads = heads} held b at next value within some read read_next read_value =
+    let e : slice_index heads b ≡ at = reads heads b at within read in
+    let there = front_within held b at within read some in
+    let popped = pops held b within (rw e some) in
+    let here : slice_get items at ≡ Some popped.value = rw e at popped.here in
+    let value_here : slice_get items at ≡ Some value = slice_get_read items (length items) at value refl there.0 read_value in
+    let same : popped.value ≡ value = cc in
+    record {
+      rest = popped.rest;
+      was = rw same at popped.was;
+      held = rw (reads links at next there.1 read_next) at (rw e at popped.held);
+    }
+
+pub took_front : {T : Type 0} {items : List T} {links heads : List ℕ} {at unused : ℕ} {bags : List (List T)} {b : ℕ} {value : T} (left : Taken items links heads at unused bags b value) (seen : List (List T)) → seen ≡ bags
+    → TakesFront seen (bags_of items links heads) b value
+took_front left seen same = rw same (left.rest, left.was, shows left.held)
+
+-- room where no place is unused
+none_unused : {T : Type 0} (items : List T) (links : List ℕ) (owner depth : ℕ → ℕ) (free : ℕ) (left : List T) → length items ≤ NO_PLACE → IsChain (layout items links owner depth) 0 free left → free ≡ NO_PLACE → length left ≡ 0
+none_unused items links owner depth free left short chain none = ap length (ends items links owner depth 0 free left short chain none)
+
+pub fresh : {T : Type 0} {items : List T} {links heads : List ℕ} {free unused : ℕ} {bags : List (List T)} (held : HoldBags items links heads free unused bags) (one other : ℕ) (seen : BagsView T)
+    → record { bags = bags_of items links heads; spare = unused + room_of one other (length links) } ≡ seen → 1 ≤ seen.spare → free ≡ NO_PLACE
+    → (length items < one) × (length links < other) × (length links < NO_PLACE)
+fresh {items = items} {links = links} {free = free} held one other seen view some none =
+    let same = held.same_length in
+    let range = held.in_range in
+    let all_free = held.all_free in
+    let spare = ap (λ (v : BagsView _). v.spare) view in
+    let no = none_unused items links held.owner held.depth free held.left (omega arith) held.free_chain none in
+    omega arith
+
+pub spare_falls : {T : Type 0} (bags : List (List T)) (links2 : List ℕ) (used unused one other one2 other2 : ℕ) (seen : BagsView T)
+    → record { bags = bags; spare = unused + room_of one other used } ≡ seen → used < one → used < other → used < NO_PLACE → one2 ≡ one → other2 ≡ other → length links2 ≡ used + 1
+    → unused + room_of one2 other2 (length links2) + 1 ≡ seen.spare
+spare_falls bags links2 used unused one other one2 other2 seen view a b c same same2 more =
+    let spare = ap (λ (v : BagsView _). v.spare) view in
+    omega arith
+
+-- `len`
+pub counted : {T : Type 0} {items : List T} {links heads : List ℕ} {free unused : ℕ} {bags : List (List T)} (held : HoldBags items links heads free unused bags) (used : ℕ) → used ≡ length links
+    → (unused ≤ used) × (used - unused ≡ sum_by length bags)
+counted held used is =
+    let all_free = held.all_free in
+    let all = held.all in
+    (omega arith, omega arith)
+
+-- `new`
+no_chains : {T : Type 0} (L : Layout T) (bag n : ℕ) → AreChains L bag (replicate n NO_PLACE) (replicate n [])
+no_chains L bag zero = tt
+no_chains L bag (suc n) = (refl, no_chains L (suc bag) n)
+
+no_values : (T : Type 0) (n : ℕ) → sum_by (length {A = T}) (replicate n []) ≡ 0
+no_values T zero = refl
+no_values T (suc n) =
+    let sums = sum_by-cons (length {A = T}) [] (replicate n []) in
+    let fewer = no_values T n in
+    omega arith
+
+pub begun : {T : Type 0} {items : List T} {links heads : List ℕ} (n : ℕ) → items ≡ [] → links ≡ [] → heads ≡ replicate n NO_PLACE → HoldBags items links heads NO_PLACE 0 (replicate n [])
+begun {T} n no_items no_links none = rw (no_items, no_links, none) (record {
+  owner = λ _. 0;
+  depth = λ _. 0;
+  left = [];
+  chains = no_chains (layout [] [] (λ _. 0) (λ _. 0)) 1 n;
+  free_chain = refl;
+  all_free = refl;
+  all = (let none = no_values T n in omega arith);
+  same_length = refl;
+  in_range = omega arith;
+})
