@@ -13,6 +13,7 @@ ghost use Rattle.delta_exchange.specs.declared.change.Change.{Change};
 use crate::change::Change;
 use crate::line::Line;
 use crate::memory::OutOfMemory;
+use crate::words::Words;
 use std::alloc::{AllocError, Global};
 use std::marker::Model;
 
@@ -20,7 +21,7 @@ use std::marker::Model;
 /// spare: for how many more values it has room for certain.
 #[derive(Drop)]
 pub struct Cells {
-    words: Vec<u64>,
+    words: Words,
     lines: Vec<Line>,
 }
 
@@ -31,11 +32,11 @@ impl Model for Cells {
     ghost Value = { CellsView };
 
     ghost view = { λ cells. record {
-      contents = record { words = cells.words.items; lines = map (λ line. line.values) cells.lines.items };
+      contents = record { words = cells.words; lines = map (λ line. line.values) cells.lines.items };
       spare = map (λ line. line.spare) cells.lines.items;
     } };
 
-    ghost invariant = { λ cells. (length cells.words.items < 2 ^ 32) × (length cells.lines.items < 2 ^ 32) };
+    ghost invariant = { λ cells. (length cells.words < 2 ^ 32) × (length cells.lines.items < 2 ^ 32) };
 }
 
 impl Cells {
@@ -49,7 +50,10 @@ impl Cells {
         ensures spares { IfOk result HasSpares }
     {
         let lines = lines_of(alloc, lines)?;
-        Ok(Cells { words, lines })
+        Ok(Cells {
+            words: Words::new(words),
+            lines,
+        })
     }
 
     /// The same words and lines, with no spare.
@@ -58,7 +62,7 @@ impl Cells {
         ensures spare { IfOk result (λ copy. copy.spare ≡ map (λ _. 0) self.now.contents.lines) }
         ensures spares { IfOk result HasSpares }
     {
-        let words = Vec::from_slice(alloc, &self.words)?;
+        let words = self.words.copy(alloc)?;
         let lines = copies_of(alloc, &self.lines)?;
         Ok(Cells { words, lines })
     }
@@ -67,7 +71,7 @@ impl Cells {
     pub fn words(&self) -> u32
         ensures { result ≡ length self.now.contents.words }
     {
-        self.words.len() as u32
+        self.words.len()
     }
 
     /// How many lines there are.
@@ -82,7 +86,7 @@ impl Cells {
         requires { word < length self.now.contents.words }
         ensures { result ≡ slice_index self.now.contents.words word }
     {
-        self.words[word as usize]
+        self.words.at(word)
     }
 
     /// How many values a line holds.
@@ -165,8 +169,8 @@ impl Cells {
     {
         match *change {
             Change::Set { word, value } => {
-                let before = self.words[word as usize];
-                self.words[word as usize] = value;
+                let before = self.words.at(word);
+                self.words.set(word, value);
                 *change = Change::Set {
                     word,
                     value: before,

@@ -10,6 +10,7 @@ mod line;
 mod memory;
 #[cfg(test)]
 mod tests;
+mod words;
 
 pub use cells::Cells;
 pub use change::Change;

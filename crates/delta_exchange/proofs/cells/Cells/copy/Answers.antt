@@ -4,7 +4,7 @@ use Rattle.std.proofs.lemmas.Simd.{map-map}
 use Rattle.delta_exchange.proofs.cells.Cells.copy.Goals as goal
 
 pub returns-clause-contents : goal.returns-clause-contents
-returns-clause-contents c = rw (c.in_ok-lines.ensures, c.in_ok-words.ensures.items, map-map, c.deref.ensures.value, c.deref-2.ensures.value, ← c.self.view_is) refl
+returns-clause-contents c = rw (c.in_ok-lines.ensures, c.in_ok-words.ensures, map-map, c.deref.ensures.value, ← c.self.view_is) refl
 
 pub returns-clause-spare : goal.returns-clause-spare
-returns-clause-spare c = rw (c.in_ok-lines.ensures, map-map, c.deref-2.ensures.value, ← c.self.view_is, map-map) refl
+returns-clause-spare c = rw (c.in_ok-lines.ensures, map-map, c.deref.ensures.value, ← c.self.view_is, map-map) refl
