@@ -1,3 +1,5 @@
 pub mod Numbers
 pub mod RecordLemmas
 pub mod Results
+pub mod DigitLemmas
+pub mod WritingLemmas

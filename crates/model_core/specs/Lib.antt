@@ -1,6 +1,9 @@
+pub mod DigitTables
 pub mod Effects
+pub mod KeptNames
 pub mod Meaning
 pub mod Notes
 pub mod Places
 pub mod Records
 pub mod Words
+pub mod Writing

@@ -1,6 +1,7 @@
 //! Events, what they change, send and tell, and the models that say so.
 #![tactic(auto)]
 
+mod digits;
 mod effect;
 mod entry;
 mod event;
@@ -14,8 +15,10 @@ mod record_head;
 mod records;
 mod sequence;
 mod words;
+mod writing;
 
 pub use delta_exchange::{Cells, Change, OutOfMemory};
+pub use digits::Digits;
 pub use effect::{Effect, Ending, Outcome};
 pub use entry::Entry;
 pub use event::{Event, Send, Start};
@@ -35,6 +38,7 @@ pub use words::{
     LOAD_WORD, LOST_WORD, MADE_WORD, ROUTED_WORD, TAKEN_WORD, WAITING_WORD, fault_word,
     record_word,
 };
+pub use writing::{write_byte, write_first};
 
 #[cfg(test)]
 mod tests;

@@ -1,14 +1,19 @@
 //! What a simulation asks of a model.
-ghost use Rattle.std.specs.Prelude.{◌≡◌, ◌<◌, ◌^◌, ◌++◌, IfOk, OnOk, OnErr, IsTrue};
+ghost use Rattle.std.specs.Prelude.{◌≡◌, ◌+◌, ◌<◌, ◌≤◌, ◌^◌, ◌++◌, length, IfOk, OnOk, OnErr, IfSome, IfNone, IsTrue};
 ghost use Rattle.event_key.specs.Stamps.{time_part};
 ghost use Rattle.model_core.specs.Effects.{outcome_by};
 ghost use Rattle.model_core.specs.Meaning.{Meaning, MeaningLaws};
+ghost use Rattle.model_core.specs.Writing.{WritesAt};
 
+use crate::digits::Digits;
 use crate::effect::{Effect, Ending, Outcome};
 use crate::event::{Event, Start};
 use delta_exchange::{Cells, OutOfMemory};
 use random_streams::Stream;
 use std::alloc::Global;
+
+/// For how many bytes there is room where a name is written.
+pub const NAME_ROOM: usize = 24;
 
 /// A model: objects that change by events, each event at one object.
 pub trait Model: std::marker::Send + Sync + Drop {
@@ -82,6 +87,18 @@ pub trait Model: std::marker::Send + Sync + Drop {
         requires { object < (meaning self.now).objects }
         ensures ok { OnOk result (into.new.items ≡ into.old.items ++ (meaning self.now).label object) }
         ensures err { OnErr result (into.new.items ≡ into.old.items) };
+
+    /// Writes the name of an object at a place with room for `NAME_ROOM` bytes, and answers the place behind it. A name
+    /// that isn't written so, as one that is longer, is left to `put_name`.
+    fn write_name(&self, digits: &Digits, object: u32, into: &mut [u8], at: usize) -> Option<usize>
+        requires object { object < (meaning self.now).objects }
+        requires room { at + NAME_ROOM ≤ length into.old }
+        ensures some { IfSome result (λ end. WritesAt into.old into.new at end ((meaning self.now).label object)) }
+        ensures few { IfSome result (λ end. end ≤ at + NAME_ROOM) }
+        ensures none { IfNone result (into.new ≡ into.old) }
+    {
+        None
+    }
 
     /// What each model keeps.
     ghost laws: { (model : Self) → MeaningLaws (meaning model) };
