@@ -21,6 +21,10 @@ abbrev pub phold_parts : ℕ → ℕ → Law → Bool → ℕ → List Entry →
 phold_parts seed objects delay uniform each start rank =
     record { seed = seed; objects = objects; delay = delay; uniform = uniform; each = each; start = start; rank = rank }
 
+-- the same parts with another seed
+abbrev pub phold_under : ℕ → PholdParts → PholdParts
+phold_under seed p = phold_parts seed p.objects p.delay p.uniform p.each p.start p.rank
+
 -- by what the word of a destination is divided: the number of objects, and 1 where there is none and so no event
 unfoldable pub divisor_of : ℕ → ℕ
 divisor_of objects = max objects 1

@@ -1,5 +1,5 @@
 //! The model PHOLD.
-ghost use Rattle.std.specs.Prelude.{◌≡◌, ◌<◌, IsOkAnd};
+ghost use Rattle.std.specs.Prelude.{◌≡◌, ◌<◌, ◌^◌, IfOk, IsOkAnd, IsTrue};
 ghost use Rattle.phold_model.specs.Parts.{IsPhold, divisor_of, phold_parts};
 ghost use Rattle.phold_model.specs.Meaning.{phold_meaning, hop_start};
 
@@ -40,6 +40,8 @@ struct Hop {
 }
 
 impl Phold {
+    ghost use Rattle.phold_model.specs.Views.{parts_of};
+
     /// The model with these parts: a seed, a number of objects, the law of the delay, whether the destination is drawn
     /// evenly or is the next object, how many events each object has at time 0, further initial events, and the rank
     /// of what is sent and of the events at time 0. It takes no memory, and so is never refused.
@@ -54,8 +56,9 @@ impl Phold {
         rank: u32,
     ) -> Result<Phold, OutOfMemory>
         requires { IsPhold (phold_parts seed objects delay uniform each start.items rank) }
-        ensures { IsOkAnd result (λ phold. ⟦<Phold as SimulationModel>⟧.meaning phold
+        ensures meaning { IsOkAnd result (λ phold. ⟦<Phold as SimulationModel>⟧.meaning phold
             ≡ phold_meaning (phold_parts seed objects delay uniform each start.items rank)) }
+        ensures parts { IfOk result (λ phold. parts_of phold ≡ phold_parts seed objects delay uniform each start.items rank) }
     {
         Ok(Phold {
             seed,
@@ -85,18 +88,21 @@ fn hop_start(time: u64, dest: u32, rank: u32) -> Start
 }
 
 impl Phold {
-    ghost use Rattle.phold_model.specs.Meaning.{hop_delay, hop_dest, hop_next};
+    ghost use Rattle.model_core.specs.Effects.{outcome_by};
+    ghost use Rattle.phold_model.specs.Meaning.{hop_delay, hop_dest, hop_effect, hop_next, is_hop_cells};
+    ghost use Rattle.phold_model.specs.Parts.{phold_under};
     ghost use Rattle.phold_model.specs.Views.{parts_of};
 
-    /// What an event draws at an object whose random place is this, by a stream that may have the words at hand.
+    /// What an event draws under a seed at an object whose random place is this, by a stream that may have the words at
+    /// hand.
     #[tactic(auto, unfolding(crate::specs::Meaning::hop_delay, crate::specs::Meaning::hop_dest, crate::specs::Meaning::hop_next, crate::specs::Parts::divisor_of))]
-    fn hop(&self, words: &mut Stream, object: u32, place: u64) -> Hop
+    fn hop(&self, words: &mut Stream, seed: u64, object: u32, place: u64) -> Hop
         requires { object < self.now.objects }
-        ensures delay { result.delay ≡ hop_delay (parts_of self.now) object place }
-        ensures dest { result.dest ≡ hop_dest (parts_of self.now) object place }
-        ensures next { result.next ≡ hop_next (parts_of self.now) object place }
+        ensures delay { result.delay ≡ hop_delay (phold_under seed (parts_of self.now)) object place }
+        ensures dest { result.dest ≡ hop_dest (phold_under seed (parts_of self.now)) object place }
+        ensures next { result.next ≡ hop_next (phold_under seed (parts_of self.now)) object place }
     {
-        words.move_to(self.seed, object, place);
+        words.move_to(seed, object, place);
         let delay = words.draw_prepared(&self.delay);
         let number = if self.uniform {
             words.word()
@@ -108,6 +114,41 @@ impl Phold {
             dest: self.evenly.remainder(number) as u32,
             next: words.place(),
         }
+    }
+
+    /// What an event does under a seed in place of the model's own, as `respond` says it.
+    #[tactic(auto, unfolding(crate::specs::Meaning::phold_meaning, crate::specs::Meaning::hop_effect))]
+    pub fn respond_under(
+        &self,
+        seed: u64,
+        words: &mut Stream,
+        object: u32,
+        cells: &Cells,
+        sheet: &mut Effect,
+    ) -> Result<Ending, OutOfMemory>
+        requires object { object < (parts_of self.now).objects }
+        requires lawful { IsTrue (is_hop_cells cells.now.contents) }
+        ensures { IfOk result (λ ending. outcome_by ending sheet.new
+            ≡ hop_effect (phold_under seed (parts_of self.now)) object cells.now.contents) }
+    {
+        let place = cells.word(0);
+        let hop = self.hop(words, seed, object, place);
+        sheet.clear();
+        keep_place(&mut sheet.changes, place, hop.next);
+        sheet.sends.push(Send {
+            dest: hop.dest,
+            delay: hop.delay,
+            kind: HOP_KIND,
+            a: 0,
+            b: 0,
+            rank: self.rank,
+        });
+        sheet.note = Note::of(Part {
+            word: HOP_WORD,
+            a: hop.delay,
+            b: u64::from(hop.dest),
+        });
+        Ok(Ending::Goes)
     }
 }
 
@@ -156,24 +197,7 @@ impl SimulationModel for Phold {
         _event: &Event,
         sheet: &mut Effect,
     ) -> Result<Ending, OutOfMemory> {
-        let place = cells.word(0);
-        let hop = self.hop(words, object, place);
-        sheet.clear();
-        keep_place(&mut sheet.changes, place, hop.next);
-        sheet.sends.push(Send {
-            dest: hop.dest,
-            delay: hop.delay,
-            kind: HOP_KIND,
-            a: 0,
-            b: 0,
-            rank: self.rank,
-        });
-        sheet.note = Note::of(Part {
-            word: HOP_WORD,
-            a: hop.delay,
-            b: u64::from(hop.dest),
-        });
-        Ok(Ending::Goes)
+        self.respond_under(self.seed, words, object, cells, sheet)
     }
 
     fn put_name(&self, _alloc: Global, object: u32, into: &mut Vec<u8>) -> Result<(), OutOfMemory> {
