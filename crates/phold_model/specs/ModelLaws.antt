@@ -11,10 +11,22 @@ use Rattle.model_core.specs.Meaning.{MeaningLaws, StartLaws}
 use Rattle.random_streams.proofs.Bounds.{draw-le, is_drawable-delay}
 use Rattle.random_streams.specs.Laws.{draw}
 use Rattle.random_streams.specs.Words.{word_of}
-use Rattle.phold_model.specs.Parts.{PholdParts, IsEntry, IsPhold}
+use Rattle.phold_model.specs.Parts.{PholdParts, IsEntry, IsPhold, phold_under}
 use Rattle.model_core.specs.Places.{place_changes}
 use Rattle.phold_model.specs.Meaning.{phold_meaning, hop_effect, hop_delay, hop_dest, is_hop_cells, starts_of, hop_start}
 use Rattle.phold_model.specs.Starts.{length-starts_of, All-starts_of}
+
+-- the parts lie within their bounds under any other seed too
+pub is_phold_under : (seed : ℕ) → seed < 2 ^ 63 → (p : PholdParts) → IsPhold p → IsPhold (phold_under seed p)
+is_phold_under seed below p fine = record {
+  seed = below;
+  objects = fine.objects;
+  delay = fine.delay;
+  each = fine.each;
+  few_entries = fine.few_entries;
+  entries = fine.entries;
+  rank = fine.rank;
+}
 
 few_place_changes : (place next : ℕ) → length (place_changes place next) ≤ 16
 unfolding place_changes

@@ -1,5 +1,5 @@
 -- A network keeps the laws of models.
-use Rattle.std.proofs.Common.{◌≡◌, ℕ, ◌+◌, ◌-◌, ◌<◌, Bool, true, false, refl, length, arith}
+use Rattle.std.proofs.Common.{◌≡◌, ℕ, ◌+◌, ◌-◌, ◌<◌, ◌^◌, Bool, true, false, refl, length, arith}
 use Rattle.std.specs.Prelude.{IsTrue, if◌then◌else◌, nat_lt, slice_index}
 use Rattle.std.proofs.lemmas.Bool.Decides.{nat_tests}
 use Rattle.delta_exchange.specs.Changes.{CellData}
@@ -10,11 +10,16 @@ use Rattle.model_core.specs.Meaning.{MeaningLaws, OutcomeLaws, StartLaws}
 use Rattle.queue_models.specs.Keeping.{OutcomeKeeps, outcome_laws}
 use Rattle.queue_models.specs.Kinds.{is_lawful, effect_at}
 use Rattle.queue_models.specs.Meaning.{plain_meaning, network_meaning, site_of, source_start, job_start, start_of}
-use Rattle.queue_models.specs.Objects.{NetworkParts, object_at, source_numbers}
+use Rattle.queue_models.specs.Objects.{NetworkParts, network_under, object_at, source_numbers}
 use Rattle.queue_models.specs.Parts.{IsNetwork, IsObject}
 use Rattle.queue_models.specs.KindLaws.{kind_keeps, first_lawful, first_time}
 use Rattle.queue_models.specs.Starts.{length-source_numbers, source_numbers-exist}
 use Rattle.queue_models.specs.Telling.{as_told}
+
+-- the parts lie within their bounds under any other seed too
+pub is_network_under : (seed : ℕ) → seed < 2 ^ 63 → (p : NetworkParts) → IsNetwork p → IsNetwork (network_under seed p)
+is_network_under seed below p fine =
+    record { seed = below; few_objects = fine.few_objects; few_jobs = fine.few_jobs; names = fine.names; objects = fine.objects; jobs = fine.jobs }
 
 pub object_fine : (p : NetworkParts) → IsNetwork p → (object : ℕ) → object < length p.objects → IsObject p.objects (object_at p.objects object)
 object_fine p fine object exists = fine.objects object _ exists

@@ -19,6 +19,10 @@ pub record NetworkParts : Type 0 where
 abbrev pub network_of : ℕ → List Item → List Entry → NetworkParts
 network_of seed objects jobs = record { seed = seed; objects = objects; jobs = jobs }
 
+-- the same parts with another seed
+abbrev pub network_under : ℕ → NetworkParts → NetworkParts
+network_under seed p = network_of seed p.objects p.jobs
+
 -- what stands for an object where there is none
 abbrev pub no_object : Item
 no_object = record { name = []; kind = Sink (record { due = None }); rank = 0; quiet = false; trace = false }

@@ -1,5 +1,5 @@
 //! The model of a queueing network.
-ghost use Rattle.std.specs.Prelude.{◌≡◌, ◌<◌, ◌≤◌, IfOk, length};
+ghost use Rattle.std.specs.Prelude.{◌≡◌, ◌<◌, ◌≤◌, ◌^◌, IfOk, IsTrue, length};
 ghost use Rattle.model_core.specs.declared.limits.TheConstants.{MOST_OBJECTS};
 ghost use Rattle.queue_models.specs.Objects.{object_at, network_of, source_numbers};
 ghost use Rattle.queue_models.specs.Parts.{IsNetwork};
@@ -39,6 +39,8 @@ fn source_numbers(alloc: Global, objects: &[Item]) -> Result<Vec<u32>, OutOfMemo
 }
 
 impl Network {
+    ghost use Rattle.queue_models.specs.Views.{parts_of};
+
     /// The network with these parts: a seed, below 2^63; the objects, at most 65,536, whose names differ, and each of
     /// which has numbers within the bounds of its kind and names objects that there are and that are no sources; and the
     /// jobs with which it begins beside those of its sources, at most 65,536, each at an object that is no source.
@@ -49,8 +51,9 @@ impl Network {
         jobs: Vec<Entry>,
     ) -> Result<Network, OutOfMemory>
         requires { IsNetwork (network_of seed objects.items jobs.items) }
-        ensures { IfOk result (λ network. ⟦<Network as SimulationModel>⟧.meaning network
+        ensures meaning { IfOk result (λ network. ⟦<Network as SimulationModel>⟧.meaning network
             ≡ network_meaning (network_of seed objects.items jobs.items)) }
+        ensures parts { IfOk result (λ network. parts_of network ≡ network_of seed objects.items jobs.items) }
     {
         let sources = source_numbers(alloc, &objects)?;
         Ok(Network {
@@ -63,7 +66,10 @@ impl Network {
 }
 
 impl Network {
+    ghost use Rattle.event_key.specs.Stamps.{time_part};
+    ghost use Rattle.model_core.specs.Effects.{outcome_by};
     ghost use Rattle.queue_models.specs.Meaning.{source_start, job_start, site_of};
+    ghost use Rattle.queue_models.specs.Objects.{network_under};
     ghost use Rattle.queue_models.specs.Views.{parts_of};
 
     /// The object with this number.
@@ -74,16 +80,42 @@ impl Network {
         &self.objects[object as usize]
     }
 
-    /// Where an event at an object happens.
-    fn site(&self, object: u32) -> Site
+    /// Where an event at an object happens, under a seed.
+    fn site(&self, seed: u64, object: u32) -> Site
         requires { object < length self.now.objects.items }
-        ensures { result ≡ site_of (parts_of self.now) object }
+        ensures { result ≡ site_of (network_under seed (parts_of self.now)) object }
     {
         let rank = self.objects[object as usize].rank;
-        Site {
-            seed: self.seed,
-            object,
-            rank,
+        Site { seed, object, rank }
+    }
+
+    /// What an event does under a seed, below 2^63, in place of the network's own, as `respond` says it.
+    #[tactic(auto, unfolding(crate::specs::Meaning::network_meaning))]
+    pub fn respond_under(
+        &self,
+        seed: u64,
+        words: &mut Stream,
+        object: u32,
+        cells: &Cells,
+        event: &Event,
+        sheet: &mut Effect,
+    ) -> Result<Ending, OutOfMemory>
+        requires seed { seed < 2 ^ 63 }
+        requires object { object < (network_meaning (parts_of self.now)).objects }
+        requires lawful { IsTrue ((network_meaning (parts_of self.now)).lawful object cells.now.contents) }
+        requires time { time_part event.now.key.stamp < 2 ^ 46 }
+        ensures { IfOk result (λ ending. outcome_by ending sheet.new
+            ≡ (network_meaning (network_under seed (parts_of self.now))).effect object cells.now.contents event.now) }
+    {
+        let site = self.site(seed, object);
+        let item = self.item(object);
+        sheet.clear();
+        match item.kind.react(words, site, cells, event, sheet) {
+            Ending::Goes => {
+                item.tell(cells, sheet);
+                Ok(Ending::Goes)
+            }
+            Ending::Fails(code) => Ok(Ending::Fails(code)),
         }
     }
 
@@ -163,16 +195,7 @@ impl SimulationModel for Network {
         event: &Event,
         sheet: &mut Effect,
     ) -> Result<Ending, OutOfMemory> {
-        let site = self.site(object);
-        let item = self.item(object);
-        sheet.clear();
-        match item.kind.react(words, site, cells, event, sheet) {
-            Ending::Goes => {
-                item.tell(cells, sheet);
-                Ok(Ending::Goes)
-            }
-            Ending::Fails(code) => Ok(Ending::Fails(code)),
-        }
+        self.respond_under(self.seed, words, object, cells, event, sheet)
     }
 
     fn put_name(&self, _alloc: Global, object: u32, into: &mut Vec<u8>) -> Result<(), OutOfMemory> {

@@ -11,5 +11,5 @@ make-requires c =
 
 pub returns-clause-network : goal.returns-clause-network
 returns-clause-network c =
-    c.in_ok-network.ensures
+    c.in_ok-network.ensures.meaning
     ∙ ap network_meaning (are_ring_parts c.args.n c.from.result c.in_ok-objects.objects.items c.in_ok-jobs.jobs.items c.from.ensures c.in_ok-objects.ensures c.in_ok-jobs.ensures)

@@ -3,12 +3,12 @@ use Rattle.model_core.specs.declared.effect.Outcome.TheVariants.{Goes}
 use Rattle.queue_models.specs.declared.site.Site.{Site}
 use Rattle.queue_models.specs.Meaning.{network_meaning, site_of}
 use Rattle.queue_models.specs.KindLaws.{kind_can_draw}
-use Rattle.queue_models.specs.ModelLaws.{object_fine}
-use Rattle.queue_models.specs.Objects.{Item, object_at}
+use Rattle.queue_models.specs.ModelLaws.{is_network_under, object_fine}
+use Rattle.queue_models.specs.Objects.{Item, network_under, object_at}
 use Rattle.queue_models.specs.Kinds.{KindCanDraw, effect_at}
 use Rattle.queue_models.specs.Views.{parts_of}
 use Rattle.queue_models.proofs.TellingLemmas.{has_load, one_part}
-use Rattle.queue_models.proofs.network.NetworkSimulationModel.respond.Goals as goal
+use Rattle.queue_models.proofs.network.Network.respond_under.Goals as goal
 
 pub react-requires-clause-draws : goal.react-requires-clause-draws
 unfolding network_meaning
@@ -20,22 +20,22 @@ react-requires-clause-draws c =
 pub tell-requires-clause-load : goal.tell-requires-clause-load
 unfolding network_meaning
 tell-requires-clause-load c = λ traced.
-    let p = parts_of c.args.self.now in
+    let p = network_under c.args.seed (parts_of c.args.self.now) in
     let cells = c.args.cells.now.contents in
     let goes : Goes c.react.new.sheet ≡ effect_at (site_of p c.args.object) (object_at p.objects c.args.object).kind cells c.args.event.now =
     c.in-Goes.ensures
     ∙ ap (λ (s : Site). effect_at s c.item-item.result.now.kind cells c.args.event.now) c.site-site.ensures
     ∙ ap (λ (o : Item). effect_at (site_of p c.args.object) o.kind cells c.args.event.now) c.item-item.ensures in
-    has_load p c.args.self.now.in_range c.args.object cells c.args.event.now c.react.new.sheet c.requires.object c.requires.lawful goes
+    has_load p (is_network_under c.args.seed c.requires.seed (parts_of c.args.self.now) c.args.self.now.in_range) c.args.object cells c.args.event.now c.react.new.sheet c.requires.object c.requires.lawful goes
     (sym (ap (λ (o : Item). o.trace) c.item-item.ensures) ∙ traced)
 
 pub tell-requires-clause-room : goal.tell-requires-clause-room
 unfolding network_meaning
 tell-requires-clause-room c =
-    let p = parts_of c.args.self.now in
+    let p = network_under c.args.seed (parts_of c.args.self.now) in
     let cells = c.args.cells.now.contents in
     let goes : Goes c.react.new.sheet ≡ effect_at (site_of p c.args.object) (object_at p.objects c.args.object).kind cells c.args.event.now =
     c.in-Goes.ensures
     ∙ ap (λ (s : Site). effect_at s c.item-item.result.now.kind cells c.args.event.now) c.site-site.ensures
     ∙ ap (λ (o : Item). effect_at (site_of p c.args.object) o.kind cells c.args.event.now) c.item-item.ensures in
-    omega (arith, one_part p c.args.self.now.in_range c.args.object cells c.args.event.now c.react.new.sheet c.requires.object c.requires.lawful goes)
+    omega (arith, one_part p (is_network_under c.args.seed c.requires.seed (parts_of c.args.self.now) c.args.self.now.in_range) c.args.object cells c.args.event.now c.react.new.sheet c.requires.object c.requires.lawful goes)
