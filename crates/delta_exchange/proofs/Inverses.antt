@@ -2,11 +2,12 @@
 use Rattle.std.proofs.Common.{◌≡◌, ℕ, ◌+◌, ◌-◌, ◌<◌, List, [], ◌∷◌, ◌++◌, length, get_or, take, drop, refl, ap, ◌∙◌, arith}
 use Rattle.std.proofs.Math.ListN.{set}
 use Rattle.std.proofs.lemmas.List.{set-set, set-get_or, get_or-set_same, length-set, length-append}
+use Rattle.std.proofs.lemmas.Bool.Decides.{nat_tests}
 use Rattle.std.proofs.lemmas.Grind.{common_steps}
-use Rattle.delta_exchange.specs.Changes.{CellData, line_of, Fits, cells_after, inverse_of}
+use Rattle.delta_exchange.specs.Changes.{CellData, line_of, Fits, cells_after, inverse_of, flipped, with_flipped}
 use Rattle.delta_exchange.specs.Spares.{FindsRoom, spare_after}
 use Rattle.delta_exchange.specs.declared.change.Change.{Change}
-use Rattle.delta_exchange.specs.declared.change.Change.TheVariants.{Set, Push, Pop, Unpush, Unpop}
+use Rattle.delta_exchange.specs.declared.change.Change.TheVariants.{Set, Push, Pop, Unpush, Unpop, Flip}
 
 -- an element that is put back
 set_back : {A : Type 0} (xs : List A) (at : ℕ) (x d : A) → set (set xs at x) at (get_or xs at d) ≡ xs
@@ -24,6 +25,15 @@ front_of_pushed xs x = grind (arith, common_steps)
 
 last_of_pushed : (xs : List ℕ) (x : ℕ) → get_or (xs ++ x ∷ []) (length (xs ++ x ∷ []) - 1) 0 ≡ x
 last_of_pushed xs x = grind (arith, common_steps)
+
+flipped_twice : (value : ℕ) → flipped (flipped value) ≡ value
+unfolding flipped
+flipped_twice value = grind (arith, nat_tests)
+
+-- a value that is flipped twice
+flip_back : (xs : List ℕ) (place : ℕ) → place < length xs → with_flipped (with_flipped xs place) place ≡ xs
+flip_back xs place lt =
+    rw (get_or-set_same xs place (flipped (get_or xs place 0)) 0 lt, flipped_twice) (set_back xs place _ 0)
 
 -- a line that is put back
 line_back : (lines : List (List ℕ)) (at : ℕ) (changed same : List ℕ) → same ≡ get_or lines at [] → set (set lines at changed) at same ≡ lines
@@ -47,6 +57,10 @@ cells_back (Unpop line value) cells fits =
     let pushed = value ∷ line_of cells line in
     let here : get_or (set cells.lines line pushed) line [] ≡ pushed = get_or-set_same cells.lines line pushed [] fits in
     ap (λ lines. record cells { lines = lines }) (rw here (line_back cells.lines line _ _ refl))
+cells_back (Flip line place) cells fits =
+    let turned = with_flipped (line_of cells line) place in
+    let here : get_or (set cells.lines line turned) line [] ≡ turned = get_or-set_same cells.lines line turned [] fits.0 in
+    ap (λ lines. record cells { lines = lines }) (rw here (line_back cells.lines line _ _ (flip_back (line_of cells line) place fits.1)))
 
 pub change_back : (change : Change) (cells : CellData) → Fits change cells → inverse_of (inverse_of change cells) (cells_after change cells) ≡ change
 change_back (Set word value) cells fits = ap (λ old. Set word old) (get_or-set_same cells.words word value 0 fits)
@@ -60,6 +74,7 @@ change_back (Unpop line value) cells fits =
     let pushed = value ∷ line_of cells line in
     let here : get_or (set cells.lines line pushed) line [] ≡ pushed = get_or-set_same cells.lines line pushed [] fits in
     ap (λ first. Unpop line first) (rw here refl)
+change_back (Flip line place) cells fits = refl
 
 still_there : (lines : List (List ℕ)) (at : ℕ) (line : List ℕ) → at < length lines → at < length (set lines at line)
 still_there lines at line lt = rw length-set lt
@@ -73,6 +88,10 @@ inverse_fits (Push line value) cells fits = (still_there cells.lines line _ fits
 inverse_fits (Pop line) cells fits = still_there cells.lines line _ fits.0
 inverse_fits (Unpush line) cells fits = still_there cells.lines line _ fits.0
 inverse_fits (Unpop line value) cells fits = (still_there cells.lines line _ fits, not_empty cells.lines line _ fits (omega arith))
+inverse_fits (Flip line place) cells fits =
+    let turned = with_flipped (line_of cells line) place in
+    let here : get_or (set cells.lines line turned) line [] ≡ turned = get_or-set_same cells.lines line turned [] fits.0 in
+    (still_there cells.lines line _ fits.0, rw (here, length-set) fits.1)
 
 risen : (spare : List ℕ) (at : ℕ) → at < length spare → 0 < get_or (set spare at (get_or spare at 0 + 1)) at 0
 risen spare at lt = rw (get_or-set_same spare at (get_or spare at 0 + 1) 0 lt) (omega arith)
@@ -83,6 +102,7 @@ inverse_finds_room (Push line value) cells spare spares fits = tt
 inverse_finds_room (Pop line) cells spare spares fits = risen spare line (omega (arith, fits.0))
 inverse_finds_room (Unpush line) cells spare spares fits = risen spare line (omega (arith, fits.0))
 inverse_finds_room (Unpop line value) cells spare spares fits = tt
+inverse_finds_room (Flip line place) cells spare spares fits = tt
 
 risen_and_fallen : (spare : List ℕ) (at : ℕ) → at < length spare → set (set spare at (get_or spare at 0 + 1)) at (get_or (set spare at (get_or spare at 0 + 1)) at 0 - 1) ≡ spare
 risen_and_fallen spare at lt =
@@ -100,3 +120,4 @@ spare_back (Push line value) cells spare spares fits finds = fallen_and_risen sp
 spare_back (Pop line) cells spare spares fits finds = risen_and_fallen spare line (omega (arith, fits.0))
 spare_back (Unpush line) cells spare spares fits finds = risen_and_fallen spare line (omega (arith, fits.0))
 spare_back (Unpop line value) cells spare spares fits finds = fallen_and_risen spare line (omega (arith, fits)) finds
+spare_back (Flip line place) cells spare spares fits finds = refl

@@ -4,7 +4,7 @@ use Rattle.std.proofs.lemmas.List.{length-set}
 use Rattle.delta_exchange.specs.Changes.{CellData, cells_after, inverse_of, AllFit, cells_after_all, inverses_of}
 use Rattle.delta_exchange.specs.Spares.{spare_after, AllFindRoom, spare_after_all}
 use Rattle.delta_exchange.specs.declared.change.Change.{Change}
-use Rattle.delta_exchange.specs.declared.change.Change.TheVariants.{Set, Push, Pop, Unpush, Unpop}
+use Rattle.delta_exchange.specs.declared.change.Change.TheVariants.{Set, Push, Pop, Unpush, Unpop, Flip}
 
 pub cells_after_all_append : (first last : List Change) (cells : CellData) → cells_after_all (first ++ last) cells ≡ cells_after_all last (cells_after_all first cells)
 unfolding cells_after_all
@@ -57,6 +57,7 @@ length_spare_after (Push line value) spare = length-set spare line _
 length_spare_after (Pop line) spare = length-set spare line _
 length_spare_after (Unpush line) spare = length-set spare line _
 length_spare_after (Unpop line value) spare = length-set spare line _
+length_spare_after (Flip line place) spare = refl
 
 pub length_spare_after_all : (changes : List Change) (spare : List ℕ) → length (spare_after_all changes spare) ≡ length spare
 unfolding spare_after_all
@@ -69,6 +70,7 @@ length_lines_after (Push line value) cells = length-set cells.lines line _
 length_lines_after (Pop line) cells = length-set cells.lines line _
 length_lines_after (Unpush line) cells = length-set cells.lines line _
 length_lines_after (Unpop line value) cells = length-set cells.lines line _
+length_lines_after (Flip line place) cells = length-set cells.lines line _
 
 pub length_lines_after_all : (changes : List Change) (cells : CellData) → length (cells_after_all changes cells).lines ≡ length cells.lines
 unfolding cells_after_all

@@ -10,7 +10,7 @@ use Rattle.delta_exchange.specs.Spares.{FindsRoom, AllFindRoom, spare_after, spa
 use Rattle.delta_exchange.specs.Undoing.{RoomIsEnough, MoreSpareIsEnough, MoreSpareStays, FittingNamesLines}
 use Rattle.delta_exchange.proofs.Lists.{length_lines_after}
 use Rattle.delta_exchange.specs.declared.change.Change.{Change}
-use Rattle.delta_exchange.specs.declared.change.Change.TheVariants.{Set, Push, Pop, Unpush, Unpop}
+use Rattle.delta_exchange.specs.declared.change.Change.TheVariants.{Set, Push, Pop, Unpush, Unpop, Flip}
 
 -- what is left to put in, where one place is taken at a line
 falls : (rest : List Change) (spare : List ℕ) (at : ℕ) → ((line : ℕ) → cond (at == line) 1 0 + room_for rest line ≤ get_or spare line 0) → HaveRoom rest (set spare at (get_or spare at 0 - 1))
@@ -36,6 +36,7 @@ first_room change rest spare h = by_change change (λ line. rw counted at (h lin
     by_change (Pop line) h = (tt, rises rest spare line h)
     by_change (Unpush line) h = (tt, rises rest spare line h)
     by_change (Unpop line value) h = (here rest spare line h, falls rest spare line h)
+    by_change (Flip line place) h = (tt, λ line. omega (arith, h line))
 
 pub room_is_enough : RoomIsEnough
 unfolding AllFindRoom
@@ -62,6 +63,7 @@ finds_more (Push line value) before after more finds = omega (arith, more.no_les
 finds_more (Pop line) before after more finds = tt
 finds_more (Unpush line) before after more finds = tt
 finds_more (Unpop line value) before after more finds = omega (arith, more.no_less line)
+finds_more (Flip line place) before after more finds = tt
 
 still_more : (change : Change) (before after : List ℕ) → NoneFell before after → NoneFell (spare_after change before) (spare_after change after)
 still_more (Set word value) before after more = more
@@ -69,6 +71,7 @@ still_more (Push line value) before after more = set_both before after line _ _ 
 still_more (Pop line) before after more = set_both before after line _ _ more (omega (arith, more.no_less line))
 still_more (Unpush line) before after more = set_both before after line _ _ more (omega (arith, more.no_less line))
 still_more (Unpop line value) before after more = set_both before after line _ _ more (omega (arith, more.no_less line))
+still_more (Flip line place) before after more = more
 
 pub more_spare_is_enough : MoreSpareIsEnough
 unfolding AllFindRoom
@@ -87,6 +90,7 @@ fit_names (Push line value) cells fits = fits
 fit_names (Pop line) cells fits = fits.0
 fit_names (Unpush line) cells fits = fits.0
 fit_names (Unpop line value) cells fits = fits
+fit_names (Flip line place) cells fits = fits.0
 
 -- a line that is named stays there
 names_as_many : (change : Change) (one other : CellData) → length one.lines ≡ length other.lines → NamesLine change one → NamesLine change other
@@ -95,6 +99,7 @@ names_as_many (Push line value) one other same names = omega (arith, names)
 names_as_many (Pop line) one other same names = omega (arith, names)
 names_as_many (Unpush line) one other same names = omega (arith, names)
 names_as_many (Unpop line value) one other same names = omega (arith, names)
+names_as_many (Flip line place) one other same names = omega (arith, names)
 
 fitting_at : (changes : List Change) (cells : CellData) → AllFit changes cells → (at : ℕ) (d : Change) → at < length changes → NamesLine (get_or changes at d) cells
 unfolding AllFit

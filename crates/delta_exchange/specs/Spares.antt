@@ -3,7 +3,7 @@ use Rattle.std.specs.Prelude.{◌≡◌, ℕ, ◌+◌, ◌-◌, ◌<◌, ◌≤�
 use Rattle.delta_exchange.specs.Changes.{CellData}
 use Rattle.delta_exchange.specs.Views.{CellsView}
 use Rattle.delta_exchange.specs.declared.change.Change.{Change}
-use Rattle.delta_exchange.specs.declared.change.Change.TheVariants.{Set, Push, Pop, Unpush, Unpop}
+use Rattle.delta_exchange.specs.declared.change.Change.TheVariants.{Set, Push, Pop, Unpush, Unpop, Flip}
 
 -- a value that goes in takes one place of its line's spare
 abbrev pub FindsRoom : Change → List ℕ → Type 0
@@ -12,6 +12,7 @@ FindsRoom (Push line value) spare = 0 < slice_index spare line
 FindsRoom (Pop line) spare = Unit {0}
 FindsRoom (Unpush line) spare = Unit {0}
 FindsRoom (Unpop line value) spare = 0 < slice_index spare line
+FindsRoom (Flip line place) spare = Unit {0}
 
 -- the spares after a change: a value that goes out gives its place back
 abbrev pub spare_after : Change → List ℕ → List ℕ
@@ -20,6 +21,7 @@ spare_after (Push line value) spare = slice_set spare line (slice_index spare li
 spare_after (Pop line) spare = slice_set spare line (slice_index spare line + 1)
 spare_after (Unpush line) spare = slice_set spare line (slice_index spare line + 1)
 spare_after (Unpop line value) spare = slice_set spare line (slice_index spare line - 1)
+spare_after (Flip line place) spare = spare
 
 -- each change of a list finds room in the spares that those before it leave
 unfoldable pub AllFindRoom : List Change → List ℕ → Type 0
@@ -38,6 +40,7 @@ puts_in_at (Push at value) line = at == line
 puts_in_at (Pop at) line = false
 puts_in_at (Unpush at) line = false
 puts_in_at (Unpop at value) line = at == line
+puts_in_at (Flip at place) line = false
 
 -- how many values a list of changes puts in at a line
 abbrev pub room_for : List Change → ℕ → ℕ
@@ -54,6 +57,7 @@ NamesLine (Push line value) cells = line < length cells.lines
 NamesLine (Pop line) cells = line < length cells.lines
 NamesLine (Unpush line) cells = line < length cells.lines
 NamesLine (Unpop line value) cells = line < length cells.lines
+NamesLine (Flip line place) cells = line < length cells.lines
 
 -- each line that the changes name is there
 abbrev pub NameLines : List Change → CellData → Type 0

@@ -196,6 +196,11 @@ impl Cells {
                 queue.push_front(value);
                 *change = Change::Pop { line };
             }
+            // This change is its own inverse.
+            Change::Flip { line, place } => {
+                let queue = &mut self.lines[line as usize];
+                queue.flip(place as usize);
+            }
         }
     }
 

@@ -2,7 +2,7 @@
 ghost use Rattle.std.specs.Prelude.{◌≡◌};
 ghost use Rattle.delta_exchange.specs.Spares.{puts_in_at};
 
-/// A change of a word, or of one end of a line.
+/// A change of a word, of one end of a line, or of a value in a line.
 #[derive(Clone, Copy, Debug, PartialEq, Eq)]
 pub enum Change {
     /// The word takes the value.
@@ -15,6 +15,8 @@ pub enum Change {
     Unpush { line: u32 },
     /// The value goes in as the line's first.
     Unpop { line: u32, value: u64 },
+    /// Each bit of the value at the place turns, the line's first value being at place 0.
+    Flip { line: u32, place: u64 },
 }
 
 impl Change {

@@ -1,6 +1,7 @@
 //! A line of values that are taken and given at both ends.
 ghost use Rattle.std.specs.Prelude.{◌≡◌, ◌+◌, ◌-◌, ◌<◌, ◌≤◌, [], ◌∷◌, ◌++◌};
 ghost use Rattle.std.specs.Prelude.{length, take, drop, slice_index, IfOk, OnOk};
+ghost use Rattle.delta_exchange.specs.Changes.{flipped, with_flipped};
 ghost use Rattle.delta_exchange.specs.Views.{unspared};
 
 use std::alloc::AllocError;
@@ -124,4 +125,21 @@ impl Line {
         self.spare += 1;
         value
     }
+
+    /// Turns each bit of the value at a place, the first at place 0.
+    pub fn flip(&mut self, place: usize)
+        requires { place < length self.old.values }
+        ensures { self.new ≡ record self.old { values = with_flipped self.old.values place } }
+    {
+        let value = self.queue[place];
+        self.queue[place] = flipped(value);
+    }
+}
+
+/// The value with each of its bits turned.
+#[tactic(auto, unfolding(crate::specs::Changes::flipped))]
+fn flipped(value: u64) -> u64
+    ensures { result ≡ flipped value }
+{
+    u64::MAX - value
 }

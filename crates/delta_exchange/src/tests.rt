@@ -59,17 +59,19 @@ fn each_change_becomes_its_inverse_and_undo_takes_all_back(rt: HostRuntime) -> R
         Change::Set { word: 0, value: 5 },
         Change::Push { line: 0, value: 3 },
         Change::Pop { line: 0 },
+        Change::Flip { line: 0, place: 1 },
     ];
     let inverses = [
         Change::Set { word: 0, value: 7 },
         Change::Set { word: 0, value: 9 },
         Change::Unpush { line: 0 },
         Change::Unpop { line: 0, value: 1 },
+        Change::Flip { line: 0, place: 1 },
     ];
     let mut log = changes;
     cells.room(&log)?;
     cells.apply(&mut log);
-    assert!(rt; holds(&cells, [5, 8], [2, 3]));
+    assert!(rt; holds(&cells, [5, 8], [2, 18446744073709551612]));
     assert!(rt; log == inverses);
 
     cells.undo(&mut log);

@@ -4,8 +4,8 @@ use Rattle.std.specs.Prelude.{◌==◌, if◌then◌else◌, slice_set, slice_in
 use Rattle.std.proofs.lemmas.List.{length-drop, length-take-le, drop_more, drop_all}
 use Rattle.std.proofs.Math.ListN.{length-set}
 use Rattle.delta_exchange.specs.declared.change.Change.{Change}
-use Rattle.delta_exchange.specs.declared.change.Change.TheVariants.{Set, Push, Pop, Unpush, Unpop}
-use Rattle.delta_exchange.specs.Changes.{CellData, line_of, with_line, cells_after, cells_after_all}
+use Rattle.delta_exchange.specs.declared.change.Change.TheVariants.{Set, Push, Pop, Unpush, Unpop, Flip}
+use Rattle.delta_exchange.specs.Changes.{CellData, line_of, with_line, with_flipped, cells_after, cells_after_all}
 use Rattle.queue_models.specs.Loads.{busy_after, waiting_after, load_after_all}
 use Rattle.queue_models.specs.Stations.{busy_servers, waiting_jobs}
 
@@ -20,6 +20,7 @@ still_cells (Push line value) cells has = record { words = has.words; lines = rw
 still_cells (Pop line) cells has = record { words = has.words; lines = rw length-set has.lines }
 still_cells (Unpush line) cells has = record { words = has.words; lines = rw length-set has.lines }
 still_cells (Unpop line value) cells has = record { words = has.words; lines = rw length-set has.lines }
+still_cells (Flip line place) cells has = record { words = has.words; lines = rw length-set has.lines }
 
 -- word 1, after a word is set
 set_word : (words : List ℕ) (word value : ℕ) → 1 < length words → slice_index (slice_set words word value) 1 ≡ (if word == 1 then value else slice_index words 1)
@@ -51,6 +52,7 @@ busy_is (Push line value) cells has = refl
 busy_is (Pop line) cells has = refl
 busy_is (Unpush line) cells has = refl
 busy_is (Unpop line value) cells has = refl
+busy_is (Flip line place) cells has = refl
 
 -- where line 0 gets so many values
 line_gets : (cells : CellData) (line n : ℕ) (values : List ℕ) → 0 < length cells.lines → ((line ≡ 0) → length values ≡ n)
@@ -75,6 +77,14 @@ waiting_is (Unpush line) cells has =
 waiting_is (Unpop line value) cells has =
     line_gets cells line (waiting_jobs cells + 1) (value ∷ line_of cells line) has.lines
     (λ first. ap (λ k. length (value ∷ line_of cells k)) first ∙ omega arith)
+waiting_is (Flip line place) cells has =
+    line_gets cells line (waiting_jobs cells) (with_flipped (line_of cells line) place) has.lines
+    (λ first. length-set (line_of cells line) place _ ∙ ap (λ k. length (line_of cells k)) first)
+    ∙ by (line == 0)
+  where
+    by : (first : Bool) → (if first then waiting_jobs cells else waiting_jobs cells) ≡ waiting_jobs cells
+    by true = refl
+    by false = refl
 
 -- after all of them, what was counted is the load
 pub load_is : (changes : List Change) (cells : CellData) → 1 < length cells.words → 0 < length cells.lines
@@ -121,3 +131,4 @@ waiting_after-le (Unpop line value) waiting = by (line == 0)
     by : (first : Bool) → (if first then waiting + 1 else waiting) ≤ waiting + 1
     by true = omega arith
     by false = omega arith
+waiting_after-le (Flip line place) waiting = omega arith

@@ -1,7 +1,7 @@
 -- The load of a station through changes of its cells.
 use Rattle.std.specs.Prelude.{ℕ, ◌+◌, ◌-◌, ◌<◌, ◌≤◌, ◌==◌, if◌then◌else◌, List, [], ◌∷◌, length}
 use Rattle.delta_exchange.specs.declared.change.Change.{Change}
-use Rattle.delta_exchange.specs.declared.change.Change.TheVariants.{Set, Push, Pop, Unpush, Unpop}
+use Rattle.delta_exchange.specs.declared.change.Change.TheVariants.{Set, Push, Pop, Unpush, Unpop, Flip}
 use Rattle.delta_exchange.specs.Changes.{CellData, AllFit}
 use Rattle.queue_models.specs.declared.station.TheConstants.{MOST_WAITING}
 use Rattle.queue_models.specs.Stations.{waiting_jobs}
@@ -13,6 +13,7 @@ busy_after (Push line value) busy = busy
 busy_after (Pop line) busy = busy
 busy_after (Unpush line) busy = busy
 busy_after (Unpop line value) busy = busy
+busy_after (Flip line place) busy = busy
 
 -- how many jobs wait after a change, where so many waited before it
 abbrev pub waiting_after : Change → ℕ → ℕ
@@ -21,6 +22,7 @@ waiting_after (Push line value) waiting = if line == 0 then waiting + 1 else wai
 waiting_after (Pop line) waiting = if line == 0 then waiting - 1 else waiting
 waiting_after (Unpush line) waiting = if line == 0 then waiting - 1 else waiting
 waiting_after (Unpop line value) waiting = if line == 0 then waiting + 1 else waiting
+waiting_after (Flip line place) waiting = waiting
 
 -- both after a list of changes
 unfoldable pub load_after_all : List Change → ℕ → ℕ → ℕ × ℕ

@@ -1,5 +1,7 @@
 -- One line of the list changed, seen as the definitions have it.
-use Rattle.std.proofs.Common.{◌+◌, ◌-◌, [], ◌∷◌, ◌++◌, length, take, drop}
+use Rattle.std.proofs.Common.{◌+◌, ◌-◌, [], ◌∷◌, ◌++◌, length, take, drop, refl}
+use Rattle.std.proofs.lemmas.List.{set-get_or}
+use Rattle.delta_exchange.specs.Changes.{with_flipped}
 use Rattle.delta_exchange.proofs.LineLemmas.{values_changed, spare_changed}
 use Rattle.delta_exchange.proofs.cells.Cells.exchange.Goals as goal
 
@@ -50,3 +52,15 @@ returns-in-Unpop-clause-spare c =
     let fits = rw (c.in-Unpop.is, ← c.self.view_is) at c.requires.fits in
     let changed = spare_changed (λ spare. spare - 1) c.self.inside.lines.items c.in-Unpop.line c.index_mut-queue-in-Unpop.result.now c.push_front.new.self fits c.index_mut-queue-in-Unpop.ensures.value (rw c.push_front.ensures) in
     rw (c.in-Unpop.is, ← c.self.view_is, changed)
+
+pub returns-in-Flip-clause-cells : goal.returns-in-Flip-clause-cells
+returns-in-Flip-clause-cells c =
+    let fits = rw (c.in-Flip.is, ← c.self.view_is) at c.requires.fits in
+    let changed = values_changed (λ values. with_flipped values c.in-Flip.place) c.self.inside.lines.items c.in-Flip.line c.index_mut-queue-in-Flip.result.now c.flip.new.self fits.0 c.index_mut-queue-in-Flip.ensures.value (rw c.flip.ensures) in
+    rw (c.in-Flip.is, ← c.self.view_is, changed)
+
+pub returns-in-Flip-clause-spare : goal.returns-in-Flip-clause-spare
+returns-in-Flip-clause-spare c =
+    let fits = rw (c.in-Flip.is, ← c.self.view_is) at c.requires.fits in
+    let changed = spare_changed (λ spare. spare) c.self.inside.lines.items c.in-Flip.line c.index_mut-queue-in-Flip.result.now c.flip.new.self fits.0 c.index_mut-queue-in-Flip.ensures.value (rw c.flip.ensures) in
+    rw (c.in-Flip.is, ← c.self.view_is, changed, set-get_or) refl
