@@ -37,6 +37,15 @@ impl Divisor {
         }
     }
 
+    /// The divisor.
+    pub fn get(&self) -> u64
+        ensures divisor { result ≡ self.now }
+        ensures some { 0 < self.now }
+        ensures fits { self.now ≤ 2 ^ 32 }
+    {
+        self.divisor
+    }
+
     /// The remainder of a word.
     pub fn remainder(&self, word: u32) -> u64
         ensures { result ≡ word % self.now }

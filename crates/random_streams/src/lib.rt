@@ -7,18 +7,24 @@
 #![tactic(auto)]
 
 mod block;
+mod delay_law;
 mod divisor;
 mod draws;
 mod law;
 mod prepared;
+mod shares;
 mod stream;
+mod values;
 mod weights;
 
+pub use delay_law::{DelayLaw, MOST_UNIT};
 pub use divisor::Divisor;
 pub use draws::{choose_by, draw, draw_by};
 pub use law::{Law, MOST_TRIALS, MOST_VALUE};
 pub use prepared::PreparedLaw;
+pub use shares::{MOST_SHARES, Shares, are_shares};
 pub use stream::Stream;
+pub use values::Values;
 pub use weights::{MOST_WEIGHT, MOST_WEIGHTS, Weights, total_weight};
 
 #[cfg(test)]

@@ -1,6 +1,6 @@
 //! Laws by which many values are drawn.
 ghost use Rattle.std.specs.Prelude.{◌≡◌, ◌≤◌, IsTrue};
-ghost use Rattle.random_streams.specs.Laws.{is_drawable, draw, greatest_value, span_of};
+ghost use Rattle.random_streams.specs.Laws.{is_drawable, is_delay, draw, greatest_value, span_of};
 
 use crate::divisor::Divisor;
 use crate::law::Law;
@@ -35,6 +35,13 @@ impl PreparedLaw {
     {
         let span = span(&law);
         PreparedLaw { law, span }
+    }
+
+    /// Whether the law gives a number of ticks, as all but a choice do.
+    pub fn is_delay(&self) -> bool
+        ensures { result ≡ is_delay self.now }
+    {
+        self.law.is_delay()
     }
 }
 

@@ -175,3 +175,89 @@ fn a_prepared_law_draws_as_the_law(rt: HostRuntime) {
     assert_eq!(rt; words.draw_prepared(&prepared), 4);
     assert_eq!(rt; words.place(), 4);
 }
+
+#[test]
+#[tactic(auto, unfolding(crate::specs::Laws::is_drawable))]
+fn delays_under_seed_0(rt: HostRuntime) -> Result<(), Fail> {
+    let half = 2147483648;
+    let mut words = Stream::new(0, 0, 0);
+    let values = Values::new(vec![in rt.alloc(); 5, 9, 30]?);
+    let weights = vec![in rt.alloc(); 3, 5, 2]?;
+    assert!(rt; are_shares(&weights));
+    if !are_shares(&weights) {
+        return Ok(());
+    }
+    let weights = Shares::new(rt.alloc(), weights)?;
+    let table = DelayLaw::Table { values, weights };
+    let bounds = Values::new(vec![in rt.alloc(); 0, 10, 40]?);
+    let weights = vec![in rt.alloc(); 1, 1]?;
+    assert!(rt; are_shares(&weights));
+    if !are_shares(&weights) {
+        return Ok(());
+    }
+    let weights = Shares::new(rt.alloc(), weights)?;
+    let steps = DelayLaw::Steps { bounds, weights };
+    let five = DelayLaw::Spread {
+        p: half,
+        cap: 5,
+        unit: Divisor::new(10),
+    };
+    let three = DelayLaw::Spread {
+        p: half,
+        cap: 3,
+        unit: Divisor::new(10),
+    };
+    let fixed = DelayLaw::Plain {
+        law: PreparedLaw::new(Law::Fixed { value: 6 }),
+    };
+    for (law, place, want) in [
+        (&table, 0, (9, 1)),
+        (&table, 2, (5, 3)),
+        (&steps, 0, (6, 2)),
+        (&steps, 3, (33, 5)),
+        (&five, 0, (34, 5)),
+        (&three, 0, (23, 3)),
+        (&fixed, 9, (6, 9)),
+    ] {
+        assert!(rt; law.check());
+        if law.check() {
+            words.move_to(0, 0, place);
+            let value = words.draw_delay(law);
+            assert_eq!(rt; (value, words.place()), want, "{law:?}");
+        }
+    }
+    Ok(())
+}
+
+#[test]
+fn a_law_of_delays_is_checked_at_its_bounds(rt: HostRuntime) -> Result<(), Fail> {
+    let most = 1 << 40;
+    for (list, want) in [
+        (vec![in rt.alloc(); 0, 1]?, true),
+        (vec![in rt.alloc(); 1, 1]?, false),
+        (vec![in rt.alloc(); 2, 1]?, false),
+        (vec![in rt.alloc(); 0, 4294967296]?, true),
+        (vec![in rt.alloc(); 0, 4294967297]?, false),
+        (vec![in rt.alloc(); most - 1, most]?, true),
+        (vec![in rt.alloc(); most, most + 1]?, false),
+        (vec![in rt.alloc(); 0, 1, 2]?, false),
+    ] {
+        let weights = vec![in rt.alloc(); 1]?;
+        if are_shares(&weights) {
+            let weights = Shares::new(rt.alloc(), weights)?;
+            let bounds = Values::new(list);
+            let law = DelayLaw::Steps { bounds, weights };
+            assert_eq!(rt; law.check(), want, "{law:?}");
+        }
+    }
+    for (list, want) in [
+        (vec![in rt.alloc(); 65535; 1024]?, true),
+        (vec![in rt.alloc(); 1; 1025]?, false),
+        (vec![in rt.alloc(); 0, 0]?, false),
+        (vec![in rt.alloc(); 65536]?, false),
+        (Vec::new(rt.alloc()), false),
+    ] {
+        assert_eq!(rt; are_shares(&list), want);
+    }
+    Ok(())
+}

@@ -54,7 +54,7 @@ pub(crate) fn is_choice(weights: &[u32]) -> bool
 }
 
 /// Whether no weight is too great.
-fn all_fit(weights: &[u32]) -> bool
+pub(crate) fn all_fit(weights: &[u32]) -> bool
     ensures { result ≡ list_all (λ weight. nat_le weight MOST_WEIGHT) weights.now }
 {
     weights.iter().all(|weight| *weight <= MOST_WEIGHT)
