@@ -1,6 +1,6 @@
 -- The words of records and those of faults: the text of each, by the number with which a model tells it.
 use Rattle.std.specs.Prelude.{ℕ, ◌==◌, List, Option, Some, None, codes, if◌then◌else◌}
-use Rattle.model_core.specs.declared.words.TheConstants.{HOP_WORD, MADE_WORD, TAKEN_WORD, WAITING_WORD, LOST_WORD, DONE_WORD, HELD_WORD, ROUTED_WORD, LEFT_WORD, LOAD_WORD, LEVEL_WORD, ENDLESS_CHAIN, LINE_FULL, LATE}
+use Rattle.model_core.specs.declared.words.TheConstants.{HOP_WORD, MADE_WORD, TAKEN_WORD, WAITING_WORD, LOST_WORD, DONE_WORD, HELD_WORD, ROUTED_WORD, LEFT_WORD, LOAD_WORD, LEVEL_WORD, DELAYED_WORD, WENT_WORD, DROPPED_WORD, OVERDUE_WORD, CALLED_WORD, FREED_WORD, RENEGED_WORD, OPENED_WORD, DOWN_WORD, UP_WORD, ENDLESS_CHAIN, LINE_FULL, LATE}
 
 abbrev pub record_word : ℕ → Option (List ℕ)
 record_word number =
@@ -15,6 +15,16 @@ record_word number =
     else if number == LEFT_WORD then Some (codes "leave")
     else if number == LOAD_WORD then Some (codes "load")
     else if number == LEVEL_WORD then Some (codes "level")
+    else if number == DELAYED_WORD then Some (codes "delay")
+    else if number == WENT_WORD then Some (codes "go")
+    else if number == DROPPED_WORD then Some (codes "drop")
+    else if number == OVERDUE_WORD then Some (codes "late")
+    else if number == CALLED_WORD then Some (codes "call")
+    else if number == FREED_WORD then Some (codes "free")
+    else if number == RENEGED_WORD then Some (codes "renege")
+    else if number == OPENED_WORD then Some (codes "open")
+    else if number == DOWN_WORD then Some (codes "down")
+    else if number == UP_WORD then Some (codes "up")
     else None
 
 abbrev pub fault_word : ℕ → Option (List ℕ)

@@ -35,6 +35,36 @@ pub const LOAD_WORD: u32 = 10;
 /// The output of a gate.
 pub const LEVEL_WORD: u32 = 11;
 
+/// A job stays with its class for a while.
+pub const DELAYED_WORD: u32 = 12;
+
+/// A job goes to a step of its route that was drawn.
+pub const WENT_WORD: u32 = 13;
+
+/// A job is given up.
+pub const DROPPED_WORD: u32 = 14;
+
+/// A job leaves after its due age.
+pub const OVERDUE_WORD: u32 = 15;
+
+/// A server calls a job that waits.
+pub const CALLED_WORD: u32 = 16;
+
+/// A job gives a server back.
+pub const FREED_WORD: u32 = 17;
+
+/// A job goes that has waited for as long as it may.
+pub const RENEGED_WORD: u32 = 18;
+
+/// A shift opens so many servers.
+pub const OPENED_WORD: u32 = 19;
+
+/// A station stands still.
+pub const DOWN_WORD: u32 = 20;
+
+/// A station works again.
+pub const UP_WORD: u32 = 21;
+
 /// The fault of an event that sends without delay at the last step of a tick. It is the simulation's, and no model's.
 pub const ENDLESS_CHAIN: u32 = 1;
 
@@ -60,6 +90,16 @@ pub fn record_word(number: u32) -> Option<&'static str>
         LEFT_WORD => Some("leave"),
         LOAD_WORD => Some("load"),
         LEVEL_WORD => Some("level"),
+        DELAYED_WORD => Some("delay"),
+        WENT_WORD => Some("go"),
+        DROPPED_WORD => Some("drop"),
+        OVERDUE_WORD => Some("late"),
+        CALLED_WORD => Some("call"),
+        FREED_WORD => Some("free"),
+        RENEGED_WORD => Some("renege"),
+        OPENED_WORD => Some("open"),
+        DOWN_WORD => Some("down"),
+        UP_WORD => Some("up"),
         _ => None,
     }
 }
