@@ -85,7 +85,7 @@ causality_law m t n e happens =
     all.0
 
 -- what comes to its place among the pending events is one of them, and so is each that was there
-sent-in : (m : Meaning) (t : Terms) (s : State) (told : Key × Note) (after : State) (e : Event) (step : IsStep m t s told after) → Contains (sent_next m s) e
+pub sent-in : (m : Meaning) (t : Terms) (s : State) (told : Key × Note) (after : State) (e : Event) (step : IsStep m t s told after) → Contains (sent_next m s) e
     → Contains after.pending e
 sent-in m t s told after e step is_in =
     let sent : List Event = (first_firing s step.event step.effect).events in
@@ -95,7 +95,7 @@ sent-in m t s told after e step is_in =
     (Contains-permutation (sent ++ step.rest) (enqueue_all sent step.rest) e (enqueue_all-permutation sent step.rest)
     (Contains-append_left sent step.rest e (subst D (sent_next-step m t s told after step) is_in)))
 
-rest-in : (m : Meaning) (t : Terms) (s : State) (told : Key × Note) (after : State) (e : Event) (step : IsStep m t s told after) → Contains step.rest e
+pub rest-in : (m : Meaning) (t : Terms) (s : State) (told : Key × Note) (after : State) (e : Event) (step : IsStep m t s told after) → Contains step.rest e
     → Contains after.pending e
 rest-in m t s told after e step is_in =
     let sent : List Event = (first_firing s step.event step.effect).events in
@@ -161,7 +161,7 @@ starts-contain m a (suc n) i from upto =
         let apart : (a ≡ i → ⊥) = λ same. let yes = eq-eqb a i same in cc in
         is-later (start_event m i) (start_event m a) _ (later (omega arith))
 
-initial-in : (m : Meaning) (t : Terms) (e : Event) → IsInitial m e → Contains (after_events 0 m t).pending e
+pub initial-in : (m : Meaning) (t : Terms) (e : Event) → IsInitial m e → Contains (after_events 0 m t).pending e
 unfolding after_events initial_state
 initial-in m t e initial =
     let starts : List Event = map (start_event m) (range_with_len 0 m.starts) in

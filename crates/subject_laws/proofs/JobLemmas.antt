@@ -1,6 +1,8 @@
 -- Where each job of a network is.
 pub mod Balance
+pub mod BirthsLaw
 pub mod JobsLaw
+pub mod Keeping
 pub mod Moving
 pub mod NamesLaw
 pub mod Permuted

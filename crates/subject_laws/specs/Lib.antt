@@ -1,3 +1,5 @@
+pub mod BirthLaws
+pub mod Births
 pub mod CircuitExamples
 pub mod DrawLaws
 pub mod Draws

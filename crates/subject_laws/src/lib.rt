@@ -2,6 +2,7 @@
 //! circuit. Each file is a law; its function does nothing: its contract is the law.
 #![tactic(auto)]
 
+pub mod births;
 pub mod circuit_examples;
 pub mod draws;
 pub mod jobs;

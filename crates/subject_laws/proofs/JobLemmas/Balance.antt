@@ -142,7 +142,7 @@ source_balances p w e cells source x serial live here next are (makes more) =
     (omega (arith, no_job p (moved_weight w e.key 2 (length (line_of cells 0)) (gone ∷ again ∷ [])) e here, has_job p w gone next, no_job p w again here))
 
 -- a job that an object hands on stands at what is sent, and none is made
-own_place-moving : (word object waiting : ℕ) (sent : List Event) → is_moving word ≡ true → own_place word object waiting sent ≡ at_event (key_number sent 0)
+pub own_place-moving : (word object waiting : ℕ) (sent : List Event) → is_moving word ≡ true → own_place word object waiting sent ≡ at_event (key_number sent 0)
 own_place-moving word object waiting sent moving = by (word == 2) (word == 4) (word == 5) (word == 9) moving
   where
     by : (two four five nine : Bool) → not (two || four || five || nine) ≡ true

@@ -28,7 +28,7 @@ use Rattle.subject_laws.proofs.JobLemmas.Weights.{inside, job_weight, sum-held}
 use Rattle.subject_laws.proofs.QueueLemmas.PlainRuns.{same_after}
 
 -- one event more
-whereabouts-next : (p : NetworkParts) (t : Terms) (n : ℕ) (x : Next) → next (plain_meaning p) t (after_events n (plain_meaning p) t) ≡ x
+pub whereabouts-next : (p : NetworkParts) (t : Terms) (n : ℕ) (x : Next) → next (plain_meaning p) t (after_events n (plain_meaning p) t) ≡ x
     → whereabouts p t (suc n) ≡ places_after p (after_events n (plain_meaning p) t) (whereabouts p t n) x
 unfolding whereabouts
 whereabouts-next p t n x is_next = ap (places_after p (after_events n (plain_meaning p) t) (whereabouts p t n)) is_next

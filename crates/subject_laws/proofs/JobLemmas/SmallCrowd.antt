@@ -11,8 +11,8 @@ use Rattle.sim_spec.specs.declared.terms.Terms.{Terms}
 use Rattle.key_order.specs.Pending.{enqueue, enqueue_all}
 use Rattle.sim_spec.specs.Firing.{has_endless_chain, emissions, fired_by, fire}
 use Rattle.sim_spec.specs.State.{initial_state}
-use Rattle.sim_spec.specs.Run.{next, next_of, next_fired}
-use Rattle.subject_laws.proofs.QueueLemmas.SmallShop.{key_at}
+use Rattle.sim_spec.specs.Run.{Next, does, next, next_of, next_fired}
+use Rattle.subject_laws.proofs.QueueLemmas.SmallShop.{key_at, told_at}
 use Rattle.queue_models.specs.declared.kind.KindOver.TheVariants.{Source, Station, Sink}
 use Rattle.queue_models.specs.Meaning.{plain_meaning, network_meaning, start_of}
 use Rattle.queue_models.specs.Objects.{NetworkParts, sources_below}
@@ -20,9 +20,10 @@ use Rattle.queue_models.specs.Sinks.{sink_effect}
 use Rattle.model_core.specs.Places.{place_changes}
 use Rattle.queue_models.specs.Sources.{idle_effect, last_effect, make_effect, source_effect}
 use Rattle.queue_models.specs.Stations.{take_effect, wait_effect, lose_effect, arrival_outcome, serve_effect, free_effect, done_effect, station_effect}
-use Rattle.run_laws.specs.Reached.{left_by, after_events}
+use Rattle.run_laws.specs.Reached.{left_by, after_events, gathered}
 use Rattle.run_laws.specs.Sent.{sent_next}
 use Rattle.subject_laws.specs.Places.{at_event, in_line, has_left, was_lost}
+use Rattle.subject_laws.specs.Births.{births}
 use Rattle.subject_laws.specs.Jobs.{Job, listed, made_by, whereabouts, in_the_system}
 
 crowd : NetworkParts
@@ -58,3 +59,12 @@ after_seven = refl
 one_place : in_the_system crowd (after_events 7 (network_meaning crowd) to_fifty) ≡ (1, at_event (key_at 10 0 1 1 2)) ∷ []
 unfolding crowd to_fifty in_the_system draw drawn_value words_read start_of sources_below place_changes idle_effect last_effect make_effect source_effect sink_effect take_effect wait_effect lose_effect arrival_outcome serve_effect free_effect done_effect station_effect plain_meaning network_meaning key_lt key_cmp same_key next_stamp has_no_step cells_after_all inverses_of enqueue enqueue_all has_endless_chain emissions fired_by fire initial_state next next_of next_fired left_by after_events
 one_place = refl
+
+-- the births are those of the list and of the source, and the first job is told to be 5 ticks old when it leaves at 5
+born_seen : births crowd to_fifty 7 ≡ 0 ∷ 1 ∷ 3 ∷ []
+unfolding crowd to_fifty gathered sent_next draw drawn_value words_read start_of sources_below place_changes idle_effect last_effect make_effect source_effect sink_effect take_effect wait_effect lose_effect arrival_outcome serve_effect free_effect done_effect station_effect plain_meaning network_meaning key_lt key_cmp same_key next_stamp has_no_step cells_after_all inverses_of enqueue enqueue_all has_endless_chain emissions fired_by fire initial_state next next_of next_fired left_by after_events
+born_seen = refl
+
+age_seen : ◌≡◌ {A = Next} (next (plain_meaning crowd) to_fifty (after_events 6 (plain_meaning crowd) to_fifty)) (does (told_at (key_at 5 1 2 1 1) 9 1 5) (after_events 7 (plain_meaning crowd) to_fifty))
+unfolding crowd to_fifty draw drawn_value words_read start_of sources_below place_changes idle_effect last_effect make_effect source_effect sink_effect take_effect wait_effect lose_effect arrival_outcome serve_effect free_effect done_effect station_effect plain_meaning network_meaning key_lt key_cmp same_key next_stamp has_no_step cells_after_all inverses_of enqueue enqueue_all has_endless_chain emissions fired_by fire initial_state next next_of next_fired left_by after_events
+age_seen = refl
