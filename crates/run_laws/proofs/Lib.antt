@@ -1,5 +1,6 @@
 pub mod CausalityLaw
 pub mod EnqueueSums
+pub mod FlowLaw
 pub mod Induction
 pub mod OrderLaw
 pub mod PrefixLaw

@@ -1,5 +1,5 @@
 -- What holds of every run.
-use Rattle.std.specs.Prelude.{◌≡◌, ◌⊎◌, ℕ, suc, ◌<◌, ◌≤◌, true, List, ◌∷◌, Contains}
+use Rattle.std.specs.Prelude.{◌≡◌, ◌⊎◌, ℕ, suc, ◌<◌, ◌≤◌, true, List, ◌∷◌, ◌++◌, Contains, IsPermutation}
 use Rattle.std.specs.List.{AllPairs}
 use Rattle.event_key.specs.declared.key.Key.{Key}
 use Rattle.event_key.specs.Keys.{key_lt}
@@ -10,7 +10,7 @@ use Rattle.sim_spec.specs.declared.terms.Terms.{Terms}
 use Rattle.sim_spec.specs.State.{State, Lawful, initial_state, start_event}
 use Rattle.sim_spec.specs.Run.{does, next, run, after_records}
 use Rattle.run_laws.specs.Reached.{after_events, Reaches, first_records}
-use Rattle.run_laws.specs.Sent.{sent_next}
+use Rattle.run_laws.specs.Sent.{sent_next, happened, all_sent, initial_events}
 
 abbrev pub AllReachedLawful : Meaning → Terms → Type 0
 AllReachedLawful m t = (s : State) → Reaches m t s → Lawful m t s
@@ -58,6 +58,10 @@ IsKnown m t k n e = Contains (after_events n m t).pending e ⊎ ((j : ℕ) × (k
 pub record NothingIsForgotten (m : Meaning) (t : Terms) : Type 0 where
   pub initial : (n : ℕ) (e : Event) → IsInitial m e → IsKnown m t 0 n e
   pub sent : (k n : ℕ) (e : Event) → k < n → IsCause m t k e → IsKnown m t (suc k) n e
+
+-- those that have happened and those that are pending are the initial ones and those that were sent, each as often
+abbrev pub EventsBalance : Meaning → Terms → Type 0
+EventsBalance m t = (n : ℕ) → IsPermutation (happened n m t ++ (after_events n m t).pending) (initial_events m ++ all_sent n m t)
 
 -- under a later end, or a greater limit, a run goes on from the last state of the shorter run
 abbrev pub LongerRunGoesOn : Meaning → Type 0

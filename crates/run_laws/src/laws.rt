@@ -1,6 +1,6 @@
 //! Laws of every run. Each function does nothing: its contract is the law.
 ghost use Rattle.run_laws.specs.RunLaws.{AllReachedLawful, RunIsReached, RecordsAscend, EachHasACause};
-ghost use Rattle.run_laws.specs.RunLaws.{NothingIsForgotten, LongerRunGoesOn};
+ghost use Rattle.run_laws.specs.RunLaws.{NothingIsForgotten, EventsBalance, LongerRunGoesOn};
 
 use model_core::model::{Model, keeps_laws};
 use sim_spec::Terms;
@@ -29,6 +29,12 @@ pub fn law_causality<M: Model>(model: &M, terms: &Terms)
 {
     keeps_laws(model);
 }
+
+/// Events are neither lost nor doubled: after any number of them, those that have happened and those that are pending are the
+/// initial ones and those that were sent, each as often.
+pub fn law_flow<M: Model>(model: &M, terms: &Terms)
+    ensures { EventsBalance (M.meaning model.now) terms.now }
+{}
 
 /// A longer run begins with the shorter one: under a later end or a greater limit the records of the shorter run come
 /// first, and then those of a run from its last state.

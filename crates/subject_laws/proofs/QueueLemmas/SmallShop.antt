@@ -1,6 +1,6 @@
 -- A shop, computed: a source makes four jobs, one every two ticks from tick 1 on; a station with one server serves each
 -- for five ticks, and two may wait; a sink takes them out.
-use Rattle.std.proofs.Common.{lit<, lit≤, ◌≡◌, ℕ, false, refl, List, [], ◌∷◌, map}
+use Rattle.std.proofs.Common.{lit<, lit≤, ◌≡◌, ℕ, false, refl, List, [], ◌∷◌, length, map}
 use Rattle.std.specs.Prelude.{None}
 use Rattle.event_key.specs.declared.key.Key.{Key}
 use Rattle.event_key.specs.declared.key.TheConstants.{INITIAL}
@@ -26,7 +26,7 @@ use Rattle.queue_models.specs.Sources.{idle_effect, last_effect, make_effect, so
 use Rattle.queue_models.specs.Stations.{take_effect, wait_effect, lose_effect, arrival_outcome, serve_effect, free_effect, done_effect, station_effect}
 use Rattle.run_laws.specs.Reached.{left_by, after_events, Reaches, gathered, first_records}
 use Rattle.run_laws.specs.RunLaws.{IsCause}
-use Rattle.run_laws.specs.Sent.{sent_next}
+use Rattle.run_laws.specs.Sent.{sent_next, happened, all_sent, initial_events}
 use Rattle.subject_laws.specs.Orders.{arrived_at, begun_at, done_at, numbers_of}
 use Rattle.subject_laws.specs.Stations.{IsStationAt, busy_at, waiting_at, in_service_at}
 
@@ -98,6 +98,17 @@ short_run : (run (network_meaning shop) to_three (initial_state (network_meaning
     ∷ []
 unfolding run run_for run_on to_three shop counter to_fifty draw drawn_value words_read start_of sources_below place_changes idle_effect last_effect make_effect source_effect sink_effect take_effect wait_effect lose_effect arrival_outcome serve_effect free_effect done_effect station_effect plain_meaning network_meaning key_lt key_cmp next_stamp has_no_step cells_after_all inverses_of enqueue enqueue_all has_endless_chain emissions fired_by fire initial_state next next_of next_fired left_by after_events
 short_run = refl
+
+-- by then four events have happened and two are pending: the initial one, and five that were sent
+events_seen : ◌≡◌ {A = ℕ × ℕ × ℕ × ℕ} (
+  length (happened 4 (network_meaning shop) to_fifty),
+  length (after_events 4 (network_meaning shop) to_fifty).pending,
+  length (initial_events (network_meaning shop)),
+  length (all_sent 4 (network_meaning shop) to_fifty),
+)
+    (4, 2, 1, 5)
+unfolding gathered sent_next shop counter to_fifty draw drawn_value words_read start_of sources_below place_changes idle_effect last_effect make_effect source_effect sink_effect take_effect wait_effect lose_effect arrival_outcome serve_effect free_effect done_effect station_effect plain_meaning network_meaning key_lt key_cmp next_stamp has_no_step cells_after_all inverses_of enqueue enqueue_all has_endless_chain emissions fired_by fire initial_state next next_of next_fired left_by after_events
+events_seen = refl
 
 -- six events are done: three jobs were made; the first is served, the others wait
 pub three_here : State
