@@ -2,6 +2,7 @@
 pub mod Arriving
 pub mod CircuitSteps
 pub mod ExampleCircuits
+pub mod FunctionLaw
 pub mod Leaves
 pub mod Pins
 pub mod Sends

@@ -1,6 +1,7 @@
 pub mod BirthLaws
 pub mod Births
 pub mod CircuitExamples
+pub mod CircuitFunctions
 pub mod DrawLaws
 pub mod Draws
 pub mod JobLaws

@@ -1,6 +1,7 @@
 -- Circuits that have settled.
-use Rattle.std.specs.Prelude.{◌≡◌, ℕ, ◌<◌, [], length, slice_index}
+use Rattle.std.specs.Prelude.{◌≡◌, ℕ, ◌<◌, Bool, false, ◌==◌, ◌&&◌, [], length, slice_index, All}
 use Rattle.delta_exchange.specs.Changes.{CellData}
+use Rattle.model_core.specs.declared.event.Event.{Event}
 use Rattle.sim_spec.specs.declared.terms.Terms.{Terms}
 use Rattle.sim_spec.specs.State.{State, object_at}
 use Rattle.circuit_model.specs.declared.gate.LogicGate.{LogicGate}
@@ -31,6 +32,21 @@ IsComputed gates s number = output_at s number ≡ value_of (gate_at gates numbe
 pub record IsSettled (gates : List LogicGate) (s : State) : Type 0 where
   pub pins : (number place : ℕ) → number < length gates → place < length (gate_at gates number).from → level_at s number place ≡ output_at s (feeder gates (pin number place))
   pub values : (number : ℕ) → number < length gates → IsComputed gates s number
+
+-- an event brings a level to this pin of a gate
+abbrev pub is_for : ℕ → ℕ → Event → Bool
+is_for number place e = e.kind == 5 && e.key.dest == number && e.a == place
+
+-- no level is on its way to the pin
+abbrev pub NoneOnItsWay : State → ℕ → ℕ → Type 0
+NoneOnItsWay s number place = All (λ (e : Event). is_for number place e ≡ false) s.pending
+
+-- such a pin is what the gate that feeds it puts out, whatever else is pending
+abbrev pub StillPinsLaw : Type 0
+StillPinsLaw =
+    (gates : List LogicGate) (t : Terms) (s : State) (number place : ℕ) → IsCircuit gates → Reaches (circuit_meaning gates) t s
+    → number < length gates → place < length (gate_at gates number).from → NoneOnItsWay s number place
+    → level_at s number place ≡ output_at s (feeder gates (pin number place))
 
 abbrev pub SettledLaw : Type 0
 SettledLaw = (gates : List LogicGate) (t : Terms) (s : State) → IsCircuit gates → Reaches (circuit_meaning gates) t s → s.pending ≡ [] → IsSettled gates s

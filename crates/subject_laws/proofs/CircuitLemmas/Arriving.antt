@@ -1,6 +1,6 @@
 -- What a pin will be once all that is pending has come.
 use Rattle.std.proofs.Common.{◌≡◌, ◌⊎◌, ℕ, ◌%◌, Bool, true, false, cond, List, [], ◌∷◌, refl, ap, ◌∙◌, subst, inl, inr}
-use Rattle.std.specs.Prelude.{◌==◌, ◌&&◌, if◌then◌else◌, Contains}
+use Rattle.std.specs.Prelude.{if◌then◌else◌, Contains}
 use Rattle.std.specs.List.{AllByRecursion as Each}
 use Rattle.event_key.specs.Keys.{key_lt}
 use Rattle.key_order.specs.Ascending.{IsAscending, Ascends, AllAfter}
@@ -9,10 +9,7 @@ use Rattle.key_order.proofs.AscendingLemmas.{key_lt-turned}
 use Rattle.key_order.proofs.EachLemmas.{Each-both}
 use Rattle.key_order.proofs.MemberLemmas.{first-or-later, none-in}
 use Rattle.model_core.specs.declared.event.Event.{Event}
-
--- the event brings a level to this pin of a gate
-abbrev pub is_for : ℕ → ℕ → Event → Bool
-is_for number place e = e.kind == 5 && e.key.dest == number && e.a == place
+use Rattle.subject_laws.specs.Settled.{is_for}
 
 -- what a pin at this level becomes by events that happen one after another
 pub arriving : ℕ → ℕ → ℕ → List Event → ℕ

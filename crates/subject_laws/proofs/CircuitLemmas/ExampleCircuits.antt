@@ -1,10 +1,12 @@
 -- The examples are circuits.
-use Rattle.std.proofs.Common.{ℕ, zero, suc, ◌<◌, ◌≤◌, ◌^◌, List, [], ◌∷◌, length, refl, lit<, lit≤, arith}
+use Rattle.std.proofs.Common.{◌≡◌, ℕ, zero, suc, ◌<◌, ◌≤◌, ◌^◌, false, List, [], ◌∷◌, length, map, refl, lit<, lit≤, arith}
 use Rattle.std.specs.Prelude.{All, codes}
 use Rattle.circuit_model.specs.declared.gate.LogicKind.TheVariants.{Not, And}
+use Rattle.circuit_model.specs.Gates.{gate_at, is_flip_flop, value_of}
 use Rattle.circuit_model.specs.Parts.{IsGate, IsCircuit}
 use Rattle.circuit_model.specs.Starts.{flips_below}
-use Rattle.circuit_model.specs.Wiring.{pins_below, fed_among, fed_by}
+use Rattle.circuit_model.specs.Wiring.{pin, feeder, pins_below, fed_among, fed_by}
+use Rattle.subject_laws.specs.CircuitFunctions.{computed, IsAcyclic}
 use Rattle.subject_laws.specs.CircuitExamples.{input, gate, gates_in_line, ring}
 
 All-one : {X : Type 0} (P : X → Type 0) (a : X) → P a → All P (a ∷ [])
@@ -64,3 +66,29 @@ gates_in_line-circuit = record {
     fan_out (suc zero) exists = lit≤ tt
     fan_out (suc (suc zero)) exists = lit≤ tt
     fan_out (suc (suc (suc number))) exists = absurd (omega arith)
+
+-- the gates in line are fed by those before them, and compute the input, what it isn't, and both: so never 1
+line-acyclic : IsAcyclic gates_in_line (λ number. number)
+unfolding gates_in_line
+line-acyclic = record { lower = λ number place exists within. lower number place exists within; no_flip_flop = λ number exists. no_flip_flop number exists }
+  where
+    lower : (number place : ℕ) → number < 3 → place < length (gate_at gates_in_line number).from → feeder gates_in_line (pin number place) < number
+    lower zero place exists within = absurd (omega arith)
+    lower (suc zero) zero exists within = lit< tt
+    lower (suc zero) (suc place) exists within = absurd (omega arith)
+    lower (suc (suc zero)) zero exists within = lit< tt
+    lower (suc (suc zero)) (suc zero) exists within = lit< tt
+    lower (suc (suc zero)) (suc (suc place)) exists within = absurd (omega arith)
+    lower (suc (suc (suc number))) place exists within = absurd (omega arith)
+
+    no_flip_flop : (number : ℕ) → number < 3 → is_flip_flop (gate_at gates_in_line number).kind ≡ false
+    no_flip_flop zero exists = refl
+    no_flip_flop (suc zero) exists = refl
+    no_flip_flop (suc (suc zero)) exists = refl
+    no_flip_flop (suc (suc (suc number))) exists = absurd (omega arith)
+
+line_computes : ◌≡◌ {A = List ℕ × List ℕ}
+    (map (computed 2 gates_in_line (λ input. 0)) (0 ∷ 1 ∷ 2 ∷ []), map (computed 2 gates_in_line (λ input. 1)) (0 ∷ 1 ∷ 2 ∷ []))
+    (0 ∷ 1 ∷ 0 ∷ [], 1 ∷ 0 ∷ 0 ∷ [])
+unfolding gates_in_line computed value_of
+line_computes = refl

@@ -17,7 +17,7 @@ use Rattle.circuit_model.specs.Events.{output_of, levels_of, is_level, output_on
 use Rattle.circuit_model.specs.Gates.{gate_at, value_of, toggled, delay_of}
 use Rattle.circuit_model.specs.LawfulCells.{AreGateCells, length-levels_of}
 use Rattle.circuit_model.specs.Wiring.{fed_by}
-use Rattle.subject_laws.proofs.CircuitLemmas.Arriving.{is_for}
+use Rattle.subject_laws.specs.Settled.{is_for}
 
 -- the pins after an event
 abbrev pub levels_after : LogicGate → CellData → Event → List ℕ

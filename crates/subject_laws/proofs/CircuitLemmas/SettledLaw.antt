@@ -1,7 +1,9 @@
 -- Where nothing is pending a circuit has settled.
-use Rattle.std.proofs.Common.{◌≡◌, ◌⊎◌, ℕ, ◌<◌, List, [], length, sym, ap, ◌∙◌, subst, inl, inr}
+use Rattle.std.proofs.Common.{◌≡◌, ◌⊎◌, ℕ, ◌<◌, false, List, [], length, sym, ap, ◌∙◌, subst, inl, inr}
 use Rattle.std.specs.Prelude.{Contains}
 use Rattle.std.specs.List.{AllByRecursion as Each}
+use Rattle.std.proofs.lemmas.List.Elements.{recursion_from_All}
+use Rattle.model_core.specs.declared.event.Event.{Event}
 use Rattle.key_order.proofs.MemberLemmas.{none-in}
 use Rattle.sim_spec.specs.declared.terms.Terms.{Terms}
 use Rattle.sim_spec.specs.State.{State}
@@ -12,8 +14,8 @@ use Rattle.circuit_model.specs.Parts.{IsCircuit}
 use Rattle.circuit_model.specs.Wiring.{pin, feeder}
 use Rattle.run_laws.specs.Reached.{Reaches}
 use Rattle.run_laws.proofs.Induction.{each_reached}
-use Rattle.subject_laws.specs.Settled.{output_at, level_at, IsComputed, IsSettled, SettledLaw}
-use Rattle.subject_laws.proofs.CircuitLemmas.Arriving.{arriving, arriving-none}
+use Rattle.subject_laws.specs.Settled.{output_at, level_at, IsComputed, IsSettled, is_for, StillPinsLaw, SettledLaw}
+use Rattle.subject_laws.proofs.CircuitLemmas.Arriving.{arriving, arriving-none, arriving-others}
 use Rattle.subject_laws.proofs.CircuitLemmas.CircuitSteps.{IsCircuitStep, circuit_step}
 use Rattle.subject_laws.proofs.CircuitLemmas.Pins.{pins-kept}
 use Rattle.subject_laws.proofs.CircuitLemmas.Starting.{first_timely, first_pins, first_values}
@@ -60,3 +62,9 @@ settled gates s nothing settles = record {
 
 pub settled_law : SettledLaw
 settled_law gates t s fine reached nothing = settled gates s nothing (settles gates t fine s reached)
+
+-- a pin to which nothing is on its way
+pub still_pins_law : StillPinsLaw
+still_pins_law gates t s number place fine reached exists within none =
+    sym (arriving-others number place (level_at s number place) s.pending (recursion_from_All (λ (e : Event). is_for number place e ≡ false) s.pending none))
+    ∙ (settles gates t fine s reached).pins number place exists within

@@ -1,6 +1,9 @@
--- Where nothing is pending a circuit has settled.
-use Rattle.subject_laws.proofs.CircuitLemmas.SettledLaw.{settled_law}
+-- Pins follow the gates that feed them, and a circuit settles.
+use Rattle.subject_laws.proofs.CircuitLemmas.SettledLaw.{settled_law, still_pins_law}
 use Rattle.subject_laws.proofs.settled.law_settled.Goals as goal
 
-pub returns : goal.returns
-returns c = settled_law
+pub returns-clause-pins : goal.returns-clause-pins
+returns-clause-pins c = still_pins_law
+
+pub returns-clause-settled : goal.returns-clause-settled
+returns-clause-settled c = settled_law
