@@ -28,7 +28,7 @@ use Rattle.key_order.specs.Due.{is_due}
 use Rattle.world_spec.specs.Moves.{IsDueDone, IsIdle, IsPastFaultOf, received, received_ahead}
 use Rattle.world_spec.specs.Share.{IsHome}
 use Rattle.key_order.proofs.FilterLemmas.{length-filter_le}
-use Rattle.object_log.specs.declared.done.Done.{Done}
+use Rattle.object_log.specs.Dones.{Done}
 use Rattle.object_log.specs.Logs.{events_of, keys_of, undone}
 use Rattle.object_log.specs.Parts.{left_of}
 use Rattle.node_core.specs.Calls.{HasCommitted, HasReceived, HasUndoneFrom, HaveOwnKeys, HaveSentFew, IsLeastFaultOf, IsNewNode}

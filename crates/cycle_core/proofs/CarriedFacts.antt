@@ -12,7 +12,7 @@ use Rattle.sim_spec.specs.Firing.{Firing}
 use Rattle.sim_spec.specs.Replay.{done_at, events_at}
 use Rattle.sim_spec.specs.State.{State}
 use Rattle.sim_spec.proofs.PartLemmas.{Each-events_at, events_at-append, events_at-events_of, length-events_of}
-use Rattle.object_log.specs.declared.done.Done.{Done}
+use Rattle.object_log.specs.Dones.{Done}
 use Rattle.object_log.specs.Logs.{events_of as log_events}
 use Rattle.world_spec.specs.Closed.{IsCarried, cut_key, is_late, undone_at, undone_upto}
 use Rattle.world_spec.specs.Early.{early_events, kept}

@@ -1,7 +1,7 @@
 -- What the commits of a closed cycle hand out, and that each node can receive what is sent to it.
 use Rattle.std.proofs.Common.{◌≡◌, ℕ, zero, suc, ◌+◌, ◌*◌, ◌<◌, ◌≤◌, ◌^◌, List, [], ◌∷◌, ◌++◌, length, take, drop, not, get_or, refl, sym, ap, ◌∙◌, subst, arith}
 use Rattle.std.proofs.lemmas.List.{take_all}
-use Rattle.std.proofs.lemmas.List.Sorted.{IsPermutation-refl, length_permutation}
+use Rattle.std.proofs.lemmas.List.Sorted.{IsPermutation-append, IsPermutation-refl, IsPermutation-trans, length_permutation}
 use Rattle.std.proofs.lemmas.Option.{slice_get_within, get_or_from_slice_get}
 use Rattle.std.specs.Prelude.{slice_get, Option, Some, IsPermutation, filter}
 use Rattle.std.specs.List.{AllByRecursion as Each}
@@ -121,28 +121,33 @@ module _ {M : Type 0} (meaning_of : M → Meaning) (w : WorldView M) (laws : Mea
         let P : NodeData → Type 0 = λ d. IsHandedOut m home_in number bound cut_at d p.commits.done in
         the-cycle.handed number below p.commits.done (subst P (sym (data-is w.nodes number p.x p.at_old)) one)
 
-    out_is : (number to : ℕ) (below : number < w.homes.nodes) → to < w.homes.nodes → get_or (middle number below).c.out.items to [] ≡ parcel home_in happened number to
+    out_is : (number to : ℕ) (below : number < w.homes.nodes) → to < w.homes.nodes → IsPermutation (parcel home_in happened number to) (get_or (middle number below).c.out.items to [])
     out_is number to below to_below =
         let p = middle number below in
         let fits : to < p.x.homes.nodes = let same = ap (λ (h : HomesView). h.nodes) p.is.homes_is in omega arith in
-        p.commits.parcels to fits
-        ∙ ap (λ (h : HomesView). filter (is_at (home_of h) to) (emissions_of p.commits.done)) p.is.homes_is
-        ∙ ap (λ ds. filter (is_at home_in to) (emissions_of ds)) (done_is number below)
+        let P : List Event → Type 0 = λ es. IsPermutation es (get_or p.c.out.items to []) in
+        subst P
+        (ap (λ (h : HomesView). filter (is_at (home_of h) to) (emissions_of p.commits.done)) p.is.homes_is
+        ∙ ap (λ ds. filter (is_at home_in to) (emissions_of ds)) (done_is number below))
+        (p.commits.parcels to fits)
 
-    sent_upto : (to k : ℕ) → to < w.homes.nodes → k ≤ w.homes.nodes → sent_to to (take k all) ≡ parcels home_in happened to k
+    sent_upto : (to k : ℕ) → to < w.homes.nodes → k ≤ w.homes.nodes → IsPermutation (parcels home_in happened to k) (sent_to to (take k all))
     unfolding parcels sent_to
-    sent_upto to zero to_below le = refl
+    sent_upto to zero to_below le = IsPermutation-refl []
     sent_upto to (suc k) to_below le =
         let p = middle k (omega arith) in
-        ap (sent_to to) (take-at all k p.c p.at_all) ∙ sent_to-more to (take k all) p.c
-        ∙ ap (λ es. es ++ get_or p.c.out.items to []) (sent_upto to k to_below (omega arith))
-        ∙ ap (λ es. parcels home_in happened to k ++ es) (out_is k to (omega arith) to_below)
+        let P : List Event → Type 0 = IsPermutation (parcels home_in happened to k ++ parcel home_in happened k to) in
+        subst P (sym (ap (sent_to to) (take-at all k p.c p.at_all) ∙ sent_to-more to (take k all) p.c))
+        (IsPermutation-append (parcels home_in happened to k) (sent_to to (take k all)) (parcel home_in happened k to) (get_or p.c.out.items to [])
+        (sent_upto to k to_below (omega arith)) (out_is k to (omega arith) to_below))
 
     all_is : take w.homes.nodes all ≡ all
     all_is = take_all w.homes.nodes all (let count = upto.count in let many = stands.has.nodes.many in omega arith)
 
-    pub sent-is : (to : ℕ) → to < w.homes.nodes → sent_to to all ≡ parcels home_in happened to w.homes.nodes
-    sent-is to to_below = ap (sent_to to) (sym all_is) ∙ sent_upto to w.homes.nodes to_below (omega arith)
+    pub sent-is : (to : ℕ) → to < w.homes.nodes → IsPermutation (parcels home_in happened to w.homes.nodes) (sent_to to all)
+    sent-is to to_below =
+        let P : List Committed → Type 0 = λ cs. IsPermutation (parcels home_in happened to w.homes.nodes) (sent_to to cs) in
+        subst P all_is (sent_upto to w.homes.nodes to_below (omega arith))
 
     told_upto : (k : ℕ) → k ≤ w.homes.nodes → told_by (take k all) ≡ records_by_node home_in happened k
     unfolding records_by_node told_by
@@ -177,7 +182,7 @@ module _ {M : Type 0} (meaning_of : M → Meaning) (w : WorldView M) (laws : Mea
         omega arith
 
     pub sent-few : (to : ℕ) → to < w.homes.nodes → length (sent_to to all) < 2 ^ 60
-    sent-few to below = let few = parcels-few to below in let same : length (sent_to to all) ≡ length (parcels home_in happened to w.homes.nodes) = ap length (sent-is to below) in omega arith
+    sent-few to below = let few = parcels-few to below in let same : length (sent_to to all) ≡ length (parcels home_in happened to w.homes.nodes) = length_permutation (parcels home_in happened to w.homes.nodes) (sent_to to all) (sent-is to below) in omega arith
 
     module _ (parcel_list : List (List Event)) (long : length parcel_list ≡ w.homes.nodes) (sorted : (to : ℕ) → to < length w.nodes → IsPermutation (sent_to to all) (get_or parcel_list to [])) where
       -- what arrives at a node, in the order of its arrival
@@ -186,9 +191,8 @@ module _ {M : Type 0} (meaning_of : M → Meaning) (w : WorldView M) (laws : Mea
 
       pub arrive : (number : ℕ) → number < w.homes.nodes → IsPermutation (parcels home_in happened number w.homes.nodes) (arrivals_of number)
       arrive number below =
-          let P : List Event → Type 0 = λ es. IsPermutation es (arrivals_of number) in
           let many = stands.has.nodes.many in
-          subst P (sent-is number below) (sorted number (omega arith))
+          IsPermutation-trans (parcels home_in happened number w.homes.nodes) (sent_to number all) (arrivals_of number) (sent-is number below) (sorted number (omega arith))
 
       arrivals-few : (number : ℕ) → number < w.homes.nodes → length (arrivals_of number) ≤ 400000 + 8 * 1000000000
       arrivals-few number below =

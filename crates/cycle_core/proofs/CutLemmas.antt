@@ -24,7 +24,7 @@ use Rattle.key_order.proofs.InOrder.{in_order-permutation, in_order-ascending}
 use Rattle.key_order.proofs.KeyLemmas.{Ascends-differ, key_lt-none-trans}
 use Rattle.key_order.proofs.MemberLemmas.{each-contains, filter-contains, contains-filter}
 use Rattle.key_order.proofs.OrderLemmas.{by-members, differ-by-parts}
-use Rattle.object_log.specs.declared.done.Done.{Done}
+use Rattle.object_log.specs.Dones.{Done}
 use Rattle.object_log.specs.Logs.{keys_of}
 use Rattle.world_spec.specs.Answer.{CutData, cut_of, first_of}
 use Rattle.world_spec.specs.Closed.{fault_key as key_of_fault}

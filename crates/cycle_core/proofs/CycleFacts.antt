@@ -13,7 +13,7 @@ use Rattle.sim_spec.specs.declared.bucket.Bucket.{Bucket}
 use Rattle.sim_spec.specs.Cut.{after, committed_events, cut, records_of}
 use Rattle.sim_spec.specs.Replay.{Replay, early_replay, events_at}
 use Rattle.sim_spec.specs.State.{State}
-use Rattle.object_log.specs.declared.done.Done.{Done}
+use Rattle.object_log.specs.Dones.{Done}
 use Rattle.object_log.specs.Logs.{events_of, keys_of}
 use Rattle.world_spec.specs.Answer.{AreKeysBelow, CutData, IsAnswer, answer_of, cut_below}
 use Rattle.world_spec.specs.Closed.{IsLeastFault, cut_key, is_late}

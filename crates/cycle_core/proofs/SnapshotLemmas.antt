@@ -19,7 +19,7 @@ use Rattle.sim_spec.specs.Firing.{ObjectState}
 use Rattle.sim_spec.specs.Replay.{events_at}
 use Rattle.sim_spec.specs.State.{State, object_at, no_object}
 use Rattle.sim_spec.proofs.PartLemmas.{AllSound-dest, IsAscending-events_at, KeysDiffer-objects, events_at-append, events_at-enqueue_all}
-use Rattle.object_log.specs.declared.done.Done.{Done}
+use Rattle.object_log.specs.Dones.{Done}
 use Rattle.object_log.specs.Logs.{events_of, undone}
 use Rattle.world_spec.specs.Share.{IsAtHome, IsHome, NodeData, Share, StandsFor}
 use Rattle.world_spec.proofs.WorldFacts.{share-events}

@@ -19,7 +19,7 @@ use Rattle.sim_spec.specs.State.{State, AllSound}
 use Rattle.key_order.specs.Ascending.{Ascends, key_of}
 use Rattle.key_order.specs.Keys.{first_key}
 use Rattle.key_order.proofs.MemberLemmas.{each-contains, filter-contains, first-or-later, is-first, none-in, contains-filter}
-use Rattle.object_log.specs.declared.done.Done.{Done}
+use Rattle.object_log.specs.Dones.{Done}
 use Rattle.object_log.specs.Logs.{events_of, keys_of}
 use Rattle.world_spec.specs.Share.{IsHome, is_at}
 use Rattle.node_core.specs.Calls.{IsLeastKeyOf}

@@ -14,7 +14,7 @@ use Rattle.sim_spec.specs.declared.terms.Terms.{Terms}
 use Rattle.sim_spec.specs.Cut.{emissions_of}
 use Rattle.sim_spec.specs.Replay.{Replay, replay}
 use Rattle.key_order.proofs.EachLemmas.{Each-append, Each-map}
-use Rattle.object_log.specs.declared.done.Done.{Done}
+use Rattle.object_log.specs.Dones.{Done}
 use Rattle.object_log.specs.Logs.{LogView, undone}
 use Rattle.object_log.specs.Replays.{replay_of}
 use Rattle.world_spec.specs.Share.{IsHome, NodeData}

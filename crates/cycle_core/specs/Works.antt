@@ -5,7 +5,7 @@ use Rattle.event_key.specs.declared.key.Key.{Key}
 use Rattle.event_key.specs.Stamps.{end_stamp}
 use Rattle.model_core.specs.Meaning.{Meaning}
 use Rattle.sim_spec.specs.declared.terms.Terms.{Terms}
-use Rattle.object_log.specs.declared.done.Done.{Done}
+use Rattle.object_log.specs.Dones.{Done}
 use Rattle.world_spec.specs.Share.{IsHome}
 use Rattle.world_spec.specs.Moves.{Steps, IsIdle}
 use Rattle.node_core.specs.Nodes.{NodeView, log_at, base_at, pending_at, home, data_of, IsSameNode}

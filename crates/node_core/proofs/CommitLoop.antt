@@ -1,9 +1,10 @@
 -- One event after another is committed: those so far are the first ones of their logs.
 use Rattle.std.proofs.Common.{◌≡◌, ℕ, ◌+◌, ◌<◌, ◌≤◌, ◌^◌, true, false, cond, List, [], ◌∷◌, ◌++◌, length, map, eq-eqb, ne_eqb, Option, Some, None, refl, sym, ap, ◌∙◌, subst, arith, append_assoc, length-append}
-use Rattle.std.specs.Prelude.{filter, slice_index_or, is_some, IfNone, IfSome}
+use Rattle.std.specs.Prelude.{filter, slice_index_or, is_some, IfNone, IfSome, IsPermutation}
 use Rattle.std.specs.List.{AllByRecursion as Each}
 use Rattle.std.proofs.lemmas.List.{append-nil, length-map, map-append}
 use Rattle.std.proofs.lemmas.List.Elements.{filter-append}
+use Rattle.std.proofs.lemmas.List.Sorted.{IsPermutation-append_left, IsPermutation-refl, length_permutation}
 use Rattle.event_key.specs.declared.key.Key.{Key}
 use Rattle.model_core.specs.declared.event.Event.{Event}
 use Rattle.model_core.specs.declared.note.Note.{Note}
@@ -12,15 +13,16 @@ use Rattle.sim_spec.specs.Firing.{Firing, ObjectState}
 use Rattle.sim_spec.specs.Replay.{Replay, done_at, replay_after}
 use Rattle.key_order.proofs.EachLemmas.{Each-append, Each-back}
 use Rattle.sim_spec.proofs.PartLemmas.{done_at-append, emissions_of-more}
-use Rattle.object_log.specs.declared.done.Done.{Done}
+use Rattle.object_log.specs.Dones.{Done}
 use Rattle.object_log.specs.declared.done.Verdict.{Verdict}
 use Rattle.object_log.specs.declared.done.Verdict.TheVariants.{Noted, Failed}
 use Rattle.object_log.specs.Logs.{LogView, undone}
 use Rattle.object_log.specs.Replays.{IsLogOf, firing_of, replay_of, told}
+use Rattle.object_log.specs.Tellings.{IsNoted, told_of}
 use Rattle.key_order.specs.Due.{is_due}
 use Rattle.world_spec.specs.Share.{is_at}
 use Rattle.key_order.proofs.FilterLemmas.{length-filter_le}
-use Rattle.node_core.specs.Handed.{AddsOne, AreTaken, CanCommit, HasHandedOut, IsFaultLate, IsLogLess, IsNoted, IsTellingOf, told_of}
+use Rattle.node_core.specs.Handed.{AddsOne, AreTaken, CanCommit, HasHandedOut, IsFaultLate, IsLogLess, IsTellingOf}
 use Rattle.node_core.specs.Homes.{HomesView, home_of}
 use Rattle.node_core.specs.Marks.{MarkView, code_of, fault_or, first_fault, first_mark}
 use Rattle.node_core.specs.Moves.{IsCommittedAt}
@@ -162,7 +164,7 @@ taken-step horizon cut old now next done d note so_far is same few =
 
 pub telling-start : (homes : HomesView) (told : List (Key × Note)) (out : List (List Event)) → told ≡ [] → length out ≡ homes.nodes → ((to : ℕ) → slice_index_or out to [] ≡ []) → IsTellingOf homes [] told out
 unfolding emissions_of
-telling-start homes told out none long empty = record { told_is = none; long = long; parcels = λ to within. empty to }
+telling-start homes told out none long empty = record { told_is = none; long = long; parcels = λ to within. (let P : List Event → Type 0 = IsPermutation [] in subst P (sym (empty to)) (IsPermutation-refl [])) }
 
 pub telling-step : (homes : HomesView) (done : List (Event × Firing)) (next : StoreView) (d : Done) (note : Note) (told told' : List (Key × Note)) (out out' : List (List Event)) → d.verdict ≡ Noted note → IsTellingOf homes done told out
     → AddsOne homes d.event d.sends d.verdict told told' out out' → IsTellingOf homes (done ++ fired next d note ∷ []) told' out'
@@ -173,7 +175,10 @@ telling-step homes done next d note told told' out out' same t a =
       long = a.long ∙ t.long;
       parcels = λ to within.
           (let at = is_at (home_of homes) to in
-          a.parcels to within ∙ ap (λ es. es ++ filter at d.sends) (t.parcels to within) ∙ sym (filter-append at (emissions_of done) d.sends) ∙ ap (filter at) (sym (emissions_of-more done x)));
+          let P : List Event → Type 0 = λ es. IsPermutation es (slice_index_or out' to []) in
+          let Q : List Event → Type 0 = IsPermutation (filter at (emissions_of done) ++ filter at d.sends) in
+          subst P (sym (filter-append at (emissions_of done) d.sends) ∙ ap (filter at) (sym (emissions_of-more done x)))
+          (subst Q (sym (a.parcels to within)) (IsPermutation-append_left (filter at d.sends) (filter at (emissions_of done)) (slice_index_or out to []) (t.parcels to within))));
     }
 
 -- what is handed out so far, with room for all that is still due
@@ -250,7 +255,7 @@ module _ (homes : HomesView) (horizon : ℕ) (cut : Option Key) (old now next : 
       let t = is.so_far.taken in
       let done = is.so_far.done in
       let at = is_at (home_of homes) to in
-      let parcel = ap length (is.so_far.tells.parcels to within) in
+      let parcel = length_permutation (filter at (emissions_of done)) (slice_index_or out to []) (is.so_far.tells.parcels to within) in
       let part = length-filter_le at (emissions_of done) in
       let sent = t.few in
       let own = next-few in

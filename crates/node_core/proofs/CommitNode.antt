@@ -14,7 +14,7 @@ use Rattle.sim_spec.specs.Firing.{Firing, ObjectState}
 use Rattle.sim_spec.specs.Replay.{events_at, replay}
 use Rattle.key_order.proofs.EachLemmas.{Each-back, Each-map}
 use Rattle.sim_spec.proofs.PartLemmas.{Each-events_at}
-use Rattle.object_log.specs.declared.done.Done.{Done}
+use Rattle.object_log.specs.Dones.{Done}
 use Rattle.object_log.specs.Logs.{undone, events_of as log_events}
 use Rattle.object_log.specs.Replays.{IsReplayed, replay_of}
 use Rattle.key_order.specs.Due.{is_due}

@@ -13,7 +13,7 @@ use Rattle.sim_spec.specs.Firing.{Firing, ObjectState}
 use Rattle.key_order.specs.Ascending.{AllAfter, IsAscending, After, Ascends}
 use Rattle.sim_spec.specs.Replay.{Replay, done_at}
 use Rattle.key_order.proofs.EachLemmas.{Each-filter, Each-map, Each-append}
-use Rattle.object_log.specs.declared.done.Done.{Done}
+use Rattle.object_log.specs.Dones.{Done}
 use Rattle.object_log.specs.declared.done.Verdict.{Verdict}
 use Rattle.object_log.specs.declared.done.Verdict.TheVariants.{Noted, Failed}
 use Rattle.object_log.specs.Logs.{LogView, undone, events_of as log_events}

@@ -12,12 +12,12 @@ use Rattle.sim_spec.specs.Firing.{Firing, ObjectState, emissions, fire, fired_by
 use Rattle.sim_spec.specs.Replay.{Replay, replay}
 use Rattle.sim_spec.proofs.BucketInduction.{replay-goes}
 use Rattle.sim_spec.proofs.SerialLemmas.{length-emissions}
-use Rattle.object_log.specs.declared.done.Done.{Done}
+use Rattle.object_log.specs.Dones.{Done}
 use Rattle.object_log.specs.declared.done.Verdict.{Verdict}
 use Rattle.object_log.specs.declared.done.Verdict.TheVariants.{Noted, Failed}
 use Rattle.object_log.specs.Logs.{undone, events_of}
 use Rattle.object_log.specs.Replays.{IsReplayed, IsTold, firing_of}
-use Rattle.node_core.specs.Handed.{IsNoted}
+use Rattle.object_log.specs.Tellings.{IsNoted}
 
 -- lawful cells are left, and little is sent, to objects that there are
 pub record IsLittle (m : Meaning) (object : ℕ) (later : ObjectState) (sends : List Event) : Type 0 where

@@ -7,7 +7,7 @@ use Rattle.model_core.specs.Meaning.{Meaning, MeaningLaws}
 use Rattle.key_order.specs.Ascending.{After, Ascends}
 use Rattle.world_spec.specs.Share.{IsHome}
 use Rattle.key_order.proofs.FilterLemmas.{filter-map}
-use Rattle.object_log.specs.declared.done.Done.{Done}
+use Rattle.object_log.specs.Dones.{Done}
 use Rattle.object_log.specs.Logs.{LogView, keys_of as keys_of_log}
 use Rattle.object_log.specs.Replays.{IsReplayed}
 use Rattle.node_core.specs.Marks.{MarkView, AreInOrder, mark_of}

@@ -6,7 +6,7 @@ use Rattle.event_key.specs.declared.key.Key.{Key}
 use Rattle.event_key.specs.Keys.{key_lt, same_key}
 use Rattle.model_core.specs.declared.event.Event.{Event}
 use Rattle.key_order.specs.Ascending.{AllAfter, IsAscending, Ascends}
-use Rattle.object_log.specs.declared.done.Done.{Done}
+use Rattle.object_log.specs.Dones.{Done}
 use Rattle.object_log.specs.declared.done.Verdict.{Verdict}
 use Rattle.object_log.specs.Logs.{events_of, keys_of as log_keys}
 use Rattle.object_log.specs.Sends.{least_of}

@@ -14,7 +14,7 @@ use Rattle.key_order.specs.Ascending.{IsAscending, Ascends}
 use Rattle.sim_spec.specs.Replay.{events_at, replay}
 use Rattle.sim_spec.specs.State.{first_object}
 use Rattle.world_spec.specs.Share.{IsHome, log_of}
-use Rattle.object_log.specs.declared.done.Done.{Done}
+use Rattle.object_log.specs.Dones.{Done}
 use Rattle.object_log.specs.Keeping.{OnlyLastFailed}
 use Rattle.object_log.specs.Logs.{LogView, events_of, undone}
 use Rattle.object_log.specs.Replays.{IsReplayed, replay_of}

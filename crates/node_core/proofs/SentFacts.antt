@@ -2,7 +2,7 @@
 use Rattle.std.proofs.Common.{◌+◌, ◌*◌, ◌≤◌, List, [], ◌∷◌, length, arith}
 use Rattle.std.specs.List.{AllByRecursion as Each}
 use Rattle.sim_spec.specs.Firing.{ObjectState}
-use Rattle.object_log.specs.declared.done.Done.{Done}
+use Rattle.object_log.specs.Dones.{Done}
 use Rattle.object_log.specs.Logs.{undone}
 
 -- what an object has sent, from what it had before its processed events

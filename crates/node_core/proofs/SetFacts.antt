@@ -9,7 +9,7 @@ use Rattle.key_order.specs.Ascending.{IsAscending}
 use Rattle.sim_spec.specs.declared.terms.Terms.{Terms}
 use Rattle.sim_spec.specs.Firing.{ObjectState}
 use Rattle.sim_spec.specs.Replay.{events_at}
-use Rattle.object_log.specs.declared.done.Done.{Done}
+use Rattle.object_log.specs.Dones.{Done}
 use Rattle.object_log.specs.Keeping.{OnlyLastFailed}
 use Rattle.object_log.specs.Logs.{LogView, events_of, undone}
 use Rattle.object_log.specs.Replays.{IsLogOf, IsReplayed}

@@ -19,7 +19,7 @@ use Rattle.key_order.proofs.KeyLemmas.{Ascends-differ}
 use Rattle.key_order.proofs.ArrivalLemmas.{enqueue_all-ascending}
 use Rattle.key_order.proofs.FilterLemmas.{filter-none}
 use Rattle.world_spec.proofs.HomeLemmas.{homed-same}
-use Rattle.object_log.specs.declared.done.Done.{Done}
+use Rattle.object_log.specs.Dones.{Done}
 use Rattle.object_log.specs.Logs.{LogView, events_of}
 use Rattle.object_log.proofs.ReplayLemmas.{taken_is}
 use Rattle.node_core.specs.Marks.{MarkView, mark_of}

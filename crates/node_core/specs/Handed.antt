@@ -1,5 +1,5 @@
 -- What a commit hands out, as far as it has come.
-use Rattle.std.specs.Prelude.{◌≡◌, ℕ, ◌*◌, ◌<◌, ◌≤◌, ◌^◌, true, false, List, [], ◌∷◌, ◌++◌, length, map, filter, slice_index_or, Option, Some, None, IfSome}
+use Rattle.std.specs.Prelude.{◌≡◌, ℕ, ◌*◌, ◌<◌, ◌≤◌, ◌^◌, true, false, List, [], ◌∷◌, ◌++◌, length, map, filter, slice_index_or, IsPermutation, Option, Some, None, IfSome}
 use Rattle.std.specs.List.{AllByRecursion}
 use Rattle.event_key.specs.declared.key.Key.{Key}
 use Rattle.model_core.specs.declared.event.Event.{Event}
@@ -8,11 +8,11 @@ use Rattle.model_core.specs.Meaning.{Meaning}
 use Rattle.sim_spec.specs.Cut.{emissions_of, events_of, records_of}
 use Rattle.sim_spec.specs.Firing.{Firing}
 use Rattle.sim_spec.specs.Replay.{done_at, replay_after}
-use Rattle.object_log.specs.declared.done.Done.{Done}
+use Rattle.object_log.specs.Dones.{Done}
 use Rattle.object_log.specs.declared.done.Verdict.{Verdict}
-use Rattle.object_log.specs.declared.done.Verdict.TheVariants.{Noted, Failed}
 use Rattle.object_log.specs.Logs.{LogView, events_of as log_events}
 use Rattle.object_log.specs.Replays.{IsLogOf, replay_of}
+use Rattle.object_log.specs.Tellings.{IsNoted, told_of}
 use Rattle.key_order.specs.Due.{is_due}
 use Rattle.world_spec.specs.Share.{is_at}
 use Rattle.node_core.specs.Homes.{HomesView, home_of}
@@ -20,16 +20,6 @@ use Rattle.node_core.specs.Marks.{first_fault, first_mark}
 use Rattle.node_core.specs.Nodes.{IsHere, log_at}
 use Rattle.node_core.specs.Rows.{keys_of}
 use Rattle.node_core.specs.Stores.{StoreView}
-
--- an event that went
-abbrev pub IsNoted : Verdict → Type 0
-IsNoted (Noted note) = Unit {0}
-IsNoted (Failed code) = ⊥
-
--- what is told of an event, if it went
-abbrev pub told_of : Key → Verdict → List (Key × Note)
-told_of key (Noted note) = (key, note) ∷ []
-told_of key (Failed code) = []
 
 -- a fault, if there is one, is not due
 abbrev pub IsFaultLate : ℕ → Option Key → Option (Key × ℕ) → Type 0
@@ -73,11 +63,11 @@ pub record AreTaken (horizon : ℕ) (cut : Option Key) (old now : StoreView) (do
   pub waiting : now.waiting ≡ old.waiting
   pub spare : now.spare ≡ old.spare
 
--- what is told of them, and what they sent, each message in the parcel of its home
+-- what is told of them, and what they sent, each message in the parcel of its home, in whatever order
 pub record IsTellingOf (homes : HomesView) (done : List (Event × Firing)) (told : List (Key × Note)) (out : List (List Event)) : Type 0 where
   pub told_is : told ≡ records_of done
   pub long : length out ≡ homes.nodes
-  pub parcels : (to : ℕ) → to < homes.nodes → slice_index_or out to [] ≡ filter (is_at (home_of homes) to) (emissions_of done)
+  pub parcels : (to : ℕ) → to < homes.nodes → IsPermutation (filter (is_at (home_of homes) to) (emissions_of done)) (slice_index_or out to [])
 
 -- all that was due was taken out and is told
 pub record HasHandedOut (homes : HomesView) (horizon : ℕ) (cut : Option Key) (old new : StoreView) (told : List (Key × Note)) (out : List (List Event)) : Type 0 where

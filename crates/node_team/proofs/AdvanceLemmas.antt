@@ -11,7 +11,7 @@ use Rattle.std.specs.List.{AllByRecursion}
 use Rattle.world_spec.specs.Moves.{IsIdle}
 use Rattle.horizon_word.specs.Views.{SeatView}
 use Rattle.key_order.proofs.EachLemmas.{Each-append}
-use Rattle.object_log.specs.declared.done.Done.{Done}
+use Rattle.object_log.specs.Dones.{Done}
 use Rattle.object_log.specs.Logs.{LogView}
 use Rattle.node_core.specs.Homes.{HomesView, home_of}
 use Rattle.node_core.specs.Nodes.{NodeView, log_at, home, data_of, IsAsBefore}

@@ -16,7 +16,7 @@ use Rattle.model_core.specs.Meaning.{Meaning}
 use Rattle.model_core.specs.declared.event.Event.{Event}
 use Rattle.sim_spec.specs.Replay.{events_at}
 use Rattle.key_order.proofs.EachLemmas.{Each-map}
-use Rattle.object_log.specs.declared.done.Done.{Done}
+use Rattle.object_log.specs.Dones.{Done}
 use Rattle.object_log.specs.Logs.{events_of, keys_of}
 use Rattle.key_order.proofs.MemberLemmas.{is-first, is-later}
 use Rattle.world_spec.proofs.NodeFacts.{each-object}

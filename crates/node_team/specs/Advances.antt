@@ -7,7 +7,7 @@ use Rattle.model_core.specs.declared.event.Event.{Event}
 use Rattle.model_core.specs.Meaning.{Meaning}
 use Rattle.world_spec.specs.Moves.{IsIdle}
 use Rattle.horizon_word.specs.Views.{SeatView}
-use Rattle.object_log.specs.declared.done.Done.{Done}
+use Rattle.object_log.specs.Dones.{Done}
 use Rattle.node_core.specs.Nodes.{NodeView, log_at, home, data_of, share_of}
 use Rattle.node_core.specs.Steps.{IsHeldLeast, HasProcessed, IsLeftIdle}
 use Rattle.cycle_core.specs.Works.{IsSmall}

@@ -4,7 +4,7 @@ use Rattle.std.specs.Prelude.{slice_get, slice_set, reverse, Some}
 use Rattle.std.proofs.lemmas.List.{append-nil, map-append, reverse-append, take_more_set}
 use Rattle.event_key.specs.declared.stamp.TheConstants.{NO_STAMP}
 use Rattle.key_order.specs.Stamps.{least_stamp}
-use Rattle.object_log.specs.declared.done.Done.{Done}
+use Rattle.object_log.specs.Dones.{Done}
 use Rattle.object_log.specs.declared.entry.Entry.{Entry}
 use Rattle.object_log.specs.Logs.{held_of}
 use Rattle.object_log.specs.Rows.{TellHeld}

@@ -3,7 +3,7 @@ use Rattle.std.proofs.Common.{◌≡◌, ℕ, zero, suc, ◌-◌, ◌<◌, ◌�
 use Rattle.std.proofs.lemmas.List.{length-append, length-reverse, get_or-reverse, get_or_append_left}
 use Rattle.std.proofs.lemmas.Option.{slice_get-get_or}
 use Rattle.std.specs.Prelude.{Some, reverse, slice_get}
-use Rattle.object_log.specs.declared.done.Done.{Done}
+use Rattle.object_log.specs.Dones.{Done}
 
 pub turned-early : (early late : List Done) (place : ℕ) → place < length early → slice_get (reverse early ++ late) place ≡ slice_get early (length early - 1 - place)
 turned-early [] late place below = absurd (omega arith)

@@ -1,7 +1,7 @@
 -- What undoing one event does.
 use Rattle.std.specs.Prelude.{◌≡◌, ◌+◌, ◌^◌, [], ◌∷◌, ◌++◌, length, min}
 use Rattle.model_core.specs.declared.event.Event.{Event}
-use Rattle.object_log.specs.declared.done.Done.{Done}
+use Rattle.object_log.specs.Dones.{Done}
 use Rattle.object_log.specs.Logs.{LogView, before}
 use Rattle.object_log.specs.Pools.{PoolView}
 

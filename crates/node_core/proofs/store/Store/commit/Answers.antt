@@ -4,7 +4,8 @@ use Rattle.std.specs.Prelude.{slice_index_or}
 use Rattle.std.specs.List.{AllByRecursion as Each}
 use Rattle.model_core.specs.declared.event.Event.{Event}
 use Rattle.object_log.specs.declared.done.Verdict.{Verdict}
-use Rattle.node_core.specs.Handed.{AddsOne, IsNoted}
+use Rattle.object_log.specs.Tellings.{IsNoted}
+use Rattle.node_core.specs.Handed.{AddsOne}
 use Rattle.node_core.proofs.CommitLoop.{handed-none, handing-start, handing-step, next-due, next-homed, next-less, next-noted, next-parcels, next-room}
 use Rattle.node_core.proofs.store.Store.commit.Goals as goal
 
