@@ -171,18 +171,18 @@ objects_grow before (item d ds) xs gives =
     joined (object Two (place_in before) (length before + 1) d) _ one.0 xs (object_grows (place_in before) (length before + 1) d one.0 one.1)
     (objects_grow (before ++ one.0 ∷ []) ds xs one.2)
 
-linked_grows : (seed : ℕ) (named : List NamedItem) (entries : Items) (x : Meaning) → linked_network One seed named entries ≡ Ok x → linked_network Two seed named entries ≡ Ok x
+linked_grows : (named : List NamedItem) (entries : Items) (x : ℕ → Meaning) → linked_network One named entries ≡ Ok x → linked_network Two named entries ≡ Ok x
 unfolding linked_network
-linked_grows seed named entries x gives =
+linked_grows named entries x gives =
     let linked = bound (linked_from (place_in named) 1 named) _ x gives in
     let jobs = bound (jobs_from One (place_in named) (length named + 1) entries) _ x linked.2 in
     joined (linked_from (place_in named) 1 named) _ linked.0 x linked.1
     (joined (jobs_from Two (place_in named) (length named + 1) entries) _ jobs.0 x
     (each_grows (job One (place_in named)) (job Two (place_in named)) (job_grows (place_in named)) (length named + 1) entries jobs.0 jobs.1) jobs.2)
 
-phold_grows : (seed : ℕ) (d : Data) (x : Meaning) → phold One seed d ≡ Ok x → phold Two seed d ≡ Ok x
+phold_grows : (d : Data) (x : ℕ → Meaning) → phold One d ≡ Ok x → phold Two d ≡ Ok x
 unfolding phold
-phold_grows seed d x gives =
+phold_grows d x gives =
     let ms = bound (table_of 0 d) _ x gives in
     let objects = bound (required 0 (codes "objects") ms.0 >>= number 0 0 MOST_OBJECTS) _ x ms.2 in
     let delay = bound (required 0 (codes "delay") ms.0 >>= law 0) _ x objects.2 in
@@ -240,9 +240,9 @@ same_keys : (n : ℕ) (known : List (List ℕ)) (ms : Members) → has_only know
 same_keys n known no_members = refl
 same_keys n known (member l d ms) = ap (λ b. list_any (λ name. bytes_eq name l) known && b) (same_keys n known ms)
 
-network_grows : (seed : ℕ) (ms : Members) (x : Meaning) → network One seed ms ≡ Ok x → network Two seed (with_format 2 ms) ≡ Ok x
+network_grows : (ms : Members) (x : ℕ → Meaning) → network One ms ≡ Ok x → network Two (with_format 2 ms) ≡ Ok x
 unfolding network
-network_grows seed ms x gives =
+network_grows ms x gives =
     let tables = bound (array_of 0 MOST_OBJECTS (optional (array no_items) (codes "object") ms)) _ x gives in
     let entries = bound (array_of 0 MOST_ENTRIES (optional (array no_items) (codes "job") ms)) _ x tables.2 in
     let named = bound (objects One tables.0) _ x entries.2 in
@@ -250,19 +250,19 @@ network_grows seed ms x gives =
     (ap (λ (o : Option Data). array_of 0 MOST_OBJECTS (or_default (array no_items) o)) (other_key 2 (codes "object") ms refl) ∙ tables.1)
     (joined (array_of 0 MOST_ENTRIES (optional (array no_items) (codes "job") (with_format 2 ms))) _ entries.0 x
     (ap (λ (o : Option Data). array_of 0 MOST_ENTRIES (or_default (array no_items) o)) (other_key 2 (codes "job") ms refl) ∙ entries.1)
-    (joined (objects Two tables.0) _ named.0 x (objects_grow [] tables.0 named.0 named.1) (linked_grows seed named.0 entries.0 x named.2)))
+    (joined (objects Two tables.0) _ named.0 x (objects_grow [] tables.0 named.0 named.1) (linked_grows named.0 entries.0 x named.2)))
 
 circuit_same : (ms : Members) → circuit (with_format 2 ms) ≡ circuit ms
 unfolding circuit
 circuit_same ms =
     ap (λ (o : Option Data). array_of 0 MOST_OBJECTS (or_default (array no_items) o) >>= (λ tables. gates tables >>= (λ named. linked_circuit named))) (other_key 2 (codes "gate") ms refl)
 
-body_grows : (kind : ModelKind) (seed : ℕ) (ms : Members) (x : Meaning) → body One kind seed ms ≡ Ok x → body Two kind seed (with_format 2 ms) ≡ Ok x
-body_grows Phold seed ms x gives =
+body_grows : (kind : ModelKind) (ms : Members) (x : ℕ → Meaning) → body One kind ms ≡ Ok x → body Two kind (with_format 2 ms) ≡ Ok x
+body_grows Phold ms x gives =
     let table = bound (required 0 (codes "phold") ms) _ x gives in
-    joined (required 0 (codes "phold") (with_format 2 ms)) _ table.0 x (ap (present 0) (other_key 2 (codes "phold") ms refl) ∙ table.1) (phold_grows seed table.0 x table.2)
-body_grows Network seed ms x gives = network_grows seed ms x gives
-body_grows Circuit seed ms x gives = circuit_same ms ∙ gives
+    joined (required 0 (codes "phold") (with_format 2 ms)) _ table.0 x (ap (present 0) (other_key 2 (codes "phold") ms refl) ∙ table.1) (phold_grows table.0 x table.2)
+body_grows Network ms x gives = network_grows ms x gives
+body_grows Circuit ms x gives = ap (λ (read : Checked Meaning). read >>= (λ meaning. Ok (λ _. meaning))) (circuit_same ms) ∙ gives
 
 kind_grows : (name : List ℕ) (kind : ModelKind) → kind_of One name ≡ Ok kind → kind_of Two name ≡ Ok kind
 kind_grows name kind gives = by (bytes_eq name (codes "phold")) (bytes_eq name (codes "network")) (bytes_eq name (codes "circuit")) gives
@@ -285,10 +285,9 @@ first_is_second ms x has gives =
     let seed = bound (number 0 0 9223372036854775807 (optional (integer (pos 0)) (codes "seed") ms)) _ x end.2 in
     let limit = bound (number 0 1 MOST_EVENTS (optional (integer (pos 10000000)) (codes "limit") ms)) _ x seed.2 in
     let known = bound (only 0 (top_keys kind.0) ms) _ x limit.2 in
-    let meaning = bound (body format.0 kind.0 seed.0 ms) _ x known.2 in
+    let under = bound (body format.0 kind.0 ms) _ x known.2 in
     let kind_is : kind_of Two name.0 ≡ Ok kind.0 = kind_grows name.0 kind.0 (ap (λ f. kind_of f name.0) (sym one) ∙ kind.1) in
-    let body_is : body Two kind.0 seed.0 (with_format 2 ms) ≡ Ok meaning.0 =
-    body_grows kind.0 seed.0 ms meaning.0 (ap (λ f. body f kind.0 seed.0 ms) (sym one) ∙ meaning.1) in
+    let body_is : body Two kind.0 (with_format 2 ms) ≡ Ok under.0 = body_grows kind.0 ms under.0 (ap (λ f. body f kind.0 ms) (sym one) ∙ under.1) in
     joined (required 0 (codes "format") (with_format 2 ms) >>= format_of) _ Two x (ap (λ (o : Option Data). present 0 o >>= format_of) (new_format 2 ms _ has))
     (joined (required 0 (codes "model") (with_format 2 ms) >>= text 0) _ name.0 x
     (ap (λ (o : Option Data). present 0 o >>= text 0) (other_key 2 (codes "model") ms refl) ∙ name.1)
@@ -301,4 +300,4 @@ first_is_second ms x has gives =
     (ap (λ (o : Option Data). number 0 1 MOST_EVENTS (or_default (integer (pos 10000000)) o)) (other_key 2 (codes "limit") ms refl) ∙ limit.1)
     (joined (only 0 (top_keys kind.0) (with_format 2 ms)) _ known.0 x
     (ap (λ b. refusal_where (not b) Unknown 0) (same_keys 2 (top_keys kind.0) ms) ∙ known.1)
-    (joined (body Two kind.0 seed.0 (with_format 2 ms)) _ meaning.0 x body_is meaning.2)))))))
+    (joined (body Two kind.0 (with_format 2 ms)) _ under.0 x body_is under.2)))))))

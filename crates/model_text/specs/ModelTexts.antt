@@ -19,6 +19,12 @@ use Rattle.model_text.specs.Networks.{network}
 use Rattle.model_text.specs.Phold.{phold}
 use Rattle.model_text.specs.TermsOf.{terms_of}
 
+-- what a text describes: what its model means under each seed, the seed that it gives, and how far the simulation goes
+pub record FamilyOf : Type 0 where
+  pub under : ℕ → Meaning
+  pub seed : ℕ
+  pub terms : Terms
+
 -- a model, and how far its simulation goes
 pub record ModelOf : Type 0 where
   pub meaning : Meaning
@@ -41,13 +47,14 @@ body_keys Circuit = codes "gate" ∷ []
 abbrev pub top_keys : ModelKind → List (List ℕ)
 top_keys kind = codes "format" ∷ codes "model" ∷ codes "end" ∷ codes "seed" ∷ codes "limit" ∷ body_keys kind
 
-abbrev pub body : Format → ModelKind → ℕ → Members → Checked Meaning
-body format Phold seed ms = required 0 (codes "phold") ms >>= phold format seed
-body format Network seed ms = network format seed ms
-body format Circuit seed ms = circuit ms
+-- what the model means under each seed: a circuit draws nothing
+abbrev pub body : Format → ModelKind → Members → Checked (ℕ → Meaning)
+body format Phold ms = required 0 (codes "phold") ms >>= phold format
+body format Network ms = network format ms
+body format Circuit ms = circuit ms >>= (λ meaning. Ok (λ _. meaning))
 
 -- the top table, and then the body of the model
-unfoldable pub top : Members → Checked ModelOf
+unfoldable pub top : Members → Checked FamilyOf
 top ms = do
   format ← required 0 (codes "format") ms >>= format_of
   name ← required 0 (codes "model") ms >>= text 0
@@ -56,8 +63,8 @@ top ms = do
   seed ← number 0 0 9223372036854775807 (optional (integer (pos 0)) (codes "seed") ms)
   limit ← number 0 1 MOST_EVENTS (optional (integer (pos 10000000)) (codes "limit") ms)
   known ← only 0 (top_keys kind) ms
-  meaning ← body format kind seed ms
-  Ok (record { meaning = meaning; terms = terms_of end limit })
+  under ← body format kind ms
+  Ok (record { under = under; seed = seed; terms = terms_of end limit })
 
 -- what TOML makes of the bytes, where they are a document
 abbrev pub tree_of : List ℕ → Option Members
@@ -70,9 +77,20 @@ found_tree None = refusal NotToml 0
 abbrev pub tree : List ℕ → Checked Members
 tree bytes = found_tree (tree_of bytes)
 
--- the model of a text, or the code and the item of the first check that fails
-unfoldable pub model_of : List ℕ → Checked ModelOf
-model_of bytes = do
+-- what a text describes, or the code and the item of the first check that fails
+unfoldable pub family_of : List ℕ → Checked FamilyOf
+family_of bytes = do
   short ← refusal_where (nat_lt MOST_TEXT_BYTES (length bytes)) TooLong 0
   ms ← tree bytes
   top ms
+
+-- the model under the seed that the text gives
+abbrev pub own_model : FamilyOf → ModelOf
+own_model family = record { meaning = family.under family.seed; terms = family.terms }
+
+abbrev pub own_models : Checked FamilyOf → Checked ModelOf
+own_models read = read >>= (λ family. Ok (own_model family))
+
+-- the model of a text
+unfoldable pub model_of : List ℕ → Checked ModelOf
+model_of bytes = own_models (family_of bytes)

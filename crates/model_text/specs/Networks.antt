@@ -1,4 +1,4 @@
--- The check of the body of a network: both arrays, and then three passes.
+-- The check of the body of a network: both arrays, and then three passes. It gives what the network means under each seed.
 use Rattle.std.specs.Prelude.{ℕ, ◌+◌, List, length, Ok, codes}
 use Rattle.toml.specs.Data.{array, Members, Items, no_items}
 use Rattle.model_core.specs.declared.limits.TheConstants.{MOST_ENTRIES, MOST_OBJECTS}
@@ -13,15 +13,15 @@ use Rattle.model_text.specs.Names.{NamedItem, place_in}
 use Rattle.model_text.specs.Objects.{objects, linked_from}
 
 -- passes two and three, after pass one; the items of the objects begin with 1, and those of the jobs follow them
-unfoldable pub linked_network : Format → ℕ → List NamedItem → Items → Checked Meaning
-linked_network format seed named entries = do
+unfoldable pub linked_network : Format → List NamedItem → Items → Checked (ℕ → Meaning)
+linked_network format named entries = do
   linked ← linked_from (place_in named) 1 named
   jobs ← jobs_from format (place_in named) (length named + 1) entries
-  Ok (network_meaning (network_of seed linked jobs))
+  Ok (λ seed. network_meaning (network_of seed linked jobs))
 
-unfoldable pub network : Format → ℕ → Members → Checked Meaning
-network format seed ms = do
+unfoldable pub network : Format → Members → Checked (ℕ → Meaning)
+network format ms = do
   tables ← array_of 0 MOST_OBJECTS (optional (array no_items) (codes "object") ms)
   entries ← array_of 0 MOST_ENTRIES (optional (array no_items) (codes "job") ms)
   named ← objects format tables
-  linked_network format seed named entries
+  linked_network format named entries

@@ -1,4 +1,4 @@
--- The check of the body of a PHOLD model.
+-- The check of the body of a PHOLD model, which gives what the model means under each seed.
 use Rattle.std.specs.Prelude.{ℕ, pos, Bool, true, false, List, [], ◌∷◌, Ok, codes, if◌then◌else◌}
 use Rattle.std.specs.Str.{bytes_eq}
 use Rattle.toml.specs.Data.{Data, integer, array, no_items}
@@ -31,8 +31,8 @@ abbrev pub phold_keys : Format → List (List ℕ)
 phold_keys format = codes "objects" ∷ codes "delay" ∷ codes "to" ∷ codes "each" ∷ codes "start" ∷ added format (codes "rank" ∷ [])
 
 -- the table `phold`: its fields in their order, unknown keys, and then the entries of `start`
-unfoldable pub phold : Format → ℕ → Data → Checked Meaning
-phold format seed d = do
+unfoldable pub phold : Format → Data → Checked (ℕ → Meaning)
+phold format d = do
   ms ← table_of 0 d
   objects ← required 0 (codes "objects") ms >>= number 0 0 MOST_OBJECTS
   delay ← required 0 (codes "delay") ms >>= law 0
@@ -42,4 +42,4 @@ phold format seed d = do
   rank ← rank format 0 ms
   known ← only 0 (phold_keys format) ms
   start ← start_entries format objects entries
-  Ok (phold_meaning (phold_parts seed objects delay uniform each start rank))
+  Ok (λ seed. phold_meaning (phold_parts seed objects delay uniform each start rank))

@@ -4,6 +4,7 @@
 
 mod additions;
 mod circuits;
+mod described;
 mod directory;
 mod fields;
 mod format_laws;
@@ -22,13 +23,16 @@ mod objects;
 mod phold;
 mod refusal;
 mod routers;
+mod seeded;
 mod starts;
 mod top;
 
+pub use described::ReadModel;
 pub use format_laws::law_formats;
 pub use model::AnyModel;
 pub use refusal::{Refusal, code_name};
-pub use top::read_model;
+pub use seeded::Seeded;
+pub use top::{read_family, read_model};
 
 #[cfg(test)]
 mod tests;

@@ -16,6 +16,40 @@ pub enum AnyModel {
     Circuit(Circuit),
 }
 
+impl AnyModel {
+    ghost use Rattle.std.specs.Prelude.{◌≡◌, ◌<◌, ◌^◌, IfOk, IsTrue};
+    ghost use Rattle.event_key.specs.Stamps.{time_part};
+    ghost use Rattle.model_core.specs.Effects.{outcome_by};
+    ghost use Rattle.model_text.specs.Meanings.{meaning_of, meaning_under};
+
+    /// What an event does under a seed, below 2^63, in place of the model's own, as `respond` says it.
+    #[tactic(auto, unfolding(phold_model::specs::Meaning::phold_meaning))]
+    pub(crate) fn respond_under(
+        &self,
+        seed: u64,
+        words: &mut Stream,
+        object: u32,
+        cells: &Cells,
+        event: &Event,
+        sheet: &mut Effect,
+    ) -> Result<Ending, OutOfMemory>
+        requires seed { seed < 2 ^ 63 }
+        requires object { object < (meaning_of self.now).objects }
+        requires lawful { IsTrue ((meaning_of self.now).lawful object cells.now.contents) }
+        requires time { time_part event.now.key.stamp < 2 ^ 46 }
+        ensures { IfOk result (λ ending. outcome_by ending sheet.new
+            ≡ (meaning_under seed self.now).effect object cells.now.contents event.now) }
+    {
+        match self {
+            AnyModel::Phold(phold) => phold.respond_under(seed, words, object, cells, sheet),
+            AnyModel::Network(network) => {
+                network.respond_under(seed, words, object, cells, event, sheet)
+            }
+            AnyModel::Circuit(circuit) => circuit.respond(words, object, cells, event, sheet),
+        }
+    }
+}
+
 impl SimulationModel for AnyModel {
     ghost use Rattle.model_text.specs.Meanings.{meaning_of, meaning_laws};
 

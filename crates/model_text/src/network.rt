@@ -1,8 +1,9 @@
 //! The body of a network.
-ghost use Rattle.std.specs.Prelude.{◌≡◌, ◌≢◌, ◌+◌, ◌<◌, ◌≤◌, ◌^◌, length, All, AllPairs};
+ghost use Rattle.std.specs.Prelude.{◌≡◌, ◌≢◌, ◌+◌, ◌<◌, ◌≤◌, ◌^◌, IfOk, length, All, AllPairs};
 ghost use Rattle.toml.specs.View.{items_view, table_view};
 ghost use Rattle.model_core.specs.declared.limits.TheConstants.{MOST_ENTRIES, MOST_OBJECTS};
 ghost use Rattle.queue_models.specs.Meaning.{network_meaning};
+ghost use Rattle.queue_models.specs.Objects.{network_under};
 ghost use Rattle.queue_models.specs.Views.{parts_of};
 ghost use Rattle.model_text.specs.Checks.{Gives};
 ghost use Rattle.model_text.specs.Directories.{finder};
@@ -47,7 +48,8 @@ fn linked_network(
     requires found { finder directory.now ≡ place_in named.items }
     requires in_range { All IsNamedItem named.items }
     requires names_differ { AllPairs (λ (a b : NamedItem). a.name ≢ b.name) named.items }
-    ensures { Gives (λ model. network_meaning (parts_of model)) result (linked_network format seed named.items (items_view entries.now)) }
+    ensures read { Gives (λ model seed. network_meaning (network_under seed (parts_of model))) result (linked_network format named.items (items_view entries.now)) }
+    ensures own { IfOk result (λ model. (parts_of model).seed ≡ seed) }
 {
     let first_job = first_job_item(&named);
     let items = linked_items(alloc, directory, named)?;
@@ -55,7 +57,7 @@ fn linked_network(
     Ok(Network::make(alloc, seed, items, jobs)?)
 }
 
-/// The arrays `object` and `job`.
+/// The arrays `object` and `job`, of a network whose own seed is this.
 #[tactic(auto, unfolding(crate::specs::Networks::network))]
 pub(crate) fn network(
     alloc: Global,
@@ -64,7 +66,8 @@ pub(crate) fn network(
     seed: u64,
 ) -> Result<Network, Refusal>
     requires { seed < 2 ^ 63 }
-    ensures { Gives (λ model. network_meaning (parts_of model)) result (network format seed (table_view table.now)) }
+    ensures read { Gives (λ model seed. network_meaning (network_under seed (parts_of model))) result (network format (table_view table.now)) }
+    ensures own { IfOk result (λ model. (parts_of model).seed ≡ seed) }
 {
     let none = Value::Array(Vec::new(alloc));
     let tables = array_of(optional(table, "object", &none), 0, MOST_OBJECTS as usize)?;

@@ -1,7 +1,8 @@
 //! The body of a PHOLD model.
-ghost use Rattle.std.specs.Prelude.{◌≡◌, ◌<◌, ◌^◌, map};
+ghost use Rattle.std.specs.Prelude.{◌≡◌, ◌<◌, ◌^◌, IfOk, map};
 ghost use Rattle.toml.specs.View.{view};
 ghost use Rattle.phold_model.specs.Meaning.{phold_meaning};
+ghost use Rattle.phold_model.specs.Parts.{phold_under};
 ghost use Rattle.phold_model.specs.Views.{parts_of};
 ghost use Rattle.model_text.specs.Checks.{Gives};
 ghost use Rattle.model_text.specs.Phold.{destination, phold, phold_keys};
@@ -42,7 +43,7 @@ fn phold_keys(format: Format) -> &'static [&'static str]
     }
 }
 
-/// The table `phold`.
+/// The table `phold`, of a model whose own seed is this.
 #[tactic(auto, unfolding(crate::specs::Phold::phold))]
 pub(crate) fn phold(
     alloc: Global,
@@ -51,7 +52,8 @@ pub(crate) fn phold(
     seed: u64,
 ) -> Result<Phold, Refusal>
     requires { seed < 2 ^ 63 }
-    ensures { Gives (λ model. phold_meaning (parts_of model)) result (phold format seed (view value.now)) }
+    ensures read { Gives (λ model seed. phold_meaning (phold_under seed (parts_of model))) result (phold format (view value.now)) }
+    ensures own { IfOk result (λ model. (parts_of model).seed ≡ seed) }
 {
     let table = table_of(value, 0)?;
     let objects = number(

@@ -4,8 +4,8 @@ ghost use Rattle.model_core.specs.declared.limits.TheConstants.{MOST_EVENTS};
 ghost use Rattle.toml.specs.View.{table_view};
 ghost use Rattle.model_text.specs.Checks.{Gives, Fails};
 ghost use Rattle.model_text.specs.Fields.{only};
-ghost use Rattle.model_text.specs.Meanings.{meaning_of};
-ghost use Rattle.model_text.specs.ModelTexts.{kind_of, top_keys, body, top, tree, model_of};
+ghost use Rattle.model_text.specs.Meanings.{family_read, meaning_of, meaning_under};
+ghost use Rattle.model_text.specs.ModelTexts.{kind_of, top_keys, body, top, tree, family_of, model_of};
 ghost use Rattle.model_text.specs.TermsOf.{terms_of};
 
 use crate::circuits::circuit;
@@ -14,6 +14,7 @@ use crate::formats::{Format, format_of};
 use crate::model::AnyModel;
 use crate::network::network;
 use crate::phold::phold;
+use crate::described::ReadModel;
 use crate::refusal::{Cause, Refusal};
 use event_key::LAST_TICK;
 use model_core::model::Model as SimulationModel;
@@ -75,7 +76,7 @@ fn only_known(table: &Table, kind: ModelKind) -> Result<(), Refusal>
     }
 }
 
-/// The body of a model of this kind.
+/// The body of a model of this kind, whose own seed is this.
 fn body(
     alloc: Global,
     table: &Table,
@@ -84,7 +85,8 @@ fn body(
     seed: u64,
 ) -> Result<AnyModel, Refusal>
     requires { seed < 2 ^ 63 }
-    ensures { Gives (λ model. meaning_of model) result (body format kind seed (table_view table.now)) }
+    ensures read { Gives (λ model seed. meaning_under seed model) result (body format kind (table_view table.now)) }
+    ensures own { IfOk result (λ model. meaning_under seed model ≡ meaning_of model) }
 {
     match kind {
         ModelKind::Phold => {
@@ -98,8 +100,10 @@ fn body(
 
 /// The top table, and then the body of the model.
 #[tactic(auto, unfolding(crate::specs::ModelTexts::top))]
-fn top(alloc: Global, table: &Table) -> Result<(AnyModel, Terms), Refusal>
-    ensures { Gives (λ read. record { meaning = meaning_of read.0; terms = read.1 }) result (top (table_view table.now)) }
+fn top(alloc: Global, table: &Table) -> Result<ReadModel, Refusal>
+    ensures read { Gives family_read result (top (table_view table.now)) }
+    ensures own { IfOk result (λ read. meaning_under read.seed read.model ≡ meaning_of read.model) }
+    ensures seed { IfOk result (λ read. read.seed < 2 ^ 63) }
 {
     let format = format_of(required(table, "format", 0)?)?;
     let kind = kind_of(format, text(required(table, "model", 0)?, 0)?)?;
@@ -110,7 +114,8 @@ fn top(alloc: Global, table: &Table) -> Result<(AnyModel, Terms), Refusal>
     let limit = number(limit, 0, 1, MOST_EVENTS)?;
     only_known(table, kind)?;
     let model = body(alloc, table, format, kind, seed)?;
-    Ok((model, terms_of(end, limit)))
+    let terms = terms_of(end, limit);
+    Ok(ReadModel { model, terms, seed })
 }
 
 /// The TOML document of a text.
@@ -133,15 +138,28 @@ fn tree(alloc: Global, bytes: &[u8]) -> Result<Table, Refusal>
     }
 }
 
-/// The model and the terms of a text, or the first check that it fails.
-#[tactic(auto, unfolding(crate::specs::ModelTexts::model_of))]
-pub fn read_model(alloc: Global, bytes: &[u8]) -> Result<(AnyModel, Terms), Refusal>
-    ensures read { IfOk result (λ read. model_of bytes.now ≡ Ok (record { meaning = meaning_of read.0; terms = read.1 })) }
-    ensures refused { IfErr result (λ refusal. Fails refusal (model_of bytes.now)) }
+/// What a text describes, or the first check that it fails: a model that can be had under any seed without reading the
+/// text again.
+#[tactic(auto, unfolding(crate::specs::ModelTexts::family_of))]
+pub fn read_family(alloc: Global, bytes: &[u8]) -> Result<ReadModel, Refusal>
+    ensures read { IfOk result (λ read. family_of bytes.now ≡ Ok (family_read read)) }
+    ensures refused { IfErr result (λ refusal. Fails refusal (family_of bytes.now)) }
+    ensures own { IfOk result (λ read. meaning_under read.seed read.model ≡ meaning_of read.model) }
+    ensures seed { IfOk result (λ read. read.seed < 2 ^ 63) }
 {
     if bytes.len() > MOST_TEXT_BYTES {
         return Err(Cause::TooLong.at(0));
     }
     let table = tree(alloc, bytes)?;
     top(alloc, &table)
+}
+
+/// The model and the terms of a text, or the first check that it fails.
+#[tactic(auto, unfolding(crate::specs::ModelTexts::model_of))]
+pub fn read_model(alloc: Global, bytes: &[u8]) -> Result<(AnyModel, Terms), Refusal>
+    ensures read { IfOk result (λ read. model_of bytes.now ≡ Ok (record { meaning = meaning_of read.0; terms = read.1 })) }
+    ensures refused { IfErr result (λ refusal. Fails refusal (model_of bytes.now)) }
+{
+    let read = read_family(alloc, bytes)?;
+    Ok((read.model, read.terms))
 }
