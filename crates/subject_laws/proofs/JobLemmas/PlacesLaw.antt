@@ -142,7 +142,7 @@ agree_on p t s told after jobs fine n agree w =
 -- at the start
 
 -- the numbers of sources are sources'
-source_number : (p : NetworkParts) (k : ℕ) → k < length (source_numbers p.objects) → is_source (object_at p.objects (slice_index (source_numbers p.objects) k)).kind ≡ true
+pub source_number : (p : NetworkParts) (k : ℕ) → k < length (source_numbers p.objects) → is_source (object_at p.objects (slice_index (source_numbers p.objects) k)).kind ≡ true
 unfolding sources_below
 source_number p k within = filter_passes (λ number. is_source (object_at p.objects number).kind) (range_with_len 0 (length p.objects)) k 0 within
 
@@ -166,7 +166,7 @@ listed_weight p w i fine within =
     has_job p w e job.at.takes ∙ ap (λ (j : ℕ). w (j + 1, at_event e.key)) back)
 
 -- a sum over all numbers from a on, of which the first weigh nothing
-skip_first : (F : ℕ → ℕ) (S J a n : ℕ) → a + n ≡ S → ((k : ℕ) → k < S → F k ≡ 0) → sum_by F (range_with_len a (n + J)) ≡ sum_by F (range_with_len S J)
+pub skip_first : (F : ℕ → ℕ) (S J a n : ℕ) → a + n ≡ S → ((k : ℕ) → k < S → F k ≡ 0) → sum_by F (range_with_len a (n + J)) ≡ sum_by F (range_with_len S J)
 skip_first F S J a zero all none =
     let here : a ≡ S = omega arith in
     let no : 0 + J ≡ J = omega arith in
@@ -177,7 +177,7 @@ skip_first F S J a (suc n) all none =
     let rest = skip_first F S J (a + 1) n (omega arith) none in
     omega (arith, ap (λ j. sum_by F (range_with_len a j)) more, sum_by-cons F a (range_with_len (a + 1) (n + J)))
 
-shifted : (F G : ℕ → ℕ) (S J a n : ℕ) → a + n ≤ J → ((i : ℕ) → i < J → F (S + i) ≡ G i) → sum_by F (range_with_len (S + a) n) ≡ sum_by G (range_with_len a n)
+pub shifted : (F G : ℕ → ℕ) (S J a n : ℕ) → a + n ≤ J → ((i : ℕ) → i < J → F (S + i) ≡ G i) → sum_by F (range_with_len (S + a) n) ≡ sum_by G (range_with_len a n)
 shifted F G S J a zero room same = refl
 shifted F G S J a (suc n) room same =
     let here : F (S + a) ≡ G a = same a (omega arith) in

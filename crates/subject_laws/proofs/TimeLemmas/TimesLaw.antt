@@ -21,9 +21,9 @@ use Rattle.sim_spec.specs.Run.{stops, does, next}
 use Rattle.sim_stats.specs.declared.sums.Sums.{Sums}
 use Rattle.sim_stats.specs.Sums.{sums_of, last_told}
 use Rattle.sim_stats.specs.Occupancies.{intervals}
-use Rattle.sim_stats.specs.Words.{TimedWord, words_at, words_told}
-use Rattle.sim_stats.proofs.SumsLemmas.{with_word, sums_of-more}
-use Rattle.sim_stats.proofs.TotalsLemmas.{words_told-here, words_told-elsewhere}
+use Rattle.sim_stats.specs.Words.{TimedWord, words_told}
+use Rattle.sim_stats.proofs.SumsLemmas.{with_word}
+use Rattle.sim_stats.proofs.TotalsLemmas.{words_told-elsewhere}
 use Rattle.queue_models.specs.declared.kind.KindOver.{KindOver}
 use Rattle.queue_models.specs.declared.site.Site.{Site}
 use Rattle.queue_models.specs.declared.station.Station.{Station as StationOver}
@@ -38,6 +38,7 @@ use Rattle.run_laws.proofs.OrderLaw.{records_first}
 use Rattle.run_laws.proofs.Steps.{first_firing}
 use Rattle.subject_laws.specs.Draws.{delays_of, shown_by}
 use Rattle.subject_laws.specs.Orders.{jobs_told, is_coming, is_done, numbers_of, begins_at}
+use Rattle.subject_laws.specs.Places.{word_told}
 use Rattle.subject_laws.specs.ServerLaws.{AreServing}
 use Rattle.subject_laws.specs.Stations.{IsStationAt, cells_at, busy_at, waiting_at, ends_service_at, in_service_at}
 use Rattle.subject_laws.specs.TimeLaws.{WaitsAddUp, WorkAddsUp, LittleLaw, UtilisationLaw}
@@ -51,7 +52,7 @@ use Rattle.subject_laws.proofs.QueueLemmas.NetworkSteps.{IsNetworkStep, network_
 use Rattle.subject_laws.proofs.QueueLemmas.OrderLaw.{IsMoved, moved, jobs_of, told_here, begins_are, empty_list}
 use Rattle.subject_laws.proofs.QueueLemmas.PlainRuns.{same_after}
 use Rattle.subject_laws.proofs.QueueLemmas.ServersLaw.{ends, ends_elsewhere, plain_servers_law}
-use Rattle.subject_laws.proofs.TotalLemmas.ToldTotals.{single_part, same_sums}
+use Rattle.subject_laws.proofs.TotalLemmas.ToldTotals.{single_part, same_sums, word_more}
 use Rattle.subject_laws.proofs.TotalLemmas.TotalsLaw.{plain_totals_at, plain_totals, last_is_before, last_is_early}
 use Rattle.subject_laws.proofs.TimeLemmas.Ticks.{gathered-sum, sum-same, ticks_more, sum_by-less, end_time, end_time-none, ends_sent}
 
@@ -196,19 +197,6 @@ data StationStep (p : NetworkParts) (t : Terms) (n : ℕ) (told : Key × Note) (
   still : StaysStill p (after_events n (plain_meaning p) t) told after i
       → sums_of (words_told i (first_records n (plain_meaning p) t ++ told ∷ [])) ≡ plain_totals_at p t i n → StationStep p t n told after i
 
--- what a note of one part tells of its object
-word_more : (records : List (Key × Note)) (told : Key × Note) → length told.1 ≡ 1
-    → (word : ℕ) × (sums_of (words_told told.0.dest (records ++ told ∷ [])) ≡ with_word (sums_of (words_told told.0.dest records)) (record { time = time_part told.0.stamp; word = word }))
-word_more records told one =
-    let found = by told.1 one in
-    (found.0, ap (λ (words : List TimedWord). sums_of words) (words_told-here records told) ∙ found.1)
-  where
-    by : (note : Note) → length note ≡ 1
-        → (word : ℕ) × (sums_of (words_told told.0.dest records ++ words_at (time_part told.0.stamp) note) ≡ with_word (sums_of (words_told told.0.dest records)) (record { time = time_part told.0.stamp; word = word }))
-    by [] one = absurd (omega arith)
-    by (part ∷ more ∷ note) one = absurd (omega arith)
-    by (part ∷ []) one = (part.word, sums_of-more (words_told told.0.dest records) (record { time = time_part told.0.stamp; word = part.word }))
-
 station_step : (p : NetworkParts) (t : Terms) (n : ℕ) (told : Key × Note) (after : State) (i : ℕ) (station : StationOver ℕ) → IsNetwork p
     → next (plain_meaning p) t (after_events n (plain_meaning p) t) ≡ does told after → IsStationAt p i station → StationStep p t n told after i
 station_step p t n told after i station fine is_next is = by (eqb i step.step.event.key.dest) refl
@@ -243,9 +231,9 @@ station_step p t n told after i station fine is_next is = by (eqb i step.step.ev
         let P : ℕ → Type 0 = λ j. IsStationAt p j station → IsMoved p s told after j station → busy_at s j ≡ length (in_service_at s j)
         → busy_at after j ≡ length (in_service_at after j) → MovesInTime p s told after j in
         let records : List (Key × Note) = first_records n (plain_meaning p) t in
-        let W : ℕ → Type 0 = λ j. (word : ℕ) × (sums_of (words_told j (records ++ told ∷ [])) ≡ with_word (sums_of (words_told j records)) (record { time = time_part told.0.stamp; word = word })) in
+        let W : ℕ → Type 0 = λ j. sums_of (words_told j (records ++ told ∷ [])) ≡ with_word (sums_of (words_told j records)) (record { time = time_part told.0.stamp; word = word_told told.1 }) in
         let more : W i = subst W (sym at) (word_more records told (single_part p t s fine (n, refl) told after is_next)) in
-        moves (subst P (sym same) (moves_here p t s told after step station) is is_moved serving.under_way serving_after.under_way) more.0 more.1
+        moves (subst P (sym same) (moves_here p t s told after step station) is is_moved serving.under_way serving_after.under_way) (word_told told.1) more
 
 -- a station after n events, by the totals over what would be told if no object were quiet
 record Adds (p : NetworkParts) (t : Terms) (i n : ℕ) (sums : Sums) (s : State) : Type 0 where

@@ -24,6 +24,7 @@ use Rattle.queue_models.specs.Objects.{NetworkParts, object_at}
 use Rattle.queue_models.specs.Parts.{IsNetwork}
 use Rattle.queue_models.specs.Telling.{load, note_told}
 use Rattle.run_laws.specs.Reached.{after_events, Reaches, record_of, first_records, gathered}
+use Rattle.subject_laws.specs.Places.{word_told}
 use Rattle.subject_laws.specs.Stations.{cells_at}
 use Rattle.subject_laws.proofs.QueueLemmas.NetworkSteps.{IsNetworkStep, network_step}
 use Rattle.subject_laws.proofs.QueueLemmas.PlainRuns.{SameNext, both_stop, both_do, same_next, same_after, plain_reaches}
@@ -132,3 +133,14 @@ same_sums p t i fine loud (suc n) =
     step_sums p i s (next (network_meaning p) t s) (next (plain_meaning p) t s) (first_records n (network_meaning p) t) (first_records n (plain_meaning p) t) loud
     (same_sums p t i fine loud n) (same_next p t s) (single_part p t s fine (plain_reaches p t s (n, refl)))
     ∙ ap (λ s. sums_of (words_told i (first_records n (plain_meaning p) t ++ record_of s (next (plain_meaning p) t s)))) (same_after p t n)
+
+-- what a note of one part tells of its object
+pub word_more : (records : List (Key × Note)) (told : Key × Note) → length told.1 ≡ 1
+    → sums_of (words_told told.0.dest (records ++ told ∷ [])) ≡ with_word (sums_of (words_told told.0.dest records)) (timed (time_part told.0.stamp) (word_told told.1))
+word_more records told one = ap (λ (words : List TimedWord). sums_of words) (words_told-here records told) ∙ by told.1 one
+  where
+    by : (note : Note) → length note ≡ 1
+        → sums_of (words_told told.0.dest records ++ words_at (time_part told.0.stamp) note) ≡ with_word (sums_of (words_told told.0.dest records)) (timed (time_part told.0.stamp) (word_told note))
+    by [] one = absurd (omega arith)
+    by (part ∷ more ∷ note) one = absurd (omega arith)
+    by (part ∷ []) one = sums_of-more (words_told told.0.dest records) (timed (time_part told.0.stamp) part.word)
