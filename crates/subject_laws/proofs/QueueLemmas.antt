@@ -10,3 +10,4 @@ pub mod ServersLaw
 pub mod SmallLosses
 pub mod SmallShop
 pub mod TellingLaw
+pub mod WaysLaw

@@ -19,3 +19,4 @@ pub mod TellingLaws
 pub mod TimeLaws
 pub mod Times
 pub mod TotalLaws
+pub mod WayLaws

@@ -17,3 +17,4 @@ pub mod settled;
 pub mod telling;
 pub mod totals;
 pub mod utilisation;
+pub mod ways;

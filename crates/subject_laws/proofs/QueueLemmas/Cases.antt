@@ -146,14 +146,18 @@ route_effect site router cells e =
     let way = drawn_at site cells (Choice router.weights) in
     hand_effect site e (place_changes (place_of cells) way.1) (slice_index router.next way.0) 0 ROUTED_WORD (slice_index router.next way.0)
 
+-- it draws one of its ways
+pub way_within : (objects : List Item) (site : Site) (router : RouterOver ℕ) (cells : CellData) → IsKind (IsLink objects) (Router router)
+    → (drawn_at site cells (Choice router.weights)).0 < length router.next
+unfolding is_drawable
+way_within objects site router cells fine =
+    omega (arith, draw-within site.seed site.object (place_of cells) (Choice router.weights) fine.1, choice_within router.weights fine.1, fine.0)
+
 way_takes : (objects : List Item) (site : Site) (router : RouterOver ℕ) (cells : CellData) → IsKind (IsLink objects) (Router router)
     → is_source (object_at objects (slice_index router.next (drawn_at site cells (Choice router.weights)).0)).kind ≡ false
-unfolding is_drawable
 way_takes objects site router cells fine =
     let way : ℕ × ℕ = drawn_at site cells (Choice router.weights) in
-    let within : way.0 < length router.next =
-    omega (arith, draw-within site.seed site.object (place_of cells) (Choice router.weights) fine.1, choice_within router.weights fine.1, fine.0) in
-    let link : IsLink objects (slice_index router.next way.0) = fine.2 way.0 0 within in
+    let link : IsLink objects (slice_index router.next way.0) = fine.2 way.0 0 (way_within objects site router cells fine) in
     link.takes
 
 router_does : (objects : List Item) (site : Site) (router : RouterOver ℕ) (cells : CellData) (e : Event) (x : Effect) → IsKind (IsLink objects) (Router router) → IsTrue (is_lawful (Router router) cells)

@@ -19,7 +19,7 @@ use Rattle.sim_spec.specs.Run.{next, next_of, next_fired, run, run_for, run_on}
 use Rattle.queue_models.specs.declared.station.Station.{Station as StationOver}
 use Rattle.queue_models.specs.declared.kind.KindOver.TheVariants.{Source, Station, Sink}
 use Rattle.queue_models.specs.Meaning.{plain_meaning, network_meaning, start_of}
-use Rattle.queue_models.specs.Objects.{NetworkParts, sources_below}
+use Rattle.queue_models.specs.Objects.{NetworkParts, object_at, sources_below}
 use Rattle.queue_models.specs.Sinks.{sink_effect}
 use Rattle.model_core.specs.Places.{place_changes}
 use Rattle.queue_models.specs.Sources.{idle_effect, last_effect, make_effect, source_effect}
@@ -27,6 +27,8 @@ use Rattle.queue_models.specs.Stations.{take_effect, wait_effect, lose_effect, a
 use Rattle.run_laws.specs.Reached.{left_by, after_events, Reaches, gathered, first_records}
 use Rattle.run_laws.specs.RunLaws.{IsCause}
 use Rattle.run_laws.specs.Sent.{sent_next, happened, all_sent, initial_events}
+use Rattle.subject_laws.specs.Draws.{draws_next}
+use Rattle.subject_laws.specs.WayLaws.{GoesOn}
 use Rattle.subject_laws.specs.Orders.{arrived_at, begun_at, done_at, numbers_of}
 use Rattle.subject_laws.specs.Stations.{IsStationAt, busy_at, waiting_at, in_service_at}
 
@@ -98,6 +100,13 @@ short_run : (run (network_meaning shop) to_three (initial_state (network_meaning
     ∷ []
 unfolding run run_for run_on to_three shop counter to_fifty draw drawn_value words_read start_of sources_below place_changes idle_effect last_effect make_effect source_effect sink_effect take_effect wait_effect lose_effect arrival_outcome serve_effect free_effect done_effect station_effect plain_meaning network_meaning key_lt key_cmp next_stamp has_no_step cells_after_all inverses_of enqueue enqueue_all has_endless_chain emissions fired_by fire initial_state next next_of next_fired left_by after_events
 short_run = refl
+
+-- that is the second job, which goes to the counter at the next step
+second_goes_on : GoesOn (object_at shop.objects 0).kind (told_at (key_at 3 0 0 0 1) 2 2 2)
+    (draws_next (plain_meaning shop) (object_at shop.objects 0).kind 0 (after_events 2 (plain_meaning shop) to_fifty) (next (plain_meaning shop) to_fifty (after_events 2 (plain_meaning shop) to_fifty)))
+    second_arrival
+unfolding second_arrival shop counter to_fifty draw drawn_value words_read start_of sources_below place_changes idle_effect last_effect make_effect source_effect sink_effect take_effect wait_effect lose_effect arrival_outcome serve_effect free_effect done_effect station_effect plain_meaning network_meaning key_lt key_cmp next_stamp has_no_step cells_after_all inverses_of enqueue enqueue_all has_endless_chain emissions fired_by fire initial_state next next_of next_fired left_by after_events
+second_goes_on = record { job = refl; way = (0, lit< tt, refl); chosen = λ router. absurd (cc); time = refl }
 
 -- by then four events have happened and two are pending: the initial one, and five that were sent
 events_seen : ◌≡◌ {A = ℕ × ℕ × ℕ × ℕ} (
