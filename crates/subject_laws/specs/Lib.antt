@@ -14,6 +14,7 @@ pub mod PholdLaws
 pub mod Places
 pub mod ServerLaws
 pub mod Settled
+pub mod SourceLaws
 pub mod Stations
 pub mod TellingLaws
 pub mod TimeLaws

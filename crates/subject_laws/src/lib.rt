@@ -14,6 +14,7 @@ pub mod order;
 pub mod population;
 pub mod servers;
 pub mod settled;
+pub mod sources;
 pub mod telling;
 pub mod totals;
 pub mod utilisation;
