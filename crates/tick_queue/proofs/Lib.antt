@@ -1,0 +1,9 @@
+pub mod CountedLemmas
+pub mod DigitLemmas
+pub mod FirstLemmas
+pub mod LevelLemmas
+pub mod MarkLemmas
+pub mod NearLemmas
+pub mod QueueLemmas
+pub mod SlotLemmas
+pub mod SpreadLemmas

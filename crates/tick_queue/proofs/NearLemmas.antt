@@ -1,0 +1,174 @@
+-- Events at hand, of which the first ones are done.
+use Rattle.std.proofs.Common.{◌≡◌, ◌≢◌, ℕ, zero, suc, ◌+◌, ◌-◌, ◌<◌, ◌≤◌, Bool, true, false, cond, List, [], ◌∷◌, ◌++◌, length, take, drop, get_or, sym, refl, ap, ◌∙◌, subst, inl, inr, arith}
+use Rattle.std.specs.Prelude.{◌↔◌, IsTrue, insert, nat_eq}
+use Rattle.std.specs.Bool.{OnTrue, OnFalse}
+use Rattle.std.proofs.lemmas.Bool.Decides.{nat_tests}
+use Rattle.std.specs.List.{AllByRecursion as Each}
+use Rattle.std.proofs.lemmas.Bool.{cases_lt, cases_eq}
+use Rattle.std.proofs.lemmas.List.{drop_all, drop_more, length-drop, get_or-drop, take-append-drop}
+use Rattle.event_key.specs.declared.key.Key.{Key}
+use Rattle.event_key.specs.Keys.{key_lt}
+use Rattle.event_key.proofs.Order.{key_lt-trans}
+use Rattle.model_core.specs.declared.event.Event.{Event}
+use Rattle.key_order.specs.Ascending.{AllAfter, Ascends, IsAscending, key_of}
+use Rattle.key_order.specs.Keys.{IsNewKey}
+use Rattle.key_order.specs.Pending.{enqueue}
+use Rattle.key_order.proofs.EnqueueLemmas.{enqueue-first, enqueue-behind}
+use Rattle.key_order.proofs.KeyLemmas.{key_lt-other, new-head, new-tail}
+use Rattle.tick_queue.specs.Near.{StartsWith, LosesFirst, AllBefore, HasLater}
+
+-- what is left begins at a place
+pub starts : (es : List Event) (i : ℕ) (e : Event) → i < length es → e ≡ get_or es i e → StartsWith (drop i es) e
+starts es i e lt read = (drop (i + 1) es, drop_more es i e lt ∙ ap (λ x. x ∷ drop (i + 1) es) (sym read))
+
+pub loses : (es : List Event) (i : ℕ) → i < length es → LosesFirst (drop i es) (drop (i + 1) es)
+loses [] i lt = absurd (omega arith)
+loses (e ∷ es) zero lt = (e, refl)
+loses (e ∷ es) (suc i) lt =
+    let next : suc (i + 1) ≡ suc i + 1 = omega arith in
+    let P : ℕ → Type 0 = λ n. LosesFirst (drop i es) (drop n (e ∷ es)) in
+    subst P next (loses es i (omega arith))
+
+pub has_some : (es : List Event) (i : ℕ) → 0 < length (drop i es) → i < length es
+has_some es i some = let long = length-drop i es in omega (arith, long)
+
+pub none_left : (es : List Event) (i : ℕ) → i ≤ length es → drop i es ≡ [] → i ≡ length es
+none_left es i le none = let long = length-drop i es in let no = ap length none in omega (arith, long, no)
+
+-- events in order whose last one comes before a key
+pub all_before : (key : Key) (es : List Event) (k : ℕ) (d : Event) → IsAscending es → length es ≡ k + 1 → key_lt (get_or es k d).key key ≡ true → AllBefore key es
+unfolding Ascends
+all_before key [] k d up long last = absurd (omega arith)
+all_before key (e ∷ []) zero d up long last = (last, tt)
+all_before key (e ∷ []) (suc k) d up long last = absurd (omega arith)
+all_before key (e ∷ f ∷ es) zero d up long last = absurd (omega arith)
+all_before key (e ∷ f ∷ es) (suc k) d up long last =
+    let rest : AllBefore key (f ∷ es) = all_before key (f ∷ es) k d up.1 (omega arith) last in
+    (key_lt-trans e.key f.key key up.0.0 rest.0, rest)
+
+-- an event goes between those that come before it and those that come after it
+between : (e : Event) (xs ys : List Event) → AllBefore e.key xs → AllAfter e.key ys → enqueue e (xs ++ ys) ≡ xs ++ e ∷ ys
+between e [] ys before after = enqueue-first e ys after
+between e (x ∷ xs) ys before after = enqueue-behind e x (xs ++ ys) before.0 ∙ ap (λ w. x ∷ w) (between e xs ys before.1 after)
+
+-- those ahead of a place from which it doesn't come before
+before_place : (e : Event) (es : List Event) (k : ℕ) (d : Event) → IsAscending es → IsNewKey e.key es → k < length es → key_lt e.key (get_or es k d).key ≡ false → AllBefore e.key (take (k + 1) es)
+unfolding Ascends
+before_place e [] k d up new lt none = absurd (omega arith)
+before_place e (x ∷ xs) zero d up new lt none = (key_lt-other e.key x.key (new-head key_of e.key x xs new) none, tt)
+before_place e (x ∷ []) (suc k) d up new lt none = absurd (omega arith)
+before_place e (x ∷ y ∷ ys) (suc k) d up new lt none =
+    let rest : AllBefore e.key (take (k + 1) (y ∷ ys)) = before_place e (y ∷ ys) k d up.1 (new-tail key_of e.key x (y ∷ ys) new) (omega arith) none in
+    let first = first_before k rest in
+    let P : ℕ → Type 0 = λ n. AllBefore e.key (take n (x ∷ y ∷ ys)) in
+    let next : suc (k + 1) ≡ suc k + 1 = omega arith in
+    subst P next (key_lt-trans x.key y.key e.key up.0.0 first, rest)
+  where
+    first_before : (k : ℕ) → AllBefore e.key (take (k + 1) (y ∷ ys)) → key_lt y.key e.key ≡ true
+    first_before zero all = all.0
+    first_before (suc k) all =
+        let next : suc k + 1 ≡ suc (k + 1) = omega arith in
+        let P : ℕ → Type 0 = λ n. AllBefore e.key (take n (y ∷ ys)) in
+        (subst P next all).0
+
+-- a place in what is left
+pub record IsPlace (e : Event) (es : List Event) (at place : ℕ) : Type 0 where
+  pub from : at ≤ place
+  pub upto : place ≤ length es
+  pub after : AllAfter e.key (drop place es)
+
+pub place-last : (e : Event) (es : List Event) (at place : ℕ) → at ≤ length es → place ≡ length es → IsPlace e es at place
+place-last e es at place le is = record {
+  from = omega arith;
+  upto = omega arith;
+  after = let P : List Event → Type 0 = AllAfter e.key in subst P (sym (drop_all place es (omega arith))) tt;
+}
+
+pub place-earlier : (e : Event) (es : List Event) (at place : ℕ) (x : Event) → IsPlace e es at place → at < place → x ≡ get_or es (place - 1) x → key_lt e.key x.key ≡ true → IsPlace e es at (place - 1)
+place-earlier e es at place x h some read lt =
+    let upto = h.upto in
+    let P : List Event → Type 0 = AllAfter e.key in
+    let next : place - 1 + 1 ≡ place = omega arith in
+    let Q : ℕ → Type 0 = λ n. AllAfter e.key (x ∷ drop n es) in
+    let is : drop (place - 1) es ≡ x ∷ drop (place - 1 + 1) es = drop_more es (place - 1) x (omega arith) ∙ ap (λ y. y ∷ drop (place - 1 + 1) es) (sym read) in
+    record {
+      from = omega arith;
+      upto = omega arith;
+      after = subst P (sym is) (subst Q (sym next) (lt, h.after));
+    }
+
+-- the list with an event at its place
+dropped_insert : (es : List Event) (at place : ℕ) (e : Event) → at ≤ place → place ≤ length es → drop at (insert es place e) ≡ take (place - at) (drop at es) ++ e ∷ drop (place - at) (drop at es)
+dropped_insert es zero place e from upto = let none : place - 0 ≡ place = omega arith in rw none refl
+dropped_insert [] (suc at) place e from upto = absurd (omega arith)
+dropped_insert (x ∷ es) (suc at) zero e from upto = absurd (omega arith)
+dropped_insert (x ∷ es) (suc at) (suc place) e from upto =
+    let less : suc place - suc at ≡ place - at = omega arith in
+    rw less (dropped_insert es at place e (omega arith) (omega arith))
+
+dropped_twice : (es : List Event) (at place : ℕ) → at ≤ place → drop (place - at) (drop at es) ≡ drop place es
+dropped_twice es zero place le = let none : place - 0 ≡ place = omega arith in rw none refl
+dropped_twice [] (suc at) zero le = absurd (omega arith)
+dropped_twice [] (suc at) (suc place) le = drop_all (suc place - suc at) [] (omega arith)
+dropped_twice (x ∷ es) (suc at) zero le = absurd (omega arith)
+dropped_twice (x ∷ es) (suc at) (suc place) le =
+    let less : suc place - suc at ≡ place - at = omega arith in
+    rw less (dropped_twice es at place (omega arith))
+
+in_place : (es : List Event) (at place : ℕ) (e : Event) → IsPlace e es at place → AllBefore e.key (take (place - at) (drop at es)) → drop at (insert es place e) ≡ enqueue e (drop at es)
+in_place es at place e h before =
+    let k : ℕ = place - at in
+    let left : List Event = drop at es in
+    let P : List Event → Type 0 = AllAfter e.key in
+    let after : AllAfter e.key (drop k left) = subst P (sym (dropped_twice es at place h.from)) h.after in
+    dropped_insert es at place e h.from h.upto ∙ sym (ap (enqueue e) (sym (take-append-drop k left)) ∙ between e (take k left) (drop k left) before after)
+
+-- it comes first of all that are left
+pub inserted-first : (es : List Event) (at place : ℕ) (e : Event) → IsPlace e es at place → place ≤ at → drop at (insert es place e) ≡ enqueue e (drop at es)
+inserted-first es at place e h le =
+    let from = h.from in
+    let none : place - at ≡ 0 = omega arith in
+    let P : ℕ → Type 0 = λ n. AllBefore e.key (take n (drop at es)) in
+    in_place es at place e h (subst P (sym none) tt)
+
+-- or it doesn't come before the one ahead of its place
+pub inserted : (es : List Event) (at place : ℕ) (e x : Event) → IsPlace e es at place → at < place → x ≡ get_or es (place - 1) x → key_lt e.key x.key ≡ false
+    → IsAscending (drop at es) → IsNewKey e.key (drop at es) → drop at (insert es place e) ≡ enqueue e (drop at es)
+inserted es at place e x h some read none up new =
+    let upto = h.upto in
+    let k : ℕ = place - 1 - at in
+    let long = length-drop at es in
+    let there : at + k ≡ place - 1 = omega arith in
+    let is : get_or (drop at es) k x ≡ x = get_or-drop at es k x ∙ ap (λ n. get_or es n x) there ∙ sym read in
+    let Q : Event → Type 0 = λ y. key_lt e.key y.key ≡ false in
+    let P : ℕ → Type 0 = λ n. AllBefore e.key (take n (drop at es)) in
+    let next : k + 1 ≡ place - at = omega arith in
+    in_place es at place e h (subst P next (before_place e (drop at es) k x up new (omega (arith, long)) (subst Q (sym is) none)))
+
+-- the last event decides
+pub last_before : (key : Key) (es : List Event) (at last : ℕ) (x : Event) (r : Bool) → at < length es → last + 1 ≡ length es → x ≡ get_or es last x → r ≡ key_lt x.key key → IsAscending (drop at es)
+    → OnTrue r (AllBefore key (drop at es))
+last_before key es at last x true lt is read test up =
+    let k : ℕ = last - at in
+    let long = length-drop at es in
+    let there : at + k ≡ last = omega arith in
+    let same : get_or (drop at es) k x ≡ x = get_or-drop at es k x ∙ ap (λ n. get_or es n x) there ∙ sym read in
+    let Q : Event → Type 0 = λ y. key_lt y.key key ≡ true in
+    all_before key (drop at es) k x up (omega (arith, long)) (subst Q (sym same) (sym test))
+last_before key es at last x false lt is read test up = tt
+
+pub last_later : (key : Key) (es : List Event) (at last : ℕ) (x : Event) (r : Bool) → at < length es → last + 1 ≡ length es → x ≡ get_or es last x → r ≡ key_lt x.key key
+    → OnFalse r (HasLater key (drop at es))
+last_later key es at last x true lt is read test = tt
+last_later key es at last x false lt is read test =
+    let k : ℕ = last - at in
+    let long = length-drop at es in
+    let there : at + k ≡ last = omega arith in
+    let same : get_or (drop at es) k x ≡ x = get_or-drop at es k x ∙ ap (λ n. get_or es n x) there ∙ sym read in
+    (x, (k, omega (arith, long), same), sym test)
+
+pub empty_test : (es : List Event) (at n : ℕ) → n ≡ length es → at ≤ length es → IsTrue (nat_eq at n) ↔ (drop at es ≡ [])
+empty_test es at n is le = (
+  (λ yes. let same : at ≡ n = grind (arith, nat_tests) in drop_all at es (omega arith)),
+  (λ none. let same : at ≡ length es = none_left es at le none in grind (arith, nat_tests)),
+)

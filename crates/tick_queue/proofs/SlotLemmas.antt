@@ -1,0 +1,131 @@
+-- Events in slots, one slot after another.
+use Rattle.std.proofs.Common.{◌≡◌, ◌≢◌, ℕ, zero, suc, ◌+◌, ◌<◌, ◌≤◌, ◌%◌, ◌/◌, List, [], ◌∷◌, ◌++◌, length, append_assoc, take, drop, replicate, get_or, sym, refl, ap, ◌∙◌, subst, inl, inr, arith}
+use Rattle.std.specs.Prelude.{IsPermutation, slice_set, slice_index_or}
+use Rattle.std.specs.List.{AllByRecursion as Each}
+use Rattle.std.specs.Int.{bit_at}
+use Rattle.std.proofs.Math.ListN.{get_or-eq_default}
+use Rattle.std.proofs.lemmas.Bool.{cases_lt}
+use Rattle.std.proofs.lemmas.Nat.Bits.{bit_at-zero}
+use Rattle.std.proofs.lemmas.List.{set_split, set-get_or, get_or-set_same, get_or-set_other}
+use Rattle.std.proofs.lemmas.List.Sorted.{IsPermutation-refl, IsPermutation-sym, IsPermutation-trans, IsPermutation-cons, IsPermutation-append_left, IsPermutation-append_right, IsPermutation-append_comm}
+use Rattle.model_core.specs.declared.event.Event.{Event}
+use Rattle.event_bags.specs.Views.{TakesFront}
+use Rattle.key_order.proofs.EachLemmas.{Each-append}
+use Rattle.tick_queue.specs.Levels.{joined}
+use Rattle.tick_queue.specs.Slots.{AllEmpty, AreSlots}
+
+joined-append : (rs ss : List (List Event)) → joined (rs ++ ss) ≡ joined rs ++ joined ss
+joined-append [] ss = refl
+joined-append (r ∷ rs) ss = ap (λ w. r ++ w) (joined-append rs ss) ∙ sym (append_assoc r (joined rs) (joined ss))
+
+middle_first : (xs ys zs : List Event) → IsPermutation (xs ++ (ys ++ zs)) (ys ++ (xs ++ zs))
+middle_first xs ys zs =
+    rw (← append_assoc) (rw (← append_assoc ys xs zs) (IsPermutation-append_left zs (xs ++ ys) (ys ++ xs) (IsPermutation-append_comm xs ys)))
+
+joined-set : (rs : List (List Event)) (i : ℕ) (r : List Event) → i < length rs → joined (slice_set rs i r) ≡ joined (take i rs) ++ (r ++ joined (drop (suc i) rs))
+joined-set rs i r lt = ap joined (set_split rs i r lt) ∙ joined-append (take i rs) (r ∷ drop (suc i) rs)
+
+-- a slot may stand first
+pub slot_first : (rs : List (List Event)) (i : ℕ) (r : List Event) → i < length rs → IsPermutation (joined (slice_set rs i r)) (r ++ joined (slice_set rs i []))
+slot_first rs i r lt =
+    let P : List Event → Type 0 = λ w. IsPermutation w (r ++ joined (slice_set rs i [])) in
+    let Q : List Event → Type 0 = λ w. IsPermutation (joined (take i rs) ++ (r ++ joined (drop (suc i) rs))) (r ++ w) in
+    subst P (sym (joined-set rs i r lt)) (subst Q (sym (joined-set rs i [] lt)) (middle_first (joined (take i rs)) r (joined (drop (suc i) rs))))
+
+pub slot_out : (rs : List (List Event)) (i : ℕ) → i < length rs → IsPermutation (joined rs) (slice_index_or rs i [] ++ joined (slice_set rs i []))
+slot_out rs i lt =
+    let P : List (List Event) → Type 0 = λ w. IsPermutation (joined w) (slice_index_or rs i [] ++ joined (slice_set rs i [])) in
+    subst P (set-get_or rs i []) (slot_first rs i (slice_index_or rs i []) lt)
+
+-- an event comes into a slot
+pub slot_put : (rs : List (List Event)) (i : ℕ) (e : Event) → i < length rs → IsPermutation (e ∷ joined rs) (joined (slice_set rs i (e ∷ slice_index_or rs i [])))
+slot_put rs i e lt =
+    IsPermutation-trans (e ∷ joined rs) (e ∷ (slice_index_or rs i [] ++ joined (slice_set rs i []))) (joined (slice_set rs i (e ∷ slice_index_or rs i [])))
+    (IsPermutation-cons e (joined rs) (slice_index_or rs i [] ++ joined (slice_set rs i [])) (slot_out rs i lt))
+    (IsPermutation-sym (joined (slice_set rs i (e ∷ slice_index_or rs i []))) ((e ∷ slice_index_or rs i []) ++ joined (slice_set rs i [])) (slot_first rs i (e ∷ slice_index_or rs i []) lt))
+
+-- a slot that has events is one of the list
+pub within_some : (rs : List (List Event)) (i : ℕ) (e : Event) (rest : List Event) → slice_index_or rs i [] ≡ e ∷ rest → i < length rs
+within_some rs i e rest is =
+    elim (cases_lt i (length rs)) [
+      | inl lt ↦ lt
+      | inr past ↦ absurd (let none : slice_index_or rs i [] ≡ [] = get_or-eq_default rs [] past in let long = ap length (sym none ∙ is) in omega (arith, long))
+    ]
+
+-- an event goes out of a slot
+pub slot_take : (old new : List (List Event)) (i : ℕ) (e : Event) → TakesFront old new i e → IsPermutation (joined old) (e ∷ joined new)
+slot_take old new i e h =
+    let rest : List Event = h.0 in
+    let was : slice_index_or old i [] ≡ e ∷ rest = h.1 in
+    let lt : i < length old = within_some old i e rest was in
+    let others : List Event = joined (slice_set old i []) in
+    let P : List Event → Type 0 = λ w. IsPermutation (joined old) (w ++ others) in
+    let Q : List (List Event) → Type 0 = λ w. IsPermutation (joined w) (rest ++ others) in
+    IsPermutation-trans (joined old) (e ∷ (rest ++ others)) (e ∷ joined new) (subst P was (slot_out old i lt))
+    (IsPermutation-cons e (rest ++ others) (joined new) (IsPermutation-sym (joined new) (rest ++ others) (subst Q (sym h.2) (slot_first old i rest lt))))
+
+-- what holds in each slot holds of all
+pub each_joined : (P : Event → Type 0) (ss : List (List Event)) → ((i : ℕ) → Each P (slice_index_or ss i [])) → Each P (joined ss)
+each_joined P [] each = tt
+each_joined P (s ∷ ss) each = Each-append P s (joined ss) (each zero) (each_joined P ss (λ i. each (suc i)))
+
+pub none_joined : (ss : List (List Event)) → AllEmpty ss → joined ss ≡ []
+none_joined [] each = refl
+none_joined (s ∷ ss) each = ap (λ w. w ++ joined ss) (each zero) ∙ none_joined ss (λ i. each (suc i))
+
+pub each_none : (P : Event → Type 0) (es : List Event) → es ≡ [] → Each P es
+each_none P es none = let Q : List Event → Type 0 = Each P in subst Q (sym none) tt
+
+-- the first event of a slot that has some
+pub record HasFirst (es : List Event) : Type 0 where
+  pub event : Event
+  pub rest : List Event
+  pub is : es ≡ event ∷ rest
+
+pub first_event : (es : List Event) → es ≢ [] → HasFirst es
+first_event [] some = absurd (some refl)
+first_event (e ∷ es) some = record { event = e; rest = es; is = refl }
+
+-- empty slots
+abbrev no_event : List Event
+no_event = []
+
+empty_at : (n i : ℕ) → slice_index_or (replicate n no_event) i [] ≡ []
+empty_at zero i = get_or-eq_default [] no_event {n = i} (omega arith)
+empty_at (suc n) zero = refl
+empty_at (suc n) (suc i) = empty_at n i
+
+long_empty : (n : ℕ) → length (replicate n no_event) ≡ n
+long_empty zero = refl
+long_empty (suc n) = ap suc (long_empty n)
+
+pub all_empty : (slots : List (List Event)) (n : ℕ) → slots ≡ replicate n [] → AllEmpty slots
+all_empty slots n is i = ap (λ ss. slice_index_or ss i []) is ∙ empty_at n i
+
+abbrev pub zeros : List ℕ
+zeros = 0 ∷ 0 ∷ 0 ∷ 0 ∷ 0 ∷ 0 ∷ 0 ∷ 0 ∷ []
+
+zero_at : (k : ℕ) → get_or zeros k 0 ≡ 0
+zero_at zero = refl
+zero_at (suc zero) = refl
+zero_at (suc (suc zero)) = refl
+zero_at (suc (suc (suc zero))) = refl
+zero_at (suc (suc (suc (suc zero)))) = refl
+zero_at (suc (suc (suc (suc (suc zero))))) = refl
+zero_at (suc (suc (suc (suc (suc (suc zero)))))) = refl
+zero_at (suc (suc (suc (suc (suc (suc (suc zero))))))) = refl
+zero_at (suc (suc (suc (suc (suc (suc (suc (suc k)))))))) = get_or-eq_default [] 0 {n = k} (omega arith)
+
+pub slots-none : (slots : List (List Event)) (n : ℕ) → n ≡ 512 → slots ≡ replicate n [] → AreSlots zeros slots
+slots-none slots n all is = record {
+  long = ap length is ∙ long_empty n ∙ all;
+  clear = λ i _. all_empty slots n is i;
+  full = λ i one. absurd (let z = ap (λ n. bit_at n (i % 64)) (zero_at (i / 64)) ∙ bit_at-zero (i % 64) in omega (arith, z, one));
+}
+
+-- what is read after a slot was written
+pub read_same : (slots new : List (List Event)) (slot : ℕ) (es : List Event) → slot < length slots → new ≡ slice_set slots slot es → slice_index_or new slot [] ≡ es
+read_same slots new slot es lt is = ap (λ ss. slice_index_or ss slot []) is ∙ get_or-set_same slots slot es [] lt
+
+pub read_other : (slots new : List (List Event)) (slot i : ℕ) (es : List Event) → i ≢ slot → new ≡ slice_set slots slot es → slice_index_or new i [] ≡ slice_index_or slots i []
+read_other slots new slot i es ne is = ap (λ ss. slice_index_or ss i []) is ∙ get_or-set_other slots slot i es [] ne

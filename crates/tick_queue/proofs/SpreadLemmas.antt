@@ -1,0 +1,120 @@
+-- Events that go from slot to slot.
+use Rattle.std.proofs.Common.{◌≡◌, ◌≢◌, ℕ, suc, ◌+◌, ◌*◌, ◌/◌, ◌^◌, ◌<◌, ◌≤◌, List, [], ◌∷◌, ◌++◌, length, append_assoc, append-nil, sym, refl, ap, ◌∙◌, subst, inl, inr, arith}
+use Rattle.std.specs.Prelude.{IsPermutation, slice_set, slice_index_or}
+use Rattle.std.specs.List.{AllByRecursion as Each}
+use Rattle.std.proofs.lemmas.Bool.{cases_eq}
+use Rattle.std.proofs.lemmas.List.{set-set, set-get_or}
+use Rattle.std.proofs.lemmas.List.Sorted.{IsPermutation-refl, IsPermutation-trans}
+use Rattle.event_key.specs.Stamps.{time_part}
+use Rattle.model_core.specs.declared.event.Event.{Event}
+use Rattle.event_bags.specs.Views.{TakesFront}
+use Rattle.tick_queue.specs.Digits.{InSlot}
+use Rattle.tick_queue.specs.Levels.{joined, StandsIn, StandIn, PutsIn, Spreads, HasLeft}
+use Rattle.tick_queue.proofs.SlotLemmas.{read_same, read_other, slot_put, slot_take, within_some, each_none}
+
+-- events of one slot that begin with the digits of the tick at hand
+abbrev pub Begins : ℕ → ℕ → Event → Type 0
+Begins now slot e = (now ≤ time_part e.key.stamp) × (time_part e.key.stamp / 2 ^ (6 * (slot / 64)) ≡ now / 2 ^ (6 * (slot / 64)))
+
+-- such an event belongs into another slot
+leaves : (now slot p : ℕ) (e : Event) → 64 ≤ slot → Begins now slot e → InSlot now p (time_part e.key.stamp) → p ≢ slot
+leaves now slot p e high begins at same =
+    let P : ℕ → Type 0 = λ n. InSlot now n (time_part e.key.stamp) in
+    let here = subst P same at in
+    let after = here.after (omega arith) in
+    let digits = begins.1 in
+    omega (arith, after, digits)
+
+pub spreads_first : (now slot : ℕ) (s0 s1 : List (List Event)) (e : Event) → Spreads now slot s0 → TakesFront s0 s1 slot e → Begins now slot e
+spreads_first now slot s0 s1 e h takes = let P : List Event → Type 0 = Each (Begins now slot) in (subst P takes.1 h.begins).0
+
+pub record Spread (now slot : ℕ) (s0 s2 : List (List Event)) : Type 0 where
+  pub spreads : Spreads now slot s2
+  pub events : IsPermutation (joined s0) (joined s2)
+  pub fewer : length (slice_index_or s2 slot []) + 1 ≡ length (slice_index_or s0 slot [])
+
+-- one of them goes there
+pub spreads_step : (now slot : ℕ) (s0 s1 s2 : List (List Event)) (e : Event) → Spreads now slot s0 → TakesFront s0 s1 slot e → PutsIn now s1 s2 e → Spread now slot s0 s2
+spreads_step now slot s0 s1 s2 e h takes puts =
+    let rest : List Event = takes.0 in
+    let p : ℕ = puts.slot in
+    let within : slot < length s0 = within_some s0 slot e rest takes.1 in
+    let P : List Event → Type 0 = Each (Begins now slot) in
+    let begins = subst P takes.1 h.begins in
+    let ne : p ≢ slot = leaves now slot p e h.high begins.0 puts.at in
+    let left : slice_index_or s1 slot [] ≡ rest = read_same s0 s1 slot rest within takes.2 in
+    let front : List Event = e ∷ slice_index_or s1 p [] in
+    let here : slice_index_or s2 slot [] ≡ rest = read_other s1 s2 p slot front (λ same. ne (sym same)) puts.is ∙ left in
+    let more = ap length here in
+    let had = ap length takes.1 in
+    let Q : List (List Event) → Type 0 = λ ss. IsPermutation (e ∷ joined s1) (joined ss) in
+    record {
+      spreads = record {
+        small = h.small;
+        high = h.high;
+        begins = subst P (sym here) begins.1;
+        others = λ i apart. elim (cases_eq i p) [
+          | inl same ↦
+              let R : ℕ → Type 0 = λ n. Each (StandsIn now n) (slice_index_or s2 n []) in
+              let S : List Event → Type 0 = Each (StandsIn now p) in
+              let was : slice_index_or s1 p [] ≡ slice_index_or s0 p [] = read_other s0 s1 slot p rest ne takes.2 in
+              subst R (sym same) (subst S (sym (read_same s1 s2 p front puts.within puts.is)) (puts.at, subst S (sym was) (h.others p ne)))
+          | inr far ↦
+              let S : List Event → Type 0 = Each (StandsIn now i) in
+              subst S (sym (read_other s1 s2 p i front far puts.is ∙ read_other s0 s1 slot i rest apart takes.2)) (h.others i apart)
+        ];
+      };
+      events = IsPermutation-trans (joined s0) (e ∷ joined s1) (joined s2) (slot_take s0 s1 slot e takes) (subst Q (sym puts.is) (slot_put s1 p e puts.within));
+      fewer = omega (arith, more, had);
+    }
+
+-- all have gone
+pub spreads_end : (now slot : ℕ) (slots : List (List Event)) → Spreads now slot slots → slice_index_or slots slot [] ≡ [] → StandIn now slots
+spreads_end now slot slots h none i =
+    elim (cases_eq i slot) [
+      | inl same ↦
+          let R : ℕ → Type 0 = λ n. Each (StandsIn now n) (slice_index_or slots n []) in
+          subst R (sym same) (each_none (StandsIn now slot) (slice_index_or slots slot []) none)
+      | inr ne ↦ h.others i ne
+    ]
+
+-- the events of a slot, as they are taken
+pub record Taking (first now : List (List Event)) (slot : ℕ) (taken : List Event) : Type 0 where
+  pub others : slice_set now slot [] ≡ slice_set first slot []
+  pub events : IsPermutation (slice_index_or first slot []) (taken ++ slice_index_or now slot [])
+
+pub taking_start : (first : List (List Event)) (slot : ℕ) (taken : List Event) → taken ≡ [] → Taking first first slot taken
+taking_start first slot taken none = record {
+  others = refl;
+  events = let P : List Event → Type 0 = λ w. IsPermutation (slice_index_or first slot []) (w ++ slice_index_or first slot []) in subst P (sym none) (IsPermutation-refl (slice_index_or first slot []));
+}
+
+pub taking_step : (first s0 s1 : List (List Event)) (slot : ℕ) (taken more : List Event) (e : Event) → Taking first s0 slot taken → TakesFront s0 s1 slot e → more ≡ taken ++ e ∷ []
+    → Taking first s1 slot more
+taking_step first s0 s1 slot taken more e h takes is =
+    let rest : List Event = takes.0 in
+    let within : slot < length s0 = within_some s0 slot e rest takes.1 in
+    let left : slice_index_or s1 slot [] ≡ rest = read_same s0 s1 slot rest within takes.2 in
+    let P : List Event → Type 0 = λ w. IsPermutation (slice_index_or first slot []) w in
+    record {
+      others = ap (λ ss. slice_set ss slot []) takes.2 ∙ set-set s0 slot rest [] ∙ h.others;
+      events = subst P (ap (λ w. taken ++ w) takes.1 ∙ sym (append_assoc taken (e ∷ []) rest) ∙ (λ i. sym is i ++ sym left i)) h.events;
+    }
+
+pub taking_fewer : (s0 s1 : List (List Event)) (slot : ℕ) (e : Event) → TakesFront s0 s1 slot e → length (slice_index_or s1 slot []) < length (slice_index_or s0 slot [])
+taking_fewer s0 s1 slot e takes =
+    let within : slot < length s0 = within_some s0 slot e takes.0 takes.1 in
+    let left = ap length (read_same s0 s1 slot takes.0 within takes.2) in
+    let had = ap length takes.1 in
+    omega (arith, left, had)
+
+pub taking_left : (first now : List (List Event)) (slot : ℕ) (taken : List Event) → Taking first now slot taken → HasLeft (slice_index_or first slot []) (slice_index_or now slot [])
+taking_left first now slot taken h = (taken, h.events)
+
+pub taking_end : (first now : List (List Event)) (slot : ℕ) (taken : List Event) → Taking first now slot taken → slice_index_or now slot [] ≡ []
+    → (now ≡ slice_set first slot []) × IsPermutation (slice_index_or first slot []) taken
+taking_end first now slot taken h none =
+    let P : List Event → Type 0 = λ w. IsPermutation (slice_index_or first slot []) w in (
+      sym (set-get_or now slot []) ∙ ap (slice_set now slot) none ∙ h.others,
+      subst P (ap (λ w. taken ++ w) none ∙ append-nil taken) h.events,
+    )

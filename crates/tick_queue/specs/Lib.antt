@@ -1,0 +1,6 @@
+pub mod Digits
+pub mod Levels
+pub mod Marks
+pub mod Near
+pub mod Queues
+pub mod Slots

@@ -1,0 +1,143 @@
+//! Events at hand, in order.
+ghost use Rattle.std.specs.Prelude.{◌≡◌, ◌+◌, ◌<◌, ◌≤◌, ◌^◌, ◌↔◌, true, [], ◌∷◌, ◌++◌, length, OnOk, OnErr, IfSome, IfNone, IsTrue};
+ghost use Rattle.std.specs.Bool.{OnTrue, OnFalse};
+ghost use Rattle.std.specs.List.{AllByRecursion};
+ghost use Rattle.event_key.specs.Stamps.{time_part};
+ghost use Rattle.key_order.specs.Ascending.{IsAscending};
+ghost use Rattle.key_order.specs.Keys.{IsNewKey, KeysDiffer};
+ghost use Rattle.key_order.specs.Pending.{enqueue, in_order};
+ghost use Rattle.tick_queue.specs.Levels.{HasLeft};
+ghost use Rattle.tick_queue.specs.Near.{StartsWith, LosesFirst, AllBefore, HasLater, GoesLater, GoesNear, Refills};
+
+use crate::levels::Levels;
+use delta_exchange::OutOfMemory;
+use event_key::{Key, time_of};
+use model_core::Event;
+use std::alloc::Global;
+use std::marker::Model;
+
+/// Events, of which those before a place are done. Contracts see the others.
+#[derive(Drop)]
+pub struct Near {
+    events: Vec<Event>,
+    at: usize,
+}
+
+impl Model for Near {
+    ghost use Rattle.std.specs.Prelude.{◌≤◌, List, drop, vec_len};
+    ghost use Rattle.model_core.specs.declared.event.Event.{Event};
+
+    ghost Value = { List Event };
+
+    ghost view = { λ near. drop near.at near.events.items };
+
+    ghost invariant = { λ near. near.at ≤ vec_len near.events };
+}
+
+/// Sorts events by their keys.
+fn sort_events(events: &mut Vec<Event>)
+    requires { KeysDiffer events.old.items }
+    ensures { events.new.items ≡ in_order events.old.items }
+{
+    events.sort_unstable_by_key(|event| event.key);
+}
+
+impl Near {
+    /// No events.
+    pub fn new(alloc: Global) -> Near
+        ensures { result ≡ [] }
+    {
+        Near {
+            events: Vec::new(alloc),
+            at: 0,
+        }
+    }
+
+    /// Whether no event is left.
+    pub fn is_empty(&self) -> bool
+        ensures { IsTrue result ↔ (self.now ≡ []) }
+    {
+        self.at == self.events.len()
+    }
+
+    /// The first event.
+    pub fn first(&self) -> Option<&Event>
+        ensures some { IfSome result (λ event. StartsWith self.now event.now) }
+        ensures none { IfNone result (self.now ≡ []) }
+    {
+        if self.at == self.events.len() {
+            return None;
+        }
+        Some(&self.events[self.at])
+    }
+
+    /// Lets the first event go.
+    pub fn drop_first(&mut self)
+        requires { 0 < length self.old }
+        ensures { LosesFirst self.old self.new }
+    {
+        self.at += 1;
+    }
+
+    /// Whether all events come before a key.
+    pub fn is_before(&self, key: &Key) -> bool
+        requires { IsAscending self.now }
+        ensures yes { OnTrue result (AllBefore key.now self.now) }
+        ensures no { OnFalse result (HasLater key.now self.now) }
+    {
+        if self.at == self.events.len() {
+            return true;
+        }
+        self.events[self.events.len() - 1].key.is_before(key)
+    }
+
+    /// Puts an event at its place among the others.
+    pub fn insert(&mut self, event: Event) -> Result<(), OutOfMemory>
+        requires up { IsAscending self.old }
+        requires new_key { IsNewKey event.key self.old }
+        ensures ok { OnOk result (self.new ≡ enqueue event self.old) }
+        ensures err { OnErr result (self.new ≡ self.old) }
+    {
+        let mut place = self.events.len();
+        while self.at < place && event.key.is_before(&self.events[place - 1].key) {
+            place -= 1;
+        }
+        self.events.insert(place, event)?;
+        Ok(())
+    }
+
+    /// Takes the events of the next tick that has some, in place of those that are left. After a refusal there are none.
+    pub fn refill(&mut self, levels: &mut Levels) -> Result<(), OutOfMemory>
+        requires { KeysDiffer levels.old.events }
+        ensures ok { OnOk result (Refills levels.old levels.new self.new) }
+        ensures err { OnErr result (self.new ≡ []) }
+        ensures left { HasLeft levels.old.events levels.new.events }
+    {
+        self.at = 0;
+        self.events.clear();
+        match levels.advance(&mut self.events) {
+            Ok(()) => {
+                sort_events(&mut self.events);
+                Ok(())
+            }
+            Err(refused) => {
+                self.events.clear();
+                Err(refused)
+            }
+        }
+    }
+}
+
+/// Whether an event goes to the later ones: it is of this tick or a later one, and comes after those at hand.
+pub fn goes_later(near: &Near, now: u64, event: &Event) -> bool
+    requires up { IsAscending near.now }
+    requires reached { AllByRecursion (λ e. time_part e.key.stamp ≤ now) near.now }
+    ensures yes { OnTrue result (GoesLater near.now now event.now) }
+    ensures no { OnFalse result (GoesNear near.now now event.now) }
+{
+    let tick = time_of(event.key.stamp);
+    if tick == now {
+        return near.is_before(&event.key);
+    }
+    now < tick
+}

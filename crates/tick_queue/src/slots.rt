@@ -1,0 +1,89 @@
+//! Events in slots, of which the first that isn't empty is found at once.
+ghost use Rattle.std.specs.Prelude.{◌≡◌, ◌+◌, ◌<◌, ◌≤◌, [], ◌∷◌, length, IfOk, OnOk, IfSome, IfNone, OnSome, slice_set, slice_index_or};
+ghost use Rattle.event_bags.specs.Views.{TakesFront};
+ghost use Rattle.tick_queue.specs.Slots.{AllEmpty, IsFirst};
+
+use crate::marks::{first_marked, mark, unmark};
+use delta_exchange::OutOfMemory;
+use event_bags::Bags;
+use model_core::Event;
+use std::alloc::Global;
+use std::marker::Model;
+
+/// How many slots there are: eight levels of 64.
+const SLOTS: usize = 512;
+
+/// The events of each slot. Contracts see them as a list of lists, and for how many more events there is room.
+#[derive(Drop)]
+pub struct Slots {
+    // a bit for each slot that isn't empty
+    marks: [u64; 8],
+    bags: Bags<Event>,
+}
+
+impl Model for Slots {
+    ghost use Rattle.tick_queue.specs.Slots.{SlotsView, AreSlots};
+
+    ghost Value = { SlotsView };
+
+    ghost view = { λ s. record { slots = s.bags.bags; spare = s.bags.spare } };
+
+    ghost invariant = { λ s. AreSlots s.marks s.bags.bags };
+}
+
+impl Slots {
+    /// Empty slots.
+    pub fn new(alloc: Global) -> Result<Slots, OutOfMemory>
+        ensures { IfOk result (λ new. AllEmpty new.slots) }
+    {
+        Ok(Slots {
+            marks: [0; 8],
+            bags: Bags::new(alloc, SLOTS)?,
+        })
+    }
+
+    /// Makes room for so many more events.
+    pub fn reserve(&mut self, more: usize) -> Result<(), OutOfMemory>
+        ensures room { OnOk result (more ≤ self.new.spare) }
+        ensures same { self.new.slots ≡ self.old.slots }
+        ensures never_less { self.old.spare ≤ self.new.spare }
+    {
+        self.bags.reserve(more)
+    }
+
+    /// The first slot that isn't empty.
+    pub fn first(&self) -> Option<usize>
+        ensures some { IfSome result (λ slot. IsFirst self.now.slots slot) }
+        ensures none { IfNone result (AllEmpty self.now.slots) }
+        ensures long { length self.now.slots ≡ 512 }
+    {
+        first_marked(&self.marks)
+    }
+
+    /// Puts an event into a slot.
+    pub fn put(&mut self, slot: usize, event: Event)
+        requires slot { slot < 512 }
+        requires room { 1 ≤ self.old.spare }
+        ensures long { length self.old.slots ≡ 512 }
+        ensures slots { self.new.slots ≡ slice_set self.old.slots slot (event ∷ slice_index_or self.old.slots slot []) }
+        ensures spare { self.new.spare + 1 ≡ self.old.spare }
+    {
+        self.bags.push(slot, event);
+        mark(&mut self.marks, slot);
+    }
+
+    /// Takes an event of a slot, if there is one.
+    pub fn take(&mut self, slot: usize) -> Option<Event>
+        requires { slot < 512 }
+        ensures none { IfNone result ((slice_index_or self.old.slots slot [] ≡ []) × (self.new ≡ self.old)) }
+        ensures some { IfSome result (λ event. TakesFront self.old.slots self.new.slots slot event) }
+        ensures spare { OnSome result (self.new.spare ≡ self.old.spare + 1) }
+    {
+        let event = self.bags.pop(slot)?;
+        if !self.bags.is_empty(slot) {
+            return Some(event);
+        }
+        unmark(&mut self.marks, slot);
+        Some(event)
+    }
+}

@@ -1,0 +1,150 @@
+ghost use Rattle.std.specs.Prelude.{◌≡◌, IfOk};
+
+use super::*;
+use event_key::{Key, NO_STAMP, STEPS};
+use model_core::Event;
+use std::alloc::Global;
+use std::marker::Model;
+use std::test::Fail;
+
+/// A queue whose events are counted.
+#[derive(Drop)]
+struct Counted {
+    queue: TickQueue,
+    next: u32,
+}
+
+impl Model for Counted {
+    ghost use Rattle.tick_queue.specs.Queues.{QueueView, HasSerialsBelow};
+
+    ghost Value = { QueueView };
+
+    ghost view = { λ counted. counted.queue };
+
+    ghost invariant = { λ counted. HasSerialsBelow counted.next counted.queue };
+}
+
+/// An event at a stamp.
+fn event(stamp: u64, serial: u32) -> Event
+    ensures src { result.key.src ≡ 0 }
+    ensures serial { result.key.serial ≡ serial }
+{
+    Event {
+        key: Key {
+            stamp,
+            rank: 0,
+            dest: 0,
+            src: 0,
+            serial: u64::from(serial),
+        },
+        kind: 0,
+        a: 0,
+        b: 0,
+    }
+}
+
+impl Counted {
+    fn new(alloc: Global) -> Result<Counted, Fail> {
+        Ok(Counted {
+            queue: TickQueue::new(alloc)?,
+            next: 0,
+        })
+    }
+
+    /// Pushes an event at a stamp.
+    fn push(&mut self, stamp: u64) -> Result<(), Fail> {
+        if self.next == u32::MAX {
+            return Err(Fail::from("too many events"));
+        }
+        self.queue.push(event(stamp, self.next))?;
+        self.next += 1;
+        Ok(())
+    }
+
+    /// Takes the first event, and answers its stamp.
+    fn take(&mut self) -> Result<Option<u64>, Fail> {
+        self.queue.settle()?;
+        let Some(event) = self.queue.first() else {
+            return Ok(None);
+        };
+        let stamp = event.key.stamp;
+        self.queue.drop_first();
+        Ok(Some(stamp))
+    }
+}
+
+#[test]
+fn fresh_least_is_of_what_came_since_the_merge(rt: HostRuntime) -> Result<(), Fail> {
+    let mut counted = Counted::new(rt.alloc())?;
+    assert_eq!(rt; counted.queue.fresh_least(), NO_STAMP);
+    for tick in [30, 10, 20] {
+        counted.push(tick * STEPS)?;
+    }
+    assert_eq!(rt; counted.queue.fresh_least(), 10 * STEPS);
+    counted.queue.merge();
+    assert_eq!(rt; counted.queue.fresh_least(), NO_STAMP);
+    assert_eq!(rt; counted.take()?, Some(10 * STEPS));
+    counted.push(10 * STEPS + 1)?;
+    assert_eq!(rt; counted.queue.fresh_least(), 10 * STEPS + 1);
+    assert_eq!(rt; counted.take()?, Some(10 * STEPS + 1));
+    assert_eq!(rt; counted.take()?, Some(20 * STEPS));
+    assert_eq!(rt; counted.take()?, Some(30 * STEPS));
+    assert_eq!(rt; counted.take()?, None);
+    Ok(())
+}
+
+#[test]
+fn an_event_before_those_at_hand_comes_first(rt: HostRuntime) -> Result<(), Fail> {
+    let mut counted = Counted::new(rt.alloc())?;
+    for stamp in [90 * STEPS + 3, 90 * STEPS + 7, 95 * STEPS] {
+        counted.push(stamp)?;
+    }
+    counted.queue.settle()?;
+    for stamp in [90 * STEPS + 5, 90 * STEPS + 1, 90 * STEPS + 9, 12 * STEPS] {
+        counted.push(stamp)?;
+    }
+    assert_eq!(rt; counted.take()?, Some(12 * STEPS));
+    for step in [1, 3, 5, 7, 9] {
+        assert_eq!(rt; counted.take()?, Some(90 * STEPS + step));
+    }
+    counted.push(2 * STEPS)?;
+    assert_eq!(rt; counted.take()?, Some(2 * STEPS));
+    assert_eq!(rt; counted.take()?, Some(95 * STEPS));
+    assert_eq!(rt; counted.take()?, None);
+    Ok(())
+}
+
+/// A word that follows another (a linear congruential generator).
+fn following(word: u64) -> u64 {
+    word.wrapping_mul(6364136223846793005)
+        .wrapping_add(1442695040888963407)
+}
+
+#[test]
+fn events_come_in_the_order_of_a_sorted_list(rt: HostRuntime) -> Result<(), Fail> {
+    let mut counted = Counted::new(rt.alloc())?;
+    let mut sorted = Vec::new(rt.alloc());
+    let mut random: u64 = 1;
+    for _ in 0..1200 {
+        random = following(random);
+        // stamps of all lengths, so that all levels have some
+        let stamp = (random | 1) >> (random % 48);
+        if random >> 62 == 0 {
+            let least = if sorted.is_empty() {
+                None
+            } else {
+                Some(sorted.remove(0))
+            };
+            assert_eq!(rt; counted.take()?, least);
+        } else {
+            counted.push(stamp)?;
+            sorted.push(stamp)?;
+            sorted.sort_unstable();
+        }
+    }
+    for stamp in sorted {
+        assert_eq!(rt; counted.take()?, Some(stamp));
+    }
+    assert_eq!(rt; counted.take()?, None);
+    Ok(())
+}
