@@ -20,19 +20,18 @@ use Rattle.sim_spec.proofs.PartLemmas.{events_of-append, records_of-append, emis
 use Rattle.key_order.proofs.EnqueueLemmas.{enqueue_all-append, enqueue_all-behind}
 use Rattle.sim_spec.proofs.RunLemmas.{next-fires}
 use Rattle.key_order.proofs.StampLemmas.{after-below, NoneBelow-least_stamp, least_stamp-le, least_stamp-append}
-use Rattle.one_thread.specs.Engines.{Course, state_of}
-use Rattle.one_thread.specs.Turns.{horizon_of, IsDone}
+use Rattle.one_thread.proofs.Parts.{Parts, state_at, horizon_at, DoneAt}
 
 -- a bucket behind events that are done
 abbrev pub behind : List (Event × Firing) → HorizonBucket → HorizonBucket
 behind ds b = record b { done = ds ++ b.done }
 
 -- the bucket from here on
-abbrev pub rest_of : Meaning → Terms → Course → HorizonBucket
-rest_of m t c = bucket_below m (horizon_of t c) c.objects c.primary
+abbrev pub rest_of : Meaning → Terms → Parts → HorizonBucket
+rest_of m t c = bucket_below m (horizon_at t c) c.objects c.primary
 
 -- a bucket of a state under way: these events are done, and told so
-pub record InBucket (m : Meaning) (t : Terms) (s : State) (told : List (Key × Note)) (c : Course) : Type 0 where
+pub record InBucket (m : Meaning) (t : Terms) (s : State) (told : List (Key × Note)) (c : Parts) : Type 0 where
   pub done : List (Event × Firing)
   pub told_is : told ≡ records_of done
   pub bucket : horizon_bucket m t s ≡ behind done (rest_of m t c)
@@ -40,16 +39,16 @@ pub record InBucket (m : Meaning) (t : Terms) (s : State) (told : List (Key × N
   pub pending : s.pending ≡ events_of done ++ c.primary
   pub fresh : c.fresh ≡ emissions_of done
   pub count : c.count ≡ s.count + length done
-  pub lawful : Lawful m t (state_of c)
+  pub lawful : Lawful m t (state_at c)
 
 -- at its start
-pub starts : (m : Meaning) (t : Terms) (s : State) (told : List (Key × Note)) (c : Course) → told ≡ [] → state_of c ≡ s → c.fresh ≡ [] → Lawful m t s → InBucket m t s told c
+pub starts : (m : Meaning) (t : Terms) (s : State) (told : List (Key × Note)) (c : Parts) → told ≡ [] → state_at c ≡ s → c.fresh ≡ [] → Lawful m t s → InBucket m t s told c
 unfolding horizon_bucket objects_after emissions_of enqueue_all least_stamp
 starts m t s told c no_told is_s no_fresh lawful =
     let objects : c.objects ≡ s.objects = ap (λ (s : State). s.objects) is_s in
     let pending : c.primary ≡ s.pending = ap (λ es. enqueue_all es c.primary) (sym no_fresh) ∙ ap (λ (s : State). s.pending) is_s in
     let count : c.count ≡ s.count = ap (λ (s : State). s.count) is_s in
-    let horizon : horizon_of t c ≡ end_stamp t.end = ap (least_stamp (end_stamp t.end)) no_fresh in
+    let horizon : horizon_at t c ≡ end_stamp t.end = ap (least_stamp (end_stamp t.end)) no_fresh in
     let P : State → Type 0 = Lawful m t in
     record {
       done = [];
@@ -68,39 +67,39 @@ objects_after-append objects [] d = refl
 objects_after-append objects (x ∷ ds) d = objects_after-append (slice_set objects x.0.key.dest x.1.state) ds d
 
 -- the event that is due comes next, and leaves a lawful state
-lawful_done : (m : Meaning) (t : Terms) (c : Course) (key : Key) (note : Note) (new : Course) → MeaningLaws m → Lawful m t (state_of c) → IsDone m t c key note new → Lawful m t (state_of new)
+lawful_done : (m : Meaning) (t : Terms) (c : Parts) (key : Key) (note : Note) (new : Parts) → MeaningLaws m → Lawful m t (state_at c) → DoneAt m t c key note new → Lawful m t (state_at new)
 unfolding next_fired
 lawful_done m t c key note new laws lawful one =
     let e = one.event in
     let x = one.firing in
-    let h = horizon_of t c in
+    let h = horizon_at t c in
     let early = one.due.early in
     let le = least_stamp-le (end_stamp t.end) c.fresh in
     let free = one.free in
     let first : enqueue_all c.fresh c.primary ≡ e ∷ enqueue_all c.fresh one.rest =
     ap (enqueue_all c.fresh) one.due.first ∙ enqueue_all-behind c.fresh e one.rest (after-below h e.key c.fresh (NoneBelow-least_stamp (end_stamp t.end) c.fresh) early) in
-    let s = state_of c in
+    let s = state_at c in
     let is_next = next-fires m t s e (enqueue_all c.fresh one.rest) first (omega arith) (λ full. omega arith) ∙ ap (next_fired s e (enqueue_all c.fresh one.rest)) one.fires in
     let left = next-lawful m t s (e.key, x.note) _ laws lawful is_next in
-    let same : record { objects = slice_set c.objects e.key.dest x.state; pending = enqueue_all x.events (enqueue_all c.fresh one.rest); count = c.count + 1 } ≡ state_of new =
-    (λ i. record { objects = slice_set c.objects e.key.dest x.state; pending = sym (enqueue_all-append c.fresh x.events one.rest) i; count = c.count + 1 }) ∙ ap state_of (sym one.after) in
+    let same : record { objects = slice_set c.objects e.key.dest x.state; pending = enqueue_all x.events (enqueue_all c.fresh one.rest); count = c.count + 1 } ≡ state_at new =
+    (λ i. record { objects = slice_set c.objects e.key.dest x.state; pending = sym (enqueue_all-append c.fresh x.events one.rest) i; count = c.count + 1 }) ∙ ap state_at (sym one.after) in
     let P : State → Type 0 = Lawful m t in
     subst P same left
 
 -- one event more
-pub goes_on : (m : Meaning) (t : Terms) (s : State) (told now : List (Key × Note)) (c new : Course) (key : Key) (note : Note) → MeaningLaws m
-    → InBucket m t s told c → IsDone m t c key note new → now ≡ told ++ (key, note) ∷ [] → InBucket m t s now new
+pub goes_on : (m : Meaning) (t : Terms) (s : State) (told now : List (Key × Note)) (c new : Parts) (key : Key) (note : Note) → MeaningLaws m
+    → InBucket m t s told c → DoneAt m t c key note new → now ≡ told ++ (key, note) ∷ [] → InBucket m t s now new
 goes_on m t s told now c new key note laws so_far one is_now =
     let e = one.event in
     let x = one.firing in
     let d : Event × Firing = (e, x) in
     let ds = so_far.done in
-    let h = horizon_of t c in
-    let objects : new.objects ≡ slice_set c.objects e.key.dest x.state = ap (λ (c : Course). c.objects) one.after in
-    let primary : new.primary ≡ one.rest = ap (λ (c : Course). c.primary) one.after in
-    let fresh : new.fresh ≡ c.fresh ++ x.events = ap (λ (c : Course). c.fresh) one.after in
-    let count : new.count ≡ c.count + 1 = ap (λ (c : Course). c.count) one.after in
-    let horizon : least_stamp h x.events ≡ horizon_of t new = sym (least_stamp-append (end_stamp t.end) c.fresh x.events) ∙ ap (least_stamp (end_stamp t.end)) (sym fresh) in
+    let h = horizon_at t c in
+    let objects : new.objects ≡ slice_set c.objects e.key.dest x.state = ap (λ (c : Parts). c.objects) one.after in
+    let primary : new.primary ≡ one.rest = ap (λ (c : Parts). c.primary) one.after in
+    let fresh : new.fresh ≡ c.fresh ++ x.events = ap (λ (c : Parts). c.fresh) one.after in
+    let count : new.count ≡ c.count + 1 = ap (λ (c : Parts). c.count) one.after in
+    let horizon : least_stamp h x.events ≡ horizon_at t new = sym (least_stamp-append (end_stamp t.end) c.fresh x.events) ∙ ap (least_stamp (end_stamp t.end)) (sym fresh) in
     let rest : rest_of m t c ≡ bucket_with d (rest_of m t new) =
     ap (bucket_below m h c.objects) one.due.first ∙ bucket-goes m h c.objects e one.rest x one.due.early one.fires
     ∙ (λ i. bucket_with d (bucket_below m (horizon i) (sym objects i) (sym primary i))) in

@@ -17,8 +17,8 @@ use Rattle.sim_spec.specs.Horizon.{HorizonBucket, empty_bucket, bucket_below, ho
 use Rattle.sim_spec.specs.Cut.{records_of, state_with_done, is_limited, committed_events, cut, after}
 use Rattle.sim_spec.proofs.BucketInduction.{fire_at, bucket-late, bucket-fails, bucket-goes}
 use Rattle.sim_spec.proofs.InTurnLemmas.{drop-front}
-use Rattle.one_thread.specs.Engines.{Course, state_of}
-use Rattle.one_thread.specs.Turns.{horizon_of, NoneDue, IsFailed, IsFull}
+use Rattle.one_thread.specs.Turns.{NoneDue}
+use Rattle.one_thread.proofs.Parts.{Parts, state_at, horizon_at, FailedAt, FullAt}
 use Rattle.one_thread.proofs.BucketLemmas.{InBucket, behind, rest_of}
 
 -- what a bucket comes to, with so many events left
@@ -93,14 +93,14 @@ limit_comes left ds b is_left more = record {
         (λ i. ltb left (length (ds ++ b.done)) || (eq-eqb left (length (ds ++ b.done)) (omega arith) i && fault i)) ∙ or_right (ltb left (length (ds ++ b.done))) true refl
 
 -- the state in the end
-state_done : (m : Meaning) (t : Terms) (s : State) (told : List (Key × Note)) (c : Course) (so_far : InBucket m t s told c) → state_of c ≡ state_with_done s so_far.done
+state_done : (m : Meaning) (t : Terms) (s : State) (told : List (Key × Note)) (c : Parts) (so_far : InBucket m t s told c) → state_at c ≡ state_with_done s so_far.done
 unfolding state_with_done
 state_done m t s told c so_far =
     let left : c.primary ≡ drop (length so_far.done) s.pending = sym (ap (drop (length so_far.done)) so_far.pending ∙ drop-front so_far.done c.primary) in
     λ i. record { objects = so_far.objects i; pending = enqueue_all (so_far.fresh i) (left i); count = so_far.count i }
 
-ends_at : (m : Meaning) (t : Terms) (s : State) (told : List (Key × Note)) (c : Course) (so_far : InBucket m t s told c) (b : HorizonBucket) (limited : Bool)
-    → horizon_bucket m t s ≡ b → ComesTo (t.limit - s.count) b so_far.done limited → state_of c ≡ after m t s
+ends_at : (m : Meaning) (t : Terms) (s : State) (told : List (Key × Note)) (c : Parts) (so_far : InBucket m t s told c) (b : HorizonBucket) (limited : Bool)
+    → horizon_bucket m t s ≡ b → ComesTo (t.limit - s.count) b so_far.done limited → state_at c ≡ after m t s
 unfolding after committed_events
 ends_at m t s told c so_far b limited is_b comes =
     state_done m t s told c so_far ∙ ap (state_with_done s) (sym (ap (λ (b : HorizonBucket). take (t.limit - s.count) b.done) is_b ∙ comes.happen))
@@ -110,12 +110,12 @@ unfolding cut committed_events
 cut_at m t s b is_b = ap (cut_of (t.limit - s.count)) is_b
 
 -- what a bucket comes to, and the state that it leaves
-pub record Ends (m : Meaning) (t : Terms) (s : State) (bucket : Bucket) (c : Course) : Type 0 where
+pub record Ends (m : Meaning) (t : Terms) (s : State) (bucket : Bucket) (c : Parts) : Type 0 where
   pub is_cut : bucket ≡ cut m t s
-  pub is_after : state_of c ≡ after m t s
-  pub lawful : Lawful m t (state_of c)
+  pub is_after : state_at c ≡ after m t s
+  pub lawful : Lawful m t (state_at c)
 
-ends : (m : Meaning) (t : Terms) (s : State) (told : List (Key × Note)) (c : Course) (so_far : InBucket m t s told c) (b : HorizonBucket) (limited : Bool) (bucket : Bucket)
+ends : (m : Meaning) (t : Terms) (s : State) (told : List (Key × Note)) (c : Parts) (so_far : InBucket m t s told c) (b : HorizonBucket) (limited : Bool) (bucket : Bucket)
     → horizon_bucket m t s ≡ b → ComesTo (t.limit - s.count) b so_far.done limited
     → bucket ≡ record { done = records_of so_far.done; horizon = cond limited 0 (cond (is_some b.fault) 0 b.horizon); fault = cond limited None b.fault; limited = limited }
     → Ends m t s bucket c
@@ -125,7 +125,7 @@ ends m t s told c so_far b limited bucket is_b comes is_bucket = record {
   lawful = so_far.lawful;
 }
 
-nothing_left : (m : Meaning) (t : Terms) (c : Course) (h : ℕ) → h ≡ horizon_of t c → NoneDue h c.primary → rest_of m t c ≡ empty_bucket h
+nothing_left : (m : Meaning) (t : Terms) (c : Parts) (h : ℕ) → h ≡ horizon_at t c → NoneDue h c.primary → rest_of m t c ≡ empty_bucket h
 unfolding bucket_below
 nothing_left m t c h is_h none = ap (λ h. bucket_below m h c.objects c.primary) (sym is_h) ∙ by_first c.primary none
   where
@@ -133,7 +133,7 @@ nothing_left m t c h is_h none = ap (λ h. bucket_below m h c.objects c.primary)
     by_first [] none = refl
     by_first (e ∷ es) late = bucket-late m h c.objects e es late
 
-pub ends_whole : (m : Meaning) (t : Terms) (s : State) (told : List (Key × Note)) (c : Course) (h : ℕ) (bucket : Bucket) → InBucket m t s told c → h ≡ horizon_of t c → NoneDue h c.primary
+pub ends_whole : (m : Meaning) (t : Terms) (s : State) (told : List (Key × Note)) (c : Parts) (h : ℕ) (bucket : Bucket) → InBucket m t s told c → h ≡ horizon_at t c → NoneDue h c.primary
     → bucket ≡ record { done = told; horizon = h; fault = None; limited = false } → Ends m t s bucket c
 ends_whole m t s told c h bucket so_far is_h none is_bucket =
     let ds = so_far.done in
@@ -144,11 +144,11 @@ ends_whole m t s told c h bucket so_far is_h none is_bucket =
     (whole_comes (t.limit - s.count) h ds (omega arith))
     (is_bucket ∙ (λ i. record { done = so_far.told_is i; horizon = h; fault = None; limited = false }))
 
-pub ends_faulted : (m : Meaning) (t : Terms) (s : State) (told : List (Key × Note)) (c : Course) (key : Key) (code : ℕ) (bucket : Bucket) → InBucket m t s told c → IsFailed m t c key code
+pub ends_faulted : (m : Meaning) (t : Terms) (s : State) (told : List (Key × Note)) (c : Parts) (key : Key) (code : ℕ) (bucket : Bucket) → InBucket m t s told c → FailedAt m t c key code
     → bucket ≡ record { done = told; horizon = 0; fault = Some (key, code); limited = false } → Ends m t s bucket c
 ends_faulted m t s told c key code bucket so_far failed is_bucket =
     let ds = so_far.done in
-    let h = horizon_of t c in
+    let h = horizon_at t c in
     let e = failed.event in
     let count = so_far.count in
     let free = failed.free in
@@ -158,18 +158,18 @@ ends_faulted m t s told c key code bucket so_far failed is_bucket =
     (fault_comes (t.limit - s.count) h ds (e.key, code) (omega arith))
     (is_bucket ∙ (λ i. record { done = so_far.told_is i; horizon = 0; fault = Some (failed.key_is i, code); limited = false }))
 
-more_due : (m : Meaning) (t : Terms) (c : Course) → IsFull t c → GoesOn (rest_of m t c)
+more_due : (m : Meaning) (t : Terms) (c : Parts) → FullAt t c → GoesOn (rest_of m t c)
 more_due m t c full = by_fired (fire_at m c.objects full.event) refl
   where
     by_fired : (f : Fired) → fire_at m c.objects full.event ≡ f → GoesOn (rest_of m t c)
     by_fired (fails code) is_f =
         let Q : HorizonBucket → Type 0 = GoesOn in
-        subst Q (sym (ap (bucket_below m (horizon_of t c) c.objects) full.due.first ∙ bucket-fails m (horizon_of t c) c.objects full.event full.rest code full.due.early is_f)) (inr refl)
+        subst Q (sym (ap (bucket_below m (horizon_at t c) c.objects) full.due.first ∙ bucket-fails m (horizon_at t c) c.objects full.event full.rest code full.due.early is_f)) (inr refl)
     by_fired (goes x) is_f =
         let Q : HorizonBucket → Type 0 = GoesOn in
-        subst Q (sym (ap (bucket_below m (horizon_of t c) c.objects) full.due.first ∙ bucket-goes m (horizon_of t c) c.objects full.event full.rest x full.due.early is_f)) (inl (omega arith))
+        subst Q (sym (ap (bucket_below m (horizon_at t c) c.objects) full.due.first ∙ bucket-goes m (horizon_at t c) c.objects full.event full.rest x full.due.early is_f)) (inl (omega arith))
 
-pub ends_limited : (m : Meaning) (t : Terms) (s : State) (told : List (Key × Note)) (c : Course) (bucket : Bucket) → InBucket m t s told c → IsFull t c
+pub ends_limited : (m : Meaning) (t : Terms) (s : State) (told : List (Key × Note)) (c : Parts) (bucket : Bucket) → InBucket m t s told c → FullAt t c
     → bucket ≡ record { done = told; horizon = 0; fault = None; limited = true } → Ends m t s bucket c
 ends_limited m t s told c bucket so_far full is_bucket =
     let ds = so_far.done in

@@ -1,7 +1,8 @@
 pub mod BucketLemmas
-pub mod CourseLemmas
-pub mod FireLemmas
-pub mod QueueLemmas
-pub mod TurnLemmas
 pub mod EndLemmas
 pub mod EngineLemmas
+pub mod FireLemmas
+pub mod Parts
+pub mod QueueLemmas
+pub mod TurnLemmas
+pub mod UnderWay

@@ -1,23 +1,26 @@
 -- What contracts see of an engine.
 use Rattle.std.specs.Prelude.{ℕ, List, Option, Some, None}
 use Rattle.event_key.specs.declared.key.Key.{Key}
-use Rattle.model_core.specs.declared.event.Event.{Event}
 use Rattle.sim_spec.specs.declared.terms.Terms.{Terms}
 use Rattle.sim_spec.specs.Firing.{ObjectState}
-use Rattle.key_order.specs.Pending.{enqueue_all}
 use Rattle.sim_spec.specs.State.{State}
 use Rattle.sim_spec.specs.Standing.{Standing, stands, spent}
+use Rattle.tick_queue.specs.Queues.{QueueView, IsSettled}
 
--- a simulation under way: its objects, the events that are in order, those that came since, and how many are done
+-- a simulation under way: its objects, the pending events, and how many are done
 pub record Course : Type 0 where
   pub objects : List ObjectState
-  pub primary : List Event
-  pub fresh : List Event
+  pub queue : QueueView
   pub count : ℕ
 
 -- the state at which it stands
 abbrev pub state_of : Course → State
-state_of c = record { objects = c.objects; pending = enqueue_all c.fresh c.primary; count = c.count }
+state_of c = record { objects = c.objects; pending = c.queue.pending; count = c.count }
+
+-- its first event is at hand, if it has one
+abbrev pub IsReady : Option Course → Type 0
+IsReady None = Unit {0}
+IsReady (Some c) = IsSettled c.queue
 
 -- a model, how far it goes, and where the engine stands
 pub record EngineView (M : Type 0) : Type 0 where

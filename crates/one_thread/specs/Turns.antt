@@ -1,5 +1,5 @@
 -- What an engine does next within a bucket.
-use Rattle.std.specs.Prelude.{◌≡◌, ℕ, ◌+◌, ◌<◌, ◌≤◌, List, [], ◌∷◌, ◌++◌, slice_set}
+use Rattle.std.specs.Prelude.{◌≡◌, ℕ, ◌+◌, ◌<◌, ◌≤◌, min, List, [], ◌∷◌, slice_set}
 use Rattle.event_key.specs.declared.key.Key.{Key}
 use Rattle.event_key.specs.Stamps.{end_stamp}
 use Rattle.model_core.specs.declared.event.Event.{Event}
@@ -8,6 +8,7 @@ use Rattle.model_core.specs.Meaning.{Meaning}
 use Rattle.sim_spec.specs.declared.terms.Terms.{Terms}
 use Rattle.sim_spec.specs.Firing.{Firing, goes, fails, fire}
 use Rattle.sim_spec.specs.State.{object_at}
+use Rattle.key_order.specs.Pending.{enqueue_all}
 use Rattle.key_order.specs.Stamps.{least_stamp}
 use Rattle.one_thread.specs.Engines.{Course}
 use Rattle.one_thread.specs.declared.turn.Turn.{Turn}
@@ -15,16 +16,16 @@ use Rattle.one_thread.specs.declared.turn.Turn.TheVariants.{Does, Ends, Limit, F
 
 -- the horizon: the least stamp of what was sent in this bucket, or the end
 abbrev pub horizon_of : Terms → Course → ℕ
-horizon_of t c = least_stamp (end_stamp t.end) c.fresh
+horizon_of t c = min c.queue.fresh_least (end_stamp t.end)
 
--- no event in order is below the horizon
+-- no event is below the horizon
 abbrev pub NoneDue : ℕ → List Event → Type 0
 NoneDue h [] = Unit {0}
 NoneDue h (e ∷ rest) = h ≤ e.key.stamp
 
--- an event is due: the first one in order, below the horizon
+-- an event is due: the first one, below the horizon
 pub record IsDue (t : Terms) (c : Course) (e : Event) (rest : List Event) : Type 0 where
-  pub first : c.primary ≡ e ∷ rest
+  pub first : c.queue.pending ≡ e ∷ rest
   pub early : e.key.stamp < horizon_of t c
 
 -- some event is due
@@ -41,12 +42,10 @@ pub record IsDone (m : Meaning) (t : Terms) (old : Course) (key : Key) (note : N
   pub fires : fire m event.key.dest (object_at old.objects event.key.dest) event ≡ goes firing
   pub key_is : key ≡ event.key
   pub note_is : note ≡ firing.note
-  pub after : new ≡ record {
-    objects = slice_set old.objects event.key.dest firing.state;
-    primary = rest;
-    fresh = old.fresh ++ firing.events;
-    count = old.count + 1;
-  }
+  pub objects : new.objects ≡ slice_set old.objects event.key.dest firing.state
+  pub pending : new.queue.pending ≡ enqueue_all firing.events rest
+  pub fresh_least : new.queue.fresh_least ≡ least_stamp old.queue.fresh_least firing.events
+  pub count : new.count ≡ old.count + 1
 
 -- the event that is due fails
 pub record IsFailed (m : Meaning) (t : Terms) (old : Course) (key : Key) (code : ℕ) : Type 0 where
@@ -67,6 +66,6 @@ pub record IsFull (t : Terms) (c : Course) : Type 0 where
 -- what a turn says, tells and leaves
 abbrev pub IsTurn : Meaning → Terms → Course → Turn → Note → Course → Type 0
 IsTurn m t old (Does key) note new = IsDone m t old key note new
-IsTurn m t old (Ends horizon) note new = (horizon ≡ horizon_of t old) × NoneDue horizon old.primary × (new ≡ old)
+IsTurn m t old (Ends horizon) note new = (horizon ≡ horizon_of t old) × NoneDue horizon old.queue.pending × (new ≡ old)
 IsTurn m t old Limit note new = IsFull t old × (new ≡ old)
 IsTurn m t old (Fault key code) note new = IsFailed m t old key code × (new ≡ old)

@@ -1,30 +1,29 @@
 //! The initial events.
-ghost use Rattle.std.specs.Prelude.{◌≡◌, [], IfOk, map};
+ghost use Rattle.std.specs.Prelude.{◌≡◌, IfOk, map};
 ghost use Rattle.std.specs.List.{range_with_len};
 ghost use Rattle.model_core.specs.Meaning.{MeaningLaws};
+ghost use Rattle.key_order.specs.Pending.{in_order};
 ghost use Rattle.sim_spec.specs.State.{start_event};
+ghost use Rattle.tick_queue.specs.Queues.{IsSettled};
 
-use event_chain::Cell;
 use event_firing::first_event;
 use model_core::OutOfMemory;
 use model_core::model::Model as SimulationModel;
-use speedes_queue::Queue;
 use std::alloc::Global;
+use tick_queue::TickQueue;
 
-/// A queue of the initial events, all of them fresh.
-pub fn first_events<M: SimulationModel>(alloc: Global, model: &M) -> Result<Queue, OutOfMemory>
+/// A queue of the initial events, the first of them at hand.
+pub fn first_events<M: SimulationModel>(alloc: Global, model: &M) -> Result<TickQueue, OutOfMemory>
     requires { MeaningLaws (M.meaning model.now) }
-    ensures primary { IfOk result (λ queue. queue.primary ≡ []) }
-    ensures fresh { IfOk result (λ queue. queue.fresh ≡ map (start_event (M.meaning model.now)) (range_with_len 0 (M.meaning model.now).starts)) }
+    ensures pending { IfOk result (λ queue. queue.pending ≡ in_order (map (start_event (M.meaning model.now)) (range_with_len 0 (M.meaning model.now).starts))) }
+    ensures settled { IfOk result (λ queue. IsSettled queue) }
 {
-    let mut queue = Queue::new();
+    let mut queue = TickQueue::new(alloc)?;
     let starts = model.starts();
-    queue.reserve(alloc, starts as usize)?;
+    queue.reserve(starts as usize)?;
     for i in 0..starts {
-        let Ok(cell) = Cell::new(alloc, first_event(model, i)) else {
-            return Err(OutOfMemory);
-        };
-        queue.push(cell);
+        queue.push(first_event(model, i))?;
     }
+    queue.settle()?;
     Ok(queue)
 }

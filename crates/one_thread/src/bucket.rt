@@ -2,6 +2,7 @@
 ghost use Rattle.std.specs.Prelude.{◌≡◌, IfOk, OnOk, is_none, false};
 ghost use Rattle.sim_spec.specs.Cut.{cut, after};
 ghost use Rattle.sim_spec.specs.State.{Lawful};
+ghost use Rattle.tick_queue.specs.Queues.{IsSettled};
 ghost use Rattle.one_thread.specs.Engines.{state_of};
 
 use crate::course::Course;
@@ -10,7 +11,6 @@ use event_key::Key;
 use model_core::model::{Model, keeps_laws};
 use model_core::{Effect, OutOfMemory, RecordBuffer, Records};
 use sim_spec::{Bucket, Terms};
-use std::alloc::Global;
 
 /// A whole bucket, up to its horizon.
 fn whole(done: RecordBuffer, horizon: u64) -> Bucket
@@ -40,7 +40,6 @@ fn partial(done: RecordBuffer, fault: Option<(Key, u32)>) -> Bucket
 /// it holds.
 pub fn fire_bucket<M: Model>(
     course: &mut Course,
-    alloc: Global,
     model: &M,
     terms: &Terms,
     sheet: &mut Effect,
@@ -49,6 +48,7 @@ pub fn fire_bucket<M: Model>(
     requires { Lawful (M.meaning model.now) terms.now (state_of course.old) }
     ensures bucket { IfOk result (λ bucket. bucket ≡ cut (M.meaning model.now) terms.now (state_of course.old)) }
     ensures lawful { OnOk result (Lawful (M.meaning model.now) terms.now (state_of course.new)) }
+    ensures settled { OnOk result (IsSettled course.new.queue) }
     ensures after { OnOk result (state_of course.new ≡ after (M.meaning model.now) terms.now (state_of course.old)) }
 {
     keeps_laws(model);
@@ -56,7 +56,8 @@ pub fn fire_bucket<M: Model>(
     let mut done = buffer;
     done.clear();
     loop {
-        match course.turn(alloc, model, terms, sheet)? {
+        course.settle()?;
+        match course.turn(model, terms, sheet)? {
             Turn::Does(key) => done.push(&key, &sheet.note)?,
             Turn::Ends(horizon) => return Ok(whole(done, horizon)),
             Turn::Limit => return Ok(partial(done, None)),

@@ -34,13 +34,13 @@ pub struct OneThread<M: SimulationModel> {
 impl<M: SimulationModel> Model for OneThread<M> {
     ghost use Rattle.std.specs.Arc.{arc_value};
     ghost use Rattle.sim_spec.specs.Standing.{IsLawfulStanding};
-    ghost use Rattle.one_thread.specs.Engines.{EngineView, standing_of};
+    ghost use Rattle.one_thread.specs.Engines.{EngineView, standing_of, IsReady};
 
     ghost Value = { EngineView M };
 
     ghost view = { λ e. record { model = arc_value e.model; terms = e.terms; standing = standing_of e.course e.fault } };
 
-    ghost invariant = { λ e. IsLawfulStanding (M.meaning (arc_value e.model)) e.terms (standing_of e.course e.fault) };
+    ghost invariant = { λ e. IsLawfulStanding (M.meaning (arc_value e.model)) e.terms (standing_of e.course e.fault) × IsReady e.course };
 }
 
 /// Lets a simulation go. It is a function of its own, since each call of a function clears the room of its locals, and
@@ -119,14 +119,7 @@ impl<M: SimulationModel> OneThread<M> {
             return Err(OutOfMemory);
         };
         let buffer = mem::replace(&mut self.spare, RecordBuffer::new(alloc));
-        match fire_bucket(
-            course,
-            alloc,
-            &*self.model,
-            &self.terms,
-            &mut self.sheet,
-            buffer,
-        ) {
+        match fire_bucket(course, &*self.model, &self.terms, &mut self.sheet, buffer) {
             Ok(bucket) => {
                 self.fault = bucket.fault;
                 Ok(bucket)

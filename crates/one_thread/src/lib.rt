@@ -1,4 +1,4 @@
-//! The engine for one thread: Breathing Time Buckets over the two-list queue (Steinman, "SPEEDES: A
+//! The engine for one thread: Breathing Time Buckets (Steinman, "SPEEDES: A
 //! Multiple-Synchronization Environment for Parallel Discrete-Event Simulation", 1992).
 //!
 //! New events go to a list of their own, whose least stamp is the event horizon. The events below it are fired

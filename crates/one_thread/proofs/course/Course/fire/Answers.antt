@@ -1,157 +1,131 @@
 -- The event that is due is fired as the definition fires it.
-use Rattle.key_order.specs.Ascending.{key_of}
-use Rattle.key_order.proofs.AscendingLemmas.{Ascends-one}
-use Rattle.std.proofs.Common.{◌+◌, ◌++◌, ◌∷◌, [], List, length, ap, ◌∙◌, subst, arith}
+use Rattle.key_order.specs.Stamps.{least_stamp}
+use Rattle.std.proofs.Common.{◌+◌, length, refl, ap, ◌∙◌, subst, arith}
 use Rattle.std.specs.Prelude.{slice_set}
-use Rattle.model_core.specs.declared.event.Event.{Event}
-use Rattle.sim_spec.specs.Firing.{ObjectState, has_endless_chain}
+use Rattle.sim_spec.specs.Firing.{ObjectState, has_endless_chain, emissions}
 use Rattle.model_core.specs.declared.effect.Ending.{Ending}
 use Rattle.model_core.specs.declared.effect.Ending.TheVariants.{Goes, Fails}
 use Rattle.event_firing.specs.Reactions.{IsReaction}
 use Rattle.one_thread.specs.Engines.{Course}
 use Rattle.one_thread.specs.Turns.{IsDone, IsFailed}
-use Rattle.one_thread.proofs.FireLemmas.{course_of, taken_in, object_read, lawful_read, serials_read, back_in_place, put_back, done, failed, ranged_as}
+use Rattle.one_thread.proofs.FireLemmas.{course_of, taken_in, first_gone, none_at_hand, object_read, lawful_read, serials_read, put_back, done, failed, ranged_as}
 use Rattle.one_thread.proofs.course.Course.fire.Goals as goal
 
 pub overflow_cast-key : goal.overflow_cast-key
 overflow_cast-key g c =
-    let k = taken_in (g.M.Model.meaning c.args.model.now) c.args.terms.now c.args.self.now c.self.inside.objects.items c.self.inside.queue c.pop.new.self c.self.inside.count c.in-Some.cell c.get-event.result.now
-    c.self.view_is c.keeps_laws.ensures c.requires.lawful c.requires.due c.get-event.ensures c.in-Some.ensures.ahead in
+    let k = taken_in (g.M.Model.meaning c.args.model.now) c.args.terms.now c.args.self.now c.self.inside.objects.items c.self.inside.queue c.self.inside.count c.in-Some.event.now c.in-Some.ensures.some.0
+    c.self.view_is c.keeps_laws.ensures c.requires.lawful c.requires.due c.in-Some.ensures.some.1 in
     let below = k.below in let few = k.few_objects in omega arith
 
 pub index_mut-object-requires : goal.index_mut-object-requires
 index_mut-object-requires g c =
-    let k = taken_in (g.M.Model.meaning c.args.model.now) c.args.terms.now c.args.self.now c.self.inside.objects.items c.self.inside.queue c.pop.new.self c.self.inside.count c.in-Some.cell c.get-event.result.now
-    c.self.view_is c.keeps_laws.ensures c.requires.lawful c.requires.due c.get-event.ensures c.in-Some.ensures.ahead in
+    let k = taken_in (g.M.Model.meaning c.args.model.now) c.args.terms.now c.args.self.now c.self.inside.objects.items c.self.inside.queue c.self.inside.count c.in-Some.event.now c.in-Some.ensures.some.0
+    c.self.view_is c.keeps_laws.ensures c.requires.lawful c.requires.due c.in-Some.ensures.some.1 in
     let within = k.within in omega (arith, within, c.self.inside.objects.ok.0)
 
 pub fire-requires-clause-object : goal.fire-requires-clause-object
 fire-requires-clause-object g c lives lasts =
-    let k = taken_in (g.M.Model.meaning c.args.model.now) c.args.terms.now c.args.self.now c.self.inside.objects.items c.self.inside.queue c.pop.new.self c.self.inside.count c.in-Some.cell c.get-event.result.now
-    c.self.view_is c.keeps_laws.ensures c.requires.lawful c.requires.due c.get-event.ensures c.in-Some.ensures.ahead in
+    let k = taken_in (g.M.Model.meaning c.args.model.now) c.args.terms.now c.args.self.now c.self.inside.objects.items c.self.inside.queue c.self.inside.count c.in-Some.event.now c.in-Some.ensures.some.0
+    c.self.view_is c.keeps_laws.ensures c.requires.lawful c.requires.due c.in-Some.ensures.some.1 in
     k.below
 
 pub fire-requires-clause-lawful : goal.fire-requires-clause-lawful
 fire-requires-clause-lawful g c lives lasts =
-    let k = taken_in (g.M.Model.meaning c.args.model.now) c.args.terms.now c.args.self.now c.self.inside.objects.items c.self.inside.queue c.pop.new.self c.self.inside.count c.in-Some.cell c.get-event.result.now
-    c.self.view_is c.keeps_laws.ensures c.requires.lawful c.requires.due c.get-event.ensures c.in-Some.ensures.ahead in
-    let o = object_read c.self.inside.objects.items c.get-event.result.now.key.dest c.index_mut-object.result.now k.within c.index_mut-object.ensures.value in
-    lawful_read (g.M.Model.meaning c.args.model.now) c.get-event.result.now.key.dest c.self.inside.objects.items _ o k.lawful
+    let k = taken_in (g.M.Model.meaning c.args.model.now) c.args.terms.now c.args.self.now c.self.inside.objects.items c.self.inside.queue c.self.inside.count c.in-Some.event.now c.in-Some.ensures.some.0
+    c.self.view_is c.keeps_laws.ensures c.requires.lawful c.requires.due c.in-Some.ensures.some.1 in
+    let o = object_read c.self.inside.objects.items c.in-Some.event.now.key.dest c.index_mut-object.result.now k.within c.index_mut-object.ensures.value in
+    lawful_read (g.M.Model.meaning c.args.model.now) c.in-Some.event.now.key.dest c.self.inside.objects.items _ o k.lawful
 
 pub fire-requires-clause-time : goal.fire-requires-clause-time
 fire-requires-clause-time g c lives lasts =
-    let k = taken_in (g.M.Model.meaning c.args.model.now) c.args.terms.now c.args.self.now c.self.inside.objects.items c.self.inside.queue c.pop.new.self c.self.inside.count c.in-Some.cell c.get-event.result.now
-    c.self.view_is c.keeps_laws.ensures c.requires.lawful c.requires.due c.get-event.ensures c.in-Some.ensures.ahead in
+    let k = taken_in (g.M.Model.meaning c.args.model.now) c.args.terms.now c.args.self.now c.self.inside.objects.items c.self.inside.queue c.self.inside.count c.in-Some.event.now c.in-Some.ensures.some.0
+    c.self.view_is c.keeps_laws.ensures c.requires.lawful c.requires.due c.in-Some.ensures.some.1 in
     k.time
 
 pub fire-requires-clause-sent : goal.fire-requires-clause-sent
 fire-requires-clause-sent g c lives lasts =
-    let k = taken_in (g.M.Model.meaning c.args.model.now) c.args.terms.now c.args.self.now c.self.inside.objects.items c.self.inside.queue c.pop.new.self c.self.inside.count c.in-Some.cell c.get-event.result.now
-    c.self.view_is c.keeps_laws.ensures c.requires.lawful c.requires.due c.get-event.ensures c.in-Some.ensures.ahead in
-    let o = object_read c.self.inside.objects.items c.get-event.result.now.key.dest c.index_mut-object.result.now k.within c.index_mut-object.ensures.value in
+    let k = taken_in (g.M.Model.meaning c.args.model.now) c.args.terms.now c.args.self.now c.self.inside.objects.items c.self.inside.queue c.self.inside.count c.in-Some.event.now c.in-Some.ensures.some.0
+    c.self.view_is c.keeps_laws.ensures c.requires.lawful c.requires.due c.in-Some.ensures.some.1 in
+    let o = object_read c.self.inside.objects.items c.in-Some.event.now.key.dest c.index_mut-object.result.now k.within c.index_mut-object.ensures.value in
     let same = ap (λ (o : ObjectState). o.sent) o in let few = k.sent in omega arith
 
 pub send_all-requires-clause-time : goal.send_all-requires-clause-time
 send_all-requires-clause-time g c =
-    let k = taken_in (g.M.Model.meaning c.args.model.now) c.args.terms.now c.args.self.now c.self.inside.objects.items c.self.inside.queue c.pop.new.self c.self.inside.count c.in-Some.cell c.get-event.result.now
-    c.self.view_is c.keeps_laws.ensures c.requires.lawful c.requires.due c.get-event.ensures c.in-Some.ensures.ahead in
+    let k = taken_in (g.M.Model.meaning c.args.model.now) c.args.terms.now c.args.self.now c.self.inside.objects.items c.self.inside.queue c.self.inside.count c.in-Some.event.now c.drop_first.new.self.pending
+    c.self.view_is c.keeps_laws.ensures c.requires.lawful c.requires.due (first_gone c.self.inside.queue.pending c.drop_first.new.self.pending c.in-Some.event.now c.in-Some.ensures.some c.drop_first.ensures.pending) in
     k.time
 
 pub send_all-requires-clause-stepping : goal.send_all-requires-clause-stepping
 send_all-requires-clause-stepping g c =
-    let P : Ending → Type 0 = λ ending. IsReaction (g.M.Model.meaning c.args.model.now) c.index_mut-object.result.now c.get-event.result.now c.fire.new.sheet ending c.fire.new.self in
+    let P : Ending → Type 0 = λ ending. IsReaction (g.M.Model.meaning c.args.model.now) c.index_mut-object.result.now c.in-Some.event.now c.fire.new.sheet ending c.fire.new.self in
     let goes : P Goes = subst P c.in-Goes.is c.in_ok-fire.ensures.ok in
-    ap (has_endless_chain c.get-event.result.now.key.stamp) c.as_slice.ensures ∙ goes.stepping
+    ap (has_endless_chain c.in-Some.event.now.key.stamp) c.as_slice.ensures ∙ goes.stepping
 
 pub send_all-requires-clause-ranged : goal.send_all-requires-clause-ranged
 send_all-requires-clause-ranged g c =
-    let P : Ending → Type 0 = λ ending. IsReaction (g.M.Model.meaning c.args.model.now) c.index_mut-object.result.now c.get-event.result.now c.fire.new.sheet ending c.fire.new.self in
+    let P : Ending → Type 0 = λ ending. IsReaction (g.M.Model.meaning c.args.model.now) c.index_mut-object.result.now c.in-Some.event.now c.fire.new.sheet ending c.fire.new.self in
     let goes : P Goes = subst P c.in-Goes.is c.in_ok-fire.ensures.ok in
     ((g.M.Model.meaning c.args.model.now).objects, ranged_as _ _ _ c.as_slice.ensures goes.ranged)
 
 pub send_all-requires-clause-serials : goal.send_all-requires-clause-serials
 send_all-requires-clause-serials g c =
-    let k = taken_in (g.M.Model.meaning c.args.model.now) c.args.terms.now c.args.self.now c.self.inside.objects.items c.self.inside.queue c.pop.new.self c.self.inside.count c.in-Some.cell c.get-event.result.now
-    c.self.view_is c.keeps_laws.ensures c.requires.lawful c.requires.due c.get-event.ensures c.in-Some.ensures.ahead in
-    let o = object_read c.self.inside.objects.items c.get-event.result.now.key.dest c.index_mut-object.result.now k.within c.index_mut-object.ensures.value in
-    let P : Ending → Type 0 = λ ending. IsReaction (g.M.Model.meaning c.args.model.now) c.index_mut-object.result.now c.get-event.result.now c.fire.new.sheet ending c.fire.new.self in
+    let k = taken_in (g.M.Model.meaning c.args.model.now) c.args.terms.now c.args.self.now c.self.inside.objects.items c.self.inside.queue c.self.inside.count c.in-Some.event.now c.drop_first.new.self.pending
+    c.self.view_is c.keeps_laws.ensures c.requires.lawful c.requires.due (first_gone c.self.inside.queue.pending c.drop_first.new.self.pending c.in-Some.event.now c.in-Some.ensures.some c.drop_first.ensures.pending) in
+    let o = object_read c.self.inside.objects.items c.in-Some.event.now.key.dest c.index_mut-object.result.now k.within c.index_mut-object.ensures.value in
+    let P : Ending → Type 0 = λ ending. IsReaction (g.M.Model.meaning c.args.model.now) c.index_mut-object.result.now c.in-Some.event.now c.fire.new.sheet ending c.fire.new.self in
     let goes : P Goes = subst P c.in-Goes.is c.in_ok-fire.ensures.ok in
     let same = ap (λ (o : ObjectState). o.sent) o in let few = k.sent in let is = c.sent-serial.ensures in let short = goes.few in let long = ap length c.as_slice.ensures in omega arith
 
-pub send_all-requires-clause-primary : goal.send_all-requires-clause-primary
-send_all-requires-clause-primary g c =
-    let k = taken_in (g.M.Model.meaning c.args.model.now) c.args.terms.now c.args.self.now c.self.inside.objects.items c.self.inside.queue c.pop.new.self c.self.inside.count c.in-Some.cell c.get-event.result.now
-    c.self.view_is c.keeps_laws.ensures c.requires.lawful c.requires.due c.get-event.ensures c.in-Some.ensures.ahead in
-    let o = object_read c.self.inside.objects.items c.get-event.result.now.key.dest c.index_mut-object.result.now k.within c.index_mut-object.ensures.value in
-    let P : Ending → Type 0 = λ ending. IsReaction (g.M.Model.meaning c.args.model.now) c.index_mut-object.result.now c.get-event.result.now c.fire.new.sheet ending c.fire.new.self in
+pub send_all-requires-clause-pending : goal.send_all-requires-clause-pending
+send_all-requires-clause-pending g c =
+    let k = taken_in (g.M.Model.meaning c.args.model.now) c.args.terms.now c.args.self.now c.self.inside.objects.items c.self.inside.queue c.self.inside.count c.in-Some.event.now c.drop_first.new.self.pending
+    c.self.view_is c.keeps_laws.ensures c.requires.lawful c.requires.due (first_gone c.self.inside.queue.pending c.drop_first.new.self.pending c.in-Some.event.now c.in-Some.ensures.some c.drop_first.ensures.pending) in
+    let o = object_read c.self.inside.objects.items c.in-Some.event.now.key.dest c.index_mut-object.result.now k.within c.index_mut-object.ensures.value in
+    let P : Ending → Type 0 = λ ending. IsReaction (g.M.Model.meaning c.args.model.now) c.index_mut-object.result.now c.in-Some.event.now c.fire.new.sheet ending c.fire.new.self in
     let goes : P Goes = subst P c.in-Goes.is c.in_ok-fire.ensures.ok in
     serials_read _ _ c.self.inside.objects.items _ _ o c.sent-serial.ensures k.serials
 
-pub send_all-requires-clause-fresh : goal.send_all-requires-clause-fresh
-send_all-requires-clause-fresh g c =
-    let k = taken_in (g.M.Model.meaning c.args.model.now) c.args.terms.now c.args.self.now c.self.inside.objects.items c.self.inside.queue c.pop.new.self c.self.inside.count c.in-Some.cell c.get-event.result.now
-    c.self.view_is c.keeps_laws.ensures c.requires.lawful c.requires.due c.get-event.ensures c.in-Some.ensures.ahead in
-    let o = object_read c.self.inside.objects.items c.get-event.result.now.key.dest c.index_mut-object.result.now k.within c.index_mut-object.ensures.value in
-    let P : Ending → Type 0 = λ ending. IsReaction (g.M.Model.meaning c.args.model.now) c.index_mut-object.result.now c.get-event.result.now c.fire.new.sheet ending c.fire.new.self in
-    let goes : P Goes = subst P c.in-Goes.is c.in_ok-fire.ensures.ok in
-    serials_read _ _ c.self.inside.objects.items _ _ o c.sent-serial.ensures k.serials_fresh
-
 pub send_all-requires-clause-room : goal.send_all-requires-clause-room
 send_all-requires-clause-room g c =
-    let k = taken_in (g.M.Model.meaning c.args.model.now) c.args.terms.now c.args.self.now c.self.inside.objects.items c.self.inside.queue c.pop.new.self c.self.inside.count c.in-Some.cell c.get-event.result.now
-    c.self.view_is c.keeps_laws.ensures c.requires.lawful c.requires.due c.get-event.ensures c.in-Some.ensures.ahead in
-    let P : Ending → Type 0 = λ ending. IsReaction (g.M.Model.meaning c.args.model.now) c.index_mut-object.result.now c.get-event.result.now c.fire.new.sheet ending c.fire.new.self in
+    let k = taken_in (g.M.Model.meaning c.args.model.now) c.args.terms.now c.args.self.now c.self.inside.objects.items c.self.inside.queue c.self.inside.count c.in-Some.event.now c.drop_first.new.self.pending
+    c.self.view_is c.keeps_laws.ensures c.requires.lawful c.requires.due (first_gone c.self.inside.queue.pending c.drop_first.new.self.pending c.in-Some.event.now c.in-Some.ensures.some c.drop_first.ensures.pending) in
+    let P : Ending → Type 0 = λ ending. IsReaction (g.M.Model.meaning c.args.model.now) c.index_mut-object.result.now c.in-Some.event.now c.fire.new.sheet ending c.fire.new.self in
     let goes : P Goes = subst P c.in-Goes.is c.in_ok-fire.ensures.ok in
     let room = k.room in let short = goes.few in let long = ap length c.as_slice.ensures in omega arith
 
 pub returns-in_ok-send_all-in-Goes : goal.returns-in_ok-send_all-in-Goes
 returns-in_ok-send_all-in-Goes g c =
-    let k = taken_in (g.M.Model.meaning c.args.model.now) c.args.terms.now c.args.self.now c.self.inside.objects.items c.self.inside.queue c.pop.new.self c.self.inside.count c.in-Some.cell c.get-event.result.now
-    c.self.view_is c.keeps_laws.ensures c.requires.lawful c.requires.due c.get-event.ensures c.in-Some.ensures.ahead in
-    let o = object_read c.self.inside.objects.items c.get-event.result.now.key.dest c.index_mut-object.result.now k.within c.index_mut-object.ensures.value in
-    let P : Ending → Type 0 = λ ending. IsReaction (g.M.Model.meaning c.args.model.now) c.index_mut-object.result.now c.get-event.result.now c.fire.new.sheet ending c.fire.new.self in
+    let k = taken_in (g.M.Model.meaning c.args.model.now) c.args.terms.now c.args.self.now c.self.inside.objects.items c.self.inside.queue c.self.inside.count c.in-Some.event.now c.drop_first.new.self.pending
+    c.self.view_is c.keeps_laws.ensures c.requires.lawful c.requires.due (first_gone c.self.inside.queue.pending c.drop_first.new.self.pending c.in-Some.event.now c.in-Some.ensures.some c.drop_first.ensures.pending) in
+    let o = object_read c.self.inside.objects.items c.in-Some.event.now.key.dest c.index_mut-object.result.now k.within c.index_mut-object.ensures.value in
+    let P : Ending → Type 0 = λ ending. IsReaction (g.M.Model.meaning c.args.model.now) c.index_mut-object.result.now c.in-Some.event.now c.fire.new.sheet ending c.fire.new.self in
     let goes : P Goes = subst P c.in-Goes.is c.in_ok-fire.ensures.ok in
-    let e = c.get-event.result.now in
+    let e = c.in-Some.event.now in
     let m = g.M.Model.meaning c.args.model.now in
     let after = course_of (slice_set c.self.inside.objects.items e.key.dest c.fire.new.self) c.send_all.new.queue (c.self.inside.count + 1) in
     let D : Course → Type 0 = λ old. IsDone m c.args.terms.now old e.key c.fire.new.sheet.note after in
     let same = ap (λ (v : Course). v.count) c.self.view_is in
     subst D c.self.view_is
-    (done m c.args.terms.now (course_of c.self.inside.objects.items c.self.inside.queue c.self.inside.count) _ e c.pop.new.self.primary c.pop.new.self.fresh c.index_mut-object.result.now c.fire.new.self c.fire.new.sheet c.sent-serial.result c.as_slice.result.now
-    k (omega (arith, c.requires.free)) o goes c.sent-serial.ensures c.as_slice.ensures
-    (λ i. record {
-      objects = slice_set c.self.inside.objects.items e.key.dest c.fire.new.self;
-      primary = c.in_ok-send_all-in-Goes.ensures.primary i;
-      fresh = c.in_ok-send_all-in-Goes.ensures.fresh i;
-      count = c.self.inside.count + 1;
-    }))
-
-pub give_back-requires-clause-ascending : goal.give_back-requires-clause-ascending
-give_back-requires-clause-ascending g c =
-    Ascends-one key_of _ c.in-Some.cell (c.push_back.ensures ∙ ap (λ (es : List Event). es ++ c.in-Some.cell ∷ []) c.new-taken.ensures)
-
-pub give_back-requires-clause-room : goal.give_back-requires-clause-room
-give_back-requires-clause-room g c =
-    let k = taken_in (g.M.Model.meaning c.args.model.now) c.args.terms.now c.args.self.now c.self.inside.objects.items c.self.inside.queue c.pop.new.self c.self.inside.count c.in-Some.cell c.get-event.result.now
-    c.self.view_is c.keeps_laws.ensures c.requires.lawful c.requires.due c.get-event.ensures c.in-Some.ensures.ahead in
-    let room = k.room in let long = ap length (c.push_back.ensures ∙ ap (λ (es : List Event). es ++ c.in-Some.cell ∷ []) c.new-taken.ensures) in omega arith
+    (done m c.args.terms.now (course_of c.self.inside.objects.items c.self.inside.queue c.self.inside.count) after e c.drop_first.new.self.pending c.index_mut-object.result.now c.fire.new.self c.fire.new.sheet c.sent-serial.result c.as_slice.result.now
+    k (omega (arith, c.requires.free)) o goes c.sent-serial.ensures c.as_slice.ensures refl c.in_ok-send_all-in-Goes.ensures.pending
+    (c.in_ok-send_all-in-Goes.ensures.fresh_least ∙ ap (λ n. least_stamp n (emissions e.key.stamp e.key.dest c.sent-serial.result c.as_slice.result.now)) c.drop_first.ensures.fresh_least) refl)
 
 pub returns-in-Fails : goal.returns-in-Fails
 returns-in-Fails g c =
-    let k = taken_in (g.M.Model.meaning c.args.model.now) c.args.terms.now c.args.self.now c.self.inside.objects.items c.self.inside.queue c.pop.new.self c.self.inside.count c.in-Some.cell c.get-event.result.now
-    c.self.view_is c.keeps_laws.ensures c.requires.lawful c.requires.due c.get-event.ensures c.in-Some.ensures.ahead in
-    let o = object_read c.self.inside.objects.items c.get-event.result.now.key.dest c.index_mut-object.result.now k.within c.index_mut-object.ensures.value in
-    let P : Ending → Type 0 = λ ending. IsReaction (g.M.Model.meaning c.args.model.now) c.index_mut-object.result.now c.get-event.result.now c.fire.new.sheet ending c.fire.new.self in
+    let k = taken_in (g.M.Model.meaning c.args.model.now) c.args.terms.now c.args.self.now c.self.inside.objects.items c.self.inside.queue c.self.inside.count c.in-Some.event.now c.in-Some.ensures.some.0
+    c.self.view_is c.keeps_laws.ensures c.requires.lawful c.requires.due c.in-Some.ensures.some.1 in
+    let o = object_read c.self.inside.objects.items c.in-Some.event.now.key.dest c.index_mut-object.result.now k.within c.index_mut-object.ensures.value in
+    let P : Ending → Type 0 = λ ending. IsReaction (g.M.Model.meaning c.args.model.now) c.index_mut-object.result.now c.in-Some.event.now c.fire.new.sheet ending c.fire.new.self in
     let fails : P (Fails c.in-Fails.code) = subst P c.in-Fails.is c.in_ok-fire.ensures.ok in
-    let e = c.get-event.result.now in
+    let e = c.in-Some.event.now in
     let m = g.M.Model.meaning c.args.model.now in
     let D : Course → Type 0 = λ old. IsFailed m c.args.terms.now old e.key c.in-Fails.code in
     let same = ap (λ (v : Course). v.count) c.self.view_is in
-    let chain = c.push_back.ensures ∙ ap (λ (es : List Event). es ++ c.in-Some.cell ∷ []) c.new-taken.ensures in
-    let old = course_of c.self.inside.objects.items c.self.inside.queue c.self.inside.count in
-    let objects = put_back c.self.inside.objects.items e.key.dest c.index_mut-object.result.now c.fire.new.self o fails.1 in
-    let primary = back_in_place m c.args.terms.now old c.in-Some.cell e c.pop.new.self.primary c.pop.new.self.fresh _ _ k c.get-event.ensures chain c.give_back.ensures.primary in
-    let fresh = c.give_back.ensures.fresh ∙ k.same in (
-      subst D c.self.view_is (failed m c.args.terms.now old e c.pop.new.self.primary c.pop.new.self.fresh c.index_mut-object.result.now c.in-Fails.code k (omega (arith, c.requires.free)) o fails.0),
-      (λ i. record { objects = objects i; primary = primary i; fresh = fresh i; count = c.self.inside.count }) ∙ c.self.view_is,
+    let objects = put_back c.self.inside.objects.items e.key.dest c.index_mut-object.result.now c.fire.new.self o fails.1 in (
+      subst D c.self.view_is (failed m c.args.terms.now (course_of c.self.inside.objects.items c.self.inside.queue c.self.inside.count) e c.in-Some.ensures.some.0 c.index_mut-object.result.now c.in-Fails.code k (omega (arith, c.requires.free)) o fails.0),
+      (λ i. record { objects = objects i; queue = c.self.inside.queue; count = c.self.inside.count }) ∙ c.self.view_is,
     )
+
+pub unreachable-requires : goal.unreachable-requires
+unreachable-requires g c =
+    none_at_hand c.args.terms.now c.args.self.now c.self.inside.objects.items c.self.inside.queue c.self.inside.count c.self.view_is c.requires.due c.requires.settled c.in_default.ensures.none
