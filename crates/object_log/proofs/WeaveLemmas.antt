@@ -29,7 +29,7 @@ module _ {X : Type 0} (key : X → Key) where
   weave-permutation (x ∷ xs) ys =
       IsPermutation-trans (x ∷ (xs ++ ys)) (x ∷ weave key xs ys) (insert key x (weave key xs ys)) (IsPermutation-cons x (xs ++ ys) (weave key xs ys) (weave-permutation xs ys)) (insert-permutation x (weave key xs ys))
 
-  Each-insert : (P : X → Type 0) (x : X) (ys : List X) → P x → Each P ys → Each P (insert key x ys)
+  pub Each-insert : (P : X → Type 0) (x : X) (ys : List X) → P x → Each P ys → Each P (insert key x ys)
   unfolding insert
   Each-insert P x [] one all = (one, tt)
   Each-insert P x (y ∷ ys) one all =

@@ -1,0 +1,209 @@
+-- Carried events by their places, and the least stamps that they hold.
+use Rattle.std.proofs.Common.{◌≡◌, ℕ, zero, suc, ◌+◌, ◌-◌, ◌<◌, ◌≤◌, min, Bool, true, false, cond, Some, List, [], ◌∷◌, ◌++◌, length, map, take, drop, get_or, set, refl, sym, ap, ◌∙◌, subst, arith}
+use Rattle.std.proofs.lemmas.List.{get_or_read}
+use Rattle.std.proofs.lemmas.List.Sums.{sum_by-cons}
+use Rattle.std.specs.Prelude.{slice_get}
+use Rattle.std.specs.List.{insert as inserted, remove}
+use Rattle.event_key.specs.declared.key.Key.{Key}
+use Rattle.event_key.specs.declared.stamp.TheConstants.{NO_STAMP}
+use Rattle.event_key.specs.Keys.{key_lt}
+use Rattle.event_key.proofs.Order.{key_lt-trans}
+use Rattle.key_order.proofs.AscendingLemmas.{key_lt-turned}
+use Rattle.key_order.proofs.KeyLemmas.{key_lt-other, new-head, new-tail}
+use Rattle.key_order.specs.Ascending.{After, Ascends}
+use Rattle.key_order.specs.Keys.{at_key, times}
+use Rattle.key_order.specs.Stamps.{least_stamp}
+use Rattle.object_log.specs.declared.item.Item.{Item}
+use Rattle.object_log.specs.Carrying.{AreHeld, AreHeldBut, IsHeld, IsHeldBut, Placed, first_held, item_key, place_of, placed, placed_key, placed_of}
+use Rattle.object_log.specs.Logs.{held_of}
+use Rattle.object_log.specs.Weave.{insert}
+use Rattle.object_log.proofs.HeldLemmas.{least-join, least-none}
+
+module _ {X : Type 0} (key : X → Key) where
+  -- what comes before a key
+  pub place-above : (k : Key) (xs : List X) (i : ℕ) (x : X) → Ascends key xs → i < length xs → x ≡ get_or xs i x → key_lt (key x) k ≡ true → i < place_of key k xs
+  unfolding place_of Ascends
+  place-above k [] i x up some at lt = absurd (omega arith)
+  place-above k (y ∷ ys) zero x up some at lt =
+      let yes : key_lt (key y) k ≡ true = ap (λ (z : X). key_lt (key z) k) (sym at) ∙ lt in
+      let is = ap (λ b. cond b (suc (place_of key k ys)) 0) yes in omega arith
+  place-above k (y ∷ []) (suc i) x up some at lt = absurd (omega arith)
+  place-above k (y ∷ z ∷ ys) (suc i) x up some at lt =
+      let more = place-above k (z ∷ ys) i x up.1 (omega arith) at lt in
+      by_test (key_lt (key z) k) refl more
+    where
+      by_test : (b : Bool) → key_lt (key z) k ≡ b → i < place_of key k (z ∷ ys) → suc i < cond (key_lt (key y) k) (suc (place_of key k (z ∷ ys))) 0
+      by_test true h more =
+          let yes = key_lt-trans (key y) (key z) k up.0.0 h in
+          let is = ap (λ b. cond b (suc (place_of key k (z ∷ ys))) 0) yes in omega arith
+      by_test false h more =
+          let is = ap (λ b. cond b (suc (place_of key k ys)) 0) h in absurd (omega arith)
+
+  pub place-below : (k : Key) (xs : List X) (i : ℕ) (x : X) → i < length xs → x ≡ get_or xs i x → key_lt (key x) k ≡ false → place_of key k xs ≤ i
+  unfolding place_of
+  place-below k [] i x some at ge = absurd (omega arith)
+  place-below k (y ∷ ys) zero x some at ge =
+      let no : key_lt (key y) k ≡ false = ap (λ (z : X). key_lt (key z) k) (sym at) ∙ ge in
+      let is = ap (λ b. cond b (suc (place_of key k ys)) 0) no in omega arith
+  place-below k (y ∷ ys) (suc i) x some at ge = by_test (key_lt (key y) k) (place-below k ys i x (omega arith) at ge)
+    where
+      by_test : (b : Bool) → place_of key k ys ≤ i → cond b (suc (place_of key k ys)) 0 ≤ suc i
+      by_test true more = omega arith
+      by_test false more = omega arith
+
+  pub place-most : (k : Key) (xs : List X) → place_of key k xs ≤ length xs
+  unfolding place_of
+  place-most k [] = omega arith
+  place-most k (y ∷ ys) = by_test (key_lt (key y) k) (place-most k ys)
+    where
+      by_test : (b : Bool) → place_of key k ys ≤ length ys → cond b (suc (place_of key k ys)) 0 ≤ length (y ∷ ys)
+      by_test true more = omega arith
+      by_test false more = omega arith
+
+  -- an element comes to its place
+  pub place-put : (x : X) (xs : List X) → times key (key x) xs ≡ 0 → take (place_of key (key x) xs) xs ++ x ∷ drop (place_of key (key x) xs) xs ≡ insert key x xs
+  unfolding place_of insert
+  place-put x [] new = refl
+  place-put x (y ∷ ys) new = by_test (key_lt (key y) (key x)) refl (place-put x ys (new-tail key (key x) y ys new))
+    where
+      by_test : (b : Bool) → key_lt (key y) (key x) ≡ b → take (place_of key (key x) ys) ys ++ x ∷ drop (place_of key (key x) ys) ys ≡ insert key x ys
+          → take (cond b (suc (place_of key (key x) ys)) 0) (y ∷ ys) ++ x ∷ drop (cond b (suc (place_of key (key x) ys)) 0) (y ∷ ys) ≡ cond (key_lt (key x) (key y)) (x ∷ y ∷ ys) (y ∷ insert key x ys)
+      by_test true lt more = ap (λ zs. y ∷ zs) more ∙ ap (λ b. cond b (x ∷ y ∷ ys) (y ∷ insert key x ys)) (sym (key_lt-turned (key y) (key x) lt))
+      by_test false lt more = ap (λ b. cond b (x ∷ y ∷ ys) (y ∷ insert key x ys)) (sym (key_lt-other (key y) (key x) (λ same. new-head key (key x) y ys new (sym same)) lt))
+
+  after-removed : (k : Key) (xs : List X) (n : ℕ) → After key k xs → After key k (remove xs n)
+  after-removed k [] zero all = tt
+  after-removed k [] (suc n) all = tt
+  after-removed k (x ∷ xs) zero all = all.1
+  after-removed k (x ∷ xs) (suc n) all = (all.0, after-removed k xs n all.1)
+
+  pub ascends-removed : (xs : List X) (n : ℕ) → Ascends key xs → Ascends key (remove xs n)
+  unfolding Ascends
+  ascends-removed [] zero up = tt
+  ascends-removed [] (suc n) up = tt
+  ascends-removed (x ∷ xs) zero up = up.1
+  ascends-removed (x ∷ xs) (suc n) up = (after-removed (key x) xs n up.0, ascends-removed xs n up.1)
+
+module _ {X Y : Type 0} (f : X → Y) where
+  pub map-insert : (key : Y → Key) (x : X) (xs : List X) → map f (insert (λ x. key (f x)) x xs) ≡ insert key (f x) (map f xs)
+  unfolding insert
+  map-insert key x [] = refl
+  map-insert key x (y ∷ ys) = by_test (key_lt (key (f x)) (key (f y))) (map-insert key x ys)
+    where
+      by_test : (b : Bool) → map f (insert (λ x. key (f x)) x ys) ≡ insert key (f x) (map f ys)
+          → map f (cond b (x ∷ y ∷ ys) (y ∷ insert (λ x. key (f x)) x ys)) ≡ cond b (f x ∷ f y ∷ map f ys) (f y ∷ insert key (f x) (map f ys))
+      by_test true more = refl
+      by_test false more = ap (λ zs. f y ∷ zs) more
+
+  pub times-map : (key : Y → Key) (k : Key) (xs : List X) → times (λ x. key (f x)) k xs ≡ times key k (map f xs)
+  times-map key k [] = refl
+  times-map key k (x ∷ xs) =
+      sum_by-cons (at_key (λ x. key (f x)) k) x xs
+      ∙ ap (λ n. at_key key k (f x) + n) (times-map key k xs)
+      ∙ sym (sum_by-cons (at_key key k) (f x) (map f xs))
+
+  pub map-removed : (xs : List X) (n : ℕ) → map f (remove xs n) ≡ remove (map f xs) n
+  map-removed [] zero = refl
+  map-removed [] (suc n) = refl
+  map-removed (x ∷ xs) zero = refl
+  map-removed (x ∷ xs) (suc n) = ap (λ zs. f x ∷ zs) (map-removed xs n)
+
+-- what stands at a place of a list
+pub read-map : {X Y : Type 0} (f : X → Y) (xs : List X) (i : ℕ) (x : X) → i < length xs → x ≡ get_or xs i x → slice_get (map f xs) i ≡ Some (f x)
+read-map f [] i x within at = absurd (omega arith)
+read-map f (y ∷ ys) zero x within at = ap (λ z. Some (f z)) (sym at)
+read-map f (y ∷ ys) (suc i) x within at = read-map f ys i x (omega arith) at
+
+pub same-read : {X : Type 0} (xs : List X) (i : ℕ) (x y : X) → i < length xs → x ≡ get_or xs i x → y ≡ get_or xs i y → x ≡ y
+same-read xs i x y within one other = get_or_read xs i x within one y ∙ sym other
+
+-- what the events hold
+pub held-is : (es : List Item) → AreHeld es → first_held es ≡ least_stamp NO_STAMP (held_of (map (λ (p : Placed). p.done) (placed es)))
+unfolding AreHeld held_of
+held-is [] held = sym least-none
+held-is (e ∷ es) held =
+    let more = held-is es held.1 in
+    let is = held.0 in
+    let own = e.least_is in
+    let join = least-join e.done.sends (held_of (map (λ (p : Placed). p.done) (placed es))) in
+    omega arith
+
+-- an item more
+pub but-inserted : (n : ℕ) (e : Item) (es : List Item) → n ≤ length es → IsHeld e (drop n es) → AreHeld es → AreHeldBut n (take n es ++ e ∷ drop n es)
+unfolding AreHeld AreHeldBut
+but-inserted zero e es within is held = (is, held)
+but-inserted (suc n) e [] within is held = absurd (omega arith)
+but-inserted (suc n) e (f ∷ es) within is held = (still n es (omega arith) held.0, but-inserted n e es (omega arith) is held.1)
+  where
+    still : (n : ℕ) (es : List Item) → n ≤ length es → IsHeld f es → IsHeldBut n f (take n es ++ e ∷ drop n es)
+    still zero es within h = tt
+    still (suc n) [] within h = absurd (omega arith)
+    still (suc n) (g ∷ es) within h = h
+
+-- an item less
+pub but-removed : (n : ℕ) (es : List Item) → AreHeld es → AreHeldBut n (remove es n)
+unfolding AreHeld AreHeldBut
+but-removed zero [] held = tt
+but-removed zero (e ∷ es) held = held.1
+but-removed (suc n) [] held = tt
+but-removed (suc n) (e ∷ es) held = (still n es held.0, but-removed n es held.1)
+  where
+    still : (n : ℕ) (es : List Item) → IsHeld e es → IsHeldBut n e (remove es n)
+    still zero es h = tt
+    still (suc n) [] h = h
+    still (suc n) (f ∷ es) h = h
+
+-- an item is mended
+but-set : (n : ℕ) (e : Item) (es : List Item) → AreHeldBut (suc n) es → n < length es → IsHeld e (drop (suc n) es) → AreHeldBut n (set es n e)
+unfolding AreHeld AreHeldBut
+but-set n e [] but some is = absurd (omega arith)
+but-set zero e (f ∷ es) but some is = (is, but.1)
+but-set (suc n) e (f ∷ es) but some is = (still n es but.0, but-set n e es but.1 (omega arith) is)
+  where
+    still : (n : ℕ) (es : List Item) → IsHeld f es → IsHeldBut n f (set es n e)
+    still zero es h = tt
+    still (suc n) [] h = h
+    still (suc n) (g ∷ es) h = h
+
+but-stays : (n : ℕ) (e : Item) (es : List Item) → AreHeldBut (suc n) es → n < length es → e ≡ get_or es n e → IsHeld e (drop (suc n) es) → AreHeld es
+unfolding AreHeld AreHeldBut
+but-stays n e [] but some at is = absurd (omega arith)
+but-stays zero e (f ∷ es) but some at is = let P : Item → Type 0 = λ e. IsHeld e es in (subst P at is, but.1)
+but-stays (suc n) e (f ∷ es) but some at is = (but.0, but-stays n e es but.1 (omega arith) at is)
+
+pub placed-set : (n : ℕ) (e f : Item) (es : List Item) → f ≡ get_or es n f → placed_of e ≡ placed_of f → n < length es → placed (set es n e) ≡ placed es
+placed-set n e f [] at is some = absurd (omega arith)
+placed-set zero e f (g ∷ es) at is some = ap (λ p. p ∷ placed es) (is ∙ ap placed_of at)
+placed-set (suc n) e f (g ∷ es) at is some = ap (λ ps. placed_of g ∷ ps) (placed-set n e f es at is (omega arith))
+
+pub mend-goes : (place : ℕ) (e : Item) (es : List Item) → 0 < place → place ≤ length es → AreHeldBut place es → IsHeld e (drop place es) → AreHeldBut (place - 1) (set es (place - 1) e)
+mend-goes zero e es some within but is = absurd (omega arith)
+mend-goes (suc n) e es some within but is =
+    let P : ℕ → Type 0 = λ m. AreHeldBut m (set es m e) in
+    let at : suc n - 1 ≡ n = omega arith in
+    subst P (sym at) (but-set n e es but (omega arith) is)
+
+pub mend-stays : (place : ℕ) (e : Item) (es : List Item) → 0 < place → place ≤ length es → AreHeldBut place es → e ≡ get_or es (place - 1) e → IsHeld e (drop place es) → AreHeld es
+mend-stays zero e es some within but at is = absurd (omega arith)
+mend-stays (suc n) e es some within but at is =
+    let P : ℕ → Type 0 = λ m. e ≡ get_or es m e in
+    let back : suc n - 1 ≡ n = omega arith in
+    but-stays n e es but (omega arith) (subst P back at) is
+
+pub mend-ends : (place : ℕ) (es : List Item) → place ≤ 0 → AreHeldBut place es → AreHeld es
+unfolding AreHeldBut
+mend-ends zero es none but = but
+mend-ends (suc n) es none but = absurd (omega arith)
+
+pub none-carried : Ascends item_key [] × AreHeld []
+unfolding Ascends AreHeld
+none-carried = (tt, tt)
+
+-- an item that was put in at its place
+pub inserted-placed : (es now : List Item) (e : Item) (at : ℕ) (key : Key) → placed now ≡ placed (inserted es at e) → at ≡ place_of item_key key es → key ≡ item_key e → times placed_key (item_key e) (placed es) ≡ 0
+    → placed now ≡ insert placed_key (placed_of e) (placed es)
+inserted-placed es now e at key is place same fresh =
+    is
+    ∙ ap (λ n. placed (inserted es n e)) (place ∙ ap (λ k. place_of item_key k es) same)
+    ∙ ap placed (place-put item_key e es (times-map placed_of placed_key (item_key e) es ∙ fresh))
+    ∙ map-insert placed_of placed_key e es

@@ -1,0 +1,57 @@
+-- The event comes to its place.
+use Rattle.std.proofs.Common.{min, ◌≡◌, ℕ, ◌≤◌, List, drop, length, refl, sym, ap, ◌∙◌, subst, arith}
+use Rattle.event_key.specs.declared.key.Key.{Key}
+use Rattle.model_core.specs.declared.event.Event.{Event}
+use Rattle.key_order.specs.Ascending.{Ascends}
+use Rattle.key_order.specs.Keys.{times}
+use Rattle.key_order.proofs.AscendingLemmas.{Ascends-map, Ascends-mapped}
+use Rattle.object_log.specs.Dones.{Done}
+use Rattle.object_log.specs.Carrying.{AreHeldBut, CarriedView, Placed, item_key, placed, placed_key, placed_of}
+use Rattle.object_log.specs.Weave.{insert}
+use Rattle.object_log.proofs.CarriedLemmas.{but-inserted, inserted-placed, place-most}
+use Rattle.object_log.proofs.WeaveLemmas.{insert-ascends}
+use Rattle.object_log.proofs.carried.Carried.insert.Goals as goal
+
+pub invariant_of-item : goal.invariant_of-item
+invariant_of-item c = record {
+  key_is = ap (λ (e : Event). e.key) (c.get.ensures ∙ ap (λ (d : Done). d.event) (c.value.view_is ∙ c.get-value.ensures));
+  least_is = c.requires.least;
+}
+
+pub insert-requires : goal.insert-requires
+insert-requires c =
+    let most = place-most item_key c.get.result.now.key c.self.inside.items.items in
+    omega (arith, c.search-at.ensures)
+
+pub mend-requires-clause-inside : goal.mend-requires-clause-inside
+mend-requires-clause-inside c =
+    let most = place-most item_key c.get.result.now.key c.self.inside.items.items in
+    omega (arith, c.search-at.ensures, c.in-Ok.ensures.len)
+
+pub mend-requires-clause-but : goal.mend-requires-clause-but
+mend-requires-clause-but c =
+    let es = c.self.inside.items.items in
+    let most = place-most item_key c.get.result.now.key es in
+    subst (AreHeldBut c.search-at.result) (sym c.in-Ok.ensures.items)
+    (but-inserted c.search-at.result _ es (omega (arith, c.search-at.ensures)) (c.min-held.ensures ∙ ap (min c.args.least) c.held_from.ensures) c.self.invariant.1)
+
+pub invariant_of-self : goal.invariant_of-self
+invariant_of-self c =
+    let es = c.self.inside.items.items in
+    let p : Placed = record { done = c.args.done; place = c.args.place } in
+    let T : CarriedView → Type 0 = λ v. times placed_key (placed_key p) v.items ≡ 0 in
+    let fresh = subst T (sym c.self.view_is) c.requires.new in
+    let key = ap (λ (e : Event). e.key) (c.get.ensures ∙ ap (λ (d : Done). d.event) (c.value.view_is ∙ c.get-value.ensures)) in
+    let put : placed c.mend.new.items.items ≡ insert placed_key p (placed es) = inserted-placed es c.mend.new.items.items _ c.search-at.result c.get.result.now.key (c.mend.ensures.same ∙ ap placed c.in-Ok.ensures.items) c.search-at.ensures key fresh in
+    let up = insert-ascends placed_key p (placed es) fresh (Ascends-map placed_key placed_of es c.self.invariant.0) in
+    (Ascends-mapped placed_key placed_of c.mend.new.items.items (subst (Ascends placed_key) (sym put) up), c.mend.ensures.held)
+
+pub returns : goal.returns
+returns c =
+    let es = c.self.inside.items.items in
+    let p : Placed = record { done = c.args.done; place = c.args.place } in
+    let T : CarriedView → Type 0 = λ v. times placed_key (placed_key p) v.items ≡ 0 in
+    let fresh = subst T (sym c.self.view_is) c.requires.new in
+    let key = ap (λ (e : Event). e.key) (c.get.ensures ∙ ap (λ (d : Done). d.event) (c.value.view_is ∙ c.get-value.ensures)) in
+    let put : placed c.mend.new.items.items ≡ insert placed_key p (placed es) = inserted-placed es c.mend.new.items.items _ c.search-at.result c.get.result.now.key (c.mend.ensures.same ∙ ap placed c.in-Ok.ensures.items) c.search-at.ensures key fresh in
+    put ∙ ap (λ (v : CarriedView). insert placed_key p v.items) c.self.view_is
