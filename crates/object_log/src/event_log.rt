@@ -1,0 +1,123 @@
+//! The log of many objects.
+ghost use Rattle.std.specs.Prelude.{◌≡◌, ◌<◌, ◌≤◌, ◌+◌, ◌^◌, [], length, slice_get, IfOk, IfErr, IfSome, IfNone, OnOk, OnErr, IsTrue, Some, None, true};
+ghost use Rattle.std.specs.List.{AllByRecursion};
+ghost use Rattle.event_key.specs.Keys.{key_lt};
+ghost use Rattle.event_key.specs.Stamps.{time_part};
+ghost use Rattle.event_key.specs.declared.stamp.TheConstants.{NO_STAMP};
+ghost use Rattle.model_core.specs.Meaning.{Meaning};
+ghost use Rattle.key_order.specs.Stamps.{least_stamp};
+ghost use Rattle.object_log.specs.EventCalls.{HasProcessed};
+ghost use Rattle.object_log.specs.EventLogs.{dones_at, state_in};
+ghost use Rattle.object_log.specs.Logs.{fault_of, held_of, keys_of};
+ghost use Rattle.object_log.specs.Objects.{IsPlaced};
+ghost use Rattle.object_log.specs.Undoings.{HasUndoneAt, IsNewestAt};
+
+use crate::carried::Carried;
+use crate::object::{Fired, Object};
+use crate::pool::LogPool;
+use event_chain::Cell;
+use event_key::Key;
+use model_core::model::Model as SimulationModel;
+use model_core::{Effect, Event, OutOfMemory};
+use std::alloc::Global;
+use std::marker::Model;
+
+/// Objects at their places, and all that they have processed and not yet committed, in the order of the keys.
+#[derive(Drop)]
+pub struct EventLog {
+    objects: Vec<Object>,
+    carried: Carried,
+}
+
+impl Model for EventLog {
+    ghost use Rattle.object_log.specs.EventLogs.{EventLogView};
+    ghost use Rattle.object_log.specs.Whole.{IsEventLog, log_view};
+
+    ghost Value = { EventLogView };
+
+    ghost view = { λ log. log_view log.objects.items log.carried.items };
+
+    ghost invariant = { λ log. IsEventLog log.objects.items log.carried.items };
+}
+
+impl EventLog {
+    /// No object.
+    pub fn new(alloc: Global) -> EventLog
+        ensures { result ≡ record { objects = []; done = [] } }
+    {
+        EventLog {
+            objects: Vec::new(alloc),
+            carried: Carried::new(alloc),
+        }
+    }
+
+    /// How many events are processed.
+    pub fn len(&self) -> usize
+        ensures { result ≡ length self.now.done }
+    {
+        self.carried.len()
+    }
+
+    /// The least stamp of the messages that are held, or `NO_STAMP`, in constant time.
+    pub fn held_least(&self) -> u64
+        ensures { result ≡ least_stamp NO_STAMP (held_of self.now.done) }
+    {
+        self.carried.held_least()
+    }
+
+    /// The least key.
+    pub fn first(&self) -> Option<Key>
+        ensures some { IfSome result (λ key. slice_get (keys_of self.now.done) 0 ≡ Some key) }
+        ensures none { IfNone result (self.now.done ≡ []) }
+    {
+        self.carried.first()
+    }
+
+    /// Processes an event at the object that stands at a place. Answers the least stamp that it sends, or `NO_STAMP`. The
+    /// sheet is written over. If no memory is left, the event comes back.
+    pub fn process<M: SimulationModel>(
+        &mut self,
+        alloc: Global,
+        model: &M,
+        sheet: &mut Effect,
+        pool: &mut LogPool,
+        place: u32,
+        event: Cell<Event>,
+    ) -> Result<u64, (OutOfMemory, Cell<Event>)>
+        requires place { IsPlaced self.old place event.key.dest }
+        requires object { event.key.dest < (M.meaning model.now).objects }
+        requires lawful { IfSome (state_in self.old.objects event.key.dest) (λ s. IsTrue ((M.meaning model.now).lawful event.key.dest s.cells)) }
+        requires above { AllByRecursion (λ key. key_lt key event.key ≡ true) (keys_of (dones_at event.key.dest self.old.done)) }
+        requires time { time_part event.key.stamp < 2 ^ 46 }
+        requires went { fault_of (dones_at event.key.dest self.old.done) ≡ None }
+        requires sent { IfSome (state_in self.old.objects event.key.dest) (λ s. s.sent < 2 ^ 60) }
+        requires few { length self.old.done + 1 < 2 ^ 60 }
+        ensures ok { IfOk result (λ least. HasProcessed (M.meaning model.now) self.old self.new event least) }
+        ensures err { OnErr result (self.new ≡ self.old) }
+        ensures back { IfErr result (λ refused. refused.1 ≡ event) }
+    {
+        let Ok(()) = self.carried.reserve() else {
+            return Err((OutOfMemory, event));
+        };
+        self.carried.tells();
+        let object = &mut self.objects[place as usize];
+        match object.fire(alloc, model, sheet, pool, event) {
+            Ok(Fired { done, least }) => {
+                self.carried.insert(done, place, least);
+                Ok(least)
+            }
+            Err(refused) => Err(refused),
+        }
+    }
+
+    /// Undoes an event that is the newest of its object. What else it leaves goes to the pool. Takes no memory.
+    pub fn undo_at(&mut self, index: usize, pool: &mut LogPool) -> Cell<Event>
+        requires { IsNewestAt index self.old }
+        ensures { HasUndoneAt index self.old self.new result }
+    {
+        let (_key, place) = self.carried.at(index);
+        let done = self.carried.take(index);
+        let object = &mut self.objects[place as usize];
+        object.undo(done, pool)
+    }
+}
