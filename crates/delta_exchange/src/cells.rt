@@ -111,6 +111,7 @@ impl Cells {
     /// Makes room for the values that the changes put in, so that doing them takes no memory. Asks for
     /// memory at most once a line, and for twice as much each time, so that many calls cost no more
     /// than the values that they make room for. After an `Err` the lines that were seen to keep their room.
+    #[inline(always)]
     pub fn room(&mut self, changes: &[Change]) -> Result<(), OutOfMemory>
         requires { NameLines changes.now self.old.contents }
         ensures ok { OnOk result (HaveRoom changes.now self.new.spare) }
@@ -159,6 +160,7 @@ impl Cells {
     }
 
     /// Does a change and turns it into its inverse, in constant time and with no memory.
+    #[inline(always)]
     pub fn exchange(&mut self, change: &mut Change)
         requires fits { Fits change.old self.old.contents }
         requires room { FindsRoom change.old self.old.spare }

@@ -11,6 +11,7 @@ use random_streams::Stream;
 
 /// What an event comes to at an object with these cells, written into a sheet: the model's fault first, then the fault
 /// of a chain without end in one tick, else the model's effect.
+#[inline(always)]
 pub fn settle<M: Model>(
     model: &M,
     words: &mut Stream,

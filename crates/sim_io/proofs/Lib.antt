@@ -1,4 +1,3 @@
-pub mod BackwardsLemmas
 pub mod CycleTextLemmas
 pub mod TextLemmas
 pub mod TransferLemmas

@@ -1,8 +1,9 @@
-pub mod Backwards
 pub mod Causes
 pub mod CycleTexts
 pub mod Gathering
+pub mod Heads
 pub mod Memory
+pub mod Tails
 pub mod Texts
 pub mod Transfers
 pub mod Words

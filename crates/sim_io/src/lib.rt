@@ -8,7 +8,7 @@ mod room;
 mod streams;
 mod words;
 
-pub use lines::{cut_back, put_cycle, put_demo, put_done, put_number, put_stamp, put_stop};
+pub use lines::{LineWriter, cut_back, put_cycle, put_demo, put_number, put_stamp, put_stop};
 pub use streams::{
     CleanSink, CleanSource, ENOUGH_BYTES, Failed, GatheringSink, MemSink, MemSource, ReadEnd, Sink,
     Source, StdSink, StdSource, read_all, read_some, write_all,

@@ -5,86 +5,19 @@ ghost use Rattle.std.specs.Io.{StartsWith};
 ghost use Rattle.sim_io.specs.Texts.{part_line, part_text, stamp_text, event_lines, fault_line, stop_line, IsAtObject};
 ghost use Rattle.sim_io.specs.CycleTexts.{IsWhole, cycle_line, demo_line};
 
-mod backwards;
+mod head;
+mod line_writer;
+mod tail;
 mod text_parts;
 
-use crate::lines::backwards::{SHORT, append_short, write_byte, write_number, write_word};
 use crate::lines::text_parts::{put_fault, put_place};
 use event_key::{Key, step_of, time_of};
+pub use line_writer::LineWriter;
+use model_core::OutOfMemory;
 use model_core::model::Model;
-use model_core::{OutOfMemory, Part};
 use sim_spec::{Bucket, Stop, Terms};
 use std::alloc::Global;
 pub use text_parts::{put_number, put_stamp};
-
-/// Appends a stamp and a space.
-#[tactic(auto, unfolding(crate::specs::Texts::stamp_text))]
-fn put_head(stamp: u64, into: &mut Vec<u8>)
-    requires { vec_len into.old + SHORT ≤ vec_capacity into.old }
-    ensures { into.new.items ≡ into.old.items ++ (stamp_text stamp ++ codes " ") }
-{
-    let mut bytes = [0u8; 2 * SHORT];
-    let space = write_byte(b' ', &mut bytes, SHORT);
-    let step = write_number(u64::from(step_of(stamp)), &mut bytes, space);
-    let dot = write_byte(b'.', &mut bytes, step);
-    let time = write_number(time_of(stamp), &mut bytes, dot);
-    append_short(&bytes, time, into);
-}
-
-/// Appends a space, what a part of a note tells, and the end of the line.
-#[tactic(auto, unfolding(crate::specs::Texts::part_text))]
-fn put_tail(part: Part, into: &mut Vec<u8>)
-    requires { vec_len into.old + SHORT ≤ vec_capacity into.old }
-    ensures { into.new.items ≡ into.old.items ++ (codes " " ++ (part_text part ++ codes "\n")) }
-{
-    let mut bytes = [0u8; 2 * SHORT];
-    let line_end = write_byte(b'\n', &mut bytes, SHORT);
-    let b = write_number(part.b, &mut bytes, line_end);
-    let space = write_byte(b' ', &mut bytes, b);
-    let a = write_number(part.a, &mut bytes, space);
-    let space = write_byte(b' ', &mut bytes, a);
-    let word = write_word(part.word, &mut bytes, space);
-    let space = write_byte(b' ', &mut bytes, word);
-    append_short(&bytes, space, into);
-}
-
-/// Appends a line. Its bytes before the name and behind it are at most `SHORT` each.
-#[tactic(auto, unfolding(crate::specs::Texts::part_line, crate::specs::Texts::place_text))]
-fn put_line<M: Model>(
-    alloc: Global,
-    model: &M,
-    key: &Key,
-    part: Part,
-    into: &mut Vec<u8>,
-) -> Result<(), OutOfMemory>
-    requires { key.now.dest < (M.meaning model.now).objects }
-    ensures ok { OnOk result (into.new.items ≡ into.old.items ++ part_line (M.meaning model.now) key.now part) }
-    ensures prefix { StartsWith into.new.items into.old.items }
-{
-    into.reserve(SHORT)?;
-    put_head(key.stamp, into);
-    model.put_name(alloc, key.dest, into)?;
-    into.reserve(SHORT)?;
-    put_tail(part, into);
-    Ok(())
-}
-
-fn put_lines<M: Model>(
-    alloc: Global,
-    model: &M,
-    key: &Key,
-    parts: &[Part],
-    into: &mut Vec<u8>,
-) -> Result<(), OutOfMemory>
-    requires { key.now.dest < (M.meaning model.now).objects }
-    ensures ok { OnOk result (into.new.items ≡ into.old.items ++ event_lines (M.meaning model.now) key.now parts.now) }
-    ensures prefix { StartsWith into.new.items into.old.items }
-{
-    for part in parts {
-        put_line(alloc, model, key, *part, into)?;
-    }
-    Ok(())
-}
 
 /// Takes back what a refused call has appended to so many bytes.
 pub fn cut_back(
@@ -100,23 +33,6 @@ pub fn cut_back(
         into.truncate(before);
     }
     outcome
-}
-
-/// Appends the lines of an event: one for each part of what it tells, in order. A refusal leaves what was there.
-pub fn put_done<M: Model>(
-    alloc: Global,
-    model: &M,
-    key: &Key,
-    parts: &[Part],
-    into: &mut Vec<u8>,
-) -> Result<(), OutOfMemory>
-    requires { key.now.dest < (M.meaning model.now).objects }
-    ensures ok { OnOk result (into.new.items ≡ into.old.items ++ event_lines (M.meaning model.now) key.now parts.now) }
-    ensures err { OnErr result (into.new.items ≡ into.old.items) }
-{
-    let before = into.len();
-    let outcome = put_lines(alloc, model, key, parts, into);
-    cut_back(outcome, before, into)
 }
 
 #[tactic(auto, unfolding(crate::specs::CycleTexts::cycle_line))]

@@ -7,12 +7,13 @@ ghost use Rattle.sim_text.specs.WholeTexts.{is_whole};
 
 use model_core::model::Model;
 use model_core::{OutOfMemory, RecordBuffer};
-use sim_io::{put_cycle, put_done};
+use sim_io::{LineWriter, put_cycle};
 use sim_spec::Bucket;
 use std::alloc::Global;
 
 /// Appends the lines of records.
 pub fn put_records<M: Model>(
+    lines: &mut LineWriter,
     alloc: Global,
     model: &M,
     records: &RecordBuffer,
@@ -23,7 +24,7 @@ pub fn put_records<M: Model>(
 {
     for i in 0..records.len() {
         let (key, parts) = records.at(i);
-        put_done(alloc, model, key, parts, into)?;
+        lines.put_done(alloc, model, key, parts, into)?;
     }
     Ok(())
 }
@@ -54,6 +55,7 @@ fn put_told_cycle(
 /// Appends what a bucket tells: its records, and the line of its cycle where cycles are told and it is whole.
 #[tactic(auto, unfolding(sim_io::specs::CycleTexts::bucket_lines))]
 pub fn put_bucket<M: Model>(
+    lines: &mut LineWriter,
     alloc: Global,
     model: &M,
     cycles: bool,
@@ -64,6 +66,6 @@ pub fn put_bucket<M: Model>(
     requires { AllAtObjects (M.meaning model.now) bucket.now.done }
     ensures { OnOk result (into.new.items ≡ into.old.items ++ bucket_lines (M.meaning model.now) cycles number bucket.now) }
 {
-    put_records(alloc, model, bucket.done.as_buffer(), into)?;
+    put_records(lines, alloc, model, bucket.done.as_buffer(), into)?;
     put_told_cycle(cycles, number, bucket, into)
 }

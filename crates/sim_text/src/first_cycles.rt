@@ -11,7 +11,7 @@ use crate::bucket_text::put_records;
 use crate::unfinished::Unfinished;
 use model_core::OutOfMemory;
 use model_core::model::Model;
-use sim_io::{Sink, write_all};
+use sim_io::{LineWriter, Sink, write_all};
 use sim_spec::laws::{law_bucket, law_next};
 use sim_spec::{Bucket, Engine, Terms};
 use std::alloc::Global;
@@ -46,6 +46,7 @@ pub fn simulate_first<
 {
     law_next(model, terms);
     law_bucket(model, terms);
+    let mut lines = LineWriter::new(alloc)?;
     let mut text = Vec::new(alloc);
     for done in 0..most {
         if engine.ended().is_some() {
@@ -53,7 +54,7 @@ pub fn simulate_first<
         }
         text.clear();
         let bucket = cycle(engine, alloc)?;
-        put_records(alloc, model, bucket.done.as_buffer(), &mut text)?;
+        put_records(&mut lines, alloc, model, bucket.done.as_buffer(), &mut text)?;
         write_all(sink, text.as_slice())?;
         engine.give_back(bucket.done);
     }

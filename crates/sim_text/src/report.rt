@@ -9,7 +9,7 @@ use crate::summary::Summary;
 use crate::telling::Telling;
 use model_core::OutOfMemory;
 use model_core::model::Model;
-use sim_io::put_demo;
+use sim_io::{LineWriter, put_demo};
 use sim_spec::Bucket;
 use sim_stats::Totals;
 use std::alloc::Global;
@@ -43,6 +43,7 @@ impl Report {
     /// Appends what is told at once of a bucket with this number, and keeps of it what is told in the end.
     pub fn add<M: Model>(
         &mut self,
+        lines: &mut LineWriter,
         alloc: Global,
         model: &M,
         number: u64,
@@ -57,7 +58,9 @@ impl Report {
             → self.new ≡ report_of objects telling (bs ++ bucket.now ∷ []) }
     {
         match self {
-            Report::Lines { cycles } => put_bucket(alloc, model, *cycles, number, bucket, into),
+            Report::Lines { cycles } => {
+                put_bucket(lines, alloc, model, *cycles, number, bucket, into)
+            }
             Report::Sums(totals) => {
                 totals.add_all(bucket.done.as_buffer());
                 Ok(())

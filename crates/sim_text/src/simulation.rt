@@ -11,7 +11,7 @@ use crate::unfinished::Unfinished;
 use model_core::OutOfMemory;
 use model_core::model::Model;
 use run_laws::laws::{law_order, law_reached};
-use sim_io::{Sink, put_stop, write_all};
+use sim_io::{LineWriter, Sink, put_stop, write_all};
 use sim_spec::laws::{law_bucket, law_moves, law_next};
 use sim_spec::{Bucket, Engine, Stop, Terms};
 use std::alloc::Global;
@@ -42,6 +42,7 @@ pub fn simulate<M: Model, E: Engine, F: Fn(&mut E, Global) -> Result<Bucket, Out
     law_reached(model, terms);
     law_order(model, terms);
     let mut report = Report::new(alloc, model.objects(), telling)?;
+    let mut lines = LineWriter::new(alloc)?;
     let mut text = Vec::new(alloc);
     let mut number = 1;
     loop {
@@ -54,7 +55,7 @@ pub fn simulate<M: Model, E: Engine, F: Fn(&mut E, Global) -> Result<Bucket, Out
             return Ok(stop);
         }
         let bucket = cycle(engine, alloc)?;
-        report.add(alloc, model, number, &bucket, &mut text)?;
+        report.add(&mut lines, alloc, model, number, &bucket, &mut text)?;
         write_all(sink, text.as_slice())?;
         engine.give_back(bucket.done);
         number += 1;

@@ -1,7 +1,7 @@
 ghost use Rattle.std.specs.Prelude.{◌≡◌, ◌<◌, ◌≤◌, ◌^◌};
 
 use super::named::Named;
-use crate::{put_cycle, put_demo, put_done, put_stop};
+use crate::{LineWriter, put_cycle, put_demo, put_stop};
 use event_key::{INITIAL, Key, stamp_of};
 use model_core::{Note, Part, RecordBuffer, Records};
 use sim_spec::{Bucket, Stop, Terms};
@@ -24,11 +24,12 @@ fn key(time: u64, step: u32, dest: u32) -> Key
 #[test]
 fn the_lines_of_a_run(rt: HostRuntime) -> Result<(), Fail> {
     let alloc = rt.alloc();
+    let mut lines = LineWriter::new(alloc)?;
     let terms = Terms { end: 9, limit: 100 };
     let mut text = Vec::new(alloc);
     for (time, dest, b) in [(0, 1, 2), (5, 0, 1), (5, 2, 0)] {
         let told = [Part { word: 1, a: 5, b }];
-        put_done(alloc, &Named, &key(time, 0, dest), &told, &mut text)?;
+        lines.put_done(alloc, &Named, &key(time, 0, dest), &told, &mut text)?;
     }
     put_stop(alloc, &Named, &terms, 3, &Stop::End, &mut text)?;
     let wanted = "0.0 p1 hop 5 2\n5.0 p0 hop 5 1\n5.0 p2 hop 5 0\nend 9 events 3\n";
@@ -39,6 +40,7 @@ fn the_lines_of_a_run(rt: HostRuntime) -> Result<(), Fail> {
 #[test]
 fn each_word_of_a_note(rt: HostRuntime) -> Result<(), Fail> {
     let alloc = rt.alloc();
+    let mut lines = LineWriter::new(alloc)?;
     for (word, name) in [
         (0, "0"),
         (1, "hop"),
@@ -57,7 +59,7 @@ fn each_word_of_a_note(rt: HostRuntime) -> Result<(), Fail> {
     ] {
         let mut text = Vec::new(alloc);
         let told = [Part { word, a: 7, b: 0 }];
-        put_done(alloc, &Named, &key(4, 0, 1), &told, &mut text)?;
+        lines.put_done(alloc, &Named, &key(4, 0, 1), &told, &mut text)?;
         let wanted = format!(in alloc; "4.0 p1 {name} 7 0\n")?;
         assert_eq!(rt; text.as_slice(), wanted.as_bytes());
     }
@@ -67,8 +69,9 @@ fn each_word_of_a_note(rt: HostRuntime) -> Result<(), Fail> {
 #[test]
 fn a_line_for_each_part(rt: HostRuntime) -> Result<(), Fail> {
     let alloc = rt.alloc();
+    let mut lines = LineWriter::new(alloc)?;
     let mut text = Vec::new(alloc);
-    put_done(alloc, &Named, &key(1, 0, 1), &[], &mut text)?;
+    lines.put_done(alloc, &Named, &key(1, 0, 1), &[], &mut text)?;
     assert!(rt; text.is_empty());
     let told = [
         Part {
@@ -82,7 +85,7 @@ fn a_line_for_each_part(rt: HostRuntime) -> Result<(), Fail> {
             b: 0,
         },
     ];
-    put_done(
+    lines.put_done(
         alloc,
         &Named,
         &key(70368744177663, 65535, 8),
@@ -108,13 +111,14 @@ fn the_counts_of_a_demo(rt: HostRuntime) -> Result<(), Fail> {
 #[test]
 fn the_longest_line(rt: HostRuntime) -> Result<(), Fail> {
     let alloc = rt.alloc();
+    let mut lines = LineWriter::new(alloc)?;
     let mut text = Vec::new(alloc);
     let told = [Part {
         word: u32::MAX,
         a: u64::MAX,
         b: u64::MAX,
     }];
-    put_done(
+    lines.put_done(
         alloc,
         &Named,
         &key(140737488355327, 65535, 8),

@@ -6,7 +6,7 @@ use crate::tests::stingy::Stingy;
 use model_core::model::Model as SimulationModel;
 use model_text::AnyModel;
 use node_team::Open;
-use sim_io::put_done;
+use sim_io::LineWriter;
 use sim_spec::Bucket;
 use std::alloc::Global;
 use std::process::Abort;
@@ -22,11 +22,12 @@ fn put_bucket<R: Abort>(
     bucket: &Bucket,
     text: &mut Vec<u8>,
 ) -> Result<(), Fail> {
+    let mut lines = LineWriter::new(alloc)?;
     let records = bucket.done.as_buffer();
     for i in 0..records.len() {
         let (key, parts) = records.at(i);
         assert!(rt; key.dest < names.objects());
-        put_done(alloc, names, key, parts, text)?;
+        lines.put_done(alloc, names, key, parts, text)?;
     }
     Ok(())
 }

@@ -14,7 +14,7 @@ use Rattle.sim_text.specs.WholeTexts.{first_lines}
 use Rattle.sim_text.proofs.WritingLemmas.{writes_prefix}
 use Rattle.sim_text.proofs.First.{none_first, lines-begin, all-ended, all-done, one_more, at_objects, lines-more, lines-go_on, is_none, is_some_of, stands_so, put_told}
 use Rattle.sim_text.proofs.UnderWay.{held, ended-same, has_done}
-use Rattle.sim_text.proofs.WrittenLemmas.{rose_after, all_written, written_before, failed_before}
+use Rattle.sim_text.proofs.WrittenLemmas.{no_prefix, rose_after, all_written, written_before, failed_before}
 use Rattle.sim_text.proofs.first_cycles.simulate_first.Goals as goal
 
 pub loop-done-init : goal.loop-done-init
@@ -33,6 +33,9 @@ loop-done-init g c =
       later = omega arith;
       quiet = refl;
     }
+
+pub returns-in_err-lines-clause-written : goal.returns-in_err-lines-clause-written
+returns-in_err-lines-clause-written g c = λ from starts. written_before _ _ _ _ _ c.from_residual.ensures.1 (no_prefix _ _) refl
 
 -- it goes on where the simulation has not ended
 pub cycle-requires : goal.cycle-requires
@@ -67,7 +70,7 @@ returns-in_err-bucket-clause-written g c = λ from starts.
     let m = g.M.Model.meaning c.args.model.now in
     let part : AppendsPrefix (g.K.Sink.told c.args.sink.now) (g.K.Sink.told c.loop-done.sink) (first_lines m c.args.terms.now c.args.most from) =
     (record_lines m (records_of_buckets i.so_far), begins.0, begins.1, i.told) in
-    written_before _ _ _ _ _ c.from_residual.ensures.1 part i.quiet
+    written_before _ _ _ _ _ c.from_residual-in_err-bucket.ensures.1 part i.quiet
 
 pub put_records-requires-after_bounds : goal.put_records-requires-after_bounds
 put_records-requires-after_bounds g c κs within =

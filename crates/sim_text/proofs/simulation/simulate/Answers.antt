@@ -49,6 +49,9 @@ loop-stop-init g c =
 pub returns-in_err-report : goal.returns-in_err-report
 returns-in_err-report g c = λ from starts can. simulated_before _ _ _ _ _ _ _ _ c.from_residual.ensures.1 (no_prefix _ _) refl
 
+pub returns-in_err-lines : goal.returns-in_err-lines
+returns-in_err-lines g c = λ from starts can. simulated_before _ _ _ _ _ _ _ _ c.from_residual-in_err-lines.ensures.1 (no_prefix _ _) refl
+
 pub put-requires-after_bounds : goal.put-requires-after_bounds
 put-requires-after_bounds g c κs within =
     let i = c.loop-stop.invariant in

@@ -1,7 +1,7 @@
 use Rattle.std.proofs.Common.{◌≡◌, ◌++◌, drop}
 use Rattle.std.specs.Io.{StartsWith}
 use Rattle.sim_io.specs.Texts.{event_lines}
-use Rattle.sim_io.proofs.lines.put_lines.Given as goal
+use Rattle.sim_io.proofs.lines.line_writer.LineWriter.put_lines.Given as goal
 
 abbrev pub invariant-loop-part : goal.invariant-loop-part
 invariant-loop-part g l =

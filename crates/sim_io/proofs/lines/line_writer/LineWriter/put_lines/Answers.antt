@@ -3,7 +3,7 @@ use Rattle.std.proofs.Common.{◌+◌, ◌++◌, drop, sym, ap, ◌∙◌, appen
 use Rattle.std.proofs.Transfers.{starts_with_trans}
 use Rattle.sim_io.specs.Texts.{event_lines}
 use Rattle.sim_io.proofs.TextLemmas.{event_lines-drop, event_lines-past}
-use Rattle.sim_io.proofs.lines.put_lines.Goals as goal
+use Rattle.sim_io.proofs.lines.line_writer.LineWriter.put_lines.Goals as goal
 
 pub loop-part-preserved : goal.loop-part-preserved
 loop-part-preserved g c =

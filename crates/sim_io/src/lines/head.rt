@@ -1,0 +1,41 @@
+//! The beginning of a line.
+ghost use Rattle.std.specs.Prelude.{◌≡◌, ◌≤◌, ◌++◌, codes, length, take};
+ghost use Rattle.sim_io.specs.Heads.{IsHead};
+ghost use Rattle.sim_io.specs.Texts.{stamp_text};
+
+use event_key::{step_of, time_of};
+use model_core::{Digits, write_byte};
+
+/// For how many bytes there is room behind a stamp and in the rest of its line: a name, a word and two numbers, each with
+/// what stands round it.
+pub const LINE: usize = 112;
+
+/// A stamp and its text, with a space, as the lines of its events begin. Behind it stand bytes that mean nothing, so that
+/// where it is copied there is room for the rest of a line.
+#[derive(Debug, Drop)]
+pub struct Head {
+    pub stamp: u64,
+    pub bytes: [u8; 112],
+    /// How many bytes the text has.
+    pub count: usize,
+    ghost is_head: { IsHead stamp bytes count },
+}
+
+impl Head {
+    /// The head of a stamp's lines.
+    #[tactic(auto, unfolding(crate::specs::Texts::stamp_text))]
+    pub fn new(digits: &Digits, stamp: u64) -> Head
+        ensures { result.stamp ≡ stamp }
+    {
+        let mut bytes = [0; LINE];
+        let dot = digits.write(time_of(stamp), &mut bytes, 0);
+        let step = write_byte(b'.', &mut bytes, dot);
+        let space = digits.write(u64::from(step_of(stamp)), &mut bytes, step);
+        let count = write_byte(b' ', &mut bytes, space);
+        Head {
+            stamp,
+            bytes,
+            count,
+        }
+    }
+}

@@ -1,0 +1,136 @@
+//! The lines of events.
+ghost use Rattle.std.specs.Prelude.{◌≡◌, ◌+◌, ◌<◌, ◌≤◌, ◌++◌, codes, take, vec_len, IfOk, OnOk, OnErr};
+ghost use Rattle.std.specs.Io.{StartsWith};
+ghost use Rattle.sim_io.specs.Texts.{event_lines, part_line, stamp_text};
+
+use crate::lines::cut_back;
+use crate::lines::head::{Head, LINE};
+use crate::lines::tail::{TAIL, write_tail};
+use crate::room::append;
+use event_key::Key;
+use model_core::model::{Model, NAME_ROOM};
+use model_core::{Digits, OutOfMemory, Part};
+use std::alloc::Global;
+
+/// Writes the lines of events. It keeps the text of the last stamp, since the next event mostly has the same one.
+#[derive(Debug, Drop)]
+pub struct LineWriter {
+    digits: Digits,
+    head: Head,
+}
+
+impl LineWriter {
+    /// A writer of lines. All the memory that it will ever have is taken here.
+    pub fn new(alloc: Global) -> Result<LineWriter, OutOfMemory> {
+        let digits = Digits::new(alloc)?;
+        let head = Head::new(&digits, 0);
+        Ok(LineWriter { digits, head })
+    }
+
+    /// Appends the lines of an event: one for each part of what it tells, in order. A refusal leaves what was there.
+    pub fn put_done<M: Model>(
+        &mut self,
+        alloc: Global,
+        model: &M,
+        key: &Key,
+        parts: &[Part],
+        into: &mut Vec<u8>,
+    ) -> Result<(), OutOfMemory>
+        requires { key.now.dest < (M.meaning model.now).objects }
+        ensures ok { OnOk result (into.new.items ≡ into.old.items ++ event_lines (M.meaning model.now) key.now parts.now) }
+        ensures err { OnErr result (into.new.items ≡ into.old.items) }
+    {
+        let before = into.len();
+        let outcome = self.put_lines(alloc, model, key, parts, into);
+        cut_back(outcome, before, into)
+    }
+
+    fn put_lines<M: Model>(
+        &mut self,
+        alloc: Global,
+        model: &M,
+        key: &Key,
+        parts: &[Part],
+        into: &mut Vec<u8>,
+    ) -> Result<(), OutOfMemory>
+        requires { key.now.dest < (M.meaning model.now).objects }
+        ensures ok { OnOk result (into.new.items ≡ into.old.items ++ event_lines (M.meaning model.now) key.now parts.now) }
+        ensures prefix { StartsWith into.new.items into.old.items }
+    {
+        for part in parts {
+            self.put_line(alloc, model, key, *part, into)?;
+        }
+        Ok(())
+    }
+
+    /// Appends a line. Its parts are written at their places, behind a copy of the head.
+    #[tactic(auto, unfolding(crate::specs::Texts::part_line, crate::specs::Texts::place_text))]
+    fn put_line<M: Model>(
+        &mut self,
+        alloc: Global,
+        model: &M,
+        key: &Key,
+        part: Part,
+        into: &mut Vec<u8>,
+    ) -> Result<(), OutOfMemory>
+        requires { key.now.dest < (M.meaning model.now).objects }
+        ensures ok { OnOk result (into.new.items ≡ into.old.items ++ part_line (M.meaning model.now) key.now part) }
+        ensures prefix { StartsWith into.new.items into.old.items }
+    {
+        let name = self.begin(key.stamp, into)?;
+        let tail = self.put_name(alloc, model, key.dest, into, name)?;
+        let end = write_tail(&self.digits, part, into, tail);
+        into.truncate(end);
+        Ok(())
+    }
+
+    /// Appends a stamp and a space, and behind them room for the rest of a line. Answers the place of that.
+    fn begin(&mut self, stamp: u64, into: &mut Vec<u8>) -> Result<usize, OutOfMemory>
+        ensures text { IfOk result (λ at. take at into.new.items ≡ into.old.items ++ (stamp_text stamp ++ codes " ")) }
+        ensures room { IfOk result (λ at. at + (NAME_ROOM + TAIL) ≤ vec_len into.new) }
+        ensures prefix { StartsWith into.new.items into.old.items }
+    {
+        if self.head.stamp != stamp {
+            self.head = Head::new(&self.digits, stamp);
+        }
+        let before = into.len();
+        self.append_room(into)?;
+        Ok(before + self.head.count)
+    }
+
+    /// Appends the head and what stands behind it.
+    fn append_room(&self, into: &mut Vec<u8>) -> Result<(), OutOfMemory>
+        ensures ok { OnOk result (into.new.items ≡ into.old.items ++ self.now.head.bytes) }
+        ensures err { OnErr result (into.new.items ≡ into.old.items) }
+    {
+        into.reserve(LINE)?;
+        append(&self.head.bytes, into);
+        Ok(())
+    }
+
+    /// Puts the name of an object at a place with room for it and for the tail of a line. Answers the place behind it,
+    /// where there is still room for the tail.
+    fn put_name<M: Model>(
+        &self,
+        alloc: Global,
+        model: &M,
+        object: u32,
+        into: &mut Vec<u8>,
+        at: usize,
+    ) -> Result<usize, OutOfMemory>
+        requires object { object < (M.meaning model.now).objects }
+        requires room { at + (NAME_ROOM + TAIL) ≤ vec_len into.old }
+        ensures text { IfOk result (λ end. take end into.new.items ≡ take at into.old.items ++ (M.meaning model.now).label object) }
+        ensures room { IfOk result (λ end. end + TAIL ≤ vec_len into.new) }
+        ensures prefix { StartsWith into.new.items (take at into.old.items) }
+    {
+        if let Some(end) = model.write_name(&self.digits, object, into, at) {
+            return Ok(end);
+        }
+        into.truncate(at);
+        model.put_name(alloc, object, into)?;
+        let end = into.len();
+        self.append_room(into)?;
+        Ok(end)
+    }
+}
