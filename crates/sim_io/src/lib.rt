@@ -17,6 +17,3 @@ pub use words::{
     DEFAULT_AHEAD, DEFAULT_NODES, MOST_SAVED_CYCLES, Moves, Settings, WordFault, is_decimal,
     read_words,
 };
-
-#[cfg(test)]
-mod tests;

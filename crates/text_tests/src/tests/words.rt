@@ -1,4 +1,5 @@
-use crate::{Moves, Settings, WordFault, read_words};
+//! The words of the command line.
+use sim_io::{Moves, Settings, WordFault, read_words};
 use sim_spec::Placement;
 use std::alloc::Global;
 use std::test::Fail;
@@ -60,7 +61,7 @@ fn a_command_and_its_options(rt: HostRuntime) -> Result<(), Fail> {
         ("save 9999999", Settings::Save { c: 9_999_999 }),
         ("resume", Settings::Resume),
     ] {
-        assert_eq!(rt; read_words(&words_of(alloc, line)?), Ok(settings));
+        assert_eq!(rt; read_words(&words_of(alloc, line)?), Ok(settings), "{line}");
     }
     Ok(())
 }
@@ -123,7 +124,7 @@ fn the_first_faulty_word_is_judged(rt: HostRuntime) -> Result<(), Fail> {
         ("resume 1", WordFault::ExtraWord),
         ("resume resume -", WordFault::ExtraWord),
     ] {
-        assert_eq!(rt; read_words(&words_of(alloc, line)?), Err(fault));
+        assert_eq!(rt; read_words(&words_of(alloc, line)?), Err(fault), "{line}");
     }
     Ok(())
 }

@@ -1,4 +1,5 @@
-use crate::{CleanSink, Failed, GatheringSink, MemSink, Sink, StdSink, write_all};
+//! A sink that gathers small writes.
+use sim_io::{CleanSink, Failed, GatheringSink, MemSink, Sink, StdSink, write_all};
 use std::alloc::Global;
 use std::test::Fail;
 

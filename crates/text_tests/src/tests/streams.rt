@@ -1,4 +1,5 @@
-use crate::{
+//! Sources and sinks, and what reads all of one or writes to the other.
+use sim_io::{
     CleanSink, CleanSource, Failed, MemSink, MemSource, ReadEnd, Sink, Source, StdSink, StdSource,
     read_all, read_some, write_all,
 };

@@ -1,0 +1,27 @@
+//! What the tests share.
+ghost use Rattle.std.specs.Prelude.{◌≡◌, ◌<◌, ◌≤◌, ◌^◌};
+ghost use Rattle.event_key.specs.Stamps.{time_part};
+
+mod gathering;
+mod lines;
+mod named;
+mod streams;
+mod words;
+
+use event_key::{INITIAL, Key, stamp_of};
+
+/// The key of an initial event of rank 0.
+fn key(time: u64, step: u32, dest: u32) -> Key
+    requires time { time < 2 ^ 47 }
+    requires step { step ≤ 65535 }
+    ensures time { time_part result.stamp ≡ time }
+    ensures dest { result.dest ≡ dest }
+{
+    Key {
+        stamp: stamp_of(time, step),
+        rank: 0,
+        dest,
+        src: INITIAL,
+        serial: 0,
+    }
+}
