@@ -33,6 +33,3 @@ pub use model::AnyModel;
 pub use refusal::{Refusal, code_name};
 pub use seeded::Seeded;
 pub use top::{read_family, read_model};
-
-#[cfg(test)]
-mod tests;
