@@ -19,6 +19,3 @@ pub use reading::{MOST_STATE_BYTES, read_state};
 pub use refusal::{StateCause, StateRefusal, state_code_name};
 pub use saved::Saved;
 pub use writing::put_state;
-
-#[cfg(test)]
-mod tests;

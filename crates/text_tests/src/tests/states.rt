@@ -1,0 +1,122 @@
+//! The texts of saved states, and what they are refused for.
+use super::replaced;
+use model_core::model::Model;
+use run_save::{StateRefusal, put_state, read_state, state_code_name};
+use std::alloc::Global;
+use std::process::Abort;
+use std::test::Fail;
+use test_texts::{TWO_JOBS_STATE, two_jobs};
+
+/// The text of a station with two jobs after the first cycle.
+fn saved(alloc: Global) -> Result<String, Fail> {
+    let model = two_jobs(alloc)?;
+    Ok(format!(in alloc; "{TWO_JOBS_STATE}{model}")?)
+}
+
+/// The code and the line with which a text is refused, and code 0 where it is read.
+fn refusal_of(alloc: Global, text: &[u8]) -> Option<(u8, u64)> {
+    match read_state(alloc, text) {
+        Ok(_) => Some((0, 0)),
+        Err(StateRefusal::At { code, line }) => Some((code, line)),
+        Err(StateRefusal::OutOfMemory) => None,
+    }
+}
+
+/// Each of these changes of the saved text, of which the first place of the first becomes the second, is refused for this.
+fn assert_changed<R: Abort>(
+    rt: &R,
+    alloc: Global,
+    changes: &[(&str, &str, (u8, u64))],
+) -> Result<(), Fail> {
+    let saved = saved(alloc)?;
+    for (old, new, wanted) in changes {
+        let text = replaced(alloc, saved.as_str(), old, new)?;
+        let refusal = refusal_of(alloc, text.as_bytes());
+        assert_eq!(rt; refusal, Some(*wanted), "{text}");
+    }
+    Ok(())
+}
+
+#[test]
+fn a_saved_state_is_read_and_written_again(rt: HostRuntime) -> Result<(), Fail> {
+    let alloc = rt.alloc();
+    let text = saved(alloc)?;
+    let saved = read_state(alloc, text.as_bytes()).ok().ok_or("it is read")?;
+    assert_eq!(rt; saved.terms.end, 10);
+    assert_eq!(rt; saved.model.objects(), 2);
+    assert_eq!(rt; saved.state.count, 2);
+    let mut into = Vec::from_slice(alloc, b"before ")?;
+    let model = two_jobs(alloc)?;
+    let written = put_state(&saved.state, model.as_bytes(), &mut into);
+    assert_eq!(rt; written, Ok(()));
+    let wanted = format!(in alloc; "before {text}")?;
+    assert!(rt; into.as_slice() == wanted.as_bytes());
+    Ok(())
+}
+
+#[test]
+fn the_first_check_that_fails_is_told(rt: HostRuntime) -> Result<(), Fail> {
+    assert_eq!(rt; refusal_of(rt.alloc(), b""), Some((2, 1)));
+    let key = "6.0 0 0 0 0";
+    let changes = [
+        ("state 1", "state 1", (0, 0)),
+        ("state 1", "state 2", (2, 1)),
+        ("count 2", "count", (2, 2)),
+        ("count 2", "count  2", (2, 2)),
+        ("count 2", "count 18446744073709551616", (2, 2)),
+        ("count 2", "count 10000001", (4, 2)),
+        ("objects 2", "objects 65537", (2, 3)),
+        ("objects 2", "objects 3", (2, 6)),
+        ("object 0 1 0 0\nevents", "events", (2, 5)),
+        ("object 1 2", "object 01 2", (2, 4)),
+        ("object 1 2", "object 17 2", (4, 4)),
+        ("object 1 2 0 1", "object 1 2 0 2", (4, 4)),
+        ("object 0 1 0 0", "object 0 1 0 0 ", (2, 5)),
+        ("object 0 1 ", "object 0 99999999999999999999 ", (2, 5)),
+        ("events 1", "events 2", (2, 8)),
+        (key, "140737488355328.0 0 0 0 0", (2, 7)),
+        (key, "6.65536 0 0 0 0", (2, 7)),
+        (key, "6.0 256 0 0 0", (4, 7)),
+        (key, "6.0 4294967296 0 0 0", (2, 7)),
+        (key, "6.0 0 2 0 0", (4, 7)),
+        (key, "6.0 0 0 1 0", (4, 7)),
+        (key, "6.0 0 0 0 1", (4, 7)),
+        (key, "6.0 0 0 4294967295 1", (0, 0)),
+        (key, "6.0 0 0 4294967295 2", (4, 7)),
+        ("model 223", "model 222", (2, 8)),
+        ("model 223", "model 224", (2, 8)),
+        ("model 223", "model 0", (2, 8)),
+        ("model 223\n", "model 224\n=", (3, 8)),
+    ];
+    assert_changed(&rt, rt.alloc(), &changes)
+}
+
+#[test]
+fn events_come_in_the_order_of_their_keys(rt: HostRuntime) -> Result<(), Fail> {
+    let one = "events 1\nevent 6.0 0 0 0 0 2 1 4";
+    let ordered = "events 2\nevent 6.0 0 0 4294967295 0 2 1 4\nevent 6.0 0 0 4294967295 1 2 1 4";
+    let turned = "events 2\nevent 6.0 0 0 4294967295 1 2 1 4\nevent 6.0 0 0 4294967295 0 2 1 4";
+    let same = "events 2\nevent 6.0 0 0 0 0 2 1 4\nevent 6.0 0 0 0 0 3 1 4";
+    let changes = [
+        (one, ordered, (0, 0)),
+        (one, turned, (2, 8)),
+        (one, same, (2, 8)),
+    ];
+    assert_changed(&rt, rt.alloc(), &changes)
+}
+
+#[test]
+fn bytes_behind_the_model_are_refused(rt: HostRuntime) -> Result<(), Fail> {
+    let alloc = rt.alloc();
+    let text = format!(in alloc; "{}\n", saved(alloc)?)?;
+    assert_eq!(rt; refusal_of(alloc, text.as_bytes()), Some((2, 8)));
+    Ok(())
+}
+
+#[test]
+fn what_a_code_is_called(rt: HostRuntime) {
+    let names = ["", "TooLong", "BadLine", "BadModel", "Unlawful", ""];
+    for (code, name) in (0..).zip(names) {
+        assert_eq!(rt; state_code_name(code), name);
+    }
+}
