@@ -7,6 +7,3 @@
 mod phold;
 
 pub use phold::Phold;
-
-#[cfg(test)]
-mod tests;

@@ -6,6 +6,7 @@ mod gathering;
 mod lines;
 mod models;
 mod named;
+mod phold;
 mod states;
 mod streams;
 mod words;
