@@ -5,7 +5,6 @@ mod moves;
 mod nodes;
 mod stingy;
 mod strict;
-mod totals;
 mod worlds;
 
 use event_key::{INITIAL, Key, stamp_of};

@@ -9,6 +9,7 @@ mod named;
 mod phold;
 mod states;
 mod streams;
+mod totals;
 mod words;
 
 use event_key::{INITIAL, Key, stamp_of};
