@@ -1,3 +1,3 @@
 mod LoadLemmas
-mod RingLemmas
+pub mod RingLemmas
 mod TellingLemmas
