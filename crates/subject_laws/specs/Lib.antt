@@ -12,6 +12,7 @@ pub mod OrderLaws
 pub mod Orders
 pub mod PholdLaws
 pub mod Places
+pub mod RingLaws
 pub mod ServerLaws
 pub mod Settled
 pub mod SourceLaws

@@ -12,6 +12,7 @@ pub mod little;
 pub mod losses;
 pub mod order;
 pub mod population;
+pub mod ring;
 pub mod servers;
 pub mod settled;
 pub mod sources;

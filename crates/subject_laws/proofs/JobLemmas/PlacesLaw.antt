@@ -191,7 +191,7 @@ shifted F G S J a (suc n) room same =
     )
 
 -- nobody waits
-first_line : (kind : KindOver ℕ) → line_of (first_cells_of kind) 0 ≡ []
+pub first_line : (kind : KindOver ℕ) → line_of (first_cells_of kind) 0 ≡ []
 first_line (Source source) = refl
 first_line (Station station) = refl
 first_line other = refl

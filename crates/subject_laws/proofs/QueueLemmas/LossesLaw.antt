@@ -37,18 +37,18 @@ use Rattle.subject_laws.proofs.QueueLemmas.ServersLaw.{plain_servers_law}
 use Rattle.subject_laws.proofs.QueueLemmas.TellingLaw.{stops_too, stops_first}
 
 -- no server is free and the line is full, by the cells
-record IsFull (station : StationOver ℕ) (cells : CellData) (e : Event) : Type 0 where
+pub record IsFull (station : StationOver ℕ) (cells : CellData) (e : Event) : Type 0 where
   pub comes : e.kind ≢ 2
   pub busy : station.servers ≤ busy_servers cells
   pub full : station.line ≤ waiting_jobs cells
 
 -- what becomes of an event at a station: it loses a job, or fails, where all is full; else it is told otherwise
-data StationGives (station : StationOver ℕ) (cells : CellData) (e : Event) : Outcome → Type 0 where
+pub data StationGives (station : StationOver ℕ) (cells : CellData) (e : Event) : Outcome → Type 0 where
   lost : IsFull station cells e → station.strict ≡ false → StationGives station cells e (Goes (lose_effect cells e))
   failed : IsFull station cells e → station.strict ≡ true → StationGives station cells e (Fails 2)
   other : (IsFull station cells e → ⊥) → (x : Effect) → word_told x.note ≢ 5 → StationGives station cells e (Goes x)
 
-station_gives : (site : Site) (station : StationOver ℕ) (cells : CellData) (e : Event) → StationGives station cells e (station_effect site station cells e)
+pub station_gives : (site : Site) (station : StationOver ℕ) (cells : CellData) (e : Event) → StationGives station cells e (station_effect site station cells e)
 unfolding station_effect arrival_outcome done_effect take_effect wait_effect serve_effect free_effect
 station_gives site station cells e = by (e.kind == 2) refl
   where

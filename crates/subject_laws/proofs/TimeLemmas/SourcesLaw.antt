@@ -162,11 +162,13 @@ source_makes p site cells e source x serial is next lawful free some (makes more
     ap (λ b. cond b (job ∷ rest) rest) (ne_eqb source.next o (apart_from p o source.next is next)) ∙ ap (λ b. cond b (again ∷ []) []) (eq-eqb o o refl) in
     let after = make_leaves site source cells (time_part e.key.stamp) (source_shape source.count cells lawful) in
     let later : left_of cells - 1 ≢ 0 = λ zero. omega arith in
+    let is_left : ◌≡◌ {A = ℕ} (cond (left_of (cells_after_all (make_effect site source cells (time_part e.key.stamp)).changes cells) == 0) 0 1) 1 =
+    ap (λ (c : CellData). cond (left_of c == 0) 0 1) after ∙ ap (λ b. cond b 0 1) (ne_eqb (left_of cells - 1) 0 later) in
     let parts = or_parts _ _ free in
     let steps = or_parts _ _ parts.1 in
     record {
       tells = refl;
-      one = ap (λ (es : List Event). length es) alone ∙ sym (ap (λ (c : CellData). cond (left_of c == 0) 0 1) after ∙ ap (λ b. cond b 0 1) (ne_eqb (left_of cells - 1) 0 later));
+      one = ap (λ (es : List Event). length es) alone ∙ sym is_left;
       next = λ times before so_far.
           ap (λ (es : List Event). (times ++ time_part e.key.stamp ∷ []) ++ map (λ (e : Event). time_part e.key.stamp) es) alone
           ∙ ap (λ k. (times ++ time_part e.key.stamp ∷ []) ++ k ∷ []) (next_time e.key.stamp every steps.0)
@@ -305,7 +307,7 @@ module _ (p : NetworkParts) (t : Terms) (n : ℕ) (told : Key × Note) (after : 
 
 -- at the start a source has its first event alone
 
-sum-zero : {X : Type 0} (xs : List X) → sum_by (λ (x : X). 0) xs ≡ 0
+pub sum-zero : {X : Type 0} (xs : List X) → sum_by (λ (x : X). 0) xs ≡ 0
 sum-zero [] = refl
 sum-zero (x ∷ xs) = omega (arith, sum_by-cons (λ x. 0) x xs, sum-zero xs)
 
@@ -326,7 +328,7 @@ range_split F a (suc n) J =
       ap (λ b. sum_by F (range_with_len b J)) at,
     )
 
-same_range : (F G : ℕ → ℕ) (most a n : ℕ) → a + n ≤ most → ((k : ℕ) → k < most → F k ≡ G k) → sum_by F (range_with_len a n) ≡ sum_by G (range_with_len a n)
+pub same_range : (F G : ℕ → ℕ) (most a n : ℕ) → a + n ≤ most → ((k : ℕ) → k < most → F k ≡ G k) → sum_by F (range_with_len a n) ≡ sum_by G (range_with_len a n)
 same_range F G most a zero room same = refl
 same_range F G most a (suc n) room same =
     let here : F a ≡ G a = same a (omega arith) in

@@ -1,0 +1,4 @@
+-- A demo runs to its end.
+pub mod RingLaw
+pub mod RingParts
+pub mod RingSteps
