@@ -1,21 +1,23 @@
 -- All events from a horizon on are undone, the last one first.
-use Rattle.std.proofs.Common.{◌≡◌, ◌≢◌, ℕ, zero, suc, ◌+◌, ◌<◌, Bool, true, false, not, cond, Option, Some, None, List, [], ◌∷◌, ◌++◌, length, take, drop, eqb, eqb-true, refl, sym, ap, ◌∙◌, subst, arith, append_assoc, length-append}
+use Rattle.std.proofs.Common.{◌≡◌, ◌≢◌, ℕ, zero, suc, ◌+◌, ◌-◌, ◌<◌, ◌^◌, Bool, true, false, not, cond, Option, Some, None, List, [], ◌∷◌, ◌++◌, length, take, drop, eqb, eqb-true, refl, sym, ap, ◌∙◌, subst, arith, append_assoc, length-append, length-take}
 use Rattle.std.proofs.lemmas.Bool.{eqb-false}
-use Rattle.std.proofs.lemmas.List.{append-nil}
-use Rattle.std.specs.Prelude.{filter, nat_lt, ◌==◌}
+use Rattle.std.proofs.lemmas.List.{append-nil, length-map}
+use Rattle.std.specs.Prelude.{filter, nat_lt, slice_get, ◌==◌}
 use Rattle.std.specs.List.{AllByRecursion as Each, remove}
 use Rattle.model_core.specs.declared.event.Event.{Event}
 use Rattle.sim_spec.specs.Firing.{ObjectState}
+use Rattle.key_order.specs.Ascending.{Ascends}
 use Rattle.key_order.proofs.EachLemmas.{Each-map}
 use Rattle.key_order.proofs.FilterLemmas.{filter-all, filter-none, filter-swap}
 use Rattle.std.proofs.lemmas.List.Elements.{filter-append}
 use Rattle.object_log.specs.Dones.{Done}
 use Rattle.object_log.specs.EventCalls.{HasUndoneFrom, undone_or}
-use Rattle.object_log.specs.EventLogs.{EventLogView, dones_at, state_in}
+use Rattle.object_log.specs.EventLogs.{EventLogView, done_key, dones_at, state_in}
 use Rattle.object_log.specs.Logs.{before, events_of, undone}
-use Rattle.object_log.specs.Undoings.{HasUndoneAt}
+use Rattle.object_log.specs.Undoings.{HasUndoneAt, IsNewestAt, LastIsFrom}
+use Rattle.object_log.proofs.FrontLemmas.{down-stamp}
 use Rattle.object_log.proofs.OwnLemmas.{is_here, is_there}
-use Rattle.object_log.proofs.UndoLemmas.{split-at}
+use Rattle.object_log.proofs.UndoLemmas.{same-found, split-at}
 
 -- the state of an object once these events of it are undone
 abbrev pub undone_in : List Done → Option ObjectState → Option ObjectState
@@ -112,3 +114,54 @@ from-end horizon old now into count b low =
           (ap (dones_at object) (sym gone) ∙ filter-swap (λ (d : Done). d.event.key.dest == object) q old.done);
       events = b.events ∙ ap events_of (sym gone);
     }
+
+-- where the last event is below a horizon, all are
+pub below-last : (horizon : ℕ) (ds : List Done) (n : ℕ) (d : Done) → Ascends done_key ds → n + 1 ≡ length ds → slice_get ds n ≡ Some d → nat_lt d.event.key.stamp horizon ≡ true
+    → Each (λ (x : Done). nat_lt x.event.key.stamp horizon ≡ true) ds
+unfolding Ascends
+below-last horizon [] n d up long found low = tt
+below-last horizon (x ∷ []) zero d up long found low = (let same : x ≡ d = cc in (ap (λ (y : Done). nat_lt y.event.key.stamp horizon) same ∙ low, tt))
+below-last horizon (x ∷ []) (suc n) d up long found low = absurd (omega arith)
+below-last horizon (x ∷ y ∷ ds) zero d up long found low = absurd (omega arith)
+below-last horizon (x ∷ y ∷ ds) (suc n) d up long found low =
+    let more = below-last horizon (y ∷ ds) n d up.1 (omega arith) found low in
+    (down-stamp horizon x.event.key y.event.key up.0.0 more.0, more)
+
+pub none-below : (horizon : ℕ) (ds : List Done) → length ds ≡ 0 → Each (λ (x : Done). nat_lt x.event.key.stamp horizon ≡ true) ds
+none-below horizon [] none = tt
+none-below horizon (d ∷ ds) none = absurd (omega arith)
+
+-- the last event is the newest of its object
+pub newest-last : (horizon : ℕ) (log : EventLogView) (index : ℕ) → LastIsFrom horizon log.done → index ≡ length log.done - 1 → IsNewestAt index log
+newest-last horizon log index l is =
+    let P : ℕ → Type 0 = λ n. slice_get log.done n ≡ Some l.last in
+    let some = l.some in
+    record {
+      newest = l.last;
+      found = subst P (sym is) l.found;
+      last = ap (dones_at l.last.event.key.dest) (none-behind log.done (suc index) (omega arith));
+    }
+
+pub from-next : (horizon : ℕ) (old now next : EventLogView) (into more : List Event) (count index : ℕ) (event : Event) → IsBackFrom horizon old now into count → HasUndoneAt index now next event
+    → LastIsFrom horizon now.done → index ≡ length now.done - 1 → more ≡ event ∷ into → IsBackFrom horizon old next more (count + 1)
+from-next horizon old now next into more count index event so_far one l is pushed =
+    let P : ℕ → Type 0 = λ n. slice_get now.done n ≡ Some l.last in
+    let same = same-found now.done index one.newest l.last one.found (subst P (sym is) l.found) in
+    let some = l.some in
+    from-step horizon old now next into more count index event so_far one (omega arith) (ap (λ (d : Done). nat_lt d.event.key.stamp horizon) same ∙ l.from) pushed
+
+pub from-room : (horizon : ℕ) (old now : EventLogView) (into : List Event) (count : ℕ) → IsBackFrom horizon old now into count → LastIsFrom horizon now.done → length old.done < 2 ^ 60 → (length into + 1 < 2 ^ 60) × (count + 1 < 2 ^ 60)
+from-room horizon old now into count b l few =
+    let some = l.some in
+    let long = ap length b.split ∙ length-append now.done b.gone in
+    let events = ap length b.events ∙ length-map b.gone (λ (d : Done). d.event) in
+    let counted = b.count_is in
+    (omega arith, omega arith)
+
+pub from-less : (horizon : ℕ) (now next : EventLogView) (index : ℕ) (event : Event) → HasUndoneAt index now next event → LastIsFrom horizon now.done → index ≡ length now.done - 1 → length next.done < length now.done
+from-less horizon now next index event one l is =
+    let some = l.some in
+    let none = none-behind now.done (suc index) (omega arith) in
+    let left = ap length (one.done ∙ ap (λ zs. take index now.done ++ zs) none ∙ append-nil (take index now.done)) in
+    let most = length-take index now.done in
+    omega (arith, left, most)

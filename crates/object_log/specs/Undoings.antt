@@ -1,5 +1,5 @@
 -- The newest event of an object is undone, wherever it stands among those of others.
-use Rattle.std.specs.Prelude.{◌≡◌, ℕ, suc, [], drop, slice_get, Some}
+use Rattle.std.specs.Prelude.{◌≡◌, ℕ, suc, ◌-◌, ◌<◌, false, List, [], drop, length, slice_get, Some, nat_lt}
 use Rattle.std.specs.List.{remove}
 use Rattle.model_core.specs.declared.event.Event.{Event}
 use Rattle.sim_spec.specs.Firing.{ObjectState}
@@ -22,3 +22,10 @@ pub record HasUndoneAt (index : ℕ) (old new : EventLogView) (event : Event) : 
   pub was : ObjectState
   pub changes : ChangesAt newest.event.key.dest old new was (before was newest)
   pub event_is : event ≡ newest.event
+
+-- the last event isn't below a horizon
+pub record LastIsFrom (horizon : ℕ) (ds : List Done) : Type 0 where
+  pub last : Done
+  pub some : 0 < length ds
+  pub found : slice_get ds (length ds - 1) ≡ Some last
+  pub from : nat_lt last.event.key.stamp horizon ≡ false

@@ -1,21 +1,22 @@
 //! The log of many objects.
-ghost use Rattle.std.specs.Prelude.{◌≡◌, ◌<◌, ◌≤◌, ◌+◌, ◌^◌, [], length, slice_get, IfOk, IfErr, IfSome, IfNone, OnOk, OnErr, IsTrue, Some, None, true};
+ghost use Rattle.std.specs.Prelude.{◌≡◌, ◌<◌, ◌≤◌, ◌+◌, ◌^◌, [], length, slice_get, IfOk, IfErr, IfSome, IfNone, OnOk, OnErr, IsTrue, Some, None, false, true, nat_lt};
 ghost use Rattle.std.specs.List.{AllByRecursion};
 ghost use Rattle.event_key.specs.Keys.{key_lt};
 ghost use Rattle.event_key.specs.Stamps.{time_part};
 ghost use Rattle.event_key.specs.declared.stamp.TheConstants.{NO_STAMP};
 ghost use Rattle.model_core.specs.Meaning.{Meaning};
+ghost use Rattle.key_order.specs.Ascending.{Ascends};
 ghost use Rattle.key_order.specs.Stamps.{least_stamp};
-ghost use Rattle.object_log.specs.EventCalls.{HasProcessed};
-ghost use Rattle.object_log.specs.EventLogs.{dones_at, state_in};
+ghost use Rattle.object_log.specs.EventCalls.{HasProcessed, HasUndoneFrom};
+ghost use Rattle.object_log.specs.EventLogs.{done_key, dones_at, state_in};
 ghost use Rattle.object_log.specs.Logs.{fault_of, held_of, keys_of};
 ghost use Rattle.object_log.specs.Objects.{IsPlaced};
-ghost use Rattle.object_log.specs.Undoings.{HasUndoneAt, IsNewestAt};
+ghost use Rattle.object_log.specs.Undoings.{HasUndoneAt, IsNewestAt, LastIsFrom};
 
 use crate::carried::Carried;
 use crate::object::{Fired, Object};
 use crate::pool::LogPool;
-use event_chain::Cell;
+use event_chain::{Cell, Chain};
 use event_key::Key;
 use model_core::model::Model as SimulationModel;
 use model_core::{Effect, Event, OutOfMemory};
@@ -56,6 +57,14 @@ impl EventLog {
         ensures { result ≡ length self.now.done }
     {
         self.carried.len()
+    }
+
+    /// What is true of each log: its events are in the order of their keys, and few.
+    pub fn tells(&self)
+        ensures ordered { Ascends done_key self.now.done }
+        ensures few { length self.now.done < 2 ^ 60 }
+    {
+        let _ = &self.objects;
     }
 
     /// The least stamp of the messages that are held, or `NO_STAMP`, in constant time.
@@ -119,5 +128,40 @@ impl EventLog {
         let done = self.carried.take(index);
         let object = &mut self.objects[place as usize];
         object.undo(done, pool)
+    }
+
+    /// Whether the last event isn't below a horizon, in constant time.
+    fn last_is_from(&self, horizon: u64) -> bool
+        ensures some { IsTrue result → LastIsFrom horizon self.now.done }
+        ensures none { result ≡ false → AllByRecursion (λ d. nat_lt d.event.key.stamp horizon ≡ true) self.now.done }
+    {
+        let len = self.carried.len();
+        if len == 0 {
+            return false;
+        }
+        let (key, _place) = self.carried.at(len - 1);
+        key.stamp >= horizon
+    }
+
+    /// Undoes each event that isn't below a horizon, and puts them into `into` in the order of their keys. Answers how many
+    /// there were. What else they leave goes to the pool. Takes no memory.
+    pub fn undo_from(
+        &mut self,
+        horizon: u64,
+        pool: &mut LogPool,
+        into: &mut Chain<Event>,
+    ) -> u64
+        requires { into.old ≡ [] }
+        ensures undone { HasUndoneFrom horizon self.old self.new into.new }
+        ensures count { result ≡ length into.new }
+    {
+        self.tells();
+        let mut count = 0;
+        while self.last_is_from(horizon) {
+            let last = self.len() - 1;
+            into.push_front(self.undo_at(last, pool));
+            count += 1;
+        }
+        count
     }
 }
