@@ -1,5 +1,5 @@
 //! The log of many objects.
-ghost use Rattle.std.specs.Prelude.{◌≡◌, ◌<◌, ◌≤◌, ◌+◌, ◌^◌, [], length, slice_get, IfOk, IfErr, IfSome, IfNone, OnOk, OnErr, IsTrue, Some, None, false, true, nat_lt};
+ghost use Rattle.std.specs.Prelude.{◌≡◌, ◌<◌, ◌≤◌, ◌+◌, ◌^◌, [], length, slice_get, IfOk, IfErr, IfSome, IfNone, OnOk, OnErr, IsTrue, Some, None, is_some, false, true, nat_lt};
 ghost use Rattle.std.specs.List.{AllByRecursion};
 ghost use Rattle.event_key.specs.Keys.{key_lt};
 ghost use Rattle.event_key.specs.Stamps.{time_part};
@@ -7,7 +7,7 @@ ghost use Rattle.event_key.specs.declared.stamp.TheConstants.{NO_STAMP};
 ghost use Rattle.model_core.specs.Meaning.{Meaning};
 ghost use Rattle.key_order.specs.Ascending.{Ascends};
 ghost use Rattle.key_order.specs.Stamps.{least_stamp};
-ghost use Rattle.object_log.specs.EventCalls.{HasProcessed, HasUndoneFrom};
+ghost use Rattle.object_log.specs.EventCalls.{HasGoneBack, HasProcessed, HasUndoneFrom};
 ghost use Rattle.object_log.specs.EventLogs.{done_key, dones_at, state_in};
 ghost use Rattle.object_log.specs.Logs.{fault_of, held_of, keys_of};
 ghost use Rattle.object_log.specs.Objects.{IsPlaced};
@@ -128,6 +128,47 @@ impl EventLog {
         let done = self.carried.take(index);
         let object = &mut self.objects[place as usize];
         object.undo(done, pool)
+    }
+
+    /// The key of the event at a place of the list.
+    fn key_at(&self, index: usize) -> Key
+        requires { index < length self.now.done }
+        ensures { slice_get (keys_of self.now.done) index ≡ Some result }
+    {
+        let (key, _place) = self.carried.at(index);
+        key
+    }
+
+    /// Undoes each event of an object that doesn't come before a key, and puts them into `into` in the order of their keys.
+    /// Answers how many there were. What else they leave goes to the pool. Takes no memory, and a look at each event that
+    /// doesn't come before the key.
+    pub fn back_to(
+        &mut self,
+        object: u32,
+        key: Key,
+        pool: &mut LogPool,
+        into: &mut Chain<Event>,
+    ) -> u64
+        requires here { is_some (state_in self.old.objects object) ≡ true }
+        requires empty { into.old ≡ [] }
+        ensures back { HasGoneBack object key self.old self.new into.new }
+        ensures count { result ≡ length into.new }
+    {
+        self.tells();
+        let mut count = 0;
+        let mut index = self.len();
+        while index > 0 {
+            let at = self.key_at(index - 1);
+            if at.is_before(&key) {
+                return count;
+            }
+            index -= 1;
+            if at.dest == object {
+                into.push_front(self.undo_at(index, pool));
+                count += 1;
+            }
+        }
+        count
     }
 
     /// Whether the last event isn't below a horizon, in constant time.
