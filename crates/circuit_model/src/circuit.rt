@@ -11,7 +11,7 @@ use crate::response::OUTPUT;
 use crate::starts::starts_of;
 use crate::wiring::{Pins, gate_at, wire};
 use model_core::model::Model as SimulationModel;
-use model_core::{Cells, Change, Effect, Ending, Event, OutOfMemory, Start};
+use model_core::{Cells, Change, Digits, Effect, Ending, Event, OutOfMemory, Start};
 use random_streams::Stream;
 use std::alloc::Global;
 
@@ -105,5 +105,16 @@ impl SimulationModel for Circuit {
         let gate = gate_at(&self.gates, object);
         into.extend_from_slice(gate.name.bytes())?;
         Ok(())
+    }
+
+    #[inline(always)]
+    fn write_name(
+        &self,
+        _digits: &Digits,
+        object: u32,
+        into: &mut [u8],
+        at: usize,
+    ) -> Option<usize> {
+        gate_at(&self.gates, object).name.write(into, at)
     }
 }

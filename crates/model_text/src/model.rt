@@ -2,7 +2,7 @@
 use circuit_model::Circuit;
 use delta_exchange::{Cells, OutOfMemory};
 use model_core::model::Model as SimulationModel;
-use model_core::{Effect, Ending, Event, Start};
+use model_core::{Digits, Effect, Ending, Event, Start};
 use phold_model::Phold;
 use queue_models::Network;
 use random_streams::Stream;
@@ -117,6 +117,21 @@ impl SimulationModel for AnyModel {
             AnyModel::Phold(phold) => phold.put_name(alloc, object, into),
             AnyModel::Network(network) => network.put_name(alloc, object, into),
             AnyModel::Circuit(circuit) => circuit.put_name(alloc, object, into),
+        }
+    }
+
+    #[inline(always)]
+    fn write_name(
+        &self,
+        digits: &Digits,
+        object: u32,
+        into: &mut [u8],
+        at: usize,
+    ) -> Option<usize> {
+        match self {
+            AnyModel::Phold(phold) => phold.write_name(digits, object, into, at),
+            AnyModel::Network(network) => network.write_name(digits, object, into, at),
+            AnyModel::Circuit(circuit) => circuit.write_name(digits, object, into, at),
         }
     }
 }

@@ -6,7 +6,8 @@ ghost use Rattle.phold_model.specs.Meaning.{phold_meaning, hop_start};
 use itoa::Buffer;
 use model_core::model::Model as SimulationModel;
 use model_core::{
-    Cells, Effect, Ending, Entry, Event, HOP_WORD, Note, OutOfMemory, Part, Send, Start, keep_place,
+    Cells, Digits, Effect, Ending, Entry, Event, HOP_WORD, Note, OutOfMemory, Part, Send, Start,
+    keep_place, write_byte,
 };
 use random_streams::{Divisor, Law, PreparedLaw, Stream};
 use std::alloc::Global;
@@ -210,5 +211,17 @@ impl SimulationModel for Phold {
         }
         outcome?;
         Ok(())
+    }
+
+    #[inline(always)]
+    fn write_name(
+        &self,
+        digits: &Digits,
+        object: u32,
+        into: &mut [u8],
+        at: usize,
+    ) -> Option<usize> {
+        let number = write_byte(b'p', into, at);
+        Some(digits.write(u64::from(object), into, number))
     }
 }

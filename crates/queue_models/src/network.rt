@@ -9,7 +9,7 @@ ghost use Rattle.queue_models.specs.Meaning.{network_meaning};
 use crate::kind::Item;
 use crate::site::{ARRIVE, MAKE, Site};
 use model_core::model::Model as SimulationModel;
-use model_core::{Cells, Effect, Ending, Entry, Event, OutOfMemory, Start};
+use model_core::{Cells, Digits, Effect, Ending, Entry, Event, OutOfMemory, Start};
 use random_streams::Stream;
 use std::alloc::Global;
 
@@ -202,5 +202,16 @@ impl SimulationModel for Network {
         let name = &self.objects[object as usize].name;
         into.extend_from_slice(name.bytes())?;
         Ok(())
+    }
+
+    #[inline(always)]
+    fn write_name(
+        &self,
+        _digits: &Digits,
+        object: u32,
+        into: &mut [u8],
+        at: usize,
+    ) -> Option<usize> {
+        self.objects[object as usize].name.write(into, at)
     }
 }
