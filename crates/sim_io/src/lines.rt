@@ -1,8 +1,7 @@
 //! The lines of a simulation's text.
-ghost use Rattle.std.specs.Prelude.{◌≡◌, ◌+◌, ◌<◌, ◌≤◌, ◌++◌, OnOk, OnErr, codes, take, vec_len};
-ghost use Rattle.std.specs.Vec.{vec_capacity};
+ghost use Rattle.std.specs.Prelude.{◌≡◌, ◌<◌, ◌++◌, OnOk, OnErr, take};
 ghost use Rattle.std.specs.Io.{StartsWith};
-ghost use Rattle.sim_io.specs.Texts.{part_line, part_text, stamp_text, event_lines, fault_line, stop_line, IsAtObject};
+ghost use Rattle.sim_io.specs.Texts.{fault_line, stop_line, IsAtObject};
 ghost use Rattle.sim_io.specs.CycleTexts.{IsWhole, cycle_line, demo_line};
 
 mod head;

@@ -1,7 +1,6 @@
 //! The beginning of a line.
-ghost use Rattle.std.specs.Prelude.{◌≡◌, ◌≤◌, ◌++◌, codes, length, take};
+ghost use Rattle.std.specs.Prelude.{◌≡◌};
 ghost use Rattle.sim_io.specs.Heads.{IsHead};
-ghost use Rattle.sim_io.specs.Texts.{stamp_text};
 
 use event_key::{step_of, time_of};
 use model_core::{Digits, write_byte};
