@@ -1,7 +1,9 @@
+pub mod BoundLemmas
+pub mod CutLaw
+pub mod GravestLemmas
 pub mod JobLemmas
 pub mod NumberLemmas
 pub mod RowLemmas
-pub mod SeenLemmas
 pub mod StayLemmas
 pub mod TableLemmas
 pub mod TextLemmas

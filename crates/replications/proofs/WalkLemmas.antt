@@ -1,10 +1,10 @@
 -- Options that are walked, two words at a time.
 use Rattle.std.proofs.Common.{◌≡◌, ◌≤◌, ℕ, List, [], ◌∷◌, Ok, String, string_bytes, length, get_or, drop, ap, ◌∙◌, arith}
 use Rattle.std.specs.declared.alloc.Global.{Global}
-use Rattle.sim_io.specs.Words.{texts_of}
+use Rattle.sim_io.specs.Words.{and_then, texts_of}
 use Rattle.replications.specs.declared.words.Choice.{Choice}
 use Rattle.replications.specs.declared.words.Given.{Given}
-use Rattle.replications.specs.ReplicateWords.{and_then, chosen, given_with, walked}
+use Rattle.replications.specs.ReplicateWords.{chosen, given_with, walked}
 
 pub two_words : (words : List (String Global)) (word value : String Global) → 2 ≤ length words → word ≡ get_or words 0 word → value ≡ get_or words 1 value
     → texts_of words ≡ string_bytes word ∷ string_bytes value ∷ texts_of (drop 2 words)

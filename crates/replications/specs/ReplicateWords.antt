@@ -1,11 +1,12 @@
 -- The words of `replicate`: what they set, or what is wrong with them.
-use Rattle.std.specs.Prelude.{ℕ, Bool, not, ◌&&◌, List, [], ◌∷◌, length, Option, Some, None, is_some, unwrap_or, Result, Ok, Err, if◌then◌else◌, codes, bytes_eq, nat_eq, nat_le, nat_lt}
+use Rattle.std.specs.Prelude.{◌≤◌, ℕ, Bool, not, ◌&&◌, List, [], ◌∷◌, length, Option, Some, None, is_some, unwrap_or, IfSome, Result, Ok, Err, if◌then◌else◌, codes, bytes_eq, nat_eq, nat_le, nat_lt}
 use Rattle.std.specs.Char.{is_ascii_digit}
 use Rattle.std.specs.List.{list_all, starts_with}
 use Rattle.std.specs.Str.Parse.{digits_value}
 use Rattle.event_key.specs.declared.stamp.TheConstants.{LAST_TICK}
 use Rattle.sim_io.specs.declared.words.WordFault.{WordFault}
-use Rattle.sim_io.specs.declared.words.WordFault.TheVariants.{UnknownOption, RepeatedOption, MissingValue, BadValue, ExtraWord}
+use Rattle.sim_io.specs.declared.words.WordFault.TheVariants.{RepeatedOption, MissingValue, BadValue}
+use Rattle.sim_io.specs.Words.{and_then, stray_word}
 use Rattle.replications.specs.declared.words.Choice.{Choice}
 use Rattle.replications.specs.declared.words.Choice.TheVariants.{First, From, Workers}
 use Rattle.replications.specs.declared.words.Given.{Given}
@@ -47,10 +48,6 @@ with_number given First n = record { first = Some n; from = given.from; workers 
 with_number given From n = record { first = given.first; from = Some n; workers = given.workers }
 with_number given Workers n = record { first = given.first; from = given.from; workers = Some n }
 
--- a word that stands for nothing
-abbrev pub stray_word : List ℕ → WordFault
-stray_word word = if starts_with nat_eq word (codes "-") then UnknownOption else ExtraWord
-
 -- the option that a word names, where it wasn't given before
 abbrev pub chosen_if : Given → List ℕ → Option Choice → Result Choice WordFault
 chosen_if given word None = Err (stray_word word)
@@ -66,10 +63,6 @@ with_value given choice (Some n) = Ok (with_number given choice n)
 
 abbrev pub given_with : Given → Choice → List ℕ → Result Given WordFault
 given_with given choice word = with_value given choice (value_of choice word)
-
-abbrev pub and_then : {T U : Type 0} → Result T WordFault → (T → Result U WordFault) → Result U WordFault
-and_then (Ok value) next = next value
-and_then (Err fault) next = Err fault
 
 -- options are walked in turn, each a word and its value
 unfoldable pub walked : Given → List (List ℕ) → Result Given WordFault
@@ -96,3 +89,20 @@ settings_if (Some count) rest = and_then (walked no_options rest) (λ given. Ok 
 unfoldable pub replicate_settings : List (List ℕ) → Result Replicate WordFault
 replicate_settings [] = Err MissingValue
 replicate_settings (word ∷ rest) = settings_if (number_within 1 MOST_REPLICATIONS word) rest
+
+-- a number lies between two where it is there
+abbrev pub IsGivenWithin : ℕ → ℕ → Option ℕ → Type 0
+IsGivenWithin least most given = IfSome given (λ n. (least ≤ n) × (n ≤ most))
+
+-- what options gave lies within its bounds
+pub record AreGivenInBounds (given : Given) : Type 0 where
+  pub first : IsGivenWithin 0 LAST_SEED given.first
+  pub from : IsGivenWithin 0 LAST_TICK given.from
+  pub workers : IsGivenWithin 1 MOST_WORKERS given.workers
+
+-- what is asked for lies within its bounds
+pub record AreInBounds (asked : Replicate) : Type 0 where
+  pub count : (1 ≤ asked.count) × (asked.count ≤ MOST_REPLICATIONS)
+  pub first_seed : IsGivenWithin 0 LAST_SEED asked.first_seed
+  pub from : asked.from ≤ LAST_TICK
+  pub workers : (1 ≤ asked.workers) × (asked.workers ≤ MOST_WORKERS)

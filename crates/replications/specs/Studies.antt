@@ -1,6 +1,6 @@
 -- A model under many seeds.
-use Rattle.std.specs.Prelude.{◌≡◌, ℕ, ◌+◌, ◌%◌, ◌^◌, Bool, true, false, List, [], ◌∷◌, ◌++◌, map, codes, None, IfSome}
-use Rattle.std.specs.List.{flat_map, list_any, range_with_len}
+use Rattle.std.specs.Prelude.{◌≡◌, ℕ, ◌+◌, ◌%◌, ◌^◌, List, [], ◌∷◌, ◌++◌, map, codes, None, IfSome}
+use Rattle.std.specs.List.{flat_map, range_with_len}
 use Rattle.model_core.specs.Meaning.{Meaning}
 use Rattle.sim_spec.specs.declared.stop.Stop.{Stop}
 use Rattle.sim_spec.specs.declared.stop.Stop.TheVariants.{End, Limit, Fault}
@@ -8,7 +8,6 @@ use Rattle.sim_spec.specs.declared.terms.Terms.{Terms}
 use Rattle.sim_spec.specs.State.{initial_state}
 use Rattle.sim_spec.specs.Run.{run}
 use Rattle.replications.specs.declared.job.Job.{Job}
-use Rattle.replications.specs.declared.seen.Seen.{Seen}
 use Rattle.replications.specs.Rows.{rows}
 
 -- what a model means under each seed, how far its runs go, the first tick of the window, and the seed of the first replication
@@ -46,19 +45,17 @@ stops_between s number many = map (stop_at s) (range_with_len number many)
 unfoldable pub table_text : StudyOf → ℕ → List ℕ
 table_text s many = codes "seed,object,arrivals,served,lost,busy,waiting,age,longest,ticks,events,stop\n" ++ rows_between s 0 many
 
-abbrev pub is_fault : Stop → Bool
-is_fault End = false
-is_fault Limit = false
-is_fault (Fault key code) = true
+-- the graver of two stops: a fault, before the limit, before an end
+abbrev pub graver : Stop → Stop → Stop
+graver End second = second
+graver Limit (Fault key code) = Fault key code
+graver Limit other = Limit
+graver (Fault key code) second = Fault key code
 
-abbrev pub is_limit : Stop → Bool
-is_limit End = false
-is_limit Limit = true
-is_limit (Fault key code) = false
-
--- whether a run stopped at a fault, and whether one did at its limit
-unfoldable pub seen_of : List Stop → Seen
-seen_of stops = record { fault = list_any is_fault stops; limit = list_any is_limit stops }
+-- the gravest of some stops, and the end of a run where there is none
+unfoldable pub gravest : List Stop → Stop
+gravest [] = End
+gravest (stop ∷ rest) = graver stop (gravest rest)
 
 -- a replication was done, or there was no memory for it
 pub record IsDone (s : StudyOf) (seed : ℕ) (job : Job) : Type 0 where

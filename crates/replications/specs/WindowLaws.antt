@@ -1,5 +1,6 @@
 -- Laws of windows.
-use Rattle.std.specs.Prelude.{◌≡◌, ℕ, ◌+◌, ◌-◌, ◌*◌, List, map}
+use Rattle.std.specs.Prelude.{◌≡◌, ℕ, ◌+◌, ◌-◌, ◌*◌, ◌<◌, ◌≤◌, nat_lt, List, [], ◌∷◌, map}
+use Rattle.std.specs.List.{filter}
 use Rattle.sim_stats.specs.Sums.{sums_of}
 use Rattle.sim_stats.specs.Words.{TimedWord}
 use Rattle.replications.specs.Parts.{TimedPart}
@@ -21,3 +22,25 @@ pub record GoesOnFromTotals (last : ℕ) (told : List TimedPart) : Type 0 where
 
 abbrev pub WindowLaw : Type 0
 WindowLaw = (last : ℕ) (told : List TimedPart) → GoesOnFromTotals last told
+
+-- the parts told before a tick
+unfoldable pub before_tick : ℕ → List TimedPart → List TimedPart
+before_tick tick told = filter (λ (one : TimedPart). nat_lt one.time tick) told
+
+-- none is told before one that stands before it
+unfoldable pub InOrder : List TimedPart → Type 0
+InOrder [] = Unit {0}
+InOrder (one ∷ []) = Unit {0}
+InOrder (one ∷ next ∷ rest) = (one.time ≤ next.time) × InOrder (next ∷ rest)
+
+-- the sums of a window are those up to a tick within it, over what is told before that tick, and those from there on
+pub record IsCutAt (first middle last : ℕ) (told : List TimedPart) : Type 0 where
+  pub arrivals : (window_sums first last told).arrivals ≡ (window_sums first middle (before_tick middle told)).arrivals + (window_sums middle last told).arrivals
+  pub served : (window_sums first last told).served ≡ (window_sums first middle (before_tick middle told)).served + (window_sums middle last told).served
+  pub lost : (window_sums first last told).lost ≡ (window_sums first middle (before_tick middle told)).lost + (window_sums middle last told).lost
+  pub busy : (window_sums first last told).busy ≡ (window_sums first middle (before_tick middle told)).busy + (window_sums middle last told).busy
+  pub waiting : (window_sums first last told).waiting ≡ (window_sums first middle (before_tick middle told)).waiting + (window_sums middle last told).waiting
+  pub age : (window_sums first last told).age ≡ (window_sums first middle (before_tick middle told)).age + (window_sums middle last told).age
+
+abbrev pub WindowsAdd : Type 0
+WindowsAdd = (first middle last : ℕ) (told : List TimedPart) → first < middle → middle ≤ last → InOrder told → IsCutAt first middle last told

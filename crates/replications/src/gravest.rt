@@ -1,44 +1,20 @@
-//! How the runs of replications stopped.
-ghost use Rattle.std.specs.Prelude.{◌≡◌, ◌++◌, ◌∷◌, [], List};
-ghost use Rattle.sim_spec.specs.declared.stop.Stop.{Stop};
+//! How grave the stops of runs are.
+ghost use Rattle.std.specs.Prelude.{◌≡◌};
+ghost use Rattle.replications.specs.Studies.{graver};
 
 use sim_spec::Stop;
 
-/// Whether a run stopped at a fault, and whether one did at its limit.
-#[derive(Clone, Copy, Debug, PartialEq, Eq)]
-pub struct Seen {
-    pub fault: bool,
-    pub limit: bool,
-}
-
-impl Seen {
-    ghost use Rattle.replications.specs.Studies.{seen_of};
-
-    /// Of no run yet.
-    #[tactic(auto, unfolding(crate::specs::Studies::seen_of))]
-    pub fn nothing() -> Seen
-        ensures { result ≡ seen_of [] }
-    {
-        Seen {
-            fault: false,
-            limit: false,
-        }
-    }
-
-    /// With one run more, which stopped so.
-    pub fn with(self, stop: Stop) -> Seen
-        ensures { (stops : List Stop) → self ≡ seen_of stops → result ≡ seen_of (stops ++ stop ∷ []) }
-    {
-        match stop {
-            Stop::End => self,
-            Stop::Limit => Seen {
-                limit: true,
-                ..self
-            },
-            Stop::Fault { .. } => Seen {
-                fault: true,
-                ..self
-            },
-        }
+/// The graver of two stops: a fault is graver than the limit, and that is graver than an end. Of two that are as grave it is
+/// the first.
+pub fn graver(first: Stop, second: Stop) -> Stop
+    ensures { result ≡ graver first second }
+{
+    match first {
+        Stop::End => second,
+        Stop::Limit => match second {
+            Stop::Fault { .. } => second,
+            _ => first,
+        },
+        Stop::Fault { .. } => first,
     }
 }

@@ -2,13 +2,13 @@
 #![tactic(auto)]
 
 mod batch;
+mod gravest;
 mod job;
 pub mod laws;
 mod left;
 mod replication;
 mod rows;
 mod seeds;
-mod seen;
 mod study;
 mod table;
 mod window;
@@ -17,7 +17,6 @@ mod words;
 
 pub use replication::replicate_once;
 pub use seeds::Seeds;
-pub use seen::Seen;
 pub use study::Study;
 pub use table::write_table;
 pub use window::{Columns, Window};

@@ -7,16 +7,17 @@ ghost use Rattle.sim_io.specs.Causes.{Rose};
 ghost use Rattle.sim_io.specs.Transfers.{AppendsPrefix};
 ghost use Rattle.sim_text.specs.declared.unfinished.Unfinished.TheVariants.{WriteFault, OutOfMemory as NoMemory};
 ghost use Rattle.replications.specs.Families.{study_of};
-ghost use Rattle.replications.specs.Studies.{StudyOf, AreDone, rows_between, stops_between, table_text, seen_of};
+ghost use Rattle.replications.specs.Studies.{StudyOf, AreDone, rows_between, stops_between, table_text, gravest};
 
 use crate::batch::run_batch;
+use crate::gravest::graver;
 use crate::job::Job;
 use crate::rows::HEAD;
 use crate::seeds::Seeds;
-use crate::seen::Seen;
 use crate::study::Study;
 use model_core::model::Model as SimulationModel;
 use sim_io::{Sink, write_all};
+use sim_spec::Stop;
 use sim_text::Unfinished;
 use std::alloc::Global;
 use std::thread::Threads;
@@ -42,11 +43,11 @@ fn batch_size(objects: u32, workers: u32) -> u64
 }
 
 /// Writes the rows of a batch in order, until there was no memory for a replication.
-fn write_rows<K: Sink>(jobs: &[Job], seen: &mut Seen, out: &mut K) -> Result<(), Unfinished>
+fn write_rows<K: Sink>(jobs: &[Job], worst: &mut Stop, out: &mut K) -> Result<(), Unfinished>
     ensures whole { (s : StudyOf) (number : ℕ) → AreDone s number jobs.now
         → OnOk result (Appends (K.told out.old) (K.told out.new) (rows_between s number (length jobs.now))) }
-    ensures seen { (s : StudyOf) (number : ℕ) (before : List Stop) → AreDone s number jobs.now → seen.old ≡ seen_of before
-        → OnOk result (seen.new ≡ seen_of (before ++ stops_between s number (length jobs.now))) }
+    ensures stops { (s : StudyOf) (number : ℕ) (before : List Stop) → AreDone s number jobs.now → worst.old ≡ gravest before
+        → OnOk result (worst.new ≡ gravest (before ++ stops_between s number (length jobs.now))) }
     ensures prefix { (s : StudyOf) (number : ℕ) → AreDone s number jobs.now
         → OnErr result (AppendsPrefix (K.told out.old) (K.told out.new) (rows_between s number (length jobs.now))) }
     ensures fault { IsErrOf result WriteFault → Rose (K.faults out.old) (K.faults out.new) }
@@ -59,7 +60,7 @@ fn write_rows<K: Sink>(jobs: &[Job], seen: &mut Seen, out: &mut K) -> Result<(),
             return Err(Unfinished::OutOfMemory);
         };
         write_all(out, job.rows.as_slice())?;
-        *seen = seen.with(stop);
+        *worst = graver(*worst, stop);
     }
     Ok(())
 }
@@ -72,12 +73,12 @@ fn write_batches<R: Threads + Sync, M: SimulationModel, S: Seeds<M>, K: Sink>(
     count: u64,
     workers: u32,
     out: &mut K,
-) -> Result<Seen, Unfinished>
+) -> Result<Stop, Unfinished>
     requires first { study.now.first_seed < 2 ^ 63 }
     requires count { count < 2 ^ 32 }
     requires workers { (1 ≤ workers) × (workers ≤ MOST_WORKERS) }
     ensures whole { OnOk result (Appends (K.told out.old) (K.told out.new) (rows_between (study_of S.seeded study.now) 0 count)) }
-    ensures seen { IfOk result (λ seen. seen ≡ seen_of (stops_between (study_of S.seeded study.now) 0 count)) }
+    ensures stops { IfOk result (λ worst. worst ≡ gravest (stops_between (study_of S.seeded study.now) 0 count)) }
     ensures prefix { OnErr result (AppendsPrefix (K.told out.old) (K.told out.new) (rows_between (study_of S.seeded study.now) 0 count)) }
     ensures fault { IsErrOf result WriteFault → Rose (K.faults out.old) (K.faults out.new) }
     ensures later { K.faults out.old ≤ K.faults out.new }
@@ -85,15 +86,15 @@ fn write_batches<R: Threads + Sync, M: SimulationModel, S: Seeds<M>, K: Sink>(
     ensures no_memory { IsErrOf result NoMemory → K.faults out.new ≡ K.faults out.old }
 {
     let size = batch_size(study.models.objects(), workers);
-    let mut seen = Seen::nothing();
+    let mut worst = Stop::End;
     let mut done = 0u64;
     'batches: while done < count {
         let until = count.min(done + size);
         let jobs = run_batch(rt, alloc, study, workers, done, until)?;
-        write_rows(jobs.as_slice(), &mut seen, out)?;
+        write_rows(jobs.as_slice(), &mut worst, out)?;
         done = until;
     }
-    Ok(seen)
+    Ok(worst)
 }
 
 /// Writes the head line, and then all rows.
@@ -105,12 +106,12 @@ fn write_lines<R: Threads + Sync, M: SimulationModel, S: Seeds<M>, K: Sink>(
     count: u64,
     workers: u32,
     out: &mut K,
-) -> Result<Seen, Unfinished>
+) -> Result<Stop, Unfinished>
     requires first { study.now.first_seed < 2 ^ 63 }
     requires count { count < 2 ^ 32 }
     requires workers { (1 ≤ workers) × (workers ≤ MOST_WORKERS) }
     ensures whole { OnOk result (Appends (K.told out.old) (K.told out.new) (table_text (study_of S.seeded study.now) count)) }
-    ensures seen { IfOk result (λ seen. seen ≡ seen_of (stops_between (study_of S.seeded study.now) 0 count)) }
+    ensures stops { IfOk result (λ worst. worst ≡ gravest (stops_between (study_of S.seeded study.now) 0 count)) }
     ensures prefix { OnErr result (AppendsPrefix (K.told out.old) (K.told out.new) (table_text (study_of S.seeded study.now) count)) }
     ensures fault { IsErrOf result WriteFault → Rose (K.faults out.old) (K.faults out.new) }
     ensures later { K.faults out.old ≤ K.faults out.new }
@@ -118,13 +119,14 @@ fn write_lines<R: Threads + Sync, M: SimulationModel, S: Seeds<M>, K: Sink>(
     ensures no_memory { IsErrOf result NoMemory → K.faults out.new ≡ K.faults out.old }
 {
     write_all(out, HEAD.as_bytes())?;
-    let seen = write_batches(rt, alloc, study, count, workers, out)?;
-    Ok(seen)
+    let worst = write_batches(rt, alloc, study, count, workers, out)?;
+    Ok(worst)
 }
 
 /// Runs a model under so many seeds, shared out among so many workers, and writes the table: the head line, and the rows of
 /// each replication in the order of the seeds. It is the same for any number of workers and any schedule of threads. Memory
-/// is that of the runs under way and of the rows of a batch, and doesn't grow with the number of replications.
+/// is that of the runs under way and of the rows of a batch, and doesn't grow with the number of replications. The result is
+/// the gravest of the stops of the runs.
 pub fn write_table<R: Threads + Sync, M: SimulationModel, S: Seeds<M>, K: Sink>(
     rt: &R,
     alloc: Global,
@@ -132,13 +134,14 @@ pub fn write_table<R: Threads + Sync, M: SimulationModel, S: Seeds<M>, K: Sink>(
     count: u64,
     workers: u32,
     out: &mut K,
-) -> Result<Seen, Unfinished>
+) -> Result<Stop, Unfinished>
     requires first { study.now.first_seed < 2 ^ 63 }
     requires count { count < 2 ^ 32 }
     requires workers { (1 ≤ workers) × (workers ≤ MOST_WORKERS) }
     ensures whole { OnOk result (Appends (K.told out.old) (K.told out.new) (table_text (study_of S.seeded study.now) count)) }
     ensures handed { OnOk result (Keeps (K.told out.new) (K.handed out.new)) }
-    ensures seen { IfOk result (λ seen. seen ≡ seen_of (stops_between (study_of S.seeded study.now) 0 count)) }
+    ensures handed_so_far { IsErrOf result NoMemory → Keeps (K.told out.new) (K.handed out.new) }
+    ensures stops { IfOk result (λ worst. worst ≡ gravest (stops_between (study_of S.seeded study.now) 0 count)) }
     ensures prefix { OnErr result (AppendsPrefix (K.told out.old) (K.told out.new) (table_text (study_of S.seeded study.now) count)) }
     ensures fault { IsErrOf result WriteFault → Rose (K.faults out.old) (K.faults out.new) }
     ensures later { K.faults out.old ≤ K.faults out.new }

@@ -6,7 +6,7 @@ use model_core::OutOfMemory;
 use phold_model::Phold;
 use random_streams::Law;
 use sim_io::MemSink;
-use sim_spec::Terms;
+use sim_spec::{Stop, Terms};
 use sim_text::Unfinished;
 use std::alloc::Global;
 use std::sync::Arc;
@@ -69,9 +69,9 @@ fn a_table_is_the_same_for_any_number_of_workers(rt: HostRuntime) -> Result<(), 
     for workers in [1, 2, 64] {
         assert!(rt; 1 <= workers && workers <= 64);
         let mut out = sink(alloc, 1_000, Vec::new(alloc))?;
-        let seen = write_table(&rt, alloc, &study(0, 1_000, 0), 3, workers, &mut out)?;
+        let worst = write_table(&rt, alloc, &study(0, 1_000, 0), 3, workers, &mut out)?;
         assert_eq!(rt; out.bytes(), wanted.as_bytes());
-        assert!(rt; !seen.fault && !seen.limit);
+        assert_eq!(rt; worst, Stop::End);
     }
     Ok(())
 }
@@ -96,10 +96,9 @@ fn a_window_begins_late_and_a_limit_is_seen(rt: HostRuntime) -> Result<(), Fail>
     for (from, limit, rows) in [(4, 1_000, late), (0, 2, limited)] {
         let wanted = format!(in alloc; "{HEAD}{rows}")?;
         let mut out = sink(alloc, 1_000, Vec::new(alloc))?;
-        let seen = write_table(&rt, alloc, &study(from, limit, 0), 2, 4, &mut out)?;
+        let worst = write_table(&rt, alloc, &study(from, limit, 0), 2, 4, &mut out)?;
         assert_eq!(rt; out.bytes(), wanted.as_bytes());
-        assert_eq!(rt; seen.limit, limit == 2);
-        assert!(rt; !seen.fault);
+        assert_eq!(rt; worst, if limit == 2 { Stop::Limit } else { Stop::End });
     }
     Ok(())
 }

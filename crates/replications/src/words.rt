@@ -1,9 +1,9 @@
 //! The words of `replicate`.
-ghost use Rattle.std.specs.Prelude.{◌≡◌, ◌≤◌, IfSome};
+ghost use Rattle.std.specs.Prelude.{◌≡◌, ◌≤◌, IfOk, IfSome};
 ghost use Rattle.std.specs.Char.{is_ascii_digit};
 ghost use Rattle.std.specs.List.{list_all};
 ghost use Rattle.sim_io.specs.Words.{texts_of};
-ghost use Rattle.replications.specs.ReplicateWords.{choice_named, chosen, given_with, has_value, has_zero_first, is_number, number_within, replicate_settings, value_of, walked, with_number};
+ghost use Rattle.replications.specs.ReplicateWords.{AreInBounds, choice_named, chosen, given_with, has_value, has_zero_first, is_number, number_within, replicate_settings, value_of, walked, with_number};
 
 use event_key::LAST_TICK;
 use sim_io::WordFault;
@@ -191,7 +191,8 @@ fn options(given: Given, words: &[String]) -> Result<Given, WordFault>
 /// Reads the words that follow the program's name. It takes no memory.
 #[tactic(auto, unfolding(crate::specs::ReplicateWords::replicate_settings))]
 pub fn read_replicate_words(words: &Vec<String>) -> Result<Replicate, WordFault>
-    ensures { result ≡ replicate_settings (texts_of words.now.items) }
+    ensures settings { result ≡ replicate_settings (texts_of words.now.items) }
+    ensures bounds { IfOk result AreInBounds }
 {
     let [count, rest @ ..] = words.as_slice() else {
         return Err(WordFault::MissingValue);

@@ -1,21 +1,24 @@
-use Rattle.std.proofs.Common.{ℕ, ◌++◌, length, refl, sym, ap, ◌∙◌, subst, arith}
+use Rattle.std.proofs.Common.{◌≡◌, ℕ, [], ◌++◌, length, refl, sym, ap, ◌∙◌, subst, arith}
 use Rattle.std.proofs.KnownBytes.{Appends-nil, Appends-trans}
 use Rattle.std.specs.Io.KnownBytes.{Appends}
 use Rattle.model_core.proofs.Results.{on_err}
 use Rattle.sim_io.specs.Transfers.{AppendsPrefix}
+use Rattle.sim_spec.specs.declared.stop.Stop.TheVariants.{End}
 use Rattle.replications.specs.Families.{study_of}
-use Rattle.replications.specs.Studies.{AreDone, rows_between, stops_between, seen_of}
+use Rattle.replications.specs.Studies.{AreDone, rows_between, stops_between, gravest}
 use Rattle.replications.proofs.TextLemmas.{rows_between-none, stops_between-none, so_far-prefix, batch-prefix, rows-batch, stops-batch}
 use Rattle.replications.proofs.table.write_batches.Goals as goal
 
 pub batches-init : goal.batches-init
+unfolding gravest
 batches-init g c =
     let s = study_of g.S.Seeds.seeded c.args.study.now in
+    let ends : End ≡ gravest [] = refl in
     let told = g.K.Sink.told c.args.out.now in
     record {
       within = omega arith;
       written = subst (Appends told told) (sym (rows_between-none s 0)) (Appends-nil told);
-      seen = c.nothing-seen.ensures ∙ ap seen_of (sym (stops_between-none s 0));
+      stops = ends ∙ ap gravest (sym (stops_between-none s 0));
       later = omega arith;
       quiet = refl;
     }
@@ -48,8 +51,8 @@ batches-preserved g c =
       written = subst (Appends (g.K.Sink.told c.args.out.now) new) (rows-batch s c.batches.done (length jobs) c.min-until.result c.in_ok-jobs.ensures.many)
           (Appends-trans _ mid new (rows_between s 0 c.batches.done) (rows_between s c.batches.done (length jobs)) i.written
           (subst P (ap length c.as_slice.ensures.value) (c.in_ok-write_rows.ensures.whole s c.batches.done all)));
-      seen = c.in_ok-write_rows.ensures.seen s c.batches.done (stops_between s 0 c.batches.done) all i.seen
-          ∙ ap seen_of (ap (λ n. stops_between s 0 c.batches.done ++ stops_between s c.batches.done n) (ap length c.as_slice.ensures.value)
+      stops = c.in_ok-write_rows.ensures.stops s c.batches.done (stops_between s 0 c.batches.done) all i.stops
+          ∙ ap gravest (ap (λ n. stops_between s 0 c.batches.done ++ stops_between s c.batches.done n) (ap length c.as_slice.ensures.value)
           ∙ stops-batch s c.batches.done (length jobs) c.min-until.result c.in_ok-jobs.ensures.many);
       later = omega (arith, i.later, c.in_ok-write_rows.ensures.later);
       quiet = c.in_ok-write_rows.ensures.quiet ∙ i.quiet;

@@ -1,7 +1,7 @@
 use Rattle.std.proofs.Common.{◌≡◌, ◌-◌, ◌≤◌}
 use Rattle.std.specs.Io.KnownBytes.{Appends}
 use Rattle.replications.specs.Families.{study_of}
-use Rattle.replications.specs.Studies.{rows_between, stops_between, seen_of}
+use Rattle.replications.specs.Studies.{rows_between, stops_between, gravest}
 use Rattle.replications.proofs.table.write_batches.Given as goal
 
 abbrev pub invariant-batches : goal.invariant-batches
@@ -10,7 +10,7 @@ invariant-batches g l =
     record {
       within : l.done ≤ l.count;
       written : Appends (g.K.Sink.told l.fn.out) (g.K.Sink.told l.out) (rows_between s 0 l.done);
-      seen : l.seen ≡ seen_of (stops_between s 0 l.done);
+      stops : l.worst ≡ gravest (stops_between s 0 l.done);
       later : g.K.Sink.faults l.fn.out ≤ g.K.Sink.faults l.out;
       quiet : g.K.Sink.faults l.out ≡ g.K.Sink.faults l.fn.out;
     }

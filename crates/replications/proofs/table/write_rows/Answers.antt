@@ -4,7 +4,8 @@ use Rattle.std.specs.Io.KnownBytes.{Appends}
 use Rattle.model_core.proofs.Results.{on_err}
 use Rattle.sim_io.specs.Transfers.{AppendsPrefix}
 use Rattle.sim_spec.specs.declared.stop.Stop.{Stop}
-use Rattle.replications.specs.Studies.{rows_at, rows_between, stops_between, seen_of}
+use Rattle.replications.specs.Studies.{rows_at, rows_between, stops_between, graver, gravest}
+use Rattle.replications.proofs.GravestLemmas.{gravest-more}
 use Rattle.replications.proofs.JobLemmas.{done_rows}
 use Rattle.replications.proofs.TextLemmas.{rows_between-none, rows_between-more, stops_between-none, stops_between-more, so_far-prefix, next-prefix, one_row}
 use Rattle.replications.proofs.table.write_rows.Goals as goal
@@ -14,7 +15,7 @@ loop-job-init g c =
     let told = g.K.Sink.told c.args.out.now in
     record {
       written = λ s number all. subst (Appends told told) (sym (rows_between-none s number)) (Appends-nil told);
-      seen = λ s number before all was. was ∙ ap seen_of (sym (ap (λ (stops : List Stop). before ++ stops) (stops_between-none s number) ∙ append-nil before));
+      stops = λ s number before all was. was ∙ ap gravest (sym (ap (λ (stops : List Stop). before ++ stops) (stops_between-none s number) ∙ append-nil before));
       later = omega arith;
       quiet = refl;
     }
@@ -43,10 +44,11 @@ loop-job-preserved g c =
           subst (Appends (g.K.Sink.told c.args.out.now) new) (sym (rows_between-more s number i))
           (Appends-trans _ mid new (rows_between s number i) (rows_at s (number + i)) (c.loop-job.invariant.written s number all)
           (subst (Appends mid new) (c.as_slice.ensures.value ∙ done.0) c.in_ok-write_all.ensures.all));
-      seen = λ s number before all was.
+      stops = λ s number before all was.
           let done = done_rows s number jobs i c.job-item.result c.in-Some.stop all c.loop-job-test.true c.job-item.is c.in-Some.is in
-          c.with.ensures (before ++ stops_between s number i) (c.loop-job.invariant.seen s number before all was)
-          ∙ ap seen_of (append_assoc before (stops_between s number i) (c.in-Some.stop ∷ [])
+          c.graver.ensures ∙ ap (λ (worst : Stop). graver worst c.in-Some.stop) (c.loop-job.invariant.stops s number before all was)
+          ∙ sym (gravest-more (before ++ stops_between s number i) c.in-Some.stop)
+          ∙ ap gravest (append_assoc before (stops_between s number i) (c.in-Some.stop ∷ [])
           ∙ ap (λ (more : List Stop). before ++ more) (ap (λ (stop : Stop). stops_between s number i ++ stop ∷ []) done.1 ∙ sym (stops_between-more s number i)));
       later = omega (arith, c.loop-job.invariant.later, c.in_ok-write_all.ensures.cause.later);
       quiet = c.in_ok-write_all.ensures.quiet ∙ c.loop-job.invariant.quiet;

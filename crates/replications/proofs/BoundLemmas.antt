@@ -1,0 +1,80 @@
+-- What words give lies within its bounds.
+use Rattle.std.proofs.Common.{◌≡◌, ◌≤◌, ℕ, Bool, true, false, List, [], ◌∷◌, Option, Some, None, Result, Ok, Err, refl, subst, arith}
+use Rattle.std.specs.Prelude.{◌&&◌, if◌then◌else◌, nat_le, unwrap_or}
+use Rattle.std.specs.Str.Parse.{digits_value}
+use Rattle.std.proofs.lemmas.Grind.{common_steps}
+use Rattle.event_key.specs.declared.stamp.TheConstants.{LAST_TICK}
+use Rattle.sim_io.specs.declared.words.WordFault.{WordFault}
+use Rattle.sim_io.specs.Words.{and_then}
+use Rattle.replications.specs.declared.words.Choice.{Choice}
+use Rattle.replications.specs.declared.words.Choice.TheVariants.{First, From, Workers}
+use Rattle.replications.specs.declared.words.Given.{Given}
+use Rattle.replications.specs.declared.words.TheConstants.{LAST_SEED, MOST_WORKERS}
+use Rattle.replications.specs.ReplicateWords.{is_number, number_within, with_number, with_value, given_with, chosen, walked, IsGivenWithin, AreGivenInBounds}
+
+pub number_within-bounds : (least most : ℕ) (word : List ℕ) (n : ℕ) → number_within least most word ≡ Some n → (least ≤ n) × (n ≤ most)
+number_within-bounds least most word n is = by (is_number word && nat_le least (digits_value 10 word) && nat_le (digits_value 10 word) most) refl is
+  where
+    value : ℕ
+    value = digits_value 10 word
+
+    by : (b : Bool) → (is_number word && nat_le least value && nat_le value most) ≡ b → (if b then Some value else None) ≡ Some n → (least ≤ n) × (n ≤ most)
+    by true tested gives =
+        let same : value ≡ n = cc in
+        let low : least ≤ value = grind (arith, common_steps, tested) in
+        let high : value ≤ most = grind (arith, common_steps, tested) in
+        subst (λ n. (least ≤ n) × (n ≤ most)) same (low, high)
+    by false tested gives = absurd (cc)
+
+-- one option more
+given-bounds : (given next : Given) (choice : Choice) (word : List ℕ) → given_with given choice word ≡ Ok next → AreGivenInBounds given → AreGivenInBounds next
+given-bounds given next First word is fine = by (number_within 0 LAST_SEED word) refl is
+  where
+    by : (o : Option ℕ) → number_within 0 LAST_SEED word ≡ o → with_value given First o ≡ Ok next → AreGivenInBounds next
+    by None read gives = absurd (cc)
+    by (Some n) read gives =
+        let same : with_number given First n ≡ next = cc in
+        subst AreGivenInBounds same (record { first = number_within-bounds 0 LAST_SEED word n read; from = fine.from; workers = fine.workers })
+given-bounds given next From word is fine = by (number_within 0 LAST_TICK word) refl is
+  where
+    by : (o : Option ℕ) → number_within 0 LAST_TICK word ≡ o → with_value given From o ≡ Ok next → AreGivenInBounds next
+    by None read gives = absurd (cc)
+    by (Some n) read gives =
+        let same : with_number given From n ≡ next = cc in
+        subst AreGivenInBounds same (record { first = fine.first; from = number_within-bounds 0 LAST_TICK word n read; workers = fine.workers })
+given-bounds given next Workers word is fine = by (number_within 1 MOST_WORKERS word) refl is
+  where
+    by : (o : Option ℕ) → number_within 1 MOST_WORKERS word ≡ o → with_value given Workers o ≡ Ok next → AreGivenInBounds next
+    by None read gives = absurd (cc)
+    by (Some n) read gives =
+        let same : with_number given Workers n ≡ next = cc in
+        subst AreGivenInBounds same (record { first = fine.first; from = fine.from; workers = number_within-bounds 1 MOST_WORKERS word n read })
+
+-- what comes behind an option and its value
+behind : (out given : Given) (choice : Choice) (value : List ℕ) (rest : List (List ℕ)) → AreGivenInBounds given
+    → ((next : Given) → walked next rest ≡ Ok out → AreGivenInBounds next → AreGivenInBounds out)
+    → and_then (given_with given choice value) (λ (next : Given). walked next rest) ≡ Ok out → AreGivenInBounds out
+behind out given choice value rest fine again is = by (given_with given choice value) refl is
+  where
+    by : (r : Result Given WordFault) → given_with given choice value ≡ r → and_then r (λ (next : Given). walked next rest) ≡ Ok out → AreGivenInBounds out
+    by (Err fault) read gives = absurd (cc)
+    by (Ok next) read gives = again next gives (given-bounds given next choice value read fine)
+
+pub walked-bounds : (out given : Given) (words : List (List ℕ)) → walked given words ≡ Ok out → AreGivenInBounds given → AreGivenInBounds out
+unfolding walked
+walked-bounds out given [] is fine = (let same : given ≡ out = cc in subst AreGivenInBounds same fine)
+walked-bounds out given (word ∷ []) is fine = by (chosen given word) is
+  where
+    by : (r : Result Choice WordFault) → and_then {U = Given} r (λ _. Err WordFault.MissingValue) ≡ Ok out → AreGivenInBounds out
+    by (Ok choice) gives = absurd (cc)
+    by (Err fault) gives = absurd (cc)
+walked-bounds out given (word ∷ value ∷ rest) is fine = by (chosen given word) (λ next gives fine. walked-bounds out next rest gives fine) is
+  where
+    by : (r : Result Choice WordFault) → ((next : Given) → walked next rest ≡ Ok out → AreGivenInBounds next → AreGivenInBounds out)
+        → and_then r (λ (choice : Choice). and_then (given_with given choice value) (λ (next : Given). walked next rest)) ≡ Ok out → AreGivenInBounds out
+    by (Ok choice) again gives = behind out given choice value rest fine again gives
+    by (Err fault) again gives = absurd (cc)
+
+pub or_else : (least most default : ℕ) (o : Option ℕ) → IsGivenWithin least most o → least ≤ default → default ≤ most → (least ≤ unwrap_or o default) × (unwrap_or o default ≤ most)
+or_else least most default None fine low high = (low, high)
+or_else least most default (Some n) fine low high = fine
