@@ -26,13 +26,20 @@ abbrev pub age_told : Note → ℕ
 age_told [] = 0
 age_told (part ∷ rest) = part.b
 
--- what happens next is that a job leaves: job number k of `whereabouts`, which stands at this event
+-- a job stands at the event of this key, and this is how old it is then
+pub record IsOfAge (p : NetworkParts) (t : Terms) (n : ℕ) (key : Key) (age : ℕ) : Type 0 where
+  pub number : ℕ
+  pub job : Job
+  pub within : number < length (whereabouts p t n)
+  pub stands : slice_index_or (whereabouts p t n) number (job, has_left) ≡ (job, at_event key)
+  pub old : age ≡ time_part key.stamp - slice_index (births p t n) number
+
+-- if a job leaves next, what is told is the age of one that stands at this event
 abbrev pub AgesAreTold : Type 0
 AgesAreTold =
-    (p : NetworkParts) (t : Terms) (n k : ℕ) (told : Key × Note) (after : State) (job : Job) → IsNetwork p
+    (p : NetworkParts) (t : Terms) (n : ℕ) (told : Key × Note) (after : State) → IsNetwork p
     → next (plain_meaning p) t (after_events n (plain_meaning p) t) ≡ does told after → word_told told.1 ≡ LEFT_WORD
-    → k < length (whereabouts p t n) → slice_index_or (whereabouts p t n) k (job, has_left) ≡ (job, at_event told.0)
-    → age_told told.1 ≡ time_part told.0.stamp - slice_index (births p t n) k
+    → IsOfAge p t n told.0 (age_told told.1)
 
 -- a sink with a due tells of no job that is older
 abbrev pub NoneLeavesLate : Type 0

@@ -1,8 +1,9 @@
 -- Each job keeps its birth, and is as old as it is told when it leaves.
-use Rattle.std.proofs.Common.{◌≡◌, ◌≢◌, ◌⊎◌, ℕ, zero, suc, ◌+◌, ◌-◌, ◌<◌, ◌≤◌, Bool, true, false, not, List, [], ◌∷◌, ◌++◌, length, map, inl, inr, refl, sym, ap, ◌∙◌, subst, arith, eqb, eqb-true, eq-eqb, append-nil, append_assoc}
-use Rattle.std.specs.Prelude.{All, Contains, Option, Some, None, ◌==◌, ◌&&◌, if◌then◌else◌, slice_index, slice_index_or}
+use Rattle.std.proofs.Common.{◌≡◌, ◌≢◌, ◌⊎◌, ℕ, zero, suc, ◌+◌, ◌-◌, ◌<◌, ◌≤◌, Bool, true, false, cond, not, List, [], ◌∷◌, ◌++◌, length, map, inl, inr, refl, sym, ap, ◌∙◌, subst, arith, eqb, eqb-true, eq-eqb, append-nil, append_assoc}
+use Rattle.std.specs.Prelude.{All, Contains, Option, Some, None, ◌==◌, ◌&&◌, if◌then◌else◌, slice_index, slice_index_or, sum_by}
 use Rattle.std.specs.List.{AllByRecursion as Each, range_with_len}
 use Rattle.std.proofs.lemmas.Bool.Decides.{nat_tests}
+use Rattle.std.proofs.lemmas.List.Sums.{sum_by-cons}
 use Rattle.std.proofs.lemmas.List.Elements.{All-nil, All-push, All-from_recursion}
 use Rattle.event_key.specs.declared.key.Key.{Key}
 use Rattle.event_key.specs.Keys.{key_lt, same_key}
@@ -42,17 +43,19 @@ use Rattle.run_laws.proofs.CausalityLaw.{sent-in, rest-in, initial-in}
 use Rattle.run_laws.proofs.Induction.{after_events-does, after_events-stops, gathered-more, each_number}
 use Rattle.run_laws.proofs.Steps.{IsStep, is_step, first_firing, sent_next-step}
 use Rattle.subject_laws.specs.Births.{newly_born, born_next, births, births_waiting_at, IsKeptAt, AreKept}
-use Rattle.subject_laws.specs.BirthLaws.{age_told, EachJobKeepsItsBirth, AgesAreTold, NoneLeavesLate}
-use Rattle.subject_laws.specs.Jobs.{Job, listed, made_by, is_of_job, newly_made, first_places, places_after, whereabouts}
+use Rattle.subject_laws.specs.BirthLaws.{age_told, IsOfAge, EachJobKeepsItsBirth, AgesAreTold, NoneLeavesLate}
+use Rattle.subject_laws.specs.Jobs.{Job, listed, made_by, is_in_system, is_of_job, newly_made, first_places, places_after, whereabouts}
 use Rattle.subject_laws.specs.LossLaws.{IsSinkAt}
 use Rattle.subject_laws.specs.Places.{Place, at_event, in_line, has_left, was_lost, own_place, moved_up, word_told, job_told, place_after}
 use Rattle.subject_laws.specs.Stations.{cells_at, waiting_at}
 use Rattle.subject_laws.proofs.QueueLemmas.Cases.{EventDoes, SourceDoes, idles, makes_last, makes, StationDoes, takes, waits, loses, serves, frees, PlainDoes, hands_on, leaves, is_moving}
 use Rattle.subject_laws.proofs.QueueLemmas.NetworkStarts.{start_cases}
-use Rattle.subject_laws.proofs.QueueLemmas.NetworkSteps.{IsNetworkStep, network_step, cells_here, cells_elsewhere}
+use Rattle.subject_laws.proofs.QueueLemmas.NetworkSteps.{IsNetworkStep, network_step, cells_here, cells_elsewhere, sum_before}
 use Rattle.subject_laws.proofs.QueueLemmas.PlainRuns.{same_after}
-use Rattle.subject_laws.proofs.JobLemmas.JobsLaw.{whereabouts-next}
+use Rattle.subject_laws.proofs.JobLemmas.JobsLaw.{whereabouts-next, places_agree}
 use Rattle.subject_laws.proofs.JobLemmas.Keeping.{IsPut, Keeps, keeps}
+use Rattle.subject_laws.proofs.JobLemmas.Moving.{has_job}
+use Rattle.subject_laws.proofs.JobLemmas.Weights.{event_weight, sum-held, sum-in_the_system}
 use Rattle.subject_laws.proofs.JobLemmas.PlacesLaw.{moved_jobs, places_after-step}
 
 -- the pending event of the next event's key is the next event
@@ -343,29 +346,101 @@ age_of objects site cells e (Source source) x does_so word = absurd (source_stay
 age_of objects site cells e (Station station) x does_so word = absurd (station_stays site cells e station x does_so word)
 age_of objects site cells e other x does_so word = plain_age objects site cells e other x does_so word
 
+-- no source tells `leave`
+no_source_leaves : (objects : List Item) (site : Site) (cells : CellData) (e : Event) (kind : KindOver ℕ) (x : Effect) → EventDoes objects site cells e kind x → word_told x.note ≡ 9
+    → is_source kind ≡ false
+no_source_leaves objects site cells e (Source source) x does_so word = absurd (source_stays site cells e source x does_so word)
+no_source_leaves objects site cells e other x does_so word = refl
+
+-- a job that stands at the event of this key weighs 1
+abbrev is_here : Key → Place → ℕ
+is_here key (at_event k) = cond (same_key k key) 1 0
+is_here key (in_line i k) = 0
+is_here key has_left = 0
+is_here key was_lost = 0
+
+it_is_here : (key : Key) (place : Place) → 1 ≤ cond (is_in_system place) (is_here key place) 0 → place ≡ at_event key
+it_is_here key (at_event k) some = by (same_key k key) refl some
+  where
+    by : (same : Bool) → same_key k key ≡ same → 1 ≤ cond same 1 0 → at_event k ≡ at_event key
+    by true is some = ap (λ (j : Key). at_event j) (same_key-is k key is)
+    by false is some = absurd (omega arith)
+it_is_here key (in_line i k) some = absurd (omega arith)
+it_is_here key has_left some = absurd (omega arith)
+it_is_here key was_lost some = absurd (omega arith)
+
+-- where jobs that stand at an event weigh something together there is one
+record StandsAt (jobs : List (Job × Place)) (key : Key) : Type 0 where
+  pub number : ℕ
+  pub job : Job
+  pub within : number < length jobs
+  pub stands : (none : Job × Place) → slice_index_or jobs number none ≡ (job, at_event key)
+
+found_at : (key : Key) (jobs : List (Job × Place)) → 1 ≤ sum_by (λ (job : Job × Place). cond (is_in_system job.1) (is_here key job.1) 0) jobs → StandsAt jobs key
+found_at key [] some = absurd (omega arith)
+found_at key (job ∷ jobs) some =
+    by (cond (is_in_system job.1) (is_here key job.1) 0) refl (found_at key jobs)
+    (sum_by-cons (λ (job : Job × Place). cond (is_in_system job.1) (is_here key job.1) 0) job jobs)
+  where
+    by : (first : ℕ) → cond (is_in_system job.1) (is_here key job.1) 0 ≡ first
+        → (1 ≤ sum_by (λ (job : Job × Place). cond (is_in_system job.1) (is_here key job.1) 0) jobs → StandsAt jobs key)
+        → sum_by (λ (job : Job × Place). cond (is_in_system job.1) (is_here key job.1) 0) (job ∷ jobs)
+        ≡ cond (is_in_system job.1) (is_here key job.1) 0 + sum_by (λ (job : Job × Place). cond (is_in_system job.1) (is_here key job.1) 0) jobs
+        → StandsAt (job ∷ jobs) key
+    by (suc first) is more total =
+        let here : job.1 ≡ at_event key = it_is_here key job.1 (omega arith) in
+        record { number = 0; job = job.0; within = omega arith; stands = λ none. ap (λ (place : Place). (job.0, place)) here }
+    by zero is more total =
+        let rest : StandsAt jobs key = more (omega arith) in
+        record { number = suc rest.number; job = rest.job; within = (let inside = rest.within in omega arith); stands = rest.stands }
+
+-- some job stands at the next event, if that isn't a source's
+someone : (p : NetworkParts) (t : Terms) (n : ℕ) (told : Key × Note) (after : State) → IsNetwork p → (step : IsNetworkStep p t (after_events n (plain_meaning p) t) told after)
+    → is_source (object_at p.objects step.step.event.key.dest).kind ≡ false → StandsAt (whereabouts p t n) step.step.event.key
+someone p t n told after fine step no_source =
+    let s : State = after_events n (plain_meaning p) t in
+    let e : Event = step.step.event in
+    let w : ℕ × Place → ℕ = λ at. is_here e.key at.1 in
+    let own : event_weight p w e ≡ 1 = has_job p w e no_source ∙ ap (λ b. cond b 1 0) (same_key-itself e.key) in
+    found_at e.key (whereabouts p t n)
+    (omega (
+      arith,
+      own,
+      sum_before p t s told after step (event_weight p w),
+      sum-in_the_system p s w,
+      places_agree p t fine n w,
+      sum-held w (whereabouts p t n),
+    ))
+
 pub ages_law : AgesAreTold
-ages_law p t n k told after job fine is_next word within stands =
+ages_law p t n told after fine is_next word =
     let s : State = after_events n (plain_meaning p) t in
     let step : IsNetworkStep p t s told after = network_step p t s told after fine (n, refl) is_next in
     let e : Event = step.step.event in
-    let birth : ℕ = slice_index (births p t n) k in
-    let P : Job × Place → Type 0 = λ at. IsKeptAt p s birth at.1 in
-    let kept : IsKeptAt p s birth (at_event told.0) = subst P stands (kept_at p s (whereabouts p t n) (births p t n) k (job, has_left) (plain_births p t fine n) within) in
+    let kind : KindOver ℕ = (object_at p.objects e.key.dest).kind in
     let key : told.0 ≡ e.key = ap (λ (r : Key × Note). r.0) step.step.tells in
     let note : told.1 ≡ step.step.effect.note = ap (λ (r : Key × Note). r.1) step.step.tells in
+    let leaves_so : word_told step.step.effect.note ≡ 9 = sym (ap word_told note) ∙ word in
+    let one : StandsAt (whereabouts p t n) e.key =
+    someone p t n told after fine step (no_source_leaves p.objects (site_of p e.key.dest) (cells_at s e.key.dest) e kind step.step.effect step.does_so leaves_so) in
+    let birth : ℕ = slice_index (births p t n) one.number in
+    let stands : slice_index_or (whereabouts p t n) one.number (one.job, has_left) ≡ (one.job, at_event e.key) = one.stands (one.job, has_left) in
+    let P : Job × Place → Type 0 = λ at. IsKeptAt p s birth at.1 in
+    let kept : IsKeptAt p s birth (at_event e.key) =
+    subst P stands (kept_at p s (whereabouts p t n) (births p t n) one.number (one.job, has_left) (plain_births p t fine n) one.within) in
     let own : e ≡ kept.0 =
     elim (it_is_next p t s told after step kept.0 kept.1) [
       | inl it ↦ it
       | inr later ↦ absurd (
           let K : Key → Type 0 = λ k. key_lt e.key k ≡ true in
-          let twice : key_lt e.key e.key ≡ true = subst K (kept.3 ∙ key) later.1 in
+          let twice : key_lt e.key e.key ≡ true = subst K kept.3 later.1 in
           let never : key_lt e.key e.key ≡ false = key_lt-irrefl e.key in (cc))
     ] in
     let born : e.b ≡ birth = ap (λ (x : Event). x.b) own ∙ kept.4 in
-    ap age_told note
-    ∙ age_of p.objects (site_of p e.key.dest) (cells_at s e.key.dest) e (object_at p.objects e.key.dest).kind step.step.effect step.does_so (sym (ap word_told note) ∙ word)
-    ∙ ap (λ (k : Key). time_part k.stamp - e.b) (sym key)
-    ∙ ap (λ b. time_part told.0.stamp - b) born
+    let age : age_told told.1 ≡ time_part e.key.stamp - birth =
+    ap age_told note ∙ age_of p.objects (site_of p e.key.dest) (cells_at s e.key.dest) e kind step.step.effect step.does_so leaves_so ∙ ap (λ b. time_part e.key.stamp - b) born in
+    let A : Key → Type 0 = λ key. IsOfAge p t n key (age_told told.1) in
+    subst A (sym key) (record { number = one.number; job = one.job; within = one.within; stands = stands; old = age })
 
 -- what a sink with a due tells
 NoneLate : ℕ → ℕ → Key × Note → Type 0

@@ -65,6 +65,9 @@ there p t fine =
     (subst S (sym (after_events-does m t n told after is_next))
     (there_on p t s told after (whereabouts p t n) fine (network_step p t s told after fine (n, refl) is_next) before)))
 
+pub places_agree : (p : NetworkParts) (t : Terms) → IsNetwork p → (n : ℕ) → Agree p (after_events n (plain_meaning p) t) (whereabouts p t n)
+places_agree p t fine n = (there p t fine n).agree
+
 -- each job has left, was lost, or is in the system
 all_somewhere : (jobs : List (Job × Place))
     → length jobs ≡ count_by (λ (job : Job × Place). is_left job.1) jobs + count_by (λ (job : Job × Place). is_lost job.1) jobs + sum_by (job_weight (inside (λ at. 1))) jobs
