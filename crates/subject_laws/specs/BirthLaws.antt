@@ -19,7 +19,9 @@ use Rattle.subject_laws.specs.LossLaws.{IsSinkAt}
 use Rattle.subject_laws.specs.Places.{at_event, has_left, word_told}
 
 abbrev pub EachJobKeepsItsBirth : Type 0
-EachJobKeepsItsBirth = (p : NetworkParts) (t : Terms) (n : ℕ) → IsNetwork p → AreKept p (after_events n (network_meaning p) t) (whereabouts p t n) (births p t n)
+EachJobKeepsItsBirth =
+    (p : NetworkParts) (t : Terms) (n : ℕ) → IsNetwork p
+    → AreKept p (after_events n (network_meaning p) t) (whereabouts p t n) (births p t n)
 
 -- the second number that a note tells
 abbrev pub age_told : Note → ℕ
@@ -41,8 +43,12 @@ AgesAreTold =
     → next (plain_meaning p) t (after_events n (plain_meaning p) t) ≡ does told after → word_told told.1 ≡ LEFT_WORD
     → IsOfAge p t n told.0 (age_told told.1)
 
+-- what is told of an object tells of no job that leaves it at a greater age
+abbrev pub NoneIsOlder : ℕ → ℕ → Key × Note → Type 0
+NoneIsOlder i due told = told.0.dest ≡ i → All (λ (part : Part). part.word ≡ LEFT_WORD → part.b ≤ due) told.1
+
 -- a sink with a due tells of no job that is older
 abbrev pub NoneLeavesLate : Type 0
 NoneLeavesLate =
     (p : NetworkParts) (t : Terms) (i n due : ℕ) (sink : SinkOver) → IsSinkAt p i sink → sink.due ≡ Some due
-    → All (λ (told : Key × Note). told.0.dest ≡ i → All (λ (part : Part). part.word ≡ LEFT_WORD → part.b ≤ due) told.1) (first_records n (network_meaning p) t)
+    → All (NoneIsOlder i due) (first_records n (network_meaning p) t)

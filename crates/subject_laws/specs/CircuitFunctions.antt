@@ -19,7 +19,8 @@ computed (suc depth) gates inputs number =
 
 -- each gate is fed by gates of lesser depth, and none is a flip-flop
 pub record IsAcyclic (gates : List LogicGate) (depth : ℕ → ℕ) : Type 0 where
-  pub lower : (number place : ℕ) → number < length gates → place < length (gate_at gates number).from → depth (feeder gates (pin number place)) < depth number
+  pub lower : (number place : ℕ) → number < length gates → place < length (gate_at gates number).from
+      → depth (feeder gates (pin number place)) < depth number
   pub no_flip_flop : (number : ℕ) → number < length gates → is_flip_flop (gate_at gates number).kind ≡ false
 
 abbrev pub ComputesItsFunction : Type 0
@@ -32,6 +33,7 @@ ComputesItsFunction =
 abbrev pub InputsDecide : Type 0
 InputsDecide =
     (gates : List LogicGate) (t u : Terms) (s o : State) (depth : ℕ → ℕ) (number : ℕ)
-    → IsCircuit gates → IsAcyclic gates depth → Reaches (circuit_meaning gates) t s → Reaches (circuit_meaning gates) u o → s.pending ≡ [] → o.pending ≡ []
+    → IsCircuit gates → IsAcyclic gates depth → Reaches (circuit_meaning gates) t s → Reaches (circuit_meaning gates) u o
+    → s.pending ≡ [] → o.pending ≡ []
     → ((i : ℕ) → i < length gates → is_input (gate_at gates i).kind ≡ true → output_at s i ≡ output_at o i)
     → number < length gates → output_at s number ≡ output_at o number

@@ -29,5 +29,6 @@ ArrivalsAddUp p t i n totals s =
 -- of a quiet object nothing is told, and to a source no job comes
 abbrev pub FlowLaw : Type 0
 FlowLaw =
-    (p : NetworkParts) (t : Terms) (i n : ℕ) → IsNetwork p → i < length p.objects → is_source (object_at p.objects i).kind ≡ false → (object_at p.objects i).quiet ≡ false
+    (p : NetworkParts) (t : Terms) (i n : ℕ) → IsNetwork p → i < length p.objects
+    → is_source (object_at p.objects i).kind ≡ false → (object_at p.objects i).quiet ≡ false
     → ArrivalsAddUp p t i n (totals_at p t i n) (after_events n (network_meaning p) t)

@@ -18,7 +18,8 @@ ring_run n = run (network_meaning (ring_parts n)) ring_terms (initial_state (net
 pub record RunsToItsEnd (n : ℕ) : Type 0 where
   pub stop : (ring_run n).stop ≡ End
   pub few : (ring_run n).last.count < 400000
-  pub none_lost : (s : State) → Reaches (network_meaning (ring_parts n)) ring_terms s → IsToldBy (plain_meaning (ring_parts n)) ring_terms s LOST_WORD → ⊥
+  pub none_lost : (s : State) → Reaches (network_meaning (ring_parts n)) ring_terms s
+      → IsToldBy (plain_meaning (ring_parts n)) ring_terms s LOST_WORD → ⊥
 
 abbrev pub RingsRunToTheirEnd : Type 0
 RingsRunToTheirEnd = (n : ℕ) → 1 ≤ n → n ≤ MOST_DEMO_STATIONS → RunsToItsEnd n

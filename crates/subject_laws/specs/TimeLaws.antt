@@ -31,10 +31,12 @@ pub record WorkAddsUp (p : NetworkParts) (t : Terms) (i n : ℕ) (totals : Sums)
 -- of a quiet station nothing is told, and its totals are those of nothing
 abbrev pub LittleLaw : Type 0
 LittleLaw =
-    (p : NetworkParts) (t : Terms) (i : ℕ) (station : Station ℕ) (n : ℕ) → IsNetwork p → IsStationAt p i station → (object_at p.objects i).quiet ≡ false
+    (p : NetworkParts) (t : Terms) (i : ℕ) (station : Station ℕ) (n : ℕ) → IsNetwork p → IsStationAt p i station
+    → (object_at p.objects i).quiet ≡ false
     → WaitsAddUp p t i n (totals_at p t i n) (after_events n (network_meaning p) t)
 
 abbrev pub UtilisationLaw : Type 0
 UtilisationLaw =
-    (p : NetworkParts) (t : Terms) (i : ℕ) (station : Station ℕ) (n : ℕ) → IsNetwork p → IsStationAt p i station → (object_at p.objects i).quiet ≡ false
+    (p : NetworkParts) (t : Terms) (i : ℕ) (station : Station ℕ) (n : ℕ) → IsNetwork p → IsStationAt p i station
+    → (object_at p.objects i).quiet ≡ false
     → WorkAddsUp p t i n (totals_at p t i n) (after_events n (network_meaning p) t)

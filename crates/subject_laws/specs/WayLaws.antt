@@ -45,6 +45,7 @@ pub record GoesOn (kind : KindOver ℕ) (told : Key × Note) (drawn : List ℕ) 
 abbrev pub WaysLaw : Type 0
 WaysLaw =
     (p : NetworkParts) (t : Terms) (s : State) (told : Key × Note) (after : State) (e : Event)
-    → IsNetwork p → Reaches (plain_meaning p) t s → next (plain_meaning p) t s ≡ does told after → Contains (sent_next (plain_meaning p) s) e → e.kind ≡ 3
+    → IsNetwork p → Reaches (plain_meaning p) t s → next (plain_meaning p) t s ≡ does told after
+    → Contains (sent_next (plain_meaning p) s) e → e.kind ≡ 3
     → (let kind = (object_at p.objects told.0.dest).kind in
     GoesOn kind told (draws_next (plain_meaning p) kind told.0.dest s (does told after)) e)

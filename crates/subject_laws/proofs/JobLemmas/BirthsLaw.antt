@@ -43,7 +43,7 @@ use Rattle.run_laws.proofs.CausalityLaw.{sent-in, rest-in, initial-in}
 use Rattle.run_laws.proofs.Induction.{after_events-does, after_events-stops, gathered-more, each_number}
 use Rattle.run_laws.proofs.Steps.{IsStep, is_step, first_firing, sent_next-step}
 use Rattle.subject_laws.specs.Births.{newly_born, born_next, births, births_waiting_at, IsKeptAt, AreKept}
-use Rattle.subject_laws.specs.BirthLaws.{age_told, IsOfAge, EachJobKeepsItsBirth, AgesAreTold, NoneLeavesLate}
+use Rattle.subject_laws.specs.BirthLaws.{age_told, IsOfAge, NoneIsOlder, EachJobKeepsItsBirth, AgesAreTold, NoneLeavesLate}
 use Rattle.subject_laws.specs.Jobs.{Job, listed, made_by, is_in_system, is_of_job, newly_made, first_places, places_after, whereabouts}
 use Rattle.subject_laws.specs.LossLaws.{IsSinkAt}
 use Rattle.subject_laws.specs.Places.{Place, at_event, in_line, has_left, was_lost, own_place, moved_up, word_told, job_told, place_after}
@@ -69,6 +69,20 @@ it_is_next p t s told after n x is_in =
     elim (first-or-later x n.step.event n.step.rest (subst C n.step.pending is_in)) [
       | inl same ↦ inl same
       | inr later ↦ inr (later, each-contains (λ (x : Event). key_lt n.step.event.key x.key ≡ true) x n.step.rest up.0 later)
+    ]
+
+-- no two pending events have one key
+it_is_that : (p : NetworkParts) (t : Terms) (s : State) (told : Key × Note) (after : State) (n : IsNetworkStep p t s told after) (x : Event) → Contains s.pending x
+    → x.key ≡ n.step.event.key → n.step.event ≡ x
+it_is_that p t s told after n x is_in same =
+    elim (it_is_next p t s told after n x is_in) [
+      | inl it ↦ it
+      | inr later ↦ absurd {A = n.step.event ≡ x} (
+          let K : Key → Type 0 = λ k. key_lt n.step.event.key k ≡ true in
+          let twice : key_lt n.step.event.key n.step.event.key ≡ true = subst K same later.1 in
+          let never : key_lt n.step.event.key n.step.event.key ≡ false = key_lt-irrefl n.step.event.key in
+          cc
+          )
     ]
 
 -- what is put at an event that is sent, or in the line of the object, is kept in the state after it
@@ -126,13 +140,7 @@ kept_on p t s told after fine n birth (at_event k) kept = by (same_key k n.step.
         (if here then own_place (word_told n.step.effect.note) n.step.event.key.dest (length (waiting_at s n.step.event.key.dest)) (first_firing s n.step.event n.step.effect).events else at_event k)
     by true here =
         let same : k ≡ e.key = same_key-is k e.key here in
-        elim (it_is_next p t s told after n kept.0 kept.1) [
-          | inl it ↦ own it
-          | inr later ↦ absurd (
-              let K : Key → Type 0 = λ k. key_lt e.key k ≡ true in
-              let twice : key_lt e.key e.key ≡ true = subst K (kept.3 ∙ same) later.1 in
-              let never : key_lt e.key e.key ≡ false = key_lt-irrefl e.key in (cc))
-        ]
+        own (it_is_that p t s told after n kept.0 kept.1 (kept.3 ∙ same))
     by false apart =
         elim (it_is_next p t s told after n kept.0 kept.1) [
           | inl it ↦ absurd (
@@ -428,14 +436,7 @@ ages_law p t n told after fine is_next word =
     let P : Job × Place → Type 0 = λ at. IsKeptAt p s birth at.1 in
     let kept : IsKeptAt p s birth (at_event e.key) =
     subst P stands (kept_at p s (whereabouts p t n) (births p t n) one.number (one.job, has_left) (plain_births p t fine n) one.within) in
-    let own : e ≡ kept.0 =
-    elim (it_is_next p t s told after step kept.0 kept.1) [
-      | inl it ↦ it
-      | inr later ↦ absurd (
-          let K : Key → Type 0 = λ k. key_lt e.key k ≡ true in
-          let twice : key_lt e.key e.key ≡ true = subst K kept.3 later.1 in
-          let never : key_lt e.key e.key ≡ false = key_lt-irrefl e.key in (cc))
-    ] in
+    let own : e ≡ kept.0 = it_is_that p t s told after step kept.0 kept.1 kept.3 in
     let born : e.b ≡ birth = ap (λ (x : Event). x.b) own ∙ kept.4 in
     let age : age_told told.1 ≡ time_part e.key.stamp - birth =
     ap age_told note ∙ age_of p.objects (site_of p e.key.dest) (cells_at s e.key.dest) e kind step.step.effect step.does_so leaves_so ∙ ap (λ b. time_part e.key.stamp - b) born in
@@ -443,9 +444,6 @@ ages_law p t n told after fine is_next word =
     subst A (sym key) (record { number = one.number; job = one.job; within = one.within; stands = stands; old = age })
 
 -- what a sink with a due tells
-NoneLate : ℕ → ℕ → Key × Note → Type 0
-NoneLate i due told = told.0.dest ≡ i → All (λ (part : Part). part.word ≡ 9 → part.b ≤ due) told.1
-
 sink_note : (sink : SinkOver) (e : Event) (cells : CellData) (quiet trace : Bool) (due : ℕ) (x : Effect) → sink.due ≡ Some due → sink_effect sink e ≡ Goes x
     → Each (λ (part : Part). part.word ≡ 9 → part.b ≤ due) (note_told quiet trace cells x)
 unfolding sink_effect
@@ -484,8 +482,8 @@ told_goes object cells (Goes y) x is = (y, refl, sym (ap (λ (z : Effect). z.not
 told_goes object cells (Fails code) x is = absurd (cc)
 
 none_late : (p : NetworkParts) (t : Terms) (i due : ℕ) (sink : SinkOver) (s : State) (told : Key × Note) (after : State) → IsSinkAt p i sink → sink.due ≡ Some due
-    → next (network_meaning p) t s ≡ does told after → NoneLate i due told
-unfolding network_meaning NoneLate
+    → next (network_meaning p) t s ≡ does told after → NoneIsOlder i due told
+unfolding network_meaning
 none_late p t i due sink s told after is has_due is_next at =
     let step : IsStep (network_meaning p) t s told after = is_step (network_meaning p) t s told after is_next in
     let e : Event = step.event in
@@ -501,13 +499,13 @@ none_late p t i due sink s told after is has_due is_next at =
     (sink_note sink e (cells_at s d) (object_at p.objects d).quiet (object_at p.objects d).trace due goes.0 has_due sinks))
 
 pub due_law : NoneLeavesLate
-unfolding gathered NoneLate
+unfolding gathered
 due_law p t i n due sink is has_due =
     let m = network_meaning p in
-    let R : List (Key × Note) → Type 0 = λ records. All (λ (told : Key × Note). NoneLate i due told) records in
-    each_number m t (λ n. R (first_records n m t)) (All-nil (λ (told : Key × Note). NoneLate i due told))
+    let R : List (Key × Note) → Type 0 = λ records. All (λ (told : Key × Note). NoneIsOlder i due told) records in
+    each_number m t (λ n. R (first_records n m t)) (All-nil (λ (told : Key × Note). NoneIsOlder i due told))
     (λ n stop is_next before. subst R (sym (gathered-more record_of m t n (stops stop) is_next ∙ append-nil (first_records n m t))) before)
     (λ n told after is_next before.
     subst R (sym (gathered-more record_of m t n (does told after) is_next))
-    (All-push (λ (told : Key × Note). NoneLate i due told) (first_records n m t) told before (none_late p t i due sink (after_events n m t) told after is has_due is_next)))
+    (All-push (λ (told : Key × Note). NoneIsOlder i due told) (first_records n m t) told before (none_late p t i due sink (after_events n m t) told after is has_due is_next)))
     n
