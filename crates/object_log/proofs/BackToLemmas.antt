@@ -1,10 +1,10 @@
 -- The events of an object that don't come before a key are undone, the last one first, wherever they stand among others.
-use Rattle.std.proofs.Common.{◌≡◌, ◌≢◌, ℕ, zero, suc, ◌+◌, ◌-◌, ◌<◌, ◌≤◌, ◌^◌, Bool, true, false, not, ◌&&◌, cond, Some, List, [], ◌∷◌, ◌++◌, length, map, take, drop, refl, sym, ap, ◌∙◌, subst, arith, append_assoc, length-append, length-take}
+use Rattle.std.proofs.Common.{◌≡◌, ◌≢◌, ℕ, zero, suc, ◌+◌, ◌-◌, ◌<◌, ◌≤◌, ◌^◌, Bool, true, false, not, ◌&&◌, cond, Some, List, [], ◌∷◌, ◌++◌, length, map, take, drop, refl, sym, ap, ◌∙◌, subst, arith, append_assoc}
 use Rattle.std.proofs.lemmas.List.{append-nil, length-drop, length-map, take-append-drop}
 use Rattle.std.proofs.lemmas.Option.{slice_get_within}
 use Rattle.std.proofs.lemmas.List.Elements.{filter-append}
-use Rattle.std.specs.Prelude.{Option, None, is_some, filter, slice_get}
-use Rattle.std.specs.List.{AllByRecursion as Each, remove}
+use Rattle.std.specs.Prelude.{Option, None, is_some, slice_get}
+use Rattle.std.specs.List.{AllByRecursion as Each}
 use Rattle.event_key.specs.declared.key.Key.{Key}
 use Rattle.event_key.specs.Keys.{key_lt}
 use Rattle.event_key.proofs.Order.{key_lt-trans}
@@ -18,7 +18,7 @@ use Rattle.object_log.specs.Dones.{Done}
 use Rattle.object_log.specs.EventCalls.{ChangesAt, HasGoneBack}
 use Rattle.object_log.specs.EventLogs.{EventLogView, ObjectView, done_key, dones_at, is_of, rolled_back, state_in, stays}
 use Rattle.object_log.specs.Logs.{before, events_of, keys_of, undone}
-use Rattle.object_log.specs.Parts.{before_key, from_key}
+use Rattle.object_log.specs.Parts.{from_key}
 use Rattle.object_log.specs.Undoings.{HasUndoneAt, IsNewestAt}
 use Rattle.object_log.proofs.OwnLemmas.{is_here, is_there, rolled-other, rolled-own}
 use Rattle.object_log.proofs.UndoLemmas.{same-found, split-at}

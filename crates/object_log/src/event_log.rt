@@ -1,5 +1,5 @@
 //! The log of many objects.
-ghost use Rattle.std.specs.Prelude.{◌≡◌, ◌<◌, ◌≤◌, ◌+◌, ◌^◌, [], length, slice_get, IfOk, IfErr, IfSome, IfNone, OnOk, OnErr, IsTrue, Some, None, is_some, false, true, nat_lt};
+ghost use Rattle.std.specs.Prelude.{◌≡◌, ◌<◌, ◌≤◌, ◌+◌, ◌^◌, [], ◌∷◌, length, slice_get, IfOk, IfErr, IfSome, IfNone, OnOk, OnErr, IsTrue, Some, None, is_some, false, true, nat_lt};
 ghost use Rattle.std.specs.List.{AllByRecursion};
 ghost use Rattle.event_key.specs.Keys.{key_lt};
 ghost use Rattle.event_key.specs.Stamps.{time_part};
@@ -14,6 +14,7 @@ ghost use Rattle.object_log.specs.Objects.{IsPlaced};
 ghost use Rattle.object_log.specs.Undoings.{HasUndoneAt, IsNewestAt, LastIsFrom};
 
 use crate::carried::Carried;
+use crate::done::Done;
 use crate::object::{Fired, Object};
 use crate::pool::LogPool;
 use event_chain::{Cell, Chain};
@@ -186,12 +187,7 @@ impl EventLog {
 
     /// Undoes each event that isn't below a horizon, and puts them into `into` in the order of their keys. Answers how many
     /// there were. What else they leave goes to the pool. Takes no memory.
-    pub fn undo_from(
-        &mut self,
-        horizon: u64,
-        pool: &mut LogPool,
-        into: &mut Chain<Event>,
-    ) -> u64
+    pub fn undo_from(&mut self, horizon: u64, pool: &mut LogPool, into: &mut Chain<Event>) -> u64
         requires { into.old ≡ [] }
         ensures undone { HasUndoneFrom horizon self.old self.new into.new }
         ensures count { result ≡ length into.new }
@@ -204,5 +200,14 @@ impl EventLog {
             count += 1;
         }
         count
+    }
+
+    /// Takes the event of the least key out, which stays done, in constant time. `LogPool::release` takes it apart.
+    pub fn commit_first(&mut self) -> Cell<Done>
+        requires { 0 < length self.old.done }
+        ensures done { self.old.done ≡ result ∷ self.new.done }
+        ensures objects { self.new.objects ≡ self.old.objects }
+    {
+        self.carried.take(0)
     }
 }

@@ -1,5 +1,5 @@
 -- The first event has the least key.
-use Rattle.std.proofs.Common.{◌≡◌, ℕ, ◌<◌, Some, deque_len, length, refl, sym, ap, ◌∙◌, subst, arith}
+use Rattle.std.proofs.Common.{◌≡◌, ◌<◌, Some, deque_len, refl, sym, ap, ◌∙◌, subst, arith}
 use Rattle.std.proofs.lemmas.List.{nil_from_length}
 use Rattle.std.specs.Prelude.{slice_get}
 use Rattle.object_log.specs.Carrying.{CarriedView, placed, placed_of}

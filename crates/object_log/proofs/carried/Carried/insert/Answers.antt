@@ -1,6 +1,5 @@
 -- The event comes to its place.
-use Rattle.std.proofs.Common.{min, ◌≡◌, ℕ, ◌≤◌, List, drop, length, refl, sym, ap, ◌∙◌, subst, arith}
-use Rattle.event_key.specs.declared.key.Key.{Key}
+use Rattle.std.proofs.Common.{min, ◌≡◌, sym, ap, ◌∙◌, subst, arith}
 use Rattle.model_core.specs.declared.event.Event.{Event}
 use Rattle.key_order.specs.Ascending.{Ascends}
 use Rattle.key_order.specs.Keys.{times}

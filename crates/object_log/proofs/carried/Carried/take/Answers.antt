@@ -1,11 +1,11 @@
 -- The event leaves its place.
-use Rattle.std.proofs.Common.{◌≡◌, ℕ, suc, ◌<◌, ◌≤◌, Some, length, take, drop, length-append, length-take, refl, sym, ap, ◌∙◌, subst, arith}
+use Rattle.std.proofs.Common.{◌≡◌, suc, ◌<◌, Some, length, take, drop, length-append, length-take, refl, sym, ap, ◌∙◌, subst, arith}
 use Rattle.std.proofs.lemmas.List.{length-map}
 use Rattle.std.specs.List.{remove}
 use Rattle.std.specs.Prelude.{slice_get}
 use Rattle.key_order.specs.Ascending.{Ascends}
 use Rattle.key_order.proofs.AscendingLemmas.{Ascends-map, Ascends-mapped}
-use Rattle.object_log.specs.Carrying.{AreHeldBut, CarriedView, Placed, placed, placed_key, placed_of}
+use Rattle.object_log.specs.Carrying.{AreHeldBut, CarriedView, placed, placed_key, placed_of}
 use Rattle.object_log.proofs.CarriedLemmas.{ascends-removed, but-removed, map-removed, read-map}
 use Rattle.object_log.proofs.carried.Carried.take.Goals as goal
 
@@ -23,9 +23,11 @@ mend-requires-clause-but c = subst (AreHeldBut c.args.index) (sym c.in-Some.ensu
 pub invariant_of-self : goal.invariant_of-self
 invariant_of-self c =
     let es = c.self.inside.items.items in
-    let left = c.mend.ensures.same ∙ ap placed c.in-Some.ensures.items ∙ map-removed placed_of es c.args.index in
-    (Ascends-mapped placed_key placed_of c.mend.new.items.items
-    (subst (Ascends placed_key) (sym left) (ascends-removed placed_key (placed es) c.args.index (Ascends-map placed_key placed_of es c.self.invariant.0))), c.mend.ensures.held)
+    let left = c.mend.ensures.same ∙ ap placed c.in-Some.ensures.items ∙ map-removed placed_of es c.args.index in (
+      Ascends-mapped placed_key placed_of c.mend.new.items.items
+          (subst (Ascends placed_key) (sym left) (ascends-removed placed_key (placed es) c.args.index (Ascends-map placed_key placed_of es c.self.invariant.0))),
+      c.mend.ensures.held,
+    )
 
 pub returns-clause-left : goal.returns-clause-left
 returns-clause-left c =

@@ -1,5 +1,5 @@
 -- The events are in order.
-use Rattle.std.proofs.Common.{ap, subst}
+use Rattle.std.proofs.Common.{subst}
 use Rattle.key_order.specs.Ascending.{Ascends}
 use Rattle.key_order.proofs.AscendingLemmas.{Ascends-map}
 use Rattle.object_log.specs.Carrying.{CarriedView, placed_key, placed_of}

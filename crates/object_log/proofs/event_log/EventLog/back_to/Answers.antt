@@ -1,5 +1,5 @@
 -- One event after another is looked at.
-use Rattle.std.proofs.Common.{◌+◌, ◌-◌, ◌<◌, ◌^◌, ◌∙◌, length, refl, sym, ap, arith}
+use Rattle.std.proofs.Common.{sym, arith}
 use Rattle.object_log.proofs.BackToLemmas.{back-to-first, back-to-start, look-ends, look-newest, look-over, look-room, look-undo, the-state}
 use Rattle.object_log.proofs.event_log.EventLog.back_to.Goals as goal
 
@@ -30,14 +30,18 @@ overflow_add-count c =
     omega arith
 
 pub loop-index-preserved-then-at-object : goal.loop-index-preserved-then-at-object
-loop-index-preserved-then-at-object c =
-    (c.loop-index.invariant.0, look-undo c.args.object c.args.key c.args.self.now c.loop-index.self c.loop-index.index c.loop-index.into c.loop-index.count c.loop-index.invariant.0 c.key_at-at.result
-    (record { back = c.loop-index.invariant.1; some = omega arith; found = c.key_at-at.ensures }) c.undo_at.new.self c.undo_at.result c.push_front.new.self c.if-at-object.true (sym c.if-is_before.ensures) c.undo_at.ensures c.push_front.ensures)
+loop-index-preserved-then-at-object c = (
+  c.loop-index.invariant.0,
+  look-undo c.args.object c.args.key c.args.self.now c.loop-index.self c.loop-index.index c.loop-index.into c.loop-index.count c.loop-index.invariant.0 c.key_at-at.result
+      (record { back = c.loop-index.invariant.1; some = omega arith; found = c.key_at-at.ensures }) c.undo_at.new.self c.undo_at.result c.push_front.new.self c.if-at-object.true (sym c.if-is_before.ensures) c.undo_at.ensures c.push_front.ensures,
+)
 
 pub loop-index-preserved : goal.loop-index-preserved
-loop-index-preserved c =
-    (c.loop-index.invariant.0, look-over c.args.object c.args.key c.args.self.now c.loop-index.self c.loop-index.index c.loop-index.into c.loop-index.count c.loop-index.invariant.0 c.key_at-at.result
-    (record { back = c.loop-index.invariant.1; some = omega arith; found = c.key_at-at.ensures }) c.if-at-object.false (sym c.if-is_before.ensures))
+loop-index-preserved c = (
+  c.loop-index.invariant.0,
+  look-over c.args.object c.args.key c.args.self.now c.loop-index.self c.loop-index.index c.loop-index.into c.loop-index.count c.loop-index.invariant.0 c.key_at-at.result
+      (record { back = c.loop-index.invariant.1; some = omega arith; found = c.key_at-at.ensures }) c.if-at-object.false (sym c.if-is_before.ensures),
+)
 
 pub returns-clause-back : goal.returns-clause-back
 returns-clause-back c =

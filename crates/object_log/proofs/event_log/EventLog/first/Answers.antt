@@ -1,5 +1,5 @@
 -- The first item has the least key.
-use Rattle.std.proofs.Common.{◌≡◌, List, [], map, Option, Some, None, sym, ap, ◌∙◌, subst}
+use Rattle.std.proofs.Common.{◌≡◌, [], Option, Some, None, sym, ap, ◌∙◌, subst}
 use Rattle.std.specs.Prelude.{IfNone, IfSome, slice_get}
 use Rattle.event_key.specs.declared.key.Key.{Key}
 use Rattle.object_log.specs.Carrying.{Placed, placed_key}

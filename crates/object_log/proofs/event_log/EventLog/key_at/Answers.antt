@@ -1,6 +1,5 @@
 -- The item has the event's key.
-use Rattle.std.proofs.Common.{◌≡◌, ◌<◌, Some, length, sym, ap, ◌∙◌, subst, arith}
-use Rattle.std.proofs.lemmas.List.{length-map}
+use Rattle.std.proofs.Common.{◌≡◌, Some, sym, ap, ◌∙◌, subst}
 use Rattle.std.specs.Prelude.{slice_get}
 use Rattle.object_log.specs.Carrying.{Placed}
 use Rattle.object_log.specs.Dones.{Done}

@@ -1,6 +1,5 @@
 -- There is nothing.
 use Rattle.std.proofs.Common.{List, [], sym, subst}
-use Rattle.object_log.specs.Carrying.{Placed}
 use Rattle.object_log.specs.Objects.{KeptObject}
 use Rattle.object_log.specs.Whole.{IsEventLog}
 use Rattle.object_log.proofs.EventLogLemmas.{no-log}

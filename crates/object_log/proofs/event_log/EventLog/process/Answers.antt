@@ -3,7 +3,6 @@ use Rattle.std.proofs.Common.{◌≡◌, ℕ, ◌<◌, ◌^◌, List, sym, ap, �
 use Rattle.std.specs.Prelude.{IsTrue, slice_set}
 use Rattle.key_order.specs.Keys.{times}
 use Rattle.model_core.specs.Meaning.{Meaning}
-use Rattle.sim_spec.specs.Firing.{ObjectState}
 use Rattle.object_log.specs.Carrying.{Placed, placed_key}
 use Rattle.object_log.specs.EventCalls.{HasProcessed}
 use Rattle.object_log.specs.EventLogs.{EventLogView, state_in}

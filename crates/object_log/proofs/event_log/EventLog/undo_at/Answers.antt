@@ -1,7 +1,6 @@
 -- The event leaves the list, and its object takes it back.
-use Rattle.std.proofs.Common.{◌≡◌, ℕ, List, sym, ap, ◌∙◌, subst}
+use Rattle.std.proofs.Common.{ℕ, List, sym, ap, ◌∙◌, subst}
 use Rattle.std.specs.Prelude.{slice_set}
-use Rattle.std.specs.List.{remove}
 use Rattle.object_log.specs.Carrying.{Placed}
 use Rattle.object_log.specs.Dones.{Done}
 use Rattle.object_log.specs.EventLogs.{EventLogView}

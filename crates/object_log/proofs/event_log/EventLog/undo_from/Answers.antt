@@ -1,7 +1,6 @@
 -- One event after another is undone.
-use Rattle.std.proofs.Common.{◌+◌, ◌-◌, ◌<◌, ◌^◌, ◌∙◌, length, refl, sym, ap, arith}
-use Rattle.object_log.specs.EventLogs.{EventLogView}
-use Rattle.object_log.proofs.UndoneLemmas.{from-end, from-less, from-next, from-room, from-start, newest-last}
+use Rattle.std.proofs.Common.{◌-◌, ap}
+use Rattle.object_log.proofs.UndoneLemmas.{from-end, from-next, from-start}
 use Rattle.object_log.proofs.event_log.EventLog.undo_from.Goals as goal
 
 pub loop-self-init : goal.loop-self-init
