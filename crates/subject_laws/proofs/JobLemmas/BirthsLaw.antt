@@ -420,6 +420,16 @@ someone p t n told after fine step no_source =
       sum-held w (whereabouts p t n),
     ))
 
+born_as : (p : NetworkParts) (s : State) (birth : ℕ) (e : Event) (kept : IsKeptAt p s birth (at_event e.key)) → e ≡ kept.0 → e.b ≡ birth
+born_as p s birth e kept own = ap (λ (x : Event). x.b) own ∙ kept.4
+
+tells_so : (told : Key × Note) (note : Note) → told.1 ≡ note → word_told told.1 ≡ 9 → word_told note ≡ 9
+tells_so told note tells word = sym (ap word_told tells) ∙ word
+
+told_age : (told : Key × Note) (e : Event) (note : Note) (birth : ℕ) → told.1 ≡ note → age_told note ≡ time_part e.key.stamp - e.b → e.b ≡ birth
+    → age_told told.1 ≡ time_part e.key.stamp - birth
+told_age told e note birth tells age born = ap age_told tells ∙ age ∙ ap (λ b. time_part e.key.stamp - b) born
+
 pub ages_law : AgesAreTold
 ages_law p t n told after fine is_next word =
     let s : State = after_events n (plain_meaning p) t in
@@ -428,7 +438,7 @@ ages_law p t n told after fine is_next word =
     let kind : KindOver ℕ = (object_at p.objects e.key.dest).kind in
     let key : told.0 ≡ e.key = ap (λ (r : Key × Note). r.0) step.step.tells in
     let note : told.1 ≡ step.step.effect.note = ap (λ (r : Key × Note). r.1) step.step.tells in
-    let leaves_so : word_told step.step.effect.note ≡ 9 = sym (ap word_told note) ∙ word in
+    let leaves_so : word_told step.step.effect.note ≡ 9 = tells_so told step.step.effect.note note word in
     let one : StandsAt (whereabouts p t n) e.key =
     someone p t n told after fine step (no_source_leaves p.objects (site_of p e.key.dest) (cells_at s e.key.dest) e kind step.step.effect step.does_so leaves_so) in
     let birth : ℕ = slice_index (births p t n) one.number in
@@ -437,9 +447,10 @@ ages_law p t n told after fine is_next word =
     let kept : IsKeptAt p s birth (at_event e.key) =
     subst P stands (kept_at p s (whereabouts p t n) (births p t n) one.number (one.job, has_left) (plain_births p t fine n) one.within) in
     let own : e ≡ kept.0 = it_is_that p t s told after step kept.0 kept.1 kept.3 in
-    let born : e.b ≡ birth = ap (λ (x : Event). x.b) own ∙ kept.4 in
+    let born : e.b ≡ birth = born_as p s birth e kept own in
     let age : age_told told.1 ≡ time_part e.key.stamp - birth =
-    ap age_told note ∙ age_of p.objects (site_of p e.key.dest) (cells_at s e.key.dest) e kind step.step.effect step.does_so leaves_so ∙ ap (λ b. time_part e.key.stamp - b) born in
+    told_age told e step.step.effect.note birth note
+    (age_of p.objects (site_of p e.key.dest) (cells_at s e.key.dest) e kind step.step.effect step.does_so leaves_so) born in
     let A : Key → Type 0 = λ key. IsOfAge p t n key (age_told told.1) in
     subst A (sym key) (record { number = one.number; job = one.job; within = one.within; stands = stands; old = age })
 
