@@ -3,3 +3,4 @@ pub mod SmallTimes
 pub mod SourcesLaw
 pub mod Ticks
 pub mod TimesLaw
+pub mod WaitsLaw

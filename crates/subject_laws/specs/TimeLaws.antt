@@ -1,5 +1,5 @@
 -- What jobs wait and what servers work, exactly.
-use Rattle.std.specs.Prelude.{◌≡◌, ℕ, false, ◌+◌, ◌-◌, ◌*◌, ◌≤◌, length, sum, sum_by, All}
+use Rattle.std.specs.Prelude.{◌≡◌, ℕ, false, ◌+◌, ◌-◌, ◌*◌, ◌≤◌, List, [], ◌∷◌, length, sum, sum_by, All}
 use Rattle.event_key.specs.Stamps.{time_part}
 use Rattle.model_core.specs.declared.event.Event.{Event}
 use Rattle.sim_spec.specs.declared.terms.Terms.{Terms}
@@ -15,11 +15,18 @@ use Rattle.subject_laws.specs.Stations.{IsStationAt, busy_at, waiting_at, in_ser
 use Rattle.subject_laws.specs.Times.{arrival_times, begin_times, done_times}
 use Rattle.subject_laws.specs.TotalLaws.{totals_at}
 
+-- what each job has waited by a time: from when it came in until its service began, or until then
+abbrev pub waits : ℕ → List ℕ → List ℕ → List ℕ
+waits now [] begins = []
+waits now (came ∷ arrivals) [] = (now - came) ∷ waits now arrivals []
+waits now (came ∷ arrivals) (begun ∷ begins) = (begun - came) ∷ waits now arrivals begins
+
 -- waiting jobs times ticks are the times at which services began, and for each job that waits still the time of the last word, less the times
--- at which the jobs came: what each has waited (Little 1961)
-abbrev pub WaitsAddUp : NetworkParts → Terms → ℕ → ℕ → Sums → State → Type 0
-WaitsAddUp p t i n totals s =
-    totals.waiting_ticks + sum (arrival_times p t i n) ≡ sum (begin_times p t i n) + length (waiting_at s i) * totals.last
+-- at which the jobs came; and they are what the jobs have waited, one by one, in the order in which they came (Little 1961)
+pub record WaitsAddUp (p : NetworkParts) (t : Terms) (i n : ℕ) (totals : Sums) (s : State) : Type 0 where
+  pub times : totals.waiting_ticks + sum (arrival_times p t i n) ≡ sum (begin_times p t i n) + length (waiting_at s i) * totals.last
+  pub jobs : length (arrival_times p t i n) ≡ length (begin_times p t i n) + length (waiting_at s i)
+  pub each : totals.waiting_ticks ≡ sum (waits totals.last (arrival_times p t i n) (begin_times p t i n))
 
 -- busy servers times ticks are the times at which jobs were done, and for each in service the time of the last word, less those at which
 -- services began; and they are what the services drew, less what is left of those under way

@@ -21,6 +21,7 @@ use Rattle.run_laws.specs.Sent.{sent_next}
 use Rattle.subject_laws.specs.Draws.{drawn_by}
 use Rattle.subject_laws.specs.SourceLaws.{make_times, next_make_at, epochs}
 use Rattle.subject_laws.specs.Stations.{in_service_at}
+use Rattle.subject_laws.specs.TimeLaws.{waits}
 use Rattle.subject_laws.specs.Times.{arrival_times, begin_times, done_times}
 use Rattle.subject_laws.proofs.QueueLemmas.SmallShop.{counter, shop, to_fifty}
 
@@ -35,6 +36,10 @@ times_seen : ◌≡◌ {A = List ℕ × List ℕ × List ℕ × List ℕ × List
     (1 ∷ 3 ∷ 5 ∷ 7 ∷ [], 1 ∷ 6 ∷ 11 ∷ [], 6 ∷ 11 ∷ [], 16 ∷ [], 5 ∷ 5 ∷ 5 ∷ [])
 unfolding shop counter to_fifty gathered sent_next draw drawn_value words_read start_of sources_below place_changes idle_effect last_effect make_effect source_effect sink_effect take_effect wait_effect lose_effect arrival_outcome serve_effect free_effect done_effect station_effect plain_meaning network_meaning key_lt key_cmp next_stamp has_no_step cells_after_all inverses_of enqueue enqueue_all has_endless_chain emissions fired_by fire initial_state next next_of next_fired left_by after_events
 times_seen = refl
+
+-- the four jobs have waited 0, 3, 6 and 4 ticks by then, 13 together
+waits_seen : waits 11 (1 ∷ 3 ∷ 5 ∷ 7 ∷ []) (1 ∷ 6 ∷ 11 ∷ []) ≡ 0 ∷ 3 ∷ 6 ∷ 4 ∷ []
+waits_seen = refl
 
 -- after four events the source has made jobs at 1 and 3, and will make the next at 5: two ticks apart, as it drew
 makes_seen : ◌≡◌ {A = List ℕ × List ℕ × List ℕ × List ℕ} (

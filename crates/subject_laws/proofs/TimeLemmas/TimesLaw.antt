@@ -41,7 +41,7 @@ use Rattle.subject_laws.specs.Orders.{jobs_told, is_coming, is_done, numbers_of,
 use Rattle.subject_laws.specs.Places.{word_told}
 use Rattle.subject_laws.specs.ServerLaws.{AreServing}
 use Rattle.subject_laws.specs.Stations.{IsStationAt, cells_at, busy_at, waiting_at, ends_service_at, in_service_at}
-use Rattle.subject_laws.specs.TimeLaws.{WaitsAddUp, WorkAddsUp, LittleLaw, UtilisationLaw}
+use Rattle.subject_laws.specs.TimeLaws.{WorkAddsUp, UtilisationLaw}
 use Rattle.subject_laws.specs.Times.{at_time, arrival_times, begin_times, done_times}
 use Rattle.subject_laws.specs.TotalLaws.{totals_at, IsAccountedFor}
 use Rattle.subject_laws.proofs.DrawLemmas.DrawsLaw.{plain_draws, plain_drawn, drawn_here, same_drawn}
@@ -77,7 +77,7 @@ own_ends site cells e station x (serves done some) = (λ two. absurd (let w : 3 
 own_ends site cells e station x (frees done none) = (λ two. absurd (let w : 3 ≡ 2 = two in omega arith), tt)
 
 -- what one event moves at a station: how many come, begin and are done; and when the services that begin will end
-record MovesInTime (p : NetworkParts) (s : State) (told : Key × Note) (after : State) (i : ℕ) : Type 0 where
+pub record MovesInTime (p : NetworkParts) (s : State) (told : Key × Note) (after : State) (i : ℕ) : Type 0 where
   pub waiting : length (waiting_at s i) + length (jobs_told is_coming i s (does told after)) ≡ length (begins_at (plain_meaning p) i s (does told after)) + length (waiting_at after i)
   pub busy : busy_at s i + length (begins_at (plain_meaning p) i s (does told after)) ≡ length (jobs_told is_done i s (does told after)) + busy_at after i
   pub ends : sum_by (end_time i) after.pending + length (jobs_told is_done i s (does told after)) * time_part told.0.stamp
@@ -152,7 +152,7 @@ moves_here p t s told after n station is is_moved busy_before busy_after =
     once false time = omega arith
 
 -- nothing moves at a station
-record StaysStill (p : NetworkParts) (s : State) (told : Key × Note) (after : State) (i : ℕ) : Type 0 where
+pub record StaysStill (p : NetworkParts) (s : State) (told : Key × Note) (after : State) (i : ℕ) : Type 0 where
   pub coming : jobs_told is_coming i s (does told after) ≡ []
   pub begins : begins_at (plain_meaning p) i s (does told after) ≡ []
   pub done : jobs_told is_done i s (does told after) ≡ []
@@ -190,14 +190,14 @@ still_elsewhere p t s told after n i apart =
     and_false false = refl
 
 -- an event moves jobs at a station, of which it tells by a word; or nothing moves there, and nothing is told
-data StationStep (p : NetworkParts) (t : Terms) (n : ℕ) (told : Key × Note) (after : State) (i : ℕ) : Type 0 where
+pub data StationStep (p : NetworkParts) (t : Terms) (n : ℕ) (told : Key × Note) (after : State) (i : ℕ) : Type 0 where
   moves : MovesInTime p (after_events n (plain_meaning p) t) told after i → (word : ℕ)
       → sums_of (words_told i (first_records n (plain_meaning p) t ++ told ∷ [])) ≡ with_word (plain_totals_at p t i n) (record { time = time_part told.0.stamp; word = word })
       → StationStep p t n told after i
   still : StaysStill p (after_events n (plain_meaning p) t) told after i
       → sums_of (words_told i (first_records n (plain_meaning p) t ++ told ∷ [])) ≡ plain_totals_at p t i n → StationStep p t n told after i
 
-station_step : (p : NetworkParts) (t : Terms) (n : ℕ) (told : Key × Note) (after : State) (i : ℕ) (station : StationOver ℕ) → IsNetwork p
+pub station_step : (p : NetworkParts) (t : Terms) (n : ℕ) (told : Key × Note) (after : State) (i : ℕ) (station : StationOver ℕ) → IsNetwork p
     → next (plain_meaning p) t (after_events n (plain_meaning p) t) ≡ does told after → IsStationAt p i station → StationStep p t n told after i
 station_step p t n told after i station fine is_next is = by (eqb i step.step.event.key.dest) refl
   where
@@ -236,7 +236,7 @@ station_step p t n told after i station fine is_next is = by (eqb i step.step.ev
         moves (subst P (sym same) (moves_here p t s told after step station) is is_moved serving.under_way serving_after.under_way) (word_told told.1) more
 
 -- a station after n events, by the totals over what would be told if no object were quiet
-record Adds (p : NetworkParts) (t : Terms) (i n : ℕ) (sums : Sums) (s : State) : Type 0 where
+pub record Adds (p : NetworkParts) (t : Terms) (i n : ℕ) (sums : Sums) (s : State) : Type 0 where
   pub waited : sums.waiting_ticks + sum (arrival_times p t i n) ≡ sum (begin_times p t i n) + length (waiting_at s i) * sums.last
   pub worked : sums.busy_ticks + sum (begin_times p t i n) ≡ sum (done_times p t i n) + busy_at s i * sums.last
   pub drawn : sum (done_times p t i n) + sum_by (end_time i) s.pending ≡ sum (begin_times p t i n) + sum (plain_drawn p t i n)
@@ -330,7 +330,7 @@ adds_first p t i station fine is =
     }
 
 -- the law over the plain meaning
-plain_adds : (p : NetworkParts) (t : Terms) (i : ℕ) (station : StationOver ℕ) → IsNetwork p → IsStationAt p i station → (n : ℕ)
+pub plain_adds : (p : NetworkParts) (t : Terms) (i : ℕ) (station : StationOver ℕ) → IsNetwork p → IsStationAt p i station → (n : ℕ)
     → Adds p t i n (plain_totals_at p t i n) (after_events n (plain_meaning p) t)
 plain_adds p t i station fine is =
     let m = plain_meaning p in
@@ -405,12 +405,6 @@ plain_work p t i station n fine is =
         ap (λ (xs : List ℕ). sum xs) (same_drawn p t i n),
       );
     }
-
-pub little_law : LittleLaw
-little_law p t i station n fine is loud =
-    let S : State → Type 0 = λ s. WaitsAddUp p t i n (totals_at p t i n) s in
-    let T : Sums → Type 0 = λ totals. WaitsAddUp p t i n totals (after_events n (plain_meaning p) t) in
-    subst S (sym (same_after p t n)) (subst T (sym (same_sums p t i fine loud n)) (plain_adds p t i station fine is n).waited)
 
 pub utilisation_law : UtilisationLaw
 utilisation_law p t i station n fine is loud =
