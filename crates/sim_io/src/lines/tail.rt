@@ -6,8 +6,10 @@ ghost use Rattle.sim_io.specs.Tails.{IsSpaced};
 ghost use Rattle.sim_io.specs.Texts.{part_text, word_text};
 
 use model_core::{
-    DONE_WORD, Digits, HELD_WORD, HOP_WORD, LEFT_WORD, LEVEL_WORD, LOAD_WORD, LOST_WORD, MADE_WORD,
-    Part, ROUTED_WORD, TAKEN_WORD, WAITING_WORD, write_byte, write_first,
+    CALLED_WORD, DELAYED_WORD, DONE_WORD, DOWN_WORD, DROPPED_WORD, Digits, FREED_WORD, HELD_WORD,
+    HOP_WORD, LEFT_WORD, LEVEL_WORD, LOAD_WORD, LOST_WORD, MADE_WORD, OPENED_WORD, OVERDUE_WORD,
+    Part, RENEGED_WORD, ROUTED_WORD, TAKEN_WORD, UP_WORD, WAITING_WORD, WENT_WORD, write_byte,
+    write_first,
 };
 
 /// For how many bytes there is room where a tail is written.
@@ -39,6 +41,16 @@ fn spaced_word(word: u32) -> Option<Spaced>
         LEFT_WORD => (*b" leave  ", 7),
         LOAD_WORD => (*b" load   ", 6),
         LEVEL_WORD => (*b" level  ", 7),
+        DELAYED_WORD => (*b" delay  ", 7),
+        WENT_WORD => (*b" go     ", 4),
+        DROPPED_WORD => (*b" drop   ", 6),
+        OVERDUE_WORD => (*b" late   ", 6),
+        CALLED_WORD => (*b" call   ", 6),
+        FREED_WORD => (*b" free   ", 6),
+        RENEGED_WORD => (*b" renege ", 8),
+        OPENED_WORD => (*b" open   ", 6),
+        DOWN_WORD => (*b" down   ", 6),
+        UP_WORD => (*b" up     ", 4),
         _ => return None,
     };
     Some(Spaced { bytes, count })

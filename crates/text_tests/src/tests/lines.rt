@@ -80,7 +80,17 @@ fn each_word_of_a_note(rt: HostRuntime) -> Result<(), Fail> {
         (9, "leave"),
         (10, "load"),
         (11, "level"),
-        (12, "12"),
+        (12, "delay"),
+        (13, "go"),
+        (14, "drop"),
+        (15, "late"),
+        (16, "call"),
+        (17, "free"),
+        (18, "renege"),
+        (19, "open"),
+        (20, "down"),
+        (21, "up"),
+        (22, "22"),
         (4294967295, "4294967295"),
     ] {
         let text = lines_of(alloc, &Named, &key(4, 0, 1), &[part(word, 7, 0)])?;
