@@ -1,5 +1,5 @@
 //! The log of many objects.
-ghost use Rattle.std.specs.Prelude.{◌≡◌, ◌<◌, ◌≤◌, ◌+◌, ◌^◌, [], ◌∷◌, length, slice_get, IfOk, IfErr, IfSome, IfNone, OnOk, OnErr, IsTrue, Some, None, is_some, false, true, nat_lt};
+ghost use Rattle.std.specs.Prelude.{◌≡◌, ◌<◌, ◌≤◌, ◌+◌, ◌^◌, [], ◌∷◌, ◌++◌, length, slice_get, IfOk, IfErr, IfSome, IfNone, OnOk, OnErr, IsTrue, Some, None, is_some, false, true, nat_lt};
 ghost use Rattle.std.specs.List.{AllByRecursion};
 ghost use Rattle.event_key.specs.Keys.{key_lt};
 ghost use Rattle.event_key.specs.Stamps.{time_part};
@@ -20,7 +20,7 @@ use crate::pool::LogPool;
 use event_chain::{Cell, Chain};
 use event_key::Key;
 use model_core::model::Model as SimulationModel;
-use model_core::{Effect, Event, OutOfMemory};
+use model_core::{Cells, Effect, Event, OutOfMemory};
 use std::alloc::Global;
 use std::marker::Model;
 
@@ -51,6 +51,18 @@ impl EventLog {
             objects: Vec::new(alloc),
             carried: Carried::new(alloc),
         }
+    }
+
+    /// Puts an object that isn't here behind the others. It has sent so many events.
+    pub fn add(&mut self, number: u32, cells: Cells, sent: u64) -> Result<(), OutOfMemory>
+        requires { state_in self.old.objects number ≡ None }
+        ensures ok { OnOk result (self.new.objects ≡ self.old.objects ++ (record { object = number; state = record { cells = cells.contents; sent = sent } }) ∷ []) }
+        ensures done { self.new.done ≡ self.old.done }
+        ensures err { OnErr result (self.new ≡ self.old) }
+    {
+        self.objects.reserve(1)?;
+        self.objects.push_reserved(Object::new(number, cells, sent));
+        Ok(())
     }
 
     /// How many events are processed.
