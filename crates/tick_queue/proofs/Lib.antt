@@ -4,6 +4,7 @@ pub mod FirstLemmas
 pub mod LevelLemmas
 pub mod MarkLemmas
 pub mod NearLemmas
+pub mod OrderLemmas
 pub mod QueueLemmas
 pub mod SlotLemmas
 pub mod SpreadLemmas

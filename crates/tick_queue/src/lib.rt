@@ -10,6 +10,7 @@ mod digits;
 mod levels;
 mod marks;
 mod near;
+mod order;
 mod queue;
 mod slots;
 mod spread;

@@ -5,11 +5,12 @@ ghost use Rattle.std.specs.List.{AllByRecursion};
 ghost use Rattle.event_key.specs.Stamps.{time_part};
 ghost use Rattle.key_order.specs.Ascending.{IsAscending};
 ghost use Rattle.key_order.specs.Keys.{IsNewKey, KeysDiffer};
-ghost use Rattle.key_order.specs.Pending.{enqueue, in_order};
+ghost use Rattle.key_order.specs.Pending.{enqueue};
 ghost use Rattle.tick_queue.specs.Levels.{HasLeft};
 ghost use Rattle.tick_queue.specs.Near.{StartsWith, LosesFirst, AllBefore, HasLater, GoesLater, GoesNear, Refills};
 
 use crate::levels::Levels;
+use crate::order::Order;
 use delta_exchange::OutOfMemory;
 use event_key::{Key, time_of};
 use model_core::Event;
@@ -21,6 +22,7 @@ use std::marker::Model;
 pub struct Near {
     events: Vec<Event>,
     at: usize,
+    order: Order,
 }
 
 impl Model for Near {
@@ -34,14 +36,6 @@ impl Model for Near {
     ghost invariant = { λ near. near.at ≤ vec_len near.events };
 }
 
-/// Sorts events by their keys.
-fn sort_events(events: &mut Vec<Event>)
-    requires { KeysDiffer events.old.items }
-    ensures { events.new.items ≡ in_order events.old.items }
-{
-    events.sort_unstable_by_key(|event| event.key);
-}
-
 impl Near {
     /// No events.
     pub fn new(alloc: Global) -> Near
@@ -50,6 +44,7 @@ impl Near {
         Near {
             events: Vec::new(alloc),
             at: 0,
+            order: Order::new(alloc),
         }
     }
 
@@ -115,11 +110,12 @@ impl Near {
     {
         self.at = 0;
         self.events.clear();
-        match levels.advance(&mut self.events) {
-            Ok(()) => {
-                sort_events(&mut self.events);
-                Ok(())
-            }
+        let Ok(()) = levels.advance(&mut self.events) else {
+            self.events.clear();
+            return Err(OutOfMemory);
+        };
+        match self.order.sort(&mut self.events) {
+            Ok(()) => Ok(()),
             Err(refused) => {
                 self.events.clear();
                 Err(refused)

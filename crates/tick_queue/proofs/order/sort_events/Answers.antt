@@ -3,7 +3,7 @@ use Rattle.std.proofs.lemmas.List.Sorted.{answers_always}
 use Rattle.event_key.specs.Keys.{key_lt, key_cmp}
 use Rattle.model_core.specs.declared.event.Event.{Event}
 use Rattle.key_order.proofs.InOrder.{in_order_by_sort}
-use Rattle.tick_queue.proofs.near.sort_events.Goals as goal
+use Rattle.tick_queue.proofs.order.sort_events.Goals as goal
 
 pub returns : goal.returns
 unfolding key_lt key_cmp
