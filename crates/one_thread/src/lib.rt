@@ -1,8 +1,8 @@
-//! The engine for one thread: Breathing Time Buckets (Steinman, "SPEEDES: A
-//! Multiple-Synchronization Environment for Parallel Discrete-Event Simulation", 1992).
+//! The engine for one thread: Breathing Time Buckets (Steinman, "SPEEDES: A Multiple-Synchronization Environment for
+//! Parallel Discrete-Event Simulation", 1992).
 //!
-//! New events go to a list of their own, whose least stamp is the event horizon. The events below it are fired
-//! in their order, as one bucket, and then the new events are sorted and merged at once.
+//! The least stamp of the events that came since a bucket began is its event horizon. The events below it are fired in
+//! their order, as one bucket, and then nothing is fresh any more.
 #![tactic(auto)]
 
 mod beginning;
