@@ -1,0 +1,10 @@
+pub mod Beginnings
+pub mod Classes
+pub mod HasStation
+pub mod Jobs
+pub mod Kinds
+pub mod Parts
+pub mod Routes
+pub mod Sites
+pub mod StationEffects
+pub mod Stations

@@ -1,0 +1,185 @@
+//! A class makes jobs.
+ghost use Rattle.std.specs.Prelude.{◌≡◌, ◌<◌, ◌≤◌, ◌+◌, ◌^◌, ◌++◌, [], IsTrue, IfSome, length};
+ghost use Rattle.std.specs.Option.{ForSome};
+ghost use Rattle.model_core.specs.Effects.{blank};
+ghost use Rattle.model_core.specs.Places.{place_changes};
+ghost use Rattle.random_streams.specs.Delays.{is_delay_law};
+ghost use Rattle.shop_model.specs.Parts.{AreRoutes, IsClass};
+ghost use Rattle.shop_model.specs.Sites.{place_of, drawn_or};
+ghost use Rattle.shop_model.specs.Classes.{IsAtClass, is_class_cells, made_jobs, pause_drawn, arrival_of, next_arrival, one_made, make_effect};
+
+use crate::class::{Class, INSIDE, MADE};
+use crate::job::{JOBS_A_CLASS, Job};
+use crate::kinds::MAKE;
+use crate::routes::Routes;
+use crate::site::{Site, told};
+use model_core::{Cells, Change, Effect, Event, MADE_WORD, keep_place};
+use random_streams::{DelayLaw, Stream};
+
+/// What an arrival brings: how many jobs, and after how long the next arrival comes, where it was drawn.
+#[derive(Clone, Copy)]
+pub struct Arrival {
+    pub jobs: u64,
+    pub pause: Option<u64>,
+}
+
+impl Class {
+    /// Makes a job of an arrival, and the others of it after that.
+    #[tactic(auto, unfolding(crate::specs::Classes::make_effect))]
+    pub(crate) fn make(
+        &self,
+        words: &mut Stream,
+        site: Site,
+        routes: &Routes,
+        cells: &Cells,
+        event: &Event,
+        sheet: &mut Effect,
+    )
+        requires class { IsClass routes.now.stations self.now }
+        requires routes { AreRoutes routes.now }
+        requires here { IsAtClass routes.now site }
+        requires cells { IsTrue (is_class_cells self.now.count cells.now.contents) }
+        requires blank { sheet.old ≡ blank }
+        ensures { sheet.new ≡ make_effect site routes.now self.now cells.now.contents event.now }
+    {
+        let made = cells.word(MADE);
+        if made < u64::from(self.count) {
+            let arrival = self.arrival(words, site, cells, event, sheet);
+            if arrival.jobs > 0 {
+                self.make_one(site, routes, cells, arrival.jobs, sheet);
+                self.arrive_again(site, made + 1, arrival.pause, sheet);
+            } else {
+                self.arrive_again(site, made, arrival.pause, sheet);
+            }
+        }
+    }
+
+    /// What the arrival of an event brings.
+    #[tactic(auto, unfolding(crate::specs::Classes::arrival_of))]
+    fn arrival(
+        &self,
+        words: &mut Stream,
+        site: Site,
+        cells: &Cells,
+        event: &Event,
+        sheet: &mut Effect,
+    ) -> Arrival
+        requires batch { ForSome self.now.batch (λ law. IsTrue (is_delay_law law)) }
+        requires every { ForSome self.now.every (λ law. IsTrue (is_delay_law law)) }
+        requires cells { 0 < length cells.now.contents.words }
+        requires blank { sheet.old ≡ blank }
+        ensures arrival { result ≡ (arrival_of site self.now cells.now.contents event.now).0 }
+        ensures bounded { IfSome result.pause (λ pause. pause ≤ 2 ^ 40) }
+        ensures few { length sheet.new.changes ≤ 1 }
+        ensures sheet { sheet.new ≡ record blank {
+          changes = place_changes (place_of cells.now.contents) (arrival_of site self.now cells.now.contents event.now).1;
+        } }
+    {
+        let place = cells.word(0);
+        words.move_to(site.seed, site.object, place);
+        let arrival = if event.a == 0 {
+            self.new_arrival(words, event.b)
+        } else {
+            Arrival {
+                jobs: event.a,
+                pause: None,
+            }
+        };
+        keep_place(&mut sheet.changes, place, words.place());
+        arrival
+    }
+
+    /// How many jobs a new arrival brings, and when the next one comes, where this event begins it.
+    fn new_arrival(&self, words: &mut Stream, b: u64) -> Arrival
+        requires batch { ForSome self.now.batch (λ law. IsTrue (is_delay_law law)) }
+        requires every { ForSome self.now.every (λ law. IsTrue (is_delay_law law)) }
+        ensures jobs { result.jobs ≡ (drawn_or 1 words.old self.now.batch).0 }
+        ensures pause { result.pause ≡ (pause_drawn (record words.old { place = (drawn_or 1 words.old self.now.batch).1 }) self.now.every b).0 }
+        ensures bounded { IfSome result.pause (λ pause. pause ≤ 2 ^ 40) }
+        ensures place { words.new ≡ record words.old {
+          place = (pause_drawn (record words.old { place = (drawn_or 1 words.old self.now.batch).1 }) self.now.every b).1;
+        } }
+    {
+        let jobs = drawn_or(words, &self.batch, 1);
+        let pause = drawn_pause(words, &self.every, b);
+        Arrival { jobs, pause }
+    }
+
+    /// Makes a job, and leaves the others of its arrival for the next step of the tick.
+    #[tactic(auto, unfolding(crate::specs::Classes::one_made))]
+    fn make_one(&self, site: Site, routes: &Routes, cells: &Cells, jobs: u64, sheet: &mut Effect)
+        requires class { IsClass routes.now.stations self.now }
+        requires routes { AreRoutes routes.now }
+        requires here { IsAtClass routes.now site }
+        requires cells { IsTrue (is_class_cells self.now.count cells.now.contents) }
+        requires left { made_jobs cells.now.contents < self.now.count }
+        requires some { 0 < jobs }
+        requires changes { length sheet.old.changes ≤ 1 }
+        requires sends { sheet.old.sends ≡ [] }
+        ensures few { length sheet.new.sends ≤ 2 }
+        ensures sheet { sheet.new ≡ record (one_made site routes.now self.now cells.now.contents jobs) {
+          changes = sheet.old.changes ++ (one_made site routes.now self.now cells.now.contents jobs).changes;
+        } }
+    {
+        let number = cells.word(MADE) + 1;
+        let inside = cells.word(INSIDE) + 1;
+        let class = site.object - routes.stations;
+        let job = Job {
+            class,
+            step: 0,
+            id: u64::from(class) * JOBS_A_CLASS + number,
+        };
+        sheet.changes.push(Change::Set {
+            word: MADE,
+            value: number,
+        });
+        sheet.changes.push(Change::Set {
+            word: INSIDE,
+            value: inside,
+        });
+        sheet.sends.push(routes.to(job, site.tick, 0, 0));
+        if jobs > 1 && number < u64::from(self.count) {
+            sheet.sends.push(site.to_self(0, MAKE, jobs - 1, 0));
+        }
+        sheet.note = told(MADE_WORD, job.id, inside);
+    }
+
+    /// Sends the next arrival, where it was drawn, comes in time, and a job is left after so many.
+    fn arrive_again(&self, site: Site, made: u64, pause: Option<u64>, sheet: &mut Effect)
+        requires tick { site.tick < 2 ^ 46 }
+        requires bounded { IfSome pause (λ pause. pause ≤ 2 ^ 40) }
+        requires room { length sheet.old.sends ≤ 2 }
+        ensures { sheet.new ≡ record sheet.old { sends = sheet.old.sends ++ next_arrival site self.now made pause } }
+    {
+        if let Some(pause) = pause {
+            if made < u64::from(self.count) && site.tick + pause <= self.until {
+                sheet.sends.push(site.to_self(pause, MAKE, 0, 1));
+            }
+        }
+    }
+}
+
+/// What the law gives at the place of the stream, or this value where there is no law.
+fn drawn_or(words: &mut Stream, law: &Option<DelayLaw>, default: u64) -> u64
+    requires { ForSome law.now (λ law. IsTrue (is_delay_law law)) }
+    ensures value { result ≡ (drawn_or default words.old law.now).0 }
+    ensures place { words.new ≡ record words.old { place = (drawn_or default words.old law.now).1 } }
+{
+    match law {
+        Some(law) => words.draw_delay(law),
+        None => default,
+    }
+}
+
+/// The ticks to the next arrival, drawn where the event begins the next one and there is a law for it.
+fn drawn_pause(words: &mut Stream, every: &Option<DelayLaw>, b: u64) -> Option<u64>
+    requires { ForSome every.now (λ law. IsTrue (is_delay_law law)) }
+    ensures value { result ≡ (pause_drawn words.old every.now b).0 }
+    ensures bounded { IfSome result (λ pause. pause ≤ 2 ^ 40) }
+    ensures place { words.new ≡ record words.old { place = (pause_drawn words.old every.now b).1 } }
+{
+    match every {
+        Some(law) if b % 2 == 1 => Some(words.draw_delay(law)),
+        _ => None,
+    }
+}

@@ -1,0 +1,112 @@
+//! The routes of all classes, by which jobs go from object to object.
+ghost use Rattle.std.specs.Prelude.{◌≡◌, ◌<◌, ◌≤◌, ◌+◌, IfSome, length};
+ghost use Rattle.std.specs.Option.{option_copied};
+ghost use Rattle.shop_model.specs.declared.class.TheConstants.{MOST_STEPS};
+ghost use Rattle.shop_model.specs.Parts.{AreRoutes};
+ghost use Rattle.shop_model.specs.Routes.{class_at, step_at, is_job, job_of, object_at, visit_at, moved, HasJob};
+
+use crate::class::Class;
+use crate::job::{Job, birth_of, class_of, id_of, job_at, number_of, step_of};
+use crate::kinds::{COME, COME_RANK};
+use crate::step::{Step, Visit};
+use model_core::{Send, Sequence};
+
+/// The classes, and how many stations come before them in the numbering of objects.
+#[derive(Debug, Drop)]
+pub struct Routes {
+    pub stations: u32,
+    pub classes: Sequence<Class>,
+}
+
+impl Routes {
+    /// The class with this number.
+    pub fn class(&self, class: u32) -> &Class
+        requires { class < length self.now.classes }
+        ensures { result.now ≡ class_at self.now class }
+    {
+        &self.classes.as_slice()[class as usize]
+    }
+
+    /// Whether an event names a job.
+    #[tactic(auto, unfolding(crate::specs::Routes::is_job))]
+    fn is_job(&self, a: u64) -> bool
+        requires { AreRoutes self.now }
+        ensures { result ≡ is_job self.now a }
+    {
+        if class_of(a) >= self.classes.as_slice().len() as u64 || number_of(a) == 0 {
+            return false;
+        }
+        let steps = self.class(class_of(a) as u32).route.as_slice().len() as u64;
+        step_of(a) <= steps + 1
+    }
+
+    /// The job that an event names, where there is one.
+    #[tactic(auto, unfolding(crate::specs::Routes::job_of))]
+    pub fn job(&self, a: u64) -> Option<Job>
+        requires { AreRoutes self.now }
+        ensures job { result ≡ job_of self.now a }
+        ensures there { IfSome result (HasJob self.now) }
+    {
+        if !self.is_job(a) {
+            return None;
+        }
+        Some(Job {
+            class: class_of(a) as u32,
+            step: step_of(a) as u32,
+            id: id_of(a),
+        })
+    }
+
+    /// The step of a class with this number, where there is one.
+    pub fn step(&self, class: u32, step: u32) -> Option<&Step>
+        requires { class < length self.now.classes }
+        ensures { option_copied result ≡ step_at self.now class step }
+    {
+        self.class(class).route.as_slice().get(step as usize)
+    }
+
+    /// The object at which a job of this class stands at a step.
+    #[tactic(auto, unfolding(crate::specs::Routes::object_at))]
+    pub fn object_at(&self, class: u32, step: u32) -> u32
+        requires routes { AreRoutes self.now }
+        requires class { class < length self.now.classes }
+        ensures { result ≡ object_at self.now class step }
+    {
+        match self.step(class, step) {
+            Some(Step::Visit(visit)) => visit.station,
+            Some(Step::Free { station }) => *station,
+            _ => self.stations + class,
+        }
+    }
+
+    /// The visit of a station at which this is a job.
+    #[tactic(auto, unfolding(crate::specs::Routes::visit_at))]
+    pub fn visit(&self, station: u32, a: u64) -> Option<&Visit>
+        requires { AreRoutes self.now }
+        ensures { option_copied result ≡ visit_at self.now station a }
+    {
+        let job = self.job(a)?;
+        match self.step(job.class, job.step) {
+            Some(Step::Visit(visit)) if visit.station == station => Some(visit),
+            _ => None,
+        }
+    }
+
+    /// The job on its way to a step, where it comes after a delay.
+    #[tactic(auto, unfolding(crate::specs::Routes::moved))]
+    pub fn to(&self, job: Job, b: u64, step: u32, delay: u64) -> Send
+        requires routes { AreRoutes self.now }
+        requires job { HasJob self.now job }
+        requires step { step ≤ MOST_STEPS + 1 }
+        ensures { result ≡ moved self.now job b step delay }
+    {
+        Send {
+            dest: self.object_at(job.class, step),
+            delay,
+            kind: COME,
+            a: job_at(step, job.id),
+            b: birth_of(b),
+            rank: COME_RANK + self.class(job.class).priority,
+        }
+    }
+}

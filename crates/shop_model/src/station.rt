@@ -1,0 +1,108 @@
+//! Stations.
+ghost use Rattle.std.specs.Prelude.{◌≡◌, ◌<◌, ◌≤◌};
+ghost use Rattle.shop_model.specs.declared.station.TheConstants.{MOST_OPEN};
+ghost use Rattle.shop_model.specs.Stations.{gone_word, mark_word, level_of};
+
+use model_core::{Name, Sequence};
+use random_streams::DelayLaw;
+
+/// How many servers of a station are open at most.
+pub const MOST_OPEN: u32 = 1_024;
+
+/// How many jobs wait at a station at most, beside as many as spare servers are about to call.
+pub const MOST_LINE: u32 = 65_536;
+
+/// How many shifts a station has at most.
+pub const MOST_SHIFTS: usize = 1_024;
+
+/// The words of a station: how many servers are open, how many are held, how many jobs wait, whether it stands still, and
+/// for how many ticks it did, the present standstill counted whole. Word 0 is its random place.
+pub const OPEN: u32 = 1;
+
+pub const HELD: u32 = 2;
+
+pub const WAITING: u32 = 3;
+
+pub const DOWN: u32 = 4;
+
+pub const LAG: u32 = 5;
+
+/// The word that counts how many entries went out at the front of level 0; the other levels follow.
+pub const GONE: u32 = 6;
+
+/// The line of the servers that serve nobody.
+pub const FREE_SERVERS: u32 = 0;
+
+/// Who is called first.
+#[derive(Clone, Copy, Debug, PartialEq, Eq)]
+pub enum Order {
+    /// Who came first.
+    First,
+    /// Who came last.
+    Last,
+    /// The most urgent, and of these who came first.
+    Priority,
+}
+
+/// From a tick on so many servers are open.
+#[derive(Clone, Copy, Debug)]
+pub struct Shift {
+    pub at: u64,
+    pub servers: u32,
+}
+
+/// For how long a station works and stands still, in turn.
+#[derive(Debug, Drop)]
+pub struct Breakdowns {
+    pub up: DelayLaw,
+    pub down: DelayLaw,
+}
+
+/// A station, whose servers serve jobs or are held by them.
+#[derive(Debug, Drop)]
+pub struct Station {
+    pub name: Name,
+    /// How many servers are open at the start.
+    pub servers: u32,
+    /// How many are ever open at most.
+    pub most: u32,
+    /// How many jobs wait at most, beside as many as spare servers are about to call.
+    pub line: u32,
+    pub order: Order,
+    /// How many levels its line has: one, or by priority one more than the calmest priority of any class.
+    pub levels: u32,
+    /// The shifts, each later than the one before.
+    pub shifts: Sequence<Shift>,
+    /// After how many ticks the shifts come again.
+    pub period: Option<u64>,
+    pub breakdowns: Option<Breakdowns>,
+}
+
+impl Station {
+    /// The word that counts how many entries went out at the front of a level.
+    pub(crate) fn gone(&self, level: u32) -> u32
+        requires { level < 8 }
+        ensures { result ≡ gone_word level }
+    {
+        GONE + level
+    }
+
+    /// The word that keeps up to which lag the service on a server was put off.
+    pub(crate) fn mark(&self, server: u32) -> u32
+        requires levels { self.now.levels ≤ 8 }
+        requires server { server < MOST_OPEN }
+        ensures { result ≡ mark_word self.now server }
+    {
+        GONE + self.levels + server
+    }
+
+    /// The level of a job's class.
+    pub(crate) fn level_of(&self, priority: u32) -> u32
+        ensures { result ≡ level_of self.now.order priority }
+    {
+        match self.order {
+            Order::Priority => priority,
+            _ => 0,
+        }
+    }
+}
