@@ -1,0 +1,53 @@
+-- What is handed on, and what is answered to words that can't be read.
+use Rattle.std.proofs.Common.{◌≡◌, ◌≢◌, ◌⊎◌, List, ◌++◌, append_assoc, Option, Some, None, ℕ, Result, Ok, Err, inl, inr, sym, ap, ◌∙◌, subst}
+use Rattle.std.specs.Prelude.{OnErr}
+use Rattle.std.specs.declared.io.ErrorKind.{ErrorKind}
+use Rattle.std.specs.Io.KnownBytes.{Appends}
+use Rattle.std.proofs.KnownBytes.{Appends-trans}
+use Rattle.sim_io.specs.declared.streams.sink.Sink.{Ghosts as Sink}
+use Rattle.sim_io.specs.declared.words.WordFault.TheVariants.{BadValue}
+use Rattle.sim_io.specs.Causes.{Rose}
+use Rattle.sim_io.specs.Transfers.{AppendsPrefix, KeepsBackSome}
+use Rattle.program_answers.specs.declared.ending.Ending.{Ending}
+use Rattle.program_answers.specs.declared.status.TheConstants.{WORDS, OUT_OF_MEMORY}
+use Rattle.program_answers.specs.Answer.{Answer, words_line, HandsOnPrefix, WritesPrefix}
+use Rattle.program_answers.specs.Answered.{AnswersNoWords, Streams}
+use Rattle.program_answers.specs.Endings.{status_of_ending, line_of_ending, noted_line, IsAnswering, IsRefusal}
+use Rattle.program_answers.proofs.EndingLemmas.{known_status, noted}
+
+pub on_err_map : {T E P Q : Type 0} (r : Result T E) → (P → Q) → OnErr r P → OnErr r Q
+on_err_map (Ok x) f p = tt
+on_err_map (Err e) f p = f p
+
+-- what was handed on of a prefix of the output is a prefix of it
+pub hands_on_prefix : (taken told handed : Option (List ℕ)) (a : Answer) → WritesPrefix taken told a → KeepsBackSome told handed → HandsOnPrefix taken handed a
+hands_on_prefix None told handed a part back = tt
+hands_on_prefix (Some before) None handed a part back = absurd part.3
+hands_on_prefix (Some before) (Some now) handed a part back = (
+  back.0 ++ part.1,
+  Appends-trans handed (Some now) (Some (before ++ a.output)) back.0 part.1 back.1
+      (ap (λ xs. before ++ xs) part.2 ∙ sym (append_assoc before part.0 part.1) ∙ ap (λ xs. xs ++ part.1) (sym part.3)),
+)
+
+module _ {S K N : Type 0} (notes : Sink N) (ending : Ending) (old new : Streams S K N)
+    (part : AppendsPrefix (notes.told old.notes) (notes.told new.notes) (line_of_ending ending))
+    (whole : Appends (notes.told old.notes) (notes.told new.notes) (line_of_ending ending) ⊎ Rose (notes.faults old.notes) (notes.faults new.notes)) where
+  -- words that can't be read are answered by the line of a word that is no text, or of want of memory
+  pub answers_no_words : (kind : ErrorKind) → IsRefusal WORDS (words_line BadValue) ending → (kind ≡ ErrorKind.OutOfMemory → status_of_ending ending ≡ OUT_OF_MEMORY)
+      → (kind ≢ ErrorKind.OutOfMemory → status_of_ending ending ≡ WORDS) → new.source ≡ old.source → new.out ≡ old.out → AnswersNoWords notes (status_of_ending ending) old new kind
+  answers_no_words kind refusal no_memory no_text unread unwritten = record {
+    known = known_status ending;
+    no_memory = no_memory;
+    no_text = no_text;
+    line_prefix = subst (AppendsPrefix (notes.told old.notes) (notes.told new.notes)) line part;
+    line_whole = subst (λ line. Appends (notes.told old.notes) (notes.told new.notes) line ⊎ Rose (notes.faults old.notes) (notes.faults new.notes)) line whole;
+    unread = unread;
+    unwritten = unwritten;
+  }
+    where
+      refused : IsRefusal WORDS (words_line BadValue) ending → IsAnswering (status_of_ending ending) → line_of_ending ending ≡ words_line BadValue
+      refused (inl spent) done = absurd (done.2 (ap status_of_ending spent))
+      refused (inr told) done = told.1
+
+      line : line_of_ending ending ≡ noted_line (status_of_ending ending) (words_line BadValue)
+      line = noted ending (words_line BadValue) (refused refusal)

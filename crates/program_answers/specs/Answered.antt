@@ -1,0 +1,88 @@
+-- What a program does: what it reads, writes and notes, and the status with which it ends.
+use Rattle.std.specs.Prelude.{◌≡◌, ◌≢◌, ◌≤◌, ◌⊎◌, ℕ, List, drop, Option, Some, IfSome}
+use Rattle.std.specs.Io.KnownBytes.{Appends, Keeps}
+use Rattle.std.specs.declared.io.ErrorKind.{ErrorKind}
+use Rattle.sim_io.specs.declared.streams.sink.Sink.{Ghosts as Sink}
+use Rattle.sim_io.specs.declared.streams.source.Source.{Ghosts as Source}
+use Rattle.sim_io.specs.declared.words.WordFault.TheVariants.{BadValue}
+use Rattle.sim_io.specs.Causes.{Rose}
+use Rattle.sim_io.specs.Transfers.{AppendsPrefix}
+use Rattle.program_answers.specs.declared.ending.Ending.{Ending}
+use Rattle.program_answers.specs.declared.status.TheConstants.{WORDS, READ_FAULT, WRITE_FAULT, OUT_OF_MEMORY, STATE}
+use Rattle.program_answers.specs.Answer.{Answer, words_line, HandsOnPrefix, WritesOutput, WritesPrefix}
+use Rattle.program_answers.specs.Endings.{status_of_ending, line_of_ending, noted_line, IsAnswering, NotesLine, NotesPrefix}
+
+module _ {K : Type 0} (sink : Sink K) (old new : K) (status : ℕ) where
+  -- what is written is the output of the answer, or a prefix of it, and the status says which
+  pub record GivesAnswer (a : Answer) : Type 0 where
+    pub output : IsAnswering status → WritesOutput (sink.told old) (sink.told new) a
+    pub same_status : IsAnswering status → status ≡ a.status
+    pub prefix : WritesPrefix (sink.told old) (sink.told new) a
+
+  -- it is handed on: all of it with the answer, if nothing was kept back before, and else a prefix of it
+  pub record HandsOnAnswer (a : Answer) : Type 0 where
+    pub handed : IsAnswering status → Keeps (sink.told old) (sink.handed old) → WritesOutput (sink.told old) (sink.handed new) a
+    pub handed_prefix : HandsOnPrefix (sink.told old) (sink.handed new) a
+
+  -- a fault of writing is told where one came, and nowhere else; if none came, all that was written is handed on
+  pub record TellsWriting : Type 0 where
+    pub write_fault : status ≡ WRITE_FAULT → Rose (sink.faults old) (sink.faults new)
+    pub write_quiet : status ≢ WRITE_FAULT → sink.faults new ≡ sink.faults old
+    pub handed : status ≢ WRITE_FAULT → Keeps (sink.told old) (sink.handed old) → Keeps (sink.told new) (sink.handed new)
+
+  -- the line of the status is noted, or a prefix of it where a write failed
+  pub record NotesAnswer (a : Answer) : Type 0 where
+    pub notes_prefix : NotesPrefix status (sink.told old) (sink.told new) a
+    pub notes_whole : NotesLine status (sink.told old) (sink.told new) a ⊎ Rose (sink.faults old) (sink.faults new)
+
+module _ {S : Type 0} (source : Source S) (old new : S) (status : ℕ) where
+  -- a fault of reading is told where one came, and nowhere else
+  pub record TellsReading : Type 0 where
+    pub read_fault : status ≡ READ_FAULT → Rose (source.faults old) (source.faults new)
+    pub read_quiet : status ≢ READ_FAULT → source.faults new ≡ source.faults old
+
+-- nothing is written where the words are refused or reading failed
+abbrev pub LeavesOut : {K : Type 0} → K → K → ℕ → Type 0
+LeavesOut old new status = (status ≡ WORDS) ⊎ (status ≡ READ_FAULT) → new ≡ old
+
+-- an ending gives an answer: what is noted is its line
+pub record EndsWith {K : Type 0} (sink : Sink K) (old new : K) (ending : Ending) (a : Answer) : Type 0 where
+  pub given : GivesAnswer sink old new (status_of_ending ending) a
+  pub line : IsAnswering (status_of_ending ending) → line_of_ending ending ≡ a.notes
+
+-- the ending of a command with the model that it has read or made
+pub record EndsModel {K : Type 0} (sink : Sink K) (old new : K) (ending : Ending) (a : Answer) : Type 0 where
+  pub answer : EndsWith sink old new ending a
+  pub writing : TellsWriting sink old new (status_of_ending ending)
+  pub no_words : status_of_ending ending ≢ WORDS
+  pub no_read_fault : status_of_ending ending ≢ READ_FAULT
+
+module _ {S K : Type 0} (source : Source S) (sink : Sink K) (from to : S) (old new : K) (ending : Ending) where
+  -- the ending of a command that reads its input, so many bytes of it at most
+  pub record EndsInput (most : ℕ) (answer_to : List ℕ → Answer) : Type 0 where
+    pub answer : IfSome (source.left from) (λ bytes. EndsWith sink old new ending (answer_to bytes))
+    pub read : IsAnswering (status_of_ending ending) → IfSome (source.left from) (λ bytes. source.left to ≡ Some (drop most bytes))
+    pub reading : TellsReading source from to (status_of_ending ending)
+    pub writing : TellsWriting sink old new (status_of_ending ending)
+    pub unwritten : LeavesOut old new (status_of_ending ending)
+    pub no_words : status_of_ending ending ≢ WORDS
+
+-- the streams of the program
+pub record Streams (S K N : Type 0) : Type 0 where
+  pub source : S
+  pub out : K
+  pub notes : N
+
+abbrev pub streams : {S K N : Type 0} → S → K → N → Streams S K N
+streams source out notes = record { source = source; out = out; notes = notes }
+
+module _ {S K N : Type 0} (notes : Sink N) (status : ℕ) (old new : Streams S K N) where
+  -- where the words can't be read, why is noted and nothing else is done: there was no memory, or one of them is no text
+  pub record AnswersNoWords (kind : ErrorKind) : Type 0 where
+    pub known : status ≤ STATE
+    pub no_memory : kind ≡ ErrorKind.OutOfMemory → status ≡ OUT_OF_MEMORY
+    pub no_text : kind ≢ ErrorKind.OutOfMemory → status ≡ WORDS
+    pub line_prefix : AppendsPrefix (notes.told old.notes) (notes.told new.notes) (noted_line status (words_line BadValue))
+    pub line_whole : Appends (notes.told old.notes) (notes.told new.notes) (noted_line status (words_line BadValue)) ⊎ Rose (notes.faults old.notes) (notes.faults new.notes)
+    pub unread : new.source ≡ old.source
+    pub unwritten : new.out ≡ old.out

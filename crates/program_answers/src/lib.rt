@@ -1,0 +1,11 @@
+//! What a program answers to its words and its input: how it ends, with which status, and what it notes of that.
+#![tactic(auto)]
+
+mod ending;
+mod notes;
+pub mod status;
+mod words;
+
+pub use ending::{Ending, ending_of};
+pub use notes::{conclude, refused};
+pub use words::{program_words, unread_words};

@@ -1,0 +1,30 @@
+//! The model of a text under every seed.
+use model_core::OutOfMemory;
+use model_core::model::Model as SimulationModel;
+use model_text::{AnyModel, Seeded};
+use replications::Seeds;
+use std::alloc::Global;
+use std::sync::Arc;
+
+/// A model that was read of a text. It is shared by all its replications, and none copies it.
+#[derive(Debug, Drop)]
+pub struct TextSeeds {
+    pub model: Arc<AnyModel>,
+}
+
+impl Seeds<Seeded> for TextSeeds {
+    ghost use Rattle.std.specs.Arc.{arc_value};
+    ghost use Rattle.model_text.specs.Meanings.{meaning_under};
+
+    ghost seeded = { λ seeds seed. meaning_under seed (arc_value seeds.model) };
+
+    fn objects(&self) -> u32 {
+        self.model.objects()
+    }
+
+    fn with_seed(&self, alloc: Global, seed: u64) -> Result<Arc<Seeded>, OutOfMemory> {
+        let model = self.model.clone()?;
+        let seeded = Arc::new(alloc, Seeded::new(model, seed))?;
+        Ok(seeded)
+    }
+}

@@ -1,0 +1,71 @@
+//! All that the program `replicate` does.
+ghost use Rattle.std.specs.Prelude.{◌≤◌, IfOk, IfErr};
+ghost use Rattle.program_answers.specs.Answered.{AnswersNoWords, streams};
+ghost use Rattle.program_answers.specs.declared.status.TheConstants.{EVENT_LIMIT};
+ghost use Rattle.std.specs.Process.{exit_status};
+ghost use Rattle.replicate_program.specs.TableAnswers.{AnswersReplicate};
+
+use crate::running::run_words;
+use program_answers::{conclude, program_words, unread_words};
+use sim_io::{GatheringSink, Sink, Source, StdSink, StdSource};
+use std::alloc::AllocGlobal;
+use std::env::Env;
+use std::io::{ErrorKind, Read, Write};
+use std::process::ExitCode;
+use std::thread::Threads;
+
+/// Reads a model, runs it under as many seeds as the words say, shared out among workers, and writes the table: a head line,
+/// and the rows of each replication in the order of the seeds. The table is the same for any number of workers and any
+/// schedule of threads. The result is the exit status.
+///
+/// | Status | Comes |
+/// |---|---|
+/// | 0 | exactly where each replication ran to its end |
+/// | 1 | exactly where some replication stopped at a fault |
+/// | 2 | exactly where the words are refused: nothing is read, and no memory is taken |
+/// | 3 | exactly where the model is refused |
+/// | 4 | only where reading failed |
+/// | 5 | only where writing to `out` failed, after a prefix of the table |
+/// | 6 | where there was no memory left, after a prefix of the table |
+/// | 7 | exactly where some replication met its limit of events, and none a fault |
+///
+/// 'Exactly' yields to 4, 5 and 6 alone, and for status 2 to none. Where the words can't be read, the status is 6 where there
+/// was no memory for them, and else 2, since one of them is no text.
+pub fn replicate<R: AllocGlobal + Threads + Sync, S: Source, K: Sink, N: Sink>(
+    rt: &R,
+    words: Result<Vec<String>, ErrorKind>,
+    source: &mut S,
+    out: &mut K,
+    notes: &mut N,
+) -> u8
+    ensures read { IfOk words (λ list.
+        AnswersReplicate S.Source K.Sink N.Sink result (streams source.old out.old notes.old) (streams source.new out.new notes.new) list.items) }
+    ensures unread { IfErr words
+        (AnswersNoWords N.Sink result (streams source.old out.old notes.old) (streams source.new out.new notes.new)) }
+    ensures known { result ≤ EVENT_LIMIT }
+{
+    match words {
+        Ok(words) => {
+            let ending = run_words(rt, rt.alloc(), &words, source, out);
+            conclude(&ending, notes)
+        }
+        Err(kind) => conclude(&unread_words(kind), notes),
+    }
+}
+
+/// Does what `replicate` does with the words of the process, reads the model from `input` and writes to `output`, in pieces
+/// of 16 KiB, and to `notes`. The status is one of those that `replicate` lists.
+pub fn run_process<R, I, O, N>(rt: &R, input: I, output: O, notes: N) -> ExitCode
+where
+    R: AllocGlobal + Env + Threads + Sync,
+    I: Read + Drop,
+    O: Write + Drop,
+    N: Write + Drop,
+    ensures known { exit_status result ≤ EVENT_LIMIT }
+{
+    let words = program_words(rt).map_err(|error| error.kind());
+    let mut source = StdSource::new(input);
+    let mut out = GatheringSink::new(rt.alloc(), StdSink::new(output));
+    let mut lines = StdSink::new(notes);
+    ExitCode::from(replicate(rt, words, &mut source, &mut out, &mut lines))
+}
