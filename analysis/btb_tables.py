@@ -32,7 +32,7 @@ except ImportError:
     os.execv(system, [system, *sys.argv])
 
 TOP = pathlib.Path(__file__).resolve().parent.parent
-PROGRAMS = {"btb": ("BTB", TOP / "crates/btb/out/btb"), "replicate": ("REPLICATE", TOP / "analysis/replicate")}
+PROGRAMS = {"btb": ("BTB", TOP / "crates/btb/out/btb"), "replicate": ("REPLICATE", TOP / "crates/replicate/out/replicate")}
 SIMULATED = (0, 1, 7)  # statuses with a whole text: the end, a fault, the limit of events
 COUNTS = ["seed", "arrivals", "served", "lost", "busy", "waiting", "age", "longest", "ticks", "events"]
 

@@ -1,7 +1,7 @@
 #!/usr/bin/env python3
 """Refuses memory in two ways, and looks at what the program makes of it.
 
-    scripts/refused_memory.py [--btb PROGRAM] [--part allocations|spaces] [--spaces COUNT]
+    scripts/refused_memory.py [--btb PROGRAM] [--replicate PROGRAM] [--part allocations|spaces] [--spaces COUNT]
 
 allocations: for each number N a run is done again, and the C library's N-th call for memory answers that there is none.
 spaces: wide runs with many threads are done in a small address space, 300 sizes of it each, so that also a new thread's
@@ -34,6 +34,30 @@ def cases():
     yield "bank, 200 events on four nodes", ["run", "--nodes", "4"], cut.encode()
     yield "reading of a network", ["one"], (EXAMPLES / "clinic.toml").read_bytes().replace(b"format", b"limit = 1\nformat", 1)
     yield "a demo", ["demo", "4"], b""
+
+
+def replicate_cases():
+    """The same of `replicate`."""
+    hops = b"""
+format = 1
+model = "phold"
+end = 8
+[phold]
+objects = 1
+each = 1
+to = "uniform"
+delay = { law = "uniform", low = 1, high = 10 }
+"""
+    yield "replications of the shop", ["3", "--workers", "1"], SHOP
+    yield "replications of the shop by four workers", ["9"], SHOP
+    yield "replications of hops by 64 workers", ["70", "--workers", "64"], hops
+
+
+def programs_cases(given):
+    """The cases of both programs, each with the path of its program before it."""
+    for program, its_cases in ((given.btb, cases()), (given.replicate, replicate_cases())):
+        for case in its_cases:
+            yield program, *case
 
 
 class Preload:
@@ -133,6 +157,7 @@ def tell(name, what, statuses, wrong):
 def main():
     parser = argparse.ArgumentParser(description=__doc__.splitlines()[0])
     parser.add_argument("--btb", default=str(TOP / "crates/btb/out/btb"), help="the built program")
+    parser.add_argument("--replicate", default=str(TOP / "crates/replicate/out/replicate"), help="the built program `replicate`")
     parser.add_argument("--part", choices=["allocations", "spaces"], help="one of the two parts alone")
     parser.add_argument("--spaces", type=int, default=300, help="how many sizes of the address space")
     given = parser.parse_args()
@@ -140,8 +165,8 @@ def main():
     if given.part != "spaces":
         with tempfile.TemporaryDirectory() as folder:
             preload = Preload(folder)
-            for name, words, data in cases():
-                statuses, wrong = refuse_each(preload, given.btb, words, data)
+            for program, name, words, data in programs_cases(given):
+                statuses, wrong = refuse_each(preload, program, words, data)
                 tell(name, "allocations refused", statuses, wrong)
                 failed |= bool(wrong)
     if given.part != "allocations":
