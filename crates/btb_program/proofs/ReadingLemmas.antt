@@ -4,7 +4,7 @@ use Rattle.std.specs.Prelude.{IfSome}
 use Rattle.std.proofs.lemmas.Bool.{ltb-false, leb-true, leb-false, lt-leb}
 use Rattle.std.proofs.lemmas.List.{take_all, length-take}
 use Rattle.model_text.specs.Checks.{Checked}
-use Rattle.model_text.specs.ModelTexts.{ModelOf, model_of}
+use Rattle.model_text.specs.ModelTexts.{ModelOf, family_of, model_of}
 use Rattle.sim_io.specs.declared.words.Settings.{Settings}
 use Rattle.sim_io.specs.Transfers.{TakesUpTo}
 use Rattle.run_save.specs.Checks as states
@@ -17,7 +17,7 @@ use Rattle.sim_io.specs.declared.streams.reading.TheConstants.{ENOUGH_BYTES}
 -- a text that is too long is so by its first 1,048,577 bytes, so that what comes after them does not matter to the answer
 answer-take : (chosen : Settings) (bytes : List ℕ)
     → answer_to_model chosen (take ENOUGH_BYTES bytes) (model_of (take ENOUGH_BYTES bytes)) ≡ answer_to_model chosen bytes (model_of bytes)
-unfolding model_of answer_to_model
+unfolding family_of model_of answer_to_model
 answer-take chosen bytes = by_length (ltb MOST_TEXT_BYTES (length bytes)) refl
   where
     long : ltb MOST_TEXT_BYTES (length bytes) ≡ true → ltb MOST_TEXT_BYTES (length (take ENOUGH_BYTES bytes)) ≡ true

@@ -12,7 +12,7 @@ use Rattle.delta_exchange.specs.Changes.{cells_after_all, inverses_of}
 use Rattle.random_streams.specs.Laws.{draw, drawn_value, words_read}
 use Rattle.model_core.specs.Places.{place_changes}
 use Rattle.phold_model.specs.Meaning.{starts_of, hop_delay, hop_dest, hop_next, hop_effect, phold_meaning}
-use Rattle.model_text.specs.ModelTexts.{top, model_of}
+use Rattle.model_text.specs.ModelTexts.{top, family_of, own_models, model_of}
 use Rattle.model_text.specs.Phold.{phold, destination}
 use Rattle.model_text.specs.LawTexts.{law, fixed_law}
 use Rattle.model_text.specs.Starts.{start_entry}
@@ -48,7 +48,7 @@ tie =
     (member (codes "start") (array (item (start_at 0 1) (item (start_at 5 0) no_items)))
     (member (codes "to") (string (codes "next")) no_members))))) no_members)))
 
-tie_is_settled_by_destination : answer_to_model (One false) [] (top tie) ≡ record {
+tie_is_settled_by_destination : answer_to_model (One false) [] (own_models (top tie)) ≡ record {
   output = codes "0.0 p1 hop 5 2\n5.0 p0 hop 5 1\n5.0 p2 hop 5 0\nend 9 events 3\n";
   notes = [];
   status = 0;
@@ -56,7 +56,7 @@ tie_is_settled_by_destination : answer_to_model (One false) [] (top tie) ≡ rec
 unfolding digits number_at start_at tie key_lt key_cmp next_stamp has_no_step cells_after_all inverses_of draw drawn_value words_read starts_of hop_delay hop_dest hop_next place_changes hop_effect phold_meaning top phold destination law fixed_law start_entry terms_of enqueue enqueue_all has_endless_chain emissions fired_by fire initial_state next next_of next_fired run run_for run_on least_stamp bucket_fired bucket_below horizon_bucket emissions_of objects_after state_with_done is_limited committed_events after cut cycles_behind cycles_on cycles_for cycles stamp_text word_text part_text place_text part_line event_lines record_lines stop_line cycle_line told_cycle bucket_lines lines_of_buckets text text_from answer_to_model
 tie_is_settled_by_destination = refl
 
-an_event_at_the_horizon_waits : answer_to_model (One true) [] (top tie) ≡ record {
+an_event_at_the_horizon_waits : answer_to_model (One true) [] (own_models (top tie)) ≡ record {
   output = codes "0.0 p1 hop 5 2\ncycle 1 horizon 5.0 events 1\n5.0 p0 hop 5 1\n5.0 p2 hop 5 0\ncycle 2 horizon 10.0 events 2\nend 9 events 3\n";
   notes = [];
   status = 0;
@@ -65,7 +65,7 @@ unfolding digits number_at start_at tie key_lt key_cmp next_stamp has_no_step ce
 an_event_at_the_horizon_waits = refl
 
 no_bytes_are_no_model : answer (codes "run" ∷ []) [] ≡ record { output = []; notes = codes "model: 3 Missing item 0\n"; status = 3 }
-unfolding digits refusal_line settings answer answer_to_settings answer_to_model model_of top is_utf8 chars parse_document lines skip_bom skip_from skip_ws
+unfolding digits refusal_line settings answer answer_to_settings answer_to_model model_of family_of top is_utf8 chars parse_document lines skip_bom skip_from skip_ws
 no_bytes_are_no_model = refl
 
 no_word_is_no_command : answer [] [] ≡ record { output = []; notes = codes "words: no command\n"; status = 2 }
