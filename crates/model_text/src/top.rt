@@ -9,12 +9,12 @@ ghost use Rattle.model_text.specs.ModelTexts.{kind_of, top_keys, body, top, tree
 ghost use Rattle.model_text.specs.TermsOf.{terms_of};
 
 use crate::circuits::circuit;
+use crate::described::ReadModel;
 use crate::fields::{number, only, optional, required, text};
 use crate::formats::{Format, format_of};
 use crate::model::AnyModel;
 use crate::network::network;
 use crate::phold::phold;
-use crate::described::ReadModel;
 use crate::refusal::{Cause, Refusal};
 use event_key::LAST_TICK;
 use model_core::model::Model as SimulationModel;
