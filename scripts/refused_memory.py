@@ -4,7 +4,7 @@
     scripts/refused_memory.py [--btb PROGRAM] [--replicate PROGRAM] [--part allocations|spaces] [--spaces COUNT]
 
 allocations: for each number N a run is done again, and the C library's N-th call for memory answers that there is none.
-spaces: wide runs with many threads are done in a small address space, 300 sizes of it each, so that also a new thread's
+spaces: wide runs with many threads, and a demo, are done in a small address space, 300 sizes of it each, so that also a new thread's
 stack can't be had, and no stack can grow. Each time the program answers either as it would have, or status 6, the note
 for it, and a prefix of the text. Anything else is printed, and fails. It stands outside the gate: it takes half an hour.
 """
@@ -120,6 +120,7 @@ def wide_cases():
     yield "64 workers on 64 nodes", ["run", "--nodes", "64", "--workers", "64"], wide(65536, 300_000)
     yield "64 nodes", ["run", "--nodes", "64"], wide(65536, 300_000)
     yield "16 workers, fewer objects", ["run", "--nodes", "64", "--workers", "16"], wide(8192, 100_000)
+    yield "a demo of 256 stations", ["demo", "256"], b""
 
 
 def run_within(program, words, data, space):

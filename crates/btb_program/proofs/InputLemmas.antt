@@ -15,6 +15,8 @@ use Rattle.btb_program.specs.declared.ending.Ending.TheVariants.{RefusedWords, R
 use Rattle.btb_program.specs.Answer.{Answer, answer, answer_to_settings, answer_of_command, most_read, most_taken, takes_input, words_line}
 use Rattle.btb_program.specs.Answered.{EndsWith, EndsModel, EndsInput, EndsWords}
 use Rattle.btb_program.specs.Endings.{status_of_ending, IsAnswering}
+use Rattle.btb_program.specs.SavedRuns.{IsSavedSo}
+use Rattle.btb_program.specs.declared.status.TheConstants.{WORDS}
 use Rattle.btb_program.proofs.EndingLemmas.{no_memory_left}
 
 -- what holds of each value, or follows from what does
@@ -25,6 +27,10 @@ some_all (Some x) all = all x
 pub some_map : {A : Type 0} {P Q : A → Type 0} (o : Option A) → ((x : A) → P x → Q x) → IfSome o P → IfSome o Q
 some_map None f p = tt
 some_map (Some x) f p = f x p
+
+-- what holds of a value that is there holds of that one
+at_some : {A : Type 0} (P : A → Type 0) (o : Option A) (x : A) → o ≡ Some x → IfSome o P → P x
+at_some {A} P o x is holds = let Q : Option A → Type 0 = λ o. IfSome o P in subst Q is holds
 
 module _ {S K : Type 0} (source : Source S) (sink : Sink K) (from to : S) where
   module _ (most : ℕ) (answer_to : List ℕ → Answer) where
@@ -86,10 +92,10 @@ module _ {S K : Type 0} (source : Source S) (sink : Sink K) (words : List (Strin
       let So : Answer → Type 0 = EndsWith sink out out (RefusedWords fault) in
       let refused : Result Settings WordFault → Type 0 = IsErr in
       record {
-        answer = some_all (source.left from) (λ bytes. subst So (sym (ap (λ r. answer_to_settings r bytes) is)) (record {
+        answer = λ bytes _. subst So (sym (ap (λ r. answer_to_settings r bytes) is)) (record {
           given = record { output = λ _. Appends-nil _; same_status = λ _. refl; prefix = no_prefix _ _ };
           line = λ _. refl;
-        }));
+        });
         input = record {
           refused_words = ((λ _. subst refused (sym is) refl), (λ _. refl));
           unread = λ _. refl;
@@ -99,14 +105,15 @@ module _ {S K : Type 0} (source : Source S) (sink : Sink K) (words : List (Strin
         reading = record { read_fault = λ is. absurd (let clash : ⊥ = cc in clash); read_quiet = λ _. refl };
         writing = record { write_fault = λ is. absurd (let clash : ⊥ = cc in clash); write_quiet = λ _. refl; handed = λ _ kept. kept };
         unwritten = λ _. refl;
+        saved = some_all (source.left from) (λ bytes. subst (λ r. IsSavedSo r WORDS bytes) (sym is) tt);
       }
 
   module _ (chosen : Settings) (is : settings (texts_of words) ≡ Ok chosen) where
     -- they ask for a command that reads nothing
     pub model_ends : (from : S) (old new : K) (ending : Ending) (a : Answer) → EndsModel sink old new ending a → takes_input (Ok chosen) ≡ false → ((bytes : List ℕ) → a ≡ answer_of_command chosen bytes)
-        → EndsWords source sink from from old new ending words
-    model_ends from old new ending a ends takes same = record {
-      answer = some_all (source.left from) (λ bytes. subst (EndsWith sink old new ending) (same bytes ∙ commands chosen is bytes) ends.answer);
+        → ((bytes : List ℕ) → IsSavedSo (Ok chosen) (status_of_ending ending) bytes) → EndsWords source sink from from old new ending words
+    model_ends from old new ending a ends takes same saved = record {
+      answer = λ bytes _. subst (EndsWith sink old new ending) (same bytes ∙ commands chosen is bytes) ends.answer;
       input = record {
         refused_words = ((λ refused. absurd (ends.no_words refused)), (λ refused. absurd (accepted chosen is refused)));
         unread = λ _. refl;
@@ -116,13 +123,18 @@ module _ {S K : Type 0} (source : Source S) (sink : Sink K) (words : List (Strin
       reading = record { read_fault = λ failed. absurd (ends.no_read_fault failed); read_quiet = λ _. refl };
       writing = ends.writing;
       unwritten = λ either. elim either [ inl refused ↦ absurd (ends.no_words refused) | inr failed ↦ absurd (ends.no_read_fault failed) ];
+      saved = some_all (source.left from) (λ bytes. subst (λ r. IsSavedSo r (status_of_ending ending) bytes) (sym is) (saved bytes));
     }
 
     -- they ask for one that reads its input
     pub input_ends : (from to : S) (old new : K) (ending : Ending) (most : ℕ) (answer_to : List ℕ → Answer) → EndsInput source sink from to old new ending most answer_to → takes_input (Ok chosen) ≡ true
-        → most_taken chosen ≡ most → ((bytes : List ℕ) → answer_to bytes ≡ answer_of_command chosen bytes) → EndsWords source sink from to old new ending words
-    input_ends from to old new ending most answer_to ends takes taken same = record {
-      answer = some_map (source.left from) (λ bytes. subst (EndsWith sink old new ending) (same bytes ∙ commands chosen is bytes)) ends.answer;
+        → most_taken chosen ≡ most → ((bytes : List ℕ) → answer_to bytes ≡ answer_of_command chosen bytes)
+        → IfSome (source.left from) (IsSavedSo (Ok chosen) (status_of_ending ending)) → EndsWords source sink from to old new ending words
+    input_ends from to old new ending most answer_to ends takes taken same saved = record {
+      answer = λ bytes given. elim given [
+        inl left ↦ subst (EndsWith sink old new ending) (same bytes ∙ commands chosen is bytes) (at_some (λ (bytes : List ℕ). EndsWith sink old new ending (answer_to bytes)) (source.left from) bytes left ends.answer)
+      | inr untaken ↦ absurd (let clash : ◌≡◌ {A = Bool} true false = sym (ap takes_input is ∙ takes) ∙ untaken in cc)
+      ];
       input = record {
         refused_words = ((λ refused. absurd (ends.no_words refused)), (λ refused. absurd (accepted chosen is refused)));
         unread = λ untaken. absurd (let clash : ◌≡◌ {A = Bool} true false = sym (ap takes_input is ∙ takes) ∙ untaken in cc);
@@ -132,4 +144,5 @@ module _ {S K : Type 0} (source : Source S) (sink : Sink K) (words : List (Strin
       reading = ends.reading;
       writing = ends.writing;
       unwritten = ends.unwritten;
+      saved = some_map (source.left from) (λ bytes so. subst (λ r. IsSavedSo r (status_of_ending ending) bytes) (sym is) so) saved;
     }

@@ -1,6 +1,7 @@
 pub mod EndingLemmas
 pub mod InputLemmas
 pub mod ReadingLemmas
+pub mod RecordLines
 pub mod SavedRunsLaw
 pub mod SmallAnswers
 pub mod StateAnswers

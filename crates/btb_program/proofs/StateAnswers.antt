@@ -1,5 +1,5 @@
 -- What is answered if a simulation is saved: its records, and the text of its state, unless that is too long.
-use Rattle.std.proofs.Common.{◌≡◌, ◌<◌, ◌≤◌, ℕ, List, [], ◌++◌, length, true, false, Option, Result, Ok, Err, refl, sym, ap, ◌∙◌, subst, append-nil, append_assoc, le-leb}
+use Rattle.std.proofs.Common.{◌≡◌, ◌≢◌, ◌<◌, ◌≤◌, ℕ, List, [], ◌++◌, length, true, false, Option, Result, Ok, Err, refl, sym, ap, ◌∙◌, subst, append-nil, append_assoc, le-leb}
 use Rattle.std.specs.Prelude.{is_err, OnOk}
 use Rattle.std.proofs.lemmas.Bool.{lt-leb}
 use Rattle.std.proofs.KnownBytes.{Appends-trans}
@@ -19,7 +19,8 @@ use Rattle.run_save.specs.declared.reading.TheConstants.{MOST_STATE_BYTES}
 use Rattle.btb_program.specs.declared.ending.Ending.{Ending}
 use Rattle.btb_program.specs.Answer.{answer_of_save, answer_of_state, answer_with_text}
 use Rattle.btb_program.specs.Answered.{EndsModel}
-use Rattle.btb_program.specs.Endings.{ending_of_cause}
+use Rattle.btb_program.specs.Endings.{ending_of_cause, status_of_ending}
+use Rattle.btb_program.specs.declared.status.TheConstants.{END}
 use Rattle.btb_program.proofs.EndingLemmas.{write_fault_ends, no_memory_ends}
 
 module _ (s : State) (bytes : List ℕ) where
@@ -35,6 +36,11 @@ module _ (s : State) (bytes : List ℕ) where
 pub on_no_error : {T E : Type 0} (r : Result T E) (P : Type 0) → false ≡ is_err r → OnOk r P → P
 on_no_error (Ok x) P none holds = holds
 on_no_error (Err e) P none holds = absurd (let clash = none in cc)
+
+-- a simulation that is unfinished has no end
+pub unfinished_status : (cause : Unfinished) (ending : Ending) → ending ≡ ending_of_cause cause → status_of_ending ending ≢ END
+unfinished_status Unfinished.WriteFault ending same is = let clash : ⊥ = let both = sym (ap status_of_ending same) ∙ is in cc in clash
+unfinished_status Unfinished.OutOfMemory ending same is = let clash : ⊥ = let both = sym (ap status_of_ending same) ∙ is in cc in clash
 
 -- what was put into nothing
 pub put_first : (before after text : List ℕ) → before ≡ [] → after ≡ before ++ text → after ≡ text

@@ -17,10 +17,9 @@ use Rattle.sim_io.specs.Words.{texts_of}
 use Rattle.btb_program.specs.declared.ending.Ending.{Ending}
 use Rattle.btb_program.specs.declared.status.TheConstants.{WORDS, OUT_OF_MEMORY}
 use Rattle.btb_program.specs.Answer.{Answer, answer, answer_of_command, answer_of_model, answer_of_run, answer_to_model, most_taken, takes_input, words_line, HandsOnPrefix, WritesPrefix}
-use Rattle.btb_program.specs.Answered.{EndsWords, AnswersWords, AnswersNoWords, Streams}
-use Rattle.btb_program.specs.Endings.{status_of_ending, line_of_ending, noted_line, IsAnswering, IsRefusal}
+use Rattle.btb_program.specs.Answered.{EndsWords, AnswersWords, AnswersNoWords, HandsOnNotes, NotesAnswer, Streams}
+use Rattle.btb_program.specs.Endings.{status_of_ending, line_of_ending, noted_line, IsAnswering, IsRefusal, TellsFault}
 use Rattle.btb_program.proofs.EndingLemmas.{known_status, noted, completes}
-use Rattle.btb_program.proofs.InputLemmas.{some_map}
 
 pub on_err_map : {T E P Q : Type 0} (r : Result T E) → (P → Q) → OnErr r P → OnErr r Q
 on_err_map (Ok x) f p = tt
@@ -49,6 +48,12 @@ tells_run (Settings.Demo n) bytes model no_save = refl
 tells_run (Settings.Save c) bytes model no_save = absurd (no_save c refl)
 tells_run Settings.Resume bytes model no_save = refl
 
+-- a status that tells of a fault is none of an answer
+tells_none : (status : ℕ) → TellsFault status → IsAnswering status → ⊥
+tells_none status (inl is) done = done.0 is
+tells_none status (inr (inl is)) done = done.1 is
+tells_none status (inr (inr is)) done = done.2 is
+
 -- what was handed on of a prefix of the output is a prefix of it
 hands_on_prefix : (taken told handed : Option (List ℕ)) (a : Answer) → WritesPrefix taken told a → KeepsBackSome told handed → HandsOnPrefix taken handed a
 hands_on_prefix None told handed a part back = tt
@@ -61,26 +66,33 @@ hands_on_prefix (Some before) (Some now) handed a part back = (
 
 module _ {S K N : Type 0} (source : Source S) (sink : Sink K) (notes : Sink N) (ending : Ending) (old new : Streams S K N)
     (part : AppendsPrefix (notes.told old.notes) (notes.told new.notes) (line_of_ending ending))
-    (whole : Appends (notes.told old.notes) (notes.told new.notes) (line_of_ending ending) ⊎ Rose (notes.faults old.notes) (notes.faults new.notes)) where
+    (whole : Appends (notes.told old.notes) (notes.told new.notes) (line_of_ending ending) ⊎ Rose (notes.faults old.notes) (notes.faults new.notes)) (handed_on : HandsOnNotes notes old.notes new.notes) where
+  -- the line of the ending is what is noted with its status
+  notes_line : (a : Answer) → (IsAnswering (status_of_ending ending) → line_of_ending ending ≡ a.notes) → NotesAnswer notes old.notes new.notes (status_of_ending ending) a
+  notes_line a line = record {
+    notes_prefix = subst (AppendsPrefix (notes.told old.notes) (notes.told new.notes)) (noted ending _ line) part;
+    notes_whole = subst (λ text. Appends (notes.told old.notes) (notes.told new.notes) text ⊎ Rose (notes.faults old.notes) (notes.faults new.notes)) (noted ending _ line) whole;
+  }
+
   -- how the words end is what is answered to them, and its line is noted
   pub answers_words : (words : List (String Global)) → EndsWords source sink old.source new.source old.out new.out ending words → KeepsBackSome (sink.told new.out) (sink.handed new.out)
       → AnswersWords source sink notes (status_of_ending ending) old new words
   answers_words words ends in_order = record {
     known = known_status ending;
-    answer = some_map (source.left old.source) (λ bytes so. so.given) ends.answer;
-    handed = some_map (source.left old.source) (λ bytes so. record {
+    answer = λ bytes given. (ends.answer bytes given).given;
+    handed = λ bytes given. let so = ends.answer bytes given in record {
       handed = λ done kept. Appends-kept _ _ _ _ (so.given.output done) (ends.writing.handed done.1 kept);
       handed_prefix = hands_on_prefix _ _ _ (answer (texts_of words) bytes) so.given.prefix in_order;
-    }) ends.answer;
+    };
     input = ends.input;
     reading = ends.reading;
     writing = ends.writing;
     unwritten = ends.unwritten;
-    noted = some_map (source.left old.source) (λ bytes so. record {
-      notes_prefix = subst (AppendsPrefix (notes.told old.notes) (notes.told new.notes)) (noted ending _ so.line) part;
-      notes_whole = subst (λ line. Appends (notes.told old.notes) (notes.told new.notes) line ⊎ Rose (notes.faults old.notes) (notes.faults new.notes)) (noted ending _ so.line) whole;
-    }) ends.answer;
-    complete = some_map (source.left old.source) (λ bytes so _. completes ending _ _ _ so.given.same_status ends.reading.read_fault ends.writing.write_fault) ends.answer;
+    noted = λ bytes given. notes_line (answer (texts_of words) bytes) (ends.answer bytes given).line;
+    noted_fault = λ fault a. notes_line a (λ done. absurd (tells_none _ fault done));
+    noted_on = handed_on;
+    complete = λ bytes given _. completes ending _ _ _ (ends.answer bytes given).given.same_status ends.reading.read_fault ends.writing.write_fault;
+    saved = ends.saved;
   }
 
   -- words that can't be read are answered by the line of a word that is no text, or of want of memory
@@ -92,6 +104,7 @@ module _ {S K N : Type 0} (source : Source S) (sink : Sink K) (notes : Sink N) (
     no_text = no_text;
     line_prefix = subst (AppendsPrefix (notes.told old.notes) (notes.told new.notes)) line part;
     line_whole = subst (λ line. Appends (notes.told old.notes) (notes.told new.notes) line ⊎ Rose (notes.faults old.notes) (notes.faults new.notes)) line whole;
+    noted_on = handed_on;
     unread = unread;
     unwritten = unwritten;
   }

@@ -1,5 +1,5 @@
 -- What the program writes, what it notes, and the status with which it ends.
-use Rattle.std.specs.Prelude.{ℕ, ◌+◌, nat_le, Bool, true, false, List, [], ◌++◌, length, Option, Some, IfSome, IsOk, Result, Ok, Err, String, codes, decimal}
+use Rattle.std.specs.Prelude.{◌≡◌, ◌⊎◌, ℕ, ◌+◌, nat_le, Bool, true, false, List, [], ◌++◌, length, Option, Some, IfSome, IsOk, Result, Ok, Err, String, codes, decimal}
 use Rattle.std.specs.Io.KnownBytes.{Appends}
 use Rattle.std.specs.declared.alloc.Global.{Global}
 use Rattle.model_text.specs.Causes.{code_name}
@@ -126,10 +126,6 @@ answer_to_settings (Ok chosen) bytes = answer_of_command chosen bytes
 unfoldable pub answer : List (List ℕ) → List ℕ → Answer
 answer words bytes = answer_to_settings (settings words) bytes
 
--- where it is known what is left to be read, this holds of the answer to words and to that
-abbrev pub OfAnswer : List (String Global) → Option (List ℕ) → (Answer → Type 0) → Type 0
-OfAnswer words left P = IfSome left (λ bytes. P (answer (texts_of words) bytes))
-
 -- the input is what the command asks for: a model or a saved state, or anything for a demo
 abbrev pub AcceptsInput : Settings → List ℕ → Type 0
 AcceptsInput (Settings.Demo n) bytes = Unit {0}
@@ -140,10 +136,6 @@ AcceptsInput chosen bytes = IsOk (model_of bytes)
 abbrev pub IsAccepted : Result Settings WordFault → List ℕ → Type 0
 IsAccepted (Err fault) bytes = ⊥
 IsAccepted (Ok chosen) bytes = AcceptsInput chosen bytes
-
--- the same of the answer where the words and the input are accepted
-abbrev pub OfAccepted : List (String Global) → Option (List ℕ) → (Answer → Type 0) → Type 0
-OfAccepted words left P = IfSome left (λ bytes. IsAccepted (settings (texts_of words)) bytes → P (answer (texts_of words) bytes))
 
 -- how many bytes of the input a command takes at most: one more than a model or a saved state may have, and none for a demo
 abbrev pub most_taken : Settings → ℕ
@@ -161,6 +153,18 @@ takes_input (Ok chosen) = true
 abbrev pub most_read : Result Settings WordFault → ℕ
 most_read (Err fault) = 0
 most_read (Ok chosen) = most_taken chosen
+
+-- these bytes are what is left to be read, or it plays no part what is left
+abbrev pub IsInput : List (String Global) → Option (List ℕ) → List ℕ → Type 0
+IsInput words left bytes = (left ≡ Some bytes) ⊎ (takes_input (settings (texts_of words)) ≡ false)
+
+-- this holds of the answer to words and to what is left to be read: where that is known, or plays no part
+abbrev pub OfAnswer : List (String Global) → Option (List ℕ) → (Answer → Type 0) → Type 0
+OfAnswer words left P = (bytes : List ℕ) → IsInput words left bytes → P (answer (texts_of words) bytes)
+
+-- the same of the answer where the words and the input are accepted
+abbrev pub OfAccepted : List (String Global) → Option (List ℕ) → (Answer → Type 0) → Type 0
+OfAccepted words left P = (bytes : List ℕ) → IsInput words left bytes → IsAccepted (settings (texts_of words)) bytes → P (answer (texts_of words) bytes)
 
 -- the output of the answer was written, or a prefix of it
 abbrev pub WritesOutput : Option (List ℕ) → Option (List ℕ) → Answer → Type 0

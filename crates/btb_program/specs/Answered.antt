@@ -14,7 +14,8 @@ use Rattle.sim_io.specs.Words.{settings, texts_of}
 use Rattle.btb_program.specs.declared.ending.Ending.{Ending}
 use Rattle.btb_program.specs.declared.status.TheConstants.{WORDS, READ_FAULT, WRITE_FAULT, OUT_OF_MEMORY, STATE}
 use Rattle.btb_program.specs.Answer.{Answer, most_read, takes_input, words_line, OfAnswer, OfAccepted, HandsOnPrefix, WritesOutput, WritesPrefix}
-use Rattle.btb_program.specs.Endings.{status_of_ending, line_of_ending, noted_line, IsAnswering, NotesLine, NotesPrefix, IsComplete}
+use Rattle.btb_program.specs.Endings.{status_of_ending, line_of_ending, noted_line, IsAnswering, TellsFault, NotesLine, NotesPrefix, IsComplete}
+use Rattle.btb_program.specs.SavedRuns.{IsSavedSo}
 
 module _ {K : Type 0} (sink : Sink K) (old new : K) (status : ℕ) where
   -- what is written is the output of the answer, or a prefix of it, and the status says which
@@ -52,6 +53,10 @@ module _ {S : Type 0} (source : Source S) (old new : S) (status : ℕ) where
     pub read : IsAnswering status → takes_input words ≡ true → IfSome (source.left old) (λ bytes. source.left new ≡ Some (drop (most_read words) bytes))
     pub reads : status ≡ READ_FAULT → takes_input words ≡ true
 
+-- what was noted is handed on, unless a write failed
+abbrev pub HandsOnNotes : {N : Type 0} → Sink N → N → N → Type 0
+HandsOnNotes notes old new = Keeps (notes.told new) (notes.handed new) ⊎ Rose (notes.faults old) (notes.faults new)
+
 -- nothing is written where the words are refused or reading failed
 abbrev pub LeavesOut : {K : Type 0} → K → K → ℕ → Type 0
 LeavesOut old new status = (status ≡ WORDS) ⊎ (status ≡ READ_FAULT) → new ≡ old
@@ -85,6 +90,7 @@ module _ {S K : Type 0} (source : Source S) (sink : Sink K) (from to : S) (old n
     pub reading : TellsReading source from to (status_of_ending ending)
     pub writing : TellsWriting sink old new (status_of_ending ending)
     pub unwritten : LeavesOut old new (status_of_ending ending)
+    pub saved : IfSome (source.left from) (IsSavedSo (settings (texts_of words)) (status_of_ending ending))
 
 -- the streams of the program
 pub record Streams (S K N : Type 0) : Type 0 where
@@ -106,9 +112,14 @@ module _ {S K N : Type 0} (source : Source S) (sink : Sink K) (notes : Sink N) (
     pub writing : TellsWriting sink old.out new.out status
     pub unwritten : LeavesOut old.out new.out status
     pub noted : OfAnswer words (source.left old.source) (NotesAnswer notes old.notes new.notes status)
+    -- what is noted of a fault or of want of memory needs no answer
+    pub noted_fault : TellsFault status → (a : Answer) → NotesAnswer notes old.notes new.notes status a
+    pub noted_on : HandsOnNotes notes old.notes new.notes
     -- accepted words, an input that they accept and no fault give the whole answer, or want of memory
     pub complete : OfAccepted words (source.left old.source) (λ a.
         IsComplete status a.status (Rose (source.faults old.source) (source.faults new.source)) (Rose (sink.faults old.out) (sink.faults new.out)))
+    -- what was saved goes on as if it had not been
+    pub saved : IfSome (source.left old.source) (IsSavedSo (settings (texts_of words)) status)
 
   -- where the words can't be read, why is noted and nothing else is done: there was no memory, or one of them is no text
   pub record AnswersNoWords (kind : ErrorKind) : Type 0 where
@@ -117,5 +128,6 @@ module _ {S K N : Type 0} (source : Source S) (sink : Sink K) (notes : Sink N) (
     pub no_text : kind ≢ ErrorKind.OutOfMemory → status ≡ WORDS
     pub line_prefix : AppendsPrefix (notes.told old.notes) (notes.told new.notes) (noted_line status (words_line BadValue))
     pub line_whole : Appends (notes.told old.notes) (notes.told new.notes) (noted_line status (words_line BadValue)) ⊎ Rose (notes.faults old.notes) (notes.faults new.notes)
+    pub noted_on : HandsOnNotes notes old.notes new.notes
     pub unread : new.source ≡ old.source
     pub unwritten : new.out ≡ old.out

@@ -1,7 +1,8 @@
-//! The law of saved runs. The function does nothing: its contract is the law.
-ghost use Rattle.btb_program.specs.SavedRuns.{SavedRuns};
+//! Laws of saved runs and of numbers. Each function does nothing: its contract is the law.
+ghost use Rattle.btb_program.specs.Numbers.{Numbers};
+ghost use Rattle.btb_program.specs.SavedRuns.{RecordsAreNoStates, SavedRuns};
 
-use model_core::model::Model;
+use model_core::model::{Model, keeps_laws};
 use run_save::law_written;
 use sim_spec::Terms;
 use sim_spec::laws::law_initial;
@@ -12,7 +13,19 @@ use sim_text::laws::law_goes_on;
 pub fn law_saved_runs<M: Model>(model: &M, terms: &Terms)
     ensures { SavedRuns (record { meaning = M.meaning model.now; terms = terms.now }) }
 {
+    keeps_laws(model);
     law_initial(model, terms);
     law_goes_on(model, terms);
     law_written();
 }
+
+/// What the names of limits, codes and statuses stand for.
+pub fn law_numbers()
+    ensures { Numbers }
+{}
+
+/// What `save` prints has one line `state 1` that can begin a state: no record is such a line.
+#[tactic(auto, using(crate::proofs::RecordLines::records_are_no_states))]
+pub fn law_record_lines()
+    ensures { RecordsAreNoStates }
+{}

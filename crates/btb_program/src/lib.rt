@@ -9,6 +9,7 @@ mod program;
 mod running;
 mod saving;
 mod setting;
+mod stack;
 pub mod status;
 #[cfg(test)]
 mod tests;

@@ -1,17 +1,19 @@
 //! The commands that run a model.
-ghost use Rattle.std.specs.Prelude.{◌≤◌};
+ghost use Rattle.std.specs.Prelude.{◌≡◌, ◌≤◌, Ok, IfSome};
 ghost use Rattle.model_core.specs.declared.limits.TheConstants.{MOST_DEMO_STATIONS};
 ghost use Rattle.model_text.specs.ModelTexts.{model_of};
 ghost use Rattle.sim_io.specs.Words.{AreInBounds};
 ghost use Rattle.btb_program.specs.Answer.{as_read, refusal_line, answer_of_model, answer_to_model, demo_answer};
 ghost use Rattle.btb_program.specs.Answered.{EndsInput, EndsModel, EndsWords};
 ghost use Rattle.btb_program.specs.declared.status.TheConstants.{MODEL};
-ghost use Rattle.btb_program.specs.Endings.{IsRefusal};
+ghost use Rattle.btb_program.specs.Endings.{IsRefusal, status_of_ending};
+ghost use Rattle.btb_program.specs.SavedRuns.{IsSavedSo};
 
 use crate::ending::{Ending, ending_of};
 use crate::notes::refusal_line;
 use crate::saving::{resume_command, save_to_the_end};
 use crate::setting::{machine_of, telling_of};
+use crate::stack::grow_stack;
 use model_runs::{Job, Stage, run_model};
 use model_text::{AnyModel, Refusal, read_model};
 use node_team::Gate;
@@ -40,8 +42,10 @@ fn answer_model<R: Threads + Sync, G: Gate, K: Sink>(
     settings: Settings,
     out: &mut K,
 ) -> Ending
-    requires { AreInBounds settings }
-    ensures { EndsModel K.Sink out.old out.new result (answer_of_model settings bytes.now (as_read model terms)) }
+    requires bounds { AreInBounds settings }
+    requires read { model_of bytes.now ≡ Ok (as_read model terms) }
+    ensures answer { EndsModel K.Sink out.old out.new result (answer_of_model settings bytes.now (as_read model terms)) }
+    ensures saved { IsSavedSo (Ok settings) (status_of_ending result) bytes.now }
 {
     match settings {
         Settings::Save { c } => save_to_the_end(stage, model, terms, bytes, c, out),
@@ -65,8 +69,9 @@ fn run_command<R: Threads + Sync, G: Gate, S: Source, K: Sink>(
     out: &mut K,
 ) -> Ending
     requires { AreInBounds settings }
-    ensures { EndsInput S.Source K.Sink source.old source.new out.old out.new result ENOUGH_BYTES
+    ensures answer { EndsInput S.Source K.Sink source.old source.new out.old out.new result ENOUGH_BYTES
         (λ bytes. answer_to_model settings bytes (model_of bytes)) }
+    ensures saved { IfSome (S.left source.old) (IsSavedSo (Ok settings) (status_of_ending result)) }
 {
     let bytes = match read_all(stage.alloc, source) {
         Ok(bytes) => bytes,
@@ -81,13 +86,13 @@ fn run_command<R: Threads + Sync, G: Gate, S: Source, K: Sink>(
     }
 }
 
-/// Simulates the ring of a demo, and writes its summary.
+/// Simulates the ring of a demo, and writes its summary. A demo reads nothing, so the stack grows here.
 fn run_demo<R: Threads + Sync, G: Gate, K: Sink>(stage: Stage<R, G>, n: u32, out: &mut K) -> Ending
     requires some { 1 ≤ n }
     requires few { n ≤ MOST_DEMO_STATIONS }
     ensures { EndsModel K.Sink out.old out.new result (demo_answer n) }
 {
-    match ring(stage.alloc, n) {
+    match ring(stage.alloc, grow_stack(n)) {
         Ok((network, terms)) => {
             let job = Job {
                 model: AnyModel::Network(network),

@@ -1,23 +1,30 @@
 //! The commands of saved states.
-ghost use Rattle.std.specs.Prelude.{◌≡◌, ◌+◌, OnOk};
+ghost use Rattle.std.specs.Prelude.{◌≡◌, ◌≤◌, ◌+◌, length, Ok, OnOk};
 ghost use Rattle.std.specs.Io.KnownBytes.{Appends, Keeps};
+ghost use Rattle.sim_io.specs.declared.words.TheConstants.{MOST_SAVED_CYCLES};
 ghost use Rattle.sim_io.specs.Causes.{HasCause};
 ghost use Rattle.sim_io.specs.Transfers.{AppendsPrefix};
+ghost use Rattle.model_text.specs.ModelTexts.{model_of};
+ghost use Rattle.run_save.specs.SavedLaws.{FitsTypes};
 ghost use Rattle.run_save.specs.SavedStates.{state_of};
+ghost use Rattle.run_save.specs.StateTexts.{state_text};
 ghost use Rattle.run_save.specs.declared.reading.TheConstants.{MOST_STATE_BYTES};
 ghost use Rattle.btb_program.specs.Answer.{as_read, state_line, answer_of_save, answer_of_state, answer_to_state};
 ghost use Rattle.btb_program.specs.Answered.{EndsInput, EndsModel};
-ghost use Rattle.btb_program.specs.declared.status.TheConstants.{STATE};
-ghost use Rattle.btb_program.specs.Endings.{IsRefusal};
+ghost use Rattle.btb_program.specs.declared.status.TheConstants.{END, STATE};
+ghost use Rattle.btb_program.specs.Endings.{IsRefusal, status_of_ending};
+ghost use Rattle.btb_program.specs.SavedRuns.{IsSaved};
 
 use crate::ending::{Ending, ending_of};
+use crate::laws::law_saved_runs;
 use crate::notes::state_line;
+use crate::setting::spread_of;
 use cycle_core::State;
 use model_runs::{Stage, resume_model, save_model};
 use model_text::AnyModel;
 use node_team::Gate;
 use run_save::{MOST_STATE_BYTES, Saved, StateCause, StateRefusal, put_state, read_state};
-use sim_io::{Failed, ReadEnd, Sink, Source, read_some, write_all};
+use sim_io::{Failed, ReadEnd, Settings, Sink, Source, read_some, write_all};
 use sim_spec::Terms;
 use std::alloc::Global;
 use std::thread::Threads;
@@ -46,7 +53,9 @@ fn hand_out<K: Sink>(text: &[u8], out: &mut K) -> Result<(), Failed>
 
 /// Writes the text of a state with the bytes of its model, and hands it on, unless it is too long: that is told then.
 fn write_state<K: Sink>(alloc: Global, state: &State, bytes: &[u8], out: &mut K) -> Ending
-    ensures { EndsModel K.Sink out.old out.new result (answer_of_state state.now bytes.now) }
+    ensures answer { EndsModel K.Sink out.old out.new result (answer_of_state state.now bytes.now) }
+    ensures fits { status_of_ending result ≡ END → FitsTypes state.now }
+    ensures short { status_of_ending result ≡ END → length (state_text state.now bytes.now) ≤ MOST_STATE_BYTES }
 {
     let mut text = Vec::new(alloc);
     if put_state(state, bytes, &mut text).is_err() {
@@ -70,9 +79,14 @@ pub fn save_to_the_end<R: Threads + Sync, G: Gate, K: Sink>(
     cycles: u32,
     out: &mut K,
 ) -> Ending
-    ensures { EndsModel K.Sink out.old out.new result (answer_of_save cycles bytes.now (as_read model terms)) }
+    requires few { cycles ≤ MOST_SAVED_CYCLES }
+    requires read { model_of bytes.now ≡ Ok (as_read model terms) }
+    ensures answer { EndsModel K.Sink out.old out.new result (answer_of_save cycles bytes.now (as_read model terms)) }
+    ensures saved { status_of_ending result ≡ END → IsSaved cycles bytes.now }
 {
-    match save_model(stage, model, terms, cycles, out) {
+    law_saved_runs(&model, &terms);
+    let spread = spread_of(Settings::Save { c: cycles });
+    match save_model(stage, model, terms, spread, cycles, out) {
         Ok(state) => write_state(stage.alloc, &state, bytes, out),
         Err(cause) => Ending::from(cause),
     }
@@ -98,7 +112,10 @@ pub fn resume_command<R: Threads + Sync, G: Gate, S: Source, K: Sink>(
                 terms,
                 state,
             },
-        ) => ending_of(resume_model(stage, model, terms, state, out)),
+        ) => {
+            let spread = spread_of(Settings::Resume);
+            ending_of(resume_model(stage, model, terms, spread, state, out))
+        }
         Err(StateRefusal::At { code, line }) => refused(stage.alloc, code, line),
         Err(StateRefusal::OutOfMemory) => Ending::OutOfMemory,
     }

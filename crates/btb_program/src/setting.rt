@@ -1,17 +1,19 @@
 //! What the words set: what runs the simulation, and what is told of it.
 ghost use Rattle.std.specs.Prelude.{◌≡◌};
 ghost use Rattle.sim_io.specs.Words.{AreInBounds};
-ghost use Rattle.model_runs.specs.Machines.{IsMachine};
+ghost use Rattle.model_runs.specs.Machines.{IsMachine, IsSpread};
 ghost use Rattle.btb_program.specs.Answer.{telling_of};
+ghost use Rattle.btb_program.specs.Setting.{machine_of, spread_of};
 
 use model_runs::{DEFAULT_SPREAD, Machine, Spread};
 use sim_io::Settings;
 use sim_text::Telling;
 
-/// What runs the simulation: nodes, as they are set or as by default, or one thread.
-pub fn machine_of(settings: Settings) -> Machine
+/// How nodes are used, where they are: as it is set, or as by default.
+pub fn spread_of(settings: Settings) -> Spread
     requires { AreInBounds settings }
-    ensures { IsMachine result }
+    ensures value { result ≡ spread_of settings }
+    ensures bounds { IsSpread result }
 {
     match settings {
         Settings::Run {
@@ -21,17 +23,34 @@ pub fn machine_of(settings: Settings) -> Machine
             workers,
             moves,
             ..
-        } => Machine::Nodes(Spread {
+        } => Spread {
             nodes,
             ahead,
             placement,
             workers,
             moves,
-        }),
+        },
+        Settings::One { .. }
+        | Settings::Totals
+        | Settings::Demo { .. }
+        | Settings::Save { .. }
+        | Settings::Resume => DEFAULT_SPREAD,
+    }
+}
+
+/// What runs the simulation: nodes, or one thread.
+pub fn machine_of(settings: Settings) -> Machine
+    requires { AreInBounds settings }
+    ensures value { result ≡ machine_of settings }
+    ensures bounds { IsMachine result }
+{
+    match settings {
         Settings::One { .. } => Machine::OneThread,
-        Settings::Totals | Settings::Demo { .. } | Settings::Save { .. } | Settings::Resume => {
-            Machine::Nodes(DEFAULT_SPREAD)
-        }
+        Settings::Run { .. }
+        | Settings::Totals
+        | Settings::Demo { .. }
+        | Settings::Save { .. }
+        | Settings::Resume => Machine::Nodes(spread_of(settings)),
     }
 }
 

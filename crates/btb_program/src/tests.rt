@@ -2,10 +2,12 @@
 mod circuits;
 mod cycles;
 mod gates;
+mod limits;
 mod networks;
 mod nodes;
 mod refusals;
 mod saving;
+mod second_format;
 mod streams;
 mod totals;
 mod words;

@@ -1,3 +1,4 @@
 pub mod Handed
 pub mod Machines
+pub mod Plans
 pub mod Saved

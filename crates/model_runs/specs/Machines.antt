@@ -1,10 +1,14 @@
--- The bounds of what runs a simulation.
-use Rattle.std.specs.Prelude.{◌≤◌}
+-- What runs a simulation.
+use Rattle.std.specs.Prelude.{◌≡◌, ◌≤◌, None}
 use Rattle.model_core.specs.declared.limits.TheConstants.{MOST_NODES}
 use Rattle.node_team.specs.Handings.{AreWorkers}
+use Rattle.node_team.specs.Teams.{TeamView}
+use Rattle.sim_io.specs.declared.words.TheConstants.{DEFAULT_AHEAD, DEFAULT_NODES}
+use Rattle.sim_spec.specs.declared.placement.Placement.{Placement}
 use Rattle.model_runs.specs.declared.machine.Machine.{Machine}
 use Rattle.model_runs.specs.declared.machine.Machine.TheVariants.{OneThread, Nodes}
 use Rattle.model_runs.specs.declared.machine.Spread.{Spread}
+use Rattle.model_runs.specs.declared.moving.Moving.{Moving}
 
 -- 1 to 64 nodes, and 1 to 64 workers if any
 abbrev pub IsSpread : Spread → Type 0
@@ -13,3 +17,13 @@ IsSpread spread = (1 ≤ spread.nodes) × (spread.nodes ≤ MOST_NODES) × AreWo
 abbrev pub IsMachine : Machine → Type 0
 IsMachine OneThread = Unit {0}
 IsMachine (Nodes spread) = IsSpread spread
+
+-- nodes if nothing is asked for: four of them, which work eight events ahead
+abbrev pub default_spread : Spread
+default_spread = record { nodes = DEFAULT_NODES; ahead = DEFAULT_AHEAD; placement = Placement.Round; workers = None; moves = None }
+
+-- a team has as many nodes as are set, which work as far ahead, and what moves is what is set
+pub record IsSpreadAs {M : Type 0} (team : TeamView M) (moving : Moving) (spread : Spread) : Type 0 where
+  pub nodes : team.world.homes.nodes ≡ spread.nodes
+  pub ahead : team.ahead ≡ spread.ahead
+  pub moves : moving ≡ record { moves = spread.moves; cycles = 0 }

@@ -1,5 +1,5 @@
 //! Which objects move between the nodes, and after which cycles.
-ghost use Rattle.std.specs.Prelude.{◌≡◌, IfOk};
+ghost use Rattle.std.specs.Prelude.{◌≡◌, ◌+◌, ◌-◌, ◌^◌, ℕ, List, min, IfOk, OnOk};
 ghost use Rattle.std.specs.List.{AllByRecursion};
 ghost use Rattle.sim_spec.specs.Standing.{Standing};
 ghost use Rattle.sim_spec.specs.State.{State};
@@ -7,6 +7,7 @@ ghost use Rattle.cycle_core.specs.Standings.{WorldStandsAt};
 ghost use Rattle.cycle_core.specs.Worlds.{HasNodes, StandsAt};
 ghost use Rattle.object_moves.specs.Moves.{Exists};
 ghost use Rattle.model_text.specs.Meanings.{meaning_of};
+ghost use Rattle.model_runs.specs.Plans.{HasMoved, IsPlan, moves_by_turn};
 
 use cycle_core::World;
 use model_core::OutOfMemory;
@@ -22,13 +23,14 @@ use std::alloc::Global;
 /// one that a fault or the limit cut there is none.
 #[derive(Clone, Copy, Debug, PartialEq, Eq)]
 pub struct Moving {
-    moves: Option<Moves>,
-    cycles: u64,
+    pub moves: Option<Moves>,
+    pub cycles: u64,
 }
 
 /// The objects take turns, and so do the nodes: after so many cycles the one object goes to the one node whose turn it is.
 fn move_in_turn(alloc: Global, homes: &Homes, cycles: u64) -> Result<Vec<Move>, OutOfMemory>
-    ensures { IfOk result (λ plan. AllByRecursion (Exists homes.now) plan.items) }
+    ensures plan { IfOk result (λ plan. plan.items ≡ moves_by_turn homes.now cycles) }
+    ensures exist { IfOk result (λ plan. AllByRecursion (Exists homes.now) plan.items) }
 {
     let objects = homes.objects();
     if objects == 0 {
@@ -49,7 +51,8 @@ fn next_moves(
     cycles: u64,
 ) -> Result<Vec<Move>, OutOfMemory>
     requires { HasNodes world.now }
-    ensures { IfOk result (λ plan. AllByRecursion (Exists world.now.homes) plan.items) }
+    ensures plan { IfOk result (λ plan. IsPlan moves cycles world.now plan.items) }
+    ensures exist { IfOk result (λ plan. AllByRecursion (Exists world.now.homes) plan.items) }
 {
     match moves {
         Moves::Load => plan_by_load(alloc, world),
@@ -59,12 +62,16 @@ fn next_moves(
 
 impl Moving {
     /// Before the first cycle.
-    pub fn new(moves: Option<Moves>) -> Moving {
+    pub fn new(moves: Option<Moves>) -> Moving
+        ensures { result ≡ record { moves = moves; cycles = 0 } }
+    {
         Moving { moves, cycles: 0 }
     }
 
     /// With one cycle more.
-    pub fn after(self) -> Moving {
+    pub fn after(self) -> Moving
+        ensures { result ≡ record { moves = self.moves; cycles = min (self.cycles + 1) (2 ^ 64 - 1) } }
+    {
         Moving {
             moves: self.moves,
             cycles: self.cycles.saturating_add(1),
@@ -79,8 +86,10 @@ impl Moving {
     ) -> Result<(), OutOfMemory>
         requires { (s : State) × StandsAt (meaning_of team.old.world.model) team.old.world s }
         ensures at { (at : Standing) → WorldStandsAt meaning_of team.old.world at → WorldStandsAt meaning_of team.new.world at }
+        ensures moved { OnOk result (HasMoved self.moves self.cycles team.old.world team.new.world) }
         ensures model { team.new.world.model ≡ team.old.world.model }
         ensures terms { team.new.world.terms ≡ team.old.world.terms }
+        ensures ahead { team.new.ahead ≡ team.old.ahead }
     {
         if self.cycles == 0 {
             return Ok(());

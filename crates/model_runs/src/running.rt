@@ -9,7 +9,7 @@ ghost use Rattle.sim_text.specs.Written.{HasSimulated};
 ghost use Rattle.cycle_core.specs.Standings.{WorldStandsAt, GoesOn, HasCycled};
 ghost use Rattle.node_team.specs.Handings.{AreWorkers};
 ghost use Rattle.model_runs.specs.Handed.{HandsOn};
-ghost use Rattle.model_runs.specs.Machines.{IsMachine, IsSpread};
+ghost use Rattle.model_runs.specs.Machines.{IsMachine, IsSpread, IsSpreadAs};
 ghost use Rattle.model_text.specs.Meanings.{meaning_of};
 
 use crate::handing::hand_on;
@@ -57,6 +57,7 @@ pub(crate) fn on_nodes(
     ensures named { IfOk result (λ both. arc_value both.0 ≡ model) }
     ensures model { IfOk result (λ both. both.1.team.world.model ≡ model) }
     ensures terms { IfOk result (λ both. both.1.team.world.terms ≡ terms) }
+    ensures spread { IfOk result (λ both. IsSpreadAs both.1.team both.1.moving spread) }
     ensures begins { IfOk result (λ both. WorldStandsAt meaning_of both.1.team.world (stands (initial_state (meaning_of model)) None)) }
 {
     let model = Arc::new(alloc, model)?;

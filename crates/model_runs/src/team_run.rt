@@ -1,5 +1,5 @@
 //! The engine on nodes, on a model of any kind.
-ghost use Rattle.std.specs.Prelude.{◌≡◌, ◌≤◌, true, IfOk, OnOk, OnErr, None};
+ghost use Rattle.std.specs.Prelude.{◌≡◌, ◌≤◌, ◌+◌, ◌-◌, ◌^◌, min, true, false, IfOk, OnOk, OnErr, None};
 ghost use Rattle.std.specs.Arc.{arc_value};
 ghost use Rattle.model_core.specs.declared.limits.TheConstants.{MOST_NODES};
 ghost use Rattle.sim_spec.specs.State.{Lawful, initial_state};
@@ -7,6 +7,8 @@ ghost use Rattle.sim_spec.specs.Standing.{Standing, stands};
 ghost use Rattle.cycle_core.specs.Standings.{GoesOn, HasCycled, WorldStandsAt};
 ghost use Rattle.node_team.specs.Handings.{AreWorkers};
 ghost use Rattle.model_text.specs.Meanings.{meaning_of};
+ghost use Rattle.model_runs.specs.Machines.{IsSpreadAs};
+ghost use Rattle.model_runs.specs.Plans.{HasMoved};
 
 use crate::machine::Spread;
 use crate::moving::Moving;
@@ -24,7 +26,7 @@ use std::thread::Threads;
 #[derive(Drop)]
 pub struct TeamRun {
     pub team: Team<AnyModel, RingLanes>,
-    moving: Moving,
+    pub moving: Moving,
 }
 
 impl TeamRun {
@@ -39,6 +41,7 @@ impl TeamRun {
         requires high { spread.nodes ≤ MOST_NODES }
         ensures model { IfOk result (λ run. run.team.world.model ≡ arc_value model) }
         ensures terms { IfOk result (λ run. run.team.world.terms ≡ terms) }
+        ensures spread { IfOk result (λ run. IsSpreadAs run.team run.moving spread) }
         ensures begins { IfOk result (λ run. WorldStandsAt meaning_of run.team.world (stands (initial_state (meaning_of (arc_value model))) None)) }
     {
         let world = World::begin(alloc, model, terms, spread.nodes, spread.placement)?;
@@ -58,6 +61,7 @@ impl TeamRun {
         requires lawful { Lawful (meaning_of (arc_value model)) terms state }
         ensures model { IfOk result (λ run. run.team.world.model ≡ arc_value model) }
         ensures terms { IfOk result (λ run. run.team.world.terms ≡ terms) }
+        ensures spread { IfOk result (λ run. IsSpreadAs run.team run.moving spread) }
         ensures begins { IfOk result (λ run. WorldStandsAt meaning_of run.team.world (stands state None)) }
     {
         let world = World::from_state(alloc, model, terms, spread.nodes, spread.placement, state)?;
@@ -69,7 +73,8 @@ impl TeamRun {
         requires nodes { world.homes.nodes ≡ spread.nodes }
         requires low { 1 ≤ spread.nodes }
         requires high { spread.nodes ≤ MOST_NODES }
-        ensures { IfOk result (λ run. run.team.world ≡ world) }
+        ensures world { IfOk result (λ run. run.team.world ≡ world) }
+        ensures spread { IfOk result (λ run. IsSpreadAs run.team run.moving spread) }
     {
         let lanes = RingLanes::new(alloc, spread.nodes)?;
         Ok(TeamRun {
@@ -82,6 +87,9 @@ impl TeamRun {
     fn make_moves(&mut self, alloc: Global) -> Result<(), OutOfMemory>
         requires { GoesOn meaning_of self.old.team.world }
         ensures at { OnOk result ((at : Standing) → WorldStandsAt meaning_of self.old.team.world at → WorldStandsAt meaning_of self.new.team.world at) }
+        ensures moved { OnOk result (self.old.team.world.is_spent ≡ false
+            → HasMoved self.old.moving.moves self.old.moving.cycles self.old.team.world self.new.team.world) }
+        ensures moving { self.new.moving ≡ self.old.moving }
         ensures spent { OnErr result (self.new.team.world.is_spent ≡ true) }
         ensures model { self.new.team.world.model ≡ self.old.team.world.model }
         ensures terms { self.new.team.world.terms ≡ self.old.team.world.terms }
@@ -108,7 +116,8 @@ impl TeamRun {
     ) -> Result<Bucket, OutOfMemory>
         requires workers { AreWorkers workers }
         requires goes_on { GoesOn meaning_of self.old.team.world }
-        ensures { HasCycled meaning_of self.old.team.world result self.new.team.world }
+        ensures cycled { HasCycled meaning_of self.old.team.world result self.new.team.world }
+        ensures moving { self.new.moving ≡ self.old.moving }
     {
         match workers {
             Some(workers) => self.team.cycle_by(rt, alloc, workers, gate),
@@ -127,7 +136,8 @@ impl TeamRun {
     ) -> Result<Bucket, OutOfMemory>
         requires workers { AreWorkers workers }
         requires goes_on { GoesOn meaning_of self.old.team.world }
-        ensures { HasCycled meaning_of self.old.team.world result self.new.team.world }
+        ensures cycled { HasCycled meaning_of self.old.team.world result self.new.team.world }
+        ensures moving { OnOk result (self.new.moving ≡ record { moves = self.old.moving.moves; cycles = min (self.old.moving.cycles + 1) (2 ^ 64 - 1) }) }
     {
         self.make_moves(alloc)?;
         self.moving = self.moving.after();

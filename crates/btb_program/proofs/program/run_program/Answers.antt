@@ -12,5 +12,5 @@ returns-in-Err-clause-unread g c =
     let new = streams c.args.source.now c.args.out.now c.conclude.new.notes in
     subst (λ words. IfErr words (AnswersNoWords g.S.Source g.K.Sink g.N.Sink c.conclude.result old new)) (sym c.in-Err.is)
     (subst (λ status. AnswersNoWords g.S.Source g.K.Sink g.N.Sink status old new c.in-Err.kind) (sym c.conclude.ensures.status)
-    (answers_no_words _ _ _ _ _ _ c.conclude.ensures.prefix c.conclude.ensures.whole c.in-Err.kind c.unread_words.ensures.refusal
+    (answers_no_words _ _ _ _ _ _ c.conclude.ensures.prefix c.conclude.ensures.whole c.conclude.ensures.handed c.in-Err.kind c.unread_words.ensures.refusal
     (λ is. ap status_of_ending (c.unread_words.ensures.no_memory is)) (λ other. ap status_of_ending (c.unread_words.ensures.no_text other)) refl refl))

@@ -1,13 +1,23 @@
 -- A command other than one that saves tells of a run.
-use Rattle.std.proofs.Common.{sym, subst}
+use Rattle.std.proofs.Common.{Ok, sym, subst}
 use Rattle.btb_program.specs.Answer.{Answer, as_read}
 use Rattle.btb_program.specs.Answered.{EndsModel}
+use Rattle.btb_program.specs.Endings.{status_of_ending}
+use Rattle.btb_program.specs.SavedRuns.{IsSavedSo}
 use Rattle.btb_program.proofs.EndingLemmas.{run_ends}
+use Rattle.btb_program.proofs.SavedRunsLaw.{saves_none}
 use Rattle.btb_program.proofs.TopLemmas.{tells_run}
 use Rattle.btb_program.proofs.running.answer_model.Goals as goal
 
-pub returns-in_default : goal.returns-in_default
-returns-in_default g c =
+pub returns-in_default-clause-answer : goal.returns-in_default-clause-answer
+returns-in_default-clause-answer g c =
     let ends = run_ends _ _ _ _ _ _ _ _ _ _ c.run_model.ensures.simulated c.run_model.ensures.handed c.ending_of.ensures c.telling_of.ensures in
     subst (λ (a : Answer). EndsModel g.K.Sink c.args.out.now c.run_model.new.out c.ending_of.result a)
     (sym (tells_run c.args.settings c.args.bytes.now (as_read c.args.model c.args.terms) c.in_default.not-Save)) ends
+
+pub returns-in_default-clause-saved : goal.returns-in_default-clause-saved
+returns-in_default-clause-saved g c = saves_none c.args.settings _ _ c.in_default.not-Save
+
+pub returns-in-Save-clause-saved : goal.returns-in-Save-clause-saved
+returns-in-Save-clause-saved g c =
+    subst (λ chosen. IsSavedSo (Ok chosen) (status_of_ending c.save_to_the_end.result) c.args.bytes.now) (sym c.in-Save.is) c.save_to_the_end.ensures.saved

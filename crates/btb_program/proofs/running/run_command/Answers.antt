@@ -11,33 +11,50 @@ use Rattle.btb_program.specs.Endings.{IsRefusal}
 use Rattle.btb_program.proofs.EndingLemmas.{refusal_ends, model_status}
 use Rattle.btb_program.proofs.InputLemmas.{model_input, no_memory_input, read_fault_input}
 use Rattle.btb_program.proofs.ReadingLemmas.{model_answers, leaves_rest}
+use Rattle.btb_program.proofs.SavedRunsLaw.{none_left, refused_none, whole_input}
 use Rattle.btb_program.proofs.running.run_command.Goals as goal
 
 same_refusal : (ending : Ending) (code code' item item' : ℕ) → IsRefusal MODEL (refusal_line code item) ending → code ≡ code' → item ≡ item' → IsRefusal MODEL (refusal_line code' item') ending
 same_refusal ending code code' item item' refusal same_code same_item =
     subst (λ line. IsRefusal MODEL line ending) (ap (λ n. refusal_line n item) same_code ∙ ap (refusal_line code') same_item) refusal
 
-pub returns-in-Err-Failed : goal.returns-in-Err-Failed
-returns-in-Err-Failed g c = read_fault_input _ _ _ _ _ _ _ (c.in-Err-Failed.ensures.failed (cc c.in-Err-Failed.field-0-is))
+pub returns-in-Err-Failed-clause-answer : goal.returns-in-Err-Failed-clause-answer
+returns-in-Err-Failed-clause-answer g c = read_fault_input _ _ _ _ _ _ _ (c.in-Err-Failed.ensures.failed (cc c.in-Err-Failed.field-0-is))
 
-pub returns-in-Err-OutOfMemory : goal.returns-in-Err-OutOfMemory
-returns-in-Err-OutOfMemory g c = no_memory_input _ _ _ _ _ _ _ (c.in-Err-OutOfMemory.ensures.no_memory (cc c.in-Err-OutOfMemory.field-0-is))
+pub returns-in-Err-OutOfMemory-clause-answer : goal.returns-in-Err-OutOfMemory-clause-answer
+returns-in-Err-OutOfMemory-clause-answer g c = no_memory_input _ _ _ _ _ _ _ (c.in-Err-OutOfMemory.ensures.no_memory (cc c.in-Err-OutOfMemory.field-0-is))
 
-pub returns-in-Ok-read_model : goal.returns-in-Ok-read_model
+pub returns-in-Ok-read_model-clause-answer : goal.returns-in-Ok-read_model-clause-answer
 unfolding answer_to_model
-returns-in-Ok-read_model g c =
-    model_input _ _ _ _ _ _ _ _ _ _ c.answer_model.ensures
+returns-in-Ok-read_model-clause-answer g c =
+    model_input _ _ _ _ _ _ _ _ _ _ c.answer_model.ensures.answer
     (model_answers _ _ _ _ c.args.settings _ c.in-Ok.ensures.all c.as_slice-bytes.ensures.value c.in-Ok-read_model.ensures.read)
     c.in-Ok.ensures.quiet (leaves_rest ENOUGH_BYTES _ _ _ c.in-Ok.ensures.all)
 
-pub returns-in-Err-At : goal.returns-in-Err-At
+pub returns-in-Err-At-clause-answer : goal.returns-in-Err-At-clause-answer
 unfolding answer_to_model
-returns-in-Err-At g c =
+returns-in-Err-At-clause-answer g c =
     let P : Refusal → Type 0 = λ refusal. Fails refusal (model_of c.as_slice-bytes.result.now) in
     let refused : model_of c.as_slice-bytes.result.now ≡ Err (record { code = c.in-Err-At.code; item = c.in-Err-At.item }) = subst P c.in-Err-At.field-0-is c.in-Err-At.ensures.refused in
     model_input _ _ _ _ _ _ _ _ _ _ (refusal_ends _ _ MODEL _ _ (same_refusal _ _ _ _ _ c.refused.ensures c.in-Err-At.code-is c.in-Err-At.item-is) model_status)
     (model_answers _ _ _ _ c.args.settings _ c.in-Ok.ensures.all c.as_slice-bytes.ensures.value refused)
     c.in-Ok.ensures.quiet (leaves_rest ENOUGH_BYTES _ _ _ c.in-Ok.ensures.all)
 
-pub returns : goal.returns
-returns g c = no_memory_input _ _ _ _ _ _ _ c.in-Ok.ensures.quiet
+pub returns-clause-answer : goal.returns-clause-answer
+returns-clause-answer g c = no_memory_input _ _ _ _ _ _ _ c.in-Ok.ensures.quiet
+
+pub returns-in-Err-Failed-clause-saved : goal.returns-in-Err-Failed-clause-saved
+returns-in-Err-Failed-clause-saved g c = none_left _ c.args.settings _ (λ is. cc)
+
+pub returns-in-Err-OutOfMemory-clause-saved : goal.returns-in-Err-OutOfMemory-clause-saved
+returns-in-Err-OutOfMemory-clause-saved g c = none_left _ c.args.settings _ (λ is. cc)
+
+pub returns-in-Ok-read_model-clause-saved : goal.returns-in-Ok-read_model-clause-saved
+returns-in-Ok-read_model-clause-saved g c =
+    whole_input _ _ _ _ c.args.settings _ _ c.in-Ok.ensures.all c.as_slice-bytes.ensures.value c.in-Ok-read_model.ensures.read c.answer_model.ensures.saved
+
+pub returns-in-Err-At-clause-saved : goal.returns-in-Err-At-clause-saved
+returns-in-Err-At-clause-saved g c = none_left _ c.args.settings _ (refused_none MODEL _ _ (λ is. cc) c.refused.ensures)
+
+pub returns-clause-saved : goal.returns-clause-saved
+returns-clause-saved g c = none_left _ c.args.settings _ (λ is. cc)

@@ -17,7 +17,8 @@ returns-in-Ok g c =
     let with_meaning : Meaning → ModelOf = λ m. record { meaning = m; terms = c.in-Ok.terms } in
     let with_terms : Terms → ModelOf = λ t. record { meaning = network_meaning (ring_parts c.args.n); terms = t } in
     let Told : ModelOf → Type 0 = λ model. EndsModel g.K.Sink c.args.out.now c.run_model.new.out c.ending_of.result (answer_from (Telling.Demo c.args.n) model (initial_state model.meaning)) in
-    subst Told (ap with_meaning c.in-Ok.ensures.network ∙ ap with_terms c.in-Ok.ensures.terms)
+    let asked = ap (λ n. network_meaning (ring_parts n)) c.grow_stack.ensures in
+    subst Told (ap with_meaning (c.in-Ok.ensures.network ∙ asked) ∙ ap with_terms c.in-Ok.ensures.terms)
     (run_ends _ _ _ _ _ _ _ _ _ _ c.run_model.ensures.simulated c.run_model.ensures.handed c.ending_of.ensures c.telling_of.ensures)
 
 pub returns-in-Err : goal.returns-in-Err
