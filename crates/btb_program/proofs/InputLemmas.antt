@@ -132,8 +132,8 @@ module _ {S K : Type 0} (source : Source S) (sink : Sink K) (words : List (Strin
         → IfSome (source.left from) (IsSavedSo (Ok chosen) (status_of_ending ending)) → EndsWords source sink from to old new ending words
     input_ends from to old new ending most answer_to ends takes taken same saved = record {
       answer = λ bytes given. elim given [
-        inl left ↦ subst (EndsWith sink old new ending) (same bytes ∙ commands chosen is bytes) (at_some (λ (bytes : List ℕ). EndsWith sink old new ending (answer_to bytes)) (source.left from) bytes left ends.answer)
-      | inr untaken ↦ absurd (let clash : ◌≡◌ {A = Bool} true false = sym (ap takes_input is ∙ takes) ∙ untaken in cc)
+        | inl left ↦ subst (EndsWith sink old new ending) (same bytes ∙ commands chosen is bytes) (at_some (λ (bytes : List ℕ). EndsWith sink old new ending (answer_to bytes)) (source.left from) bytes left ends.answer)
+        | inr untaken ↦ absurd (let clash : ◌≡◌ {A = Bool} true false = sym (ap takes_input is ∙ takes) ∙ untaken in cc)
       ];
       input = record {
         refused_words = ((λ refused. absurd (ends.no_words refused)), (λ refused. absurd (accepted chosen is refused)));

@@ -2,12 +2,10 @@
 mod circuits;
 mod cycles;
 mod gates;
-mod limits;
 mod networks;
 mod nodes;
 mod refusals;
 mod saving;
-mod second_format;
 mod streams;
 mod totals;
 mod words;
