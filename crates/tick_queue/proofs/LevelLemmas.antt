@@ -140,14 +140,14 @@ advances tick slot next slots new due old now h first goes low moves is taken is
     ]) in
     let R : ℕ → List Event → Type 0 = λ n w. Each (IsLaterThan n) w in
     let S : ℕ → Type 0 = λ n. Each (IsOfTick n) due in
-    let R1 : List Event → Type 0 = λ w. Each (IsLaterThan next) w in
-    let R2 : ℕ → Type 0 = λ n. Each (IsLaterThan n) now.events in
+    let AllLater : List Event → Type 0 = λ w. Each (IsLaterThan next) w in
+    let LaterThanTick : ℕ → Type 0 = λ n. Each (IsLaterThan n) now.events in
     record {
       events = subst P same
           (IsPermutation-trans old.events (joined slots) (due ++ left) moves
           (IsPermutation-trans (joined slots) (slice_index_or slots slot [] ++ left) (due ++ left) (slot_out slots slot lt) (IsPermutation-append_left left (slice_index_or slots slot []) due taken)));
       of_tick = subst S (sym is_tick) (Each-permutation (IsOfTick next) (slice_index_or slots slot []) due taken (lowest tick slot next slots h goes low));
-      later = subst R2 (sym is_tick) (subst R1 same later);
+      later = subst LaterThanTick (sym is_tick) (subst AllLater same later);
       some = λ none. absurd (
           let long = length_permutation (slice_index_or slots slot []) due taken in
           let had = ap length f.is in
