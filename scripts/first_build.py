@@ -75,10 +75,11 @@ class Tree:
         self.top, self.notes, tools = room / "a tree", room / "notes", room / "tools"
         for folder in (self.top, self.notes, tools):
             folder.mkdir()
-        for name in ("btb", "crates.txt", "HANDLES"):
+        for name in ("btb", "replicate", "crates.txt", "HANDLES"):
             shutil.copy2(TOP / name, self.top)
         (self.top / "scripts").mkdir()
-        shutil.copy2(TOP / "scripts/build", self.top / "scripts")
+        for name in ("build", "launch"):
+            shutil.copy2(TOP / "scripts" / name, self.top / "scripts")
         for crate in (TOP / "crates").iterdir():
             for part in PARTS:
                 if (crate / part).is_dir():
@@ -165,12 +166,16 @@ def copied_tree(tree):
 
 
 def another_program(tree):
-    tree.noted("current")
+    tree.noted("begun")
     tree.noted("built")
-    other = tree.top / "btb_limit"
-    shutil.copy2(tree.top / "btb", other)
-    status, out, err = tree.run(script=other)
-    check((status, out) == (0, "ran one\n") and "building btb_limit" in err and not tree.noted("built"), "under another name the script builds that program, over the same libraries")
+    status, out, err = tree.run(script=tree.top / "replicate")
+    built = {crate for crate, _ in tree.noted("built")}
+    check((status, out) == (0, "ran one\n") and "building replicate" in err, "the other program is built and run by its own name")
+    check(built == {crate for crate, _ in tree.noted("begun")} and "sim_io" not in built, "over the libraries that both stand on")
+    link = tree.top.parent / "a link of another name"
+    link.symlink_to(tree.top / "replicate")
+    status, out, err = tree.run(script=link)
+    check((status, out, err) == (0, "ran one\n", ""), "and by a link to it of any name")
 
 
 def changed_source(tree):
