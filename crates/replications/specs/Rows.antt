@@ -27,21 +27,24 @@ last_tick t records End = t.end
 last_tick t records Limit = last_time 0 records
 last_tick t records (Fault key code) = time_part key.stamp
 
+-- a number, and the comma behind it
+abbrev pub field : ℕ → List ℕ
+field number = decimal number ++ codes ","
+
 unfoldable pub seed_text : ℕ → List ℕ
-seed_text seed = decimal seed ++ codes ","
+seed_text seed = field seed
 
 unfoldable pub counts_text : Columns → List ℕ
-counts_text sums = codes "," ++ (decimal sums.arrivals ++ (codes "," ++ (decimal sums.served ++ (codes "," ++ decimal sums.lost))))
+counts_text sums = codes "," ++ (field sums.arrivals ++ (field sums.served ++ field sums.lost))
 
 unfoldable pub times_text : Columns → List ℕ
-times_text sums =
-    codes "," ++ (decimal sums.busy ++ (codes "," ++ (decimal sums.waiting ++ (codes "," ++ (decimal sums.age ++ (codes "," ++ decimal sums.longest))))))
+times_text sums = field sums.busy ++ (field sums.waiting ++ (field sums.age ++ field sums.longest))
 
 abbrev pub columns_text : Columns → List ℕ
 columns_text sums = counts_text sums ++ times_text sums
 
 unfoldable pub end_text : ℕ → RunEnd → List ℕ
-end_text ticks end = codes "," ++ (decimal ticks ++ (codes "," ++ (decimal end.events ++ (codes "," ++ (stop_name end.stop ++ codes "\n")))))
+end_text ticks end = field ticks ++ (field end.events ++ (stop_name end.stop ++ codes "\n"))
 
 -- the row of an object with these sums, from the first tick of the window to its last one
 unfoldable pub row : Meaning → ℕ → ℕ → RunEnd → ℕ → Columns → List ℕ

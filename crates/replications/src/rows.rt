@@ -1,11 +1,11 @@
 //! The rows of a table.
-ghost use Rattle.std.specs.Prelude.{◌≡◌, ◌++◌, OnOk};
+ghost use Rattle.std.specs.Prelude.{◌≡◌, ◌++◌, OnOk, codes};
 ghost use Rattle.replications.specs.Rows.{stop_name, seed_text, counts_text, times_text, columns_text, end_text};
 
 use crate::window::Columns;
+use itoa::{Buffer, Integer};
 use model_core::OutOfMemory;
 use sim_spec::Stop;
-use std::alloc::Global;
 
 /// The head line of a table.
 pub const HEAD: &str =
@@ -31,60 +31,62 @@ fn stop_name(stop: &Stop) -> &'static str
     }
 }
 
-/// Appends the seed of a row. Where memory runs out, it may have appended some of it, as each call below.
+/// Appends a number and a comma. Where memory runs out, each call here may have appended some of its text.
+fn put_field<I: Integer>(number: I, into: &mut Vec<u8>) -> Result<(), OutOfMemory>
+    ensures { OnOk result (into.new.items ≡ into.old.items ++ (I.text number ++ codes ",")) }
+{
+    let mut buffer = Buffer::new();
+    into.extend_from_slice(buffer.format(number).as_bytes())?;
+    into.push(b',')?;
+    Ok(())
+}
+
+/// Appends the seed of a row.
 #[tactic(auto, unfolding(crate::specs::Rows::seed_text))]
-pub fn put_seed(alloc: Global, seed: u64, into: &mut Vec<u8>) -> Result<(), OutOfMemory>
+pub fn put_seed(seed: u64, into: &mut Vec<u8>) -> Result<(), OutOfMemory>
     ensures { OnOk result (into.new.items ≡ into.old.items ++ seed_text seed) }
 {
-    let text = format!(in alloc; "{seed},")?;
-    into.extend_from_slice(text.as_bytes())?;
-    Ok(())
+    put_field(seed, into)
 }
 
 /// Appends how many jobs came to an object, were served there, and were turned away.
 #[tactic(auto, unfolding(crate::specs::Rows::counts_text))]
-fn put_counts(alloc: Global, sums: &Columns, into: &mut Vec<u8>) -> Result<(), OutOfMemory>
+fn put_counts(sums: &Columns, into: &mut Vec<u8>) -> Result<(), OutOfMemory>
     ensures { OnOk result (into.new.items ≡ into.old.items ++ counts_text sums.now) }
 {
-    let text = format!(in alloc; ",{},{},{}", sums.arrivals, sums.served, sums.lost)?;
-    into.extend_from_slice(text.as_bytes())?;
-    Ok(())
+    into.push(b',')?;
+    put_field(sums.arrivals, into)?;
+    put_field(sums.served, into)?;
+    put_field(sums.lost, into)
 }
 
 /// Appends the sums of times of an object, and its longest line.
 #[tactic(auto, unfolding(crate::specs::Rows::times_text))]
-fn put_times(alloc: Global, sums: &Columns, into: &mut Vec<u8>) -> Result<(), OutOfMemory>
+fn put_times(sums: &Columns, into: &mut Vec<u8>) -> Result<(), OutOfMemory>
     ensures { OnOk result (into.new.items ≡ into.old.items ++ times_text sums.now) }
 {
-    let text = format!(in alloc;
-        ",{},{},{},{}",
-        sums.busy, sums.waiting, sums.age, sums.longest
-    )?;
-    into.extend_from_slice(text.as_bytes())?;
-    Ok(())
+    put_field(sums.busy, into)?;
+    put_field(sums.waiting, into)?;
+    put_field(sums.age, into)?;
+    put_field(sums.longest, into)
 }
 
 /// Appends the sums of a row.
-pub fn put_columns(alloc: Global, sums: &Columns, into: &mut Vec<u8>) -> Result<(), OutOfMemory>
+pub fn put_columns(sums: &Columns, into: &mut Vec<u8>) -> Result<(), OutOfMemory>
     ensures { OnOk result (into.new.items ≡ into.old.items ++ columns_text sums.now) }
 {
-    put_counts(alloc, sums, into)?;
-    put_times(alloc, sums, into)?;
-    Ok(())
+    put_counts(sums, into)?;
+    put_times(sums, into)
 }
 
 /// Appends the end of a row: how many ticks its window has, and how its run ended.
 #[tactic(auto, unfolding(crate::specs::Rows::end_text))]
-pub fn put_end(
-    alloc: Global,
-    ticks: u64,
-    end: &RunEnd,
-    into: &mut Vec<u8>,
-) -> Result<(), OutOfMemory>
+pub fn put_end(ticks: u64, end: &RunEnd, into: &mut Vec<u8>) -> Result<(), OutOfMemory>
     ensures { OnOk result (into.new.items ≡ into.old.items ++ end_text ticks end.now) }
 {
-    let stop = stop_name(&end.stop);
-    let text = format!(in alloc; ",{ticks},{},{stop}\n", end.events)?;
-    into.extend_from_slice(text.as_bytes())?;
+    put_field(ticks, into)?;
+    put_field(end.events, into)?;
+    into.extend_from_slice(stop_name(&end.stop).as_bytes())?;
+    into.push(b'\n')?;
     Ok(())
 }

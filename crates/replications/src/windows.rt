@@ -115,10 +115,10 @@ impl Windows {
             → OnOk result (into.new.items ≡ into.old.items ++ row (M.meaning model.now) first last end.now object (window_sums first last (parts_told object records))) }
     {
         let sums = self.objects[object as usize].close(self.first, last);
-        put_seed(alloc, end.seed, into)?;
+        put_seed(end.seed, into)?;
         model.put_name(alloc, object, into)?;
-        put_columns(alloc, &sums, into)?;
-        put_end(alloc, last.saturating_sub(self.first), end, into)?;
+        put_columns(&sums, into)?;
+        put_end(last.saturating_sub(self.first), end, into)?;
         Ok(())
     }
 
