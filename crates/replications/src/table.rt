@@ -30,13 +30,13 @@ const ROW_BYTES: u64 = 274;
 
 /// How many replications of a batch each worker has on average, so that starting the workers costs little beside them, and
 /// that few of them wait at its end.
-const EACH: u64 = 64;
+const EACH: u64 = 256;
 
 /// How many replications a batch has, of a model with so many objects.
 fn batch_size(objects: u32, workers: u32) -> u64
     requires { workers ≤ MOST_WORKERS }
     ensures some { 1 ≤ result }
-    ensures few { result ≤ 4096 }
+    ensures few { result ≤ 16384 }
 {
     let rows = u64::from(objects.max(1)) * ROW_BYTES;
     (BATCH_BYTES / rows).min(EACH * u64::from(workers)).max(1)
