@@ -3,7 +3,7 @@ use Rattle.std.proofs.Common.{◌≡◌, ℕ, ◌+◌, ◌-◌, ◌*◌, ◌/◌
 use Rattle.rand_chacha.proofs.LaneLemmas.{below_four}
 use Rattle.rand_chacha.specs.Block.{block_word}
 use Rattle.rand_chacha.specs.ChaCha.{key_of}
-use Rattle.random_streams.specs.Words.{word_of, seed_bytes, AreWords}
+use Rattle.random_streams.specs.Words.{word_of, words_from, seed_bytes, AreWords}
 
 -- what holds of each of the sixteen words
 pub below_sixteen : (P : ℕ → Type 0) → P 0 → P 1 → P 2 → P 3 → P 4 → P 5 → P 6 → P 7
@@ -30,3 +30,10 @@ pub AreWords-at : (seed object place : ℕ) (words : List ℕ) → AreWords seed
 AreWords-at seed object place words are =
     let at : place - place % 16 + place % 16 ≡ place = omega arith in
     are (place % 16) (omega arith) ∙ ap (word_of seed object) at
+
+-- the words of the block about a place, from that place on
+pub AreWords-from : (seed object place first : ℕ) (words : List ℕ) → first ≡ place - place % 16 → AreWords seed object first words
+    → (k : ℕ) → place % 16 + k < 16 → slice_index words (place % 16 + k) ≡ words_from seed object place k
+AreWords-from seed object place first words begins are k within =
+    let at : first + (place % 16 + k) ≡ place + k = omega arith in
+    are (place % 16 + k) within ∙ ap (word_of seed object) at

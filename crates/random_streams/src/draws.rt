@@ -96,9 +96,12 @@ impl Stream {
         // A place is below 2^64.
         let _ = &self.place;
         let tests = cap - 1;
-        for missed in 0..tests {
-            if self.word() < p {
-                return missed + 1;
+        let mut read = 0;
+        while read < tests {
+            let (more, is_below) = self.read_until_below(p, tests - read);
+            read += more;
+            if is_below {
+                return read;
             }
         }
         cap

@@ -1,6 +1,7 @@
 //! The random words of one object, from a place on.
-ghost use Rattle.std.specs.Prelude.{◌≡◌, ◌+◌, ◌%◌, ◌^◌};
-ghost use Rattle.random_streams.specs.Words.{word_of};
+ghost use Rattle.std.specs.Prelude.{◌≡◌, ℕ, ◌+◌, ◌-◌, ◌%◌, ◌^◌, ◌<◌, ◌≤◌, length, slice_index};
+ghost use Rattle.std.specs.Bool.{OnTrue, OnFalse};
+ghost use Rattle.random_streams.specs.Words.{word_of, words_from, AreWords};
 
 use crate::block::block;
 use std::marker::Model;
@@ -21,7 +22,12 @@ pub struct Stream {
     seed: u64,
     object: u32,
     pub(crate) place: u64,
-    // The place of the first word kept.
+    kept: Kept,
+}
+
+/// A block of an object's words, and the place of the first of them.
+#[derive(Drop)]
+struct Kept {
     first: u64,
     words: [u32; 16],
 }
@@ -34,7 +40,23 @@ impl Model for Stream {
 
     ghost view = { λ s. record { seed = s.seed; object = s.object; place = s.place } };
 
-    ghost invariant = { λ s. s.first % 16 ≡ 0 → AreWords s.seed s.object s.first s.words };
+    ghost invariant = { λ s. s.kept.first % 16 ≡ 0 → AreWords s.seed s.object s.kept.first s.kept.words };
+}
+
+impl Kept {
+    /// Keeps the block about a place, if it doesn't yet.
+    #[inline(always)]
+    fn load(&mut self, seed: u64, object: u32, place: u64)
+        requires { self.old.first % 16 ≡ 0 → AreWords seed object self.old.first self.old.words }
+        ensures first { self.new.first ≡ place - place % 16 }
+        ensures words { AreWords seed object self.new.first self.new.words }
+    {
+        let first = place - place % BLOCK_WORDS;
+        if self.first != first {
+            self.words = block(seed, object, first / BLOCK_WORDS);
+            self.first = first;
+        }
+    }
 }
 
 impl Stream {
@@ -46,8 +68,10 @@ impl Stream {
             seed,
             object,
             place,
-            first: NO_BLOCK,
-            words: [0; 16],
+            kept: Kept {
+                first: NO_BLOCK,
+                words: [0; 16],
+            },
         }
     }
 
@@ -58,7 +82,7 @@ impl Stream {
         if self.seed != seed || self.object != object {
             self.seed = seed;
             self.object = object;
-            self.first = NO_BLOCK;
+            self.kept.first = NO_BLOCK;
         }
         self.place = place;
     }
@@ -75,13 +99,49 @@ impl Stream {
         ensures word { result ≡ word_of self.old.seed self.old.object self.old.place }
         ensures place { self.new ≡ record self.old { place = (self.old.place + 1) % 2 ^ 64 } }
     {
+        self.kept.load(self.seed, self.object, self.place);
         let within = self.place % BLOCK_WORDS;
-        let first = self.place - within;
-        if self.first != first {
-            self.words = block(self.seed, self.object, first / BLOCK_WORDS);
-            self.first = first;
-        }
         self.place = self.place.wrapping_add(1);
-        self.words[within as usize]
+        self.kept.words[within as usize]
     }
+
+    /// Reads words of one block until one is below a bound, at most so many: how many it reads, and whether the last of
+    /// them is below the bound.
+    #[inline(always)]
+    pub(crate) fn read_until_below(&mut self, bound: u32, most: u32) -> (u32, bool)
+        requires { 1 ≤ most }
+        ensures some { 1 ≤ result.0 }
+        ensures few { result.0 ≤ most }
+        ensures misses { (k : ℕ) → k + 1 < result.0 → bound ≤ words_from self.old.seed self.old.object self.old.place k }
+        ensures below { OnTrue result.1 (words_from self.old.seed self.old.object self.old.place (result.0 - 1) < bound) }
+        ensures missed { OnFalse result.1 (bound ≤ words_from self.old.seed self.old.object self.old.place (result.0 - 1)) }
+        ensures place { self.new ≡ record self.old { place = (self.old.place + result.0) % 2 ^ 64 } }
+    {
+        self.kept.load(self.seed, self.object, self.place);
+        let within = (self.place % BLOCK_WORDS) as usize;
+        let count = (most as usize).min(16 - within);
+        let misses = misses(&self.kept.words, within, count, bound);
+        if misses < count {
+            self.place = self.place.wrapping_add(misses as u64 + 1);
+            return (misses as u32 + 1, true);
+        }
+        self.place = self.place.wrapping_add(count as u64);
+        (count as u32, false)
+    }
+}
+
+/// How many of so many words from a place on come before the first that is below a bound.
+#[inline(always)]
+fn misses(words: &[u32; 16], from: usize, count: usize, bound: u32) -> usize
+    requires { from + count ≤ 16 }
+    ensures few { result ≤ count }
+    ensures before { (k : ℕ) → k < result → bound ≤ slice_index words.now (from + k) }
+    ensures at { result < count → slice_index words.now (from + result) < bound }
+{
+    for i in 0..count {
+        if words[from + i] < bound {
+            return i;
+        }
+    }
+    count
 }
