@@ -1,5 +1,5 @@
 -- What was read answers for the whole input.
-use Rattle.std.proofs.Common.{◌≡◌, ℕ, ◌+◌, Bool, true, false, List, length, take, drop, Option, Some, None, leb, ltb, ltb-true, lt-ltb, sym, refl, ap, ◌∙◌, subst, arith}
+use Rattle.std.proofs.Common.{◌≡◌, ℕ, ◌+◌, Bool, true, false, List, length, take, Option, Some, None, leb, ltb, ltb-true, lt-ltb, sym, refl, ap, ◌∙◌, arith}
 use Rattle.std.specs.Prelude.{IfSome}
 use Rattle.std.proofs.lemmas.Bool.{ltb-false, leb-true, leb-false, lt-leb}
 use Rattle.std.proofs.lemmas.List.{take_all, length-take}
@@ -61,9 +61,3 @@ module _ (old new : Option (List ℕ)) (taken slice : List ℕ) where
       by_left None rest took = tt
       by_left (Some bytes) None took = absurd took
       by_left (Some bytes) (Some rest) took = ap answer_to_state (sym is_read ∙ ap state_of (is_slice ∙ took.0) ∙ state_of-take bytes)
-
--- what is left is what comes behind
-pub leaves_rest : (most : ℕ) (old new : Option (List ℕ)) (taken : List ℕ) → TakesUpTo most old new taken → IfSome old (λ bytes. new ≡ Some (drop most bytes))
-leaves_rest most None new taken took = tt
-leaves_rest most (Some bytes) None taken took = absurd took
-leaves_rest most (Some bytes) (Some rest) taken took = ap Some took.1

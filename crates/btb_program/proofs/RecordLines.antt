@@ -1,11 +1,8 @@
 -- A record's line begins with a digit.
-use Rattle.std.proofs.Common.{◌≡◌, ℕ, ◌<◌, ◌≤◌, ◌+◌, ◌/◌, ◌%◌, ◌^◌, List, [], ◌∷◌, ◌++◌, get_or, refl, ap, ◌∙◌, subst, arith}
+use Rattle.std.proofs.Common.{◌≡◌, ℕ, ◌<◌, ◌+◌, ◌%◌, ◌^◌, List, [], ◌∷◌, ◌++◌, get_or, refl, ap, subst, arith}
 use Rattle.std.specs.Prelude.{codes, decimal}
 use Rattle.std.proofs.lemmas.Fmt.{decimal_by_steps}
-use Rattle.event_key.specs.declared.key.Key.{Key}
 use Rattle.event_key.specs.Stamps.{time_part, step_part}
-use Rattle.model_core.specs.declared.note.Part.{Part}
-use Rattle.model_core.specs.Meaning.{Meaning}
 use Rattle.sim_io.specs.Texts.{stamp_text, part_text, place_text, part_line}
 use Rattle.btb_program.specs.SavedRuns.{RecordsAreNoStates}
 

@@ -1,5 +1,5 @@
 -- A simulation that is saved goes on as if it had not been.
-use Rattle.std.proofs.Common.{◌≡◌, ◌≢◌, ◌+◌, ◌<◌, ◌≤◌, ℕ, Bool, true, false, List, [], ◌∷◌, ◌++◌, length, take, Option, Some, None, Ok, Err, inl, inr, ltb, refl, sym, ap, ◌∙◌, subst, arith}
+use Rattle.std.proofs.Common.{◌≡◌, ◌≢◌, ◌<◌, ◌≤◌, ℕ, Bool, true, false, List, [], ◌∷◌, ◌++◌, length, take, Option, Some, None, Ok, inl, inr, ltb, refl, sym, ap, ◌∙◌, subst, arith}
 use Rattle.std.specs.Prelude.{IfSome, IsOk}
 use Rattle.std.specs.Str.{is_utf8, chars}
 use Rattle.std.proofs.lemmas.Bool.{ltb-false}
@@ -21,10 +21,11 @@ use Rattle.run_save.specs.Checks as states
 use Rattle.run_save.specs.SavedLaws.{WrittenIsRead, saved_with}
 use Rattle.run_save.specs.SavedStates.{SavedState, state_of}
 use Rattle.run_save.specs.StateTexts.{state_text}
-use Rattle.btb_program.specs.declared.ending.Ending.{Ending}
-use Rattle.btb_program.specs.declared.status.TheConstants.{END, MODEL}
-use Rattle.btb_program.specs.Answer.{Answer, answer_from, answer_to_state, status_of_stop}
-use Rattle.btb_program.specs.Endings.{status_of_ending, IsRefusal}
+use Rattle.program_answers.specs.declared.ending.Ending.{Ending}
+use Rattle.program_answers.specs.declared.status.TheConstants.{END}
+use Rattle.program_answers.specs.Answer.{Answer, status_of_stop}
+use Rattle.btb_program.specs.Answer.{answer_from, answer_to_state}
+use Rattle.program_answers.specs.Endings.{status_of_ending, IsRefusal}
 use Rattle.btb_program.specs.SavedRuns.{state_after, IsSavedSo, SavedRuns}
 
 -- a text that is too long is no model

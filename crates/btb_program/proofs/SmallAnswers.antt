@@ -30,7 +30,8 @@ use Rattle.sim_io.specs.Texts.{stamp_text, word_text, part_text, place_text, par
 use Rattle.sim_io.specs.CycleTexts.{cycle_line, told_cycle, bucket_lines, lines_of_buckets, text}
 use Rattle.sim_io.specs.Words.{settings}
 use Rattle.sim_text.specs.WholeTexts.{text_from}
-use Rattle.btb_program.specs.Answer.{answer, answer_to_settings, answer_to_model, refusal_line}
+use Rattle.program_answers.specs.Answer.{refusal_line}
+use Rattle.btb_program.specs.Answer.{answer, answer_to_settings, answer_to_model}
 
 number_at : List ℕ → ℕ → Members → Members
 number_at key n rest = member key (integer (pos n)) rest

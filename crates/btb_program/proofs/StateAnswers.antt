@@ -16,12 +16,12 @@ use Rattle.model_runs.specs.Handed.{HandsOn}
 use Rattle.model_runs.specs.Saved.{HasSaved}
 use Rattle.run_save.specs.StateTexts.{state_text}
 use Rattle.run_save.specs.declared.reading.TheConstants.{MOST_STATE_BYTES}
-use Rattle.btb_program.specs.declared.ending.Ending.{Ending}
+use Rattle.program_answers.specs.declared.ending.Ending.{Ending}
 use Rattle.btb_program.specs.Answer.{answer_of_save, answer_of_state, answer_with_text}
-use Rattle.btb_program.specs.Answered.{EndsModel}
-use Rattle.btb_program.specs.Endings.{ending_of_cause, status_of_ending}
-use Rattle.btb_program.specs.declared.status.TheConstants.{END}
-use Rattle.btb_program.proofs.EndingLemmas.{write_fault_ends, no_memory_ends}
+use Rattle.program_answers.specs.Answered.{EndsModel}
+use Rattle.program_answers.specs.Endings.{ending_of_cause, status_of_ending}
+use Rattle.program_answers.specs.declared.status.TheConstants.{END}
+use Rattle.program_answers.proofs.EndingLemmas.{write_fault_ends, no_memory_ends}
 
 module _ (s : State) (bytes : List ℕ) where
   pub too_long : MOST_STATE_BYTES < length (state_text s bytes) → answer_of_state s bytes ≡ answer_with_text (state_text s bytes) false

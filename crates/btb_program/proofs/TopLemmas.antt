@@ -1,29 +1,9 @@
--- What the words ask for, and what is answered to them.
-use Rattle.std.proofs.Common.{◌≡◌, ◌≢◌, ◌⊎◌, ℕ, true, List, [], ◌++◌, append_assoc, Option, Some, None, Result, Ok, Err, inl, inr, refl, sym, ap, ◌∙◌, subst}
-use Rattle.std.specs.Prelude.{OnErr, String}
-use Rattle.std.specs.declared.alloc.Global.{Global}
-use Rattle.std.specs.declared.io.ErrorKind.{ErrorKind}
-use Rattle.std.specs.Io.KnownBytes.{Appends}
-use Rattle.std.proofs.KnownBytes.{Appends-kept, Appends-trans}
+-- What the words ask for.
+use Rattle.std.proofs.Common.{◌≡◌, ℕ, true, List, Ok, refl}
 use Rattle.model_text.specs.ModelTexts.{ModelOf, model_of}
 use Rattle.sim_io.specs.declared.streams.reading.TheConstants.{ENOUGH_BYTES}
-use Rattle.sim_io.specs.declared.streams.sink.Sink.{Ghosts as Sink}
-use Rattle.sim_io.specs.declared.streams.source.Source.{Ghosts as Source}
 use Rattle.sim_io.specs.declared.words.Settings.{Settings}
-use Rattle.sim_io.specs.declared.words.WordFault.TheVariants.{BadValue}
-use Rattle.sim_io.specs.Causes.{Rose}
-use Rattle.sim_io.specs.Transfers.{AppendsPrefix, KeepsBackSome}
-use Rattle.sim_io.specs.Words.{texts_of}
-use Rattle.btb_program.specs.declared.ending.Ending.{Ending}
-use Rattle.btb_program.specs.declared.status.TheConstants.{WORDS, OUT_OF_MEMORY}
-use Rattle.btb_program.specs.Answer.{Answer, answer, answer_of_command, answer_of_model, answer_of_run, answer_to_model, most_taken, takes_input, words_line, HandsOnPrefix, WritesPrefix}
-use Rattle.btb_program.specs.Answered.{EndsWords, AnswersWords, AnswersNoWords, HandsOnNotes, NotesAnswer, Streams}
-use Rattle.btb_program.specs.Endings.{status_of_ending, line_of_ending, noted_line, IsAnswering, IsRefusal, TellsFault}
-use Rattle.btb_program.proofs.EndingLemmas.{known_status, noted, completes}
-
-pub on_err_map : {T E P Q : Type 0} (r : Result T E) → (P → Q) → OnErr r P → OnErr r Q
-on_err_map (Ok x) f p = tt
-on_err_map (Err e) f p = f p
+use Rattle.btb_program.specs.Answer.{answer_of_command, answer_of_model, answer_of_run, answer_to_model, most_taken, takes_input}
 
 -- a command other than a demo, and than one that goes on from a saved state, reads a model
 pub record ReadsModel (s : Settings) : Type 0 where
@@ -47,71 +27,3 @@ tells_run Settings.Totals bytes model no_save = refl
 tells_run (Settings.Demo n) bytes model no_save = refl
 tells_run (Settings.Save c) bytes model no_save = absurd (no_save c refl)
 tells_run Settings.Resume bytes model no_save = refl
-
--- a status that tells of a fault is none of an answer
-tells_none : (status : ℕ) → TellsFault status → IsAnswering status → ⊥
-tells_none status (inl is) done = done.0 is
-tells_none status (inr (inl is)) done = done.1 is
-tells_none status (inr (inr is)) done = done.2 is
-
--- what was handed on of a prefix of the output is a prefix of it
-hands_on_prefix : (taken told handed : Option (List ℕ)) (a : Answer) → WritesPrefix taken told a → KeepsBackSome told handed → HandsOnPrefix taken handed a
-hands_on_prefix None told handed a part back = tt
-hands_on_prefix (Some before) None handed a part back = absurd part.3
-hands_on_prefix (Some before) (Some now) handed a part back = (
-  back.0 ++ part.1,
-  Appends-trans handed (Some now) (Some (before ++ a.output)) back.0 part.1 back.1
-      (ap (λ xs. before ++ xs) part.2 ∙ sym (append_assoc before part.0 part.1) ∙ ap (λ xs. xs ++ part.1) (sym part.3)),
-)
-
-module _ {S K N : Type 0} (source : Source S) (sink : Sink K) (notes : Sink N) (ending : Ending) (old new : Streams S K N)
-    (part : AppendsPrefix (notes.told old.notes) (notes.told new.notes) (line_of_ending ending))
-    (whole : Appends (notes.told old.notes) (notes.told new.notes) (line_of_ending ending) ⊎ Rose (notes.faults old.notes) (notes.faults new.notes)) (handed_on : HandsOnNotes notes old.notes new.notes) where
-  -- the line of the ending is what is noted with its status
-  notes_line : (a : Answer) → (IsAnswering (status_of_ending ending) → line_of_ending ending ≡ a.notes) → NotesAnswer notes old.notes new.notes (status_of_ending ending) a
-  notes_line a line = record {
-    notes_prefix = subst (AppendsPrefix (notes.told old.notes) (notes.told new.notes)) (noted ending _ line) part;
-    notes_whole = subst (λ text. Appends (notes.told old.notes) (notes.told new.notes) text ⊎ Rose (notes.faults old.notes) (notes.faults new.notes)) (noted ending _ line) whole;
-  }
-
-  -- how the words end is what is answered to them, and its line is noted
-  pub answers_words : (words : List (String Global)) → EndsWords source sink old.source new.source old.out new.out ending words → KeepsBackSome (sink.told new.out) (sink.handed new.out)
-      → AnswersWords source sink notes (status_of_ending ending) old new words
-  answers_words words ends in_order = record {
-    known = known_status ending;
-    answer = λ bytes given. (ends.answer bytes given).given;
-    handed = λ bytes given. let so = ends.answer bytes given in record {
-      handed = λ done kept. Appends-kept _ _ _ _ (so.given.output done) (ends.writing.handed done.1 kept);
-      handed_prefix = hands_on_prefix _ _ _ (answer (texts_of words) bytes) so.given.prefix in_order;
-    };
-    input = ends.input;
-    reading = ends.reading;
-    writing = ends.writing;
-    unwritten = ends.unwritten;
-    noted = λ bytes given. notes_line (answer (texts_of words) bytes) (ends.answer bytes given).line;
-    noted_fault = λ fault a. notes_line a (λ done. absurd (tells_none _ fault done));
-    noted_on = handed_on;
-    complete = λ bytes given _. completes ending _ _ _ (ends.answer bytes given).given.same_status ends.reading.read_fault ends.writing.write_fault;
-    saved = ends.saved;
-  }
-
-  -- words that can't be read are answered by the line of a word that is no text, or of want of memory
-  pub answers_no_words : (kind : ErrorKind) → IsRefusal WORDS (words_line BadValue) ending → (kind ≡ ErrorKind.OutOfMemory → status_of_ending ending ≡ OUT_OF_MEMORY)
-      → (kind ≢ ErrorKind.OutOfMemory → status_of_ending ending ≡ WORDS) → new.source ≡ old.source → new.out ≡ old.out → AnswersNoWords source sink notes (status_of_ending ending) old new kind
-  answers_no_words kind refusal no_memory no_text unread unwritten = record {
-    known = known_status ending;
-    no_memory = no_memory;
-    no_text = no_text;
-    line_prefix = subst (AppendsPrefix (notes.told old.notes) (notes.told new.notes)) line part;
-    line_whole = subst (λ line. Appends (notes.told old.notes) (notes.told new.notes) line ⊎ Rose (notes.faults old.notes) (notes.faults new.notes)) line whole;
-    noted_on = handed_on;
-    unread = unread;
-    unwritten = unwritten;
-  }
-    where
-      refused : IsRefusal WORDS (words_line BadValue) ending → IsAnswering (status_of_ending ending) → line_of_ending ending ≡ words_line BadValue
-      refused (inl spent) done = absurd (done.2 (ap status_of_ending spent))
-      refused (inr told) done = told.1
-
-      line : line_of_ending ending ≡ noted_line (status_of_ending ending) (words_line BadValue)
-      line = noted ending (words_line BadValue) (refused refusal)

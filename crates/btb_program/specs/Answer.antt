@@ -1,8 +1,6 @@
 -- What the program writes, what it notes, and the status with which it ends.
-use Rattle.std.specs.Prelude.{◌≡◌, ◌⊎◌, ℕ, ◌+◌, nat_le, Bool, true, false, List, [], ◌++◌, length, Option, Some, IfSome, IsOk, Result, Ok, Err, String, codes, decimal}
-use Rattle.std.specs.Io.KnownBytes.{Appends}
+use Rattle.std.specs.Prelude.{ℕ, ◌+◌, nat_le, Bool, true, false, List, [], ◌++◌, length, is_err, is_ok, Result, Ok, Err, String, codes, decimal}
 use Rattle.std.specs.declared.alloc.Global.{Global}
-use Rattle.model_text.specs.Causes.{code_name}
 use Rattle.model_text.specs.Checks.{Checked}
 use Rattle.model_text.specs.Meanings.{meaning_of}
 use Rattle.model_text.specs.ModelTexts.{ModelOf, model_of}
@@ -10,16 +8,13 @@ use Rattle.model_text.specs.declared.model.AnyModel.{AnyModel}
 use Rattle.queue_models.specs.Meaning.{network_meaning}
 use Rattle.queue_models.specs.Rings.{ring_parts, ring_terms}
 use Rattle.sim_spec.specs.declared.terms.Terms.{Terms}
-use Rattle.sim_spec.specs.declared.stop.Stop.{Stop}
-use Rattle.sim_spec.specs.declared.stop.Stop.TheVariants.{End, Limit, Fault}
 use Rattle.sim_spec.specs.State.{State, initial_state}
 use Rattle.sim_spec.specs.Run.{run}
 use Rattle.sim_spec.specs.Cycles.{cycles_for}
 use Rattle.sim_io.specs.declared.streams.reading.TheConstants.{ENOUGH_BYTES}
 use Rattle.sim_io.specs.declared.words.WordFault.{WordFault}
 use Rattle.sim_io.specs.declared.words.Settings.{Settings}
-use Rattle.sim_io.specs.Words.{settings, texts_of, fault_name}
-use Rattle.sim_io.specs.Transfers.{AppendsPrefix, KeepsBackSome}
+use Rattle.sim_io.specs.Words.{settings, texts_of}
 use Rattle.sim_text.specs.declared.telling.Telling.{Telling}
 use Rattle.sim_text.specs.WholeTexts.{text_from, first_lines}
 use Rattle.run_save.specs.Causes.{state_code_name}
@@ -27,25 +22,8 @@ use Rattle.run_save.specs.Checks as states
 use Rattle.run_save.specs.SavedStates.{SavedState, state_of}
 use Rattle.run_save.specs.StateTexts.{state_text}
 use Rattle.run_save.specs.declared.reading.TheConstants.{MOST_STATE_BYTES}
-use Rattle.btb_program.specs.declared.status.TheConstants.{END, EVENT_FAULT, WORDS, MODEL, EVENT_LIMIT, STATE}
-
-pub record Answer : Type 0 where
-  pub output : List ℕ
-  pub notes : List ℕ
-  pub status : ℕ
-
-abbrev pub status_of_stop : Stop → ℕ
-status_of_stop End = END
-status_of_stop (Fault key code) = EVENT_FAULT
-status_of_stop Limit = EVENT_LIMIT
-
--- the line for words that are refused
-abbrev pub words_line : WordFault → List ℕ
-words_line fault = codes "words: " ++ (fault_name fault ++ codes "\n")
-
--- the line for a model that is refused: the code and what it is called, and the item where it was met
-unfoldable pub refusal_line : ℕ → ℕ → List ℕ
-refusal_line code item = codes "model: " ++ (decimal code ++ (codes " " ++ (code_name code ++ (codes " item " ++ (decimal item ++ codes "\n")))))
+use Rattle.program_answers.specs.Answer.{Answer, Asked, answer_to_fault, answer_to_refusal, status_of_stop}
+use Rattle.program_answers.specs.declared.status.TheConstants.{END, STATE}
 
 -- the line for a saved state that is refused: the code and what it is called, and the line where it was met
 unfoldable pub state_line : ℕ → ℕ → List ℕ
@@ -97,7 +75,7 @@ answer_of_model chosen bytes model = answer_of_run chosen model
 
 -- the answer to a model that was read, or refused
 unfoldable pub answer_to_model : Settings → List ℕ → Checked ModelOf → Answer
-answer_to_model chosen bytes (Err refused) = record { output = []; notes = refusal_line refused.code refused.item; status = MODEL }
+answer_to_model chosen bytes (Err refused) = answer_to_refusal refused.code refused.item
 answer_to_model chosen bytes (Ok model) = answer_of_model chosen bytes model
 
 -- the answer to a saved state that was read, or refused: its simulation goes on
@@ -119,7 +97,7 @@ answer_of_command Settings.Resume bytes = answer_to_state (state_of bytes)
 answer_of_command chosen bytes = answer_to_model chosen bytes (model_of bytes)
 
 unfoldable pub answer_to_settings : Result Settings WordFault → List ℕ → Answer
-answer_to_settings (Err fault) bytes = record { output = []; notes = words_line fault; status = WORDS }
+answer_to_settings (Err fault) bytes = answer_to_fault fault
 answer_to_settings (Ok chosen) bytes = answer_of_command chosen bytes
 
 -- the answer to words and to the bytes of the input
@@ -127,15 +105,15 @@ unfoldable pub answer : List (List ℕ) → List ℕ → Answer
 answer words bytes = answer_to_settings (settings words) bytes
 
 -- the input is what the command asks for: a model or a saved state, or anything for a demo
-abbrev pub AcceptsInput : Settings → List ℕ → Type 0
-AcceptsInput (Settings.Demo n) bytes = Unit {0}
-AcceptsInput Settings.Resume bytes = IsOk (state_of bytes)
-AcceptsInput chosen bytes = IsOk (model_of bytes)
+abbrev pub accepts_input : Settings → List ℕ → Bool
+accepts_input (Settings.Demo n) bytes = true
+accepts_input Settings.Resume bytes = is_ok (state_of bytes)
+accepts_input chosen bytes = is_ok (model_of bytes)
 
 -- the words are accepted, and the input is
-abbrev pub IsAccepted : Result Settings WordFault → List ℕ → Type 0
-IsAccepted (Err fault) bytes = ⊥
-IsAccepted (Ok chosen) bytes = AcceptsInput chosen bytes
+abbrev pub accepts : Result Settings WordFault → List ℕ → Bool
+accepts (Err fault) bytes = false
+accepts (Ok chosen) bytes = accepts_input chosen bytes
 
 -- how many bytes of the input a command takes at most: one more than a model or a saved state may have, and none for a demo
 abbrev pub most_taken : Settings → ℕ
@@ -154,25 +132,8 @@ abbrev pub most_read : Result Settings WordFault → ℕ
 most_read (Err fault) = 0
 most_read (Ok chosen) = most_taken chosen
 
--- these bytes are what is left to be read, or it plays no part what is left
-abbrev pub IsInput : List (String Global) → Option (List ℕ) → List ℕ → Type 0
-IsInput words left bytes = (left ≡ Some bytes) ⊎ (takes_input (settings (texts_of words)) ≡ false)
-
--- this holds of the answer to words and to what is left to be read: where that is known, or plays no part
-abbrev pub OfAnswer : List (String Global) → Option (List ℕ) → (Answer → Type 0) → Type 0
-OfAnswer words left P = (bytes : List ℕ) → IsInput words left bytes → P (answer (texts_of words) bytes)
-
--- the same of the answer where the words and the input are accepted
-abbrev pub OfAccepted : List (String Global) → Option (List ℕ) → (Answer → Type 0) → Type 0
-OfAccepted words left P = (bytes : List ℕ) → IsInput words left bytes → IsAccepted (settings (texts_of words)) bytes → P (answer (texts_of words) bytes)
-
--- the output of the answer was written, or a prefix of it
-abbrev pub WritesOutput : Option (List ℕ) → Option (List ℕ) → Answer → Type 0
-WritesOutput old new a = Appends old new a.output
-
-abbrev pub WritesPrefix : Option (List ℕ) → Option (List ℕ) → Answer → Type 0
-WritesPrefix old new a = AppendsPrefix old new a.output
-
--- all that was handed on is a prefix of what had been taken before and the output
-abbrev pub HandsOnPrefix : Option (List ℕ) → Option (List ℕ) → Answer → Type 0
-HandsOnPrefix taken handed a = IfSome taken (λ before. KeepsBackSome (Some (before ++ a.output)) handed)
+-- what words ask for
+abbrev pub asked_by : List (String Global) → Asked
+asked_by words =
+    let said = settings (texts_of words) in
+    record { refused = is_err said; takes = takes_input said; most = most_read said; accepts = accepts said; answer = answer (texts_of words) }

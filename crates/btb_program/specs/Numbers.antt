@@ -12,7 +12,7 @@ use Rattle.circuit_model.specs.declared.limits.TheConstants.{MOST_DELAY, MOST_FL
 use Rattle.sim_io.specs.declared.streams.reading.TheConstants.{ENOUGH_BYTES}
 use Rattle.sim_io.specs.declared.words.TheConstants.{DEFAULT_NODES, DEFAULT_AHEAD, MOST_SAVED_CYCLES}
 use Rattle.run_save.specs.declared.reading.TheConstants.{MOST_STATE_BYTES}
-use Rattle.btb_program.specs.declared.status.TheConstants.{END, EVENT_FAULT, WORDS, MODEL, READ_FAULT, WRITE_FAULT, OUT_OF_MEMORY, EVENT_LIMIT, STATE}
+use Rattle.program_answers.specs.declared.status.TheConstants.{END, EVENT_FAULT, WORDS, MODEL, READ_FAULT, WRITE_FAULT, OUT_OF_MEMORY, EVENT_LIMIT, STATE}
 
 pub record Numbers : Type 0 where
   -- ranks and stamps

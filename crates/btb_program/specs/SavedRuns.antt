@@ -15,7 +15,7 @@ use Rattle.run_save.specs.declared.reading.TheConstants.{MOST_STATE_BYTES}
 use Rattle.run_save.specs.SavedLaws.{FitsTypes}
 use Rattle.run_save.specs.SavedStates.{state_of}
 use Rattle.run_save.specs.StateTexts.{state_text}
-use Rattle.btb_program.specs.declared.status.TheConstants.{END}
+use Rattle.program_answers.specs.declared.status.TheConstants.{END}
 use Rattle.btb_program.specs.Answer.{answer_from, answer_to_state}
 
 -- the state after the first cycles of a model

@@ -1,23 +1,17 @@
 //! The program over what a process has: its words and its three streams.
 ghost use Rattle.std.specs.Prelude.{◌≤◌};
 ghost use Rattle.std.specs.Process.{exit_status};
-ghost use Rattle.btb_program.specs.declared.status.TheConstants.{STATE};
+ghost use Rattle.program_answers.specs.declared.status.TheConstants.{STATE};
 
 use crate::program::run_program;
 use node_team::Open;
+use program_answers::program_words;
 use sim_io::{GatheringSink, StdSink, StdSource};
 use std::alloc::{AllocGlobal, Global};
 use std::env::Env;
 use std::io::{Read, Write};
 use std::process::ExitCode;
 use std::thread::Threads;
-use std::{env, io};
-
-/// The words that follow the program's name.
-fn program_words<R: AllocGlobal + Env>(rt: &R) -> io::Result<Vec<String>> {
-    let words = env::args(rt)?.skip(1).collect(rt.alloc())?;
-    Ok(words)
-}
 
 /// Does what `run_program` does with the words of the process, reads the model from `input` and writes to `output`, in
 /// pieces of 16 KiB, and to `notes`. The status is one of those that `btb` lists.

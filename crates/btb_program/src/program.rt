@@ -1,32 +1,17 @@
 //! All that the program does, with the words that follow its name as far as they could be read.
-ghost use Rattle.std.specs.Prelude.{◌≡◌, ◌≢◌, IfOk, IfErr};
-ghost use Rattle.sim_io.specs.declared.words.WordFault.TheVariants.{BadValue};
-ghost use Rattle.btb_program.specs.Answer.{words_line};
-ghost use Rattle.btb_program.specs.Answered.{AnswersNoWords, AnswersWords, streams};
-ghost use Rattle.btb_program.specs.declared.status.TheConstants.{WORDS};
-ghost use Rattle.btb_program.specs.Endings.{IsRefusal};
+ghost use Rattle.std.specs.Prelude.{IfOk, IfErr, IfSome};
+ghost use Rattle.sim_io.specs.Words.{settings, texts_of};
+ghost use Rattle.program_answers.specs.Answered.{Answers, AnswersNoWords, streams};
+ghost use Rattle.btb_program.specs.Answer.{asked_by};
+ghost use Rattle.btb_program.specs.SavedRuns.{IsSavedSo};
 
-use crate::ending::Ending;
-use crate::notes::conclude;
 use crate::top::btb;
 use node_team::Gate;
-use sim_io::{Sink, Source, WordFault};
+use program_answers::{conclude, unread_words};
+use sim_io::{Sink, Source};
 use std::alloc::AllocGlobal;
 use std::io::ErrorKind;
 use std::thread::Threads;
-
-/// How the program ends where its words can't be read, for this reason: one that is no text is refused like any faulty
-/// word.
-fn unread_words(kind: ErrorKind) -> Ending
-    ensures no_memory { kind ≡ ErrorKind.OutOfMemory → result ≡ Ending.OutOfMemory }
-    ensures no_text { kind ≢ ErrorKind.OutOfMemory → result ≡ Ending.RefusedWords BadValue }
-    ensures refusal { IsRefusal WORDS (words_line BadValue) result }
-{
-    match kind {
-        ErrorKind::OutOfMemory => Ending::OutOfMemory,
-        _ => Ending::RefusedWords(WordFault::BadValue),
-    }
-}
 
 /// Does all that `btb` does, where the words could be read. Where they couldn't, nothing is read and nothing written to
 /// `out`: the status is 6 where there was no memory for them, and else 2, since one of them is no text.
@@ -39,9 +24,9 @@ pub fn run_program<R: AllocGlobal + Threads + Sync, S: Source, K: Sink, N: Sink,
     gate: &G,
 ) -> u8
     ensures read { IfOk words (λ list.
-        AnswersWords S.Source K.Sink N.Sink result (streams source.old out.old notes.old) (streams source.new out.new notes.new) list.items) }
-    ensures unread { IfErr words
-        (AnswersNoWords S.Source K.Sink N.Sink result (streams source.old out.old notes.old) (streams source.new out.new notes.new)) }
+        Answers S.Source K.Sink N.Sink result (streams source.old out.old notes.old) (streams source.new out.new notes.new) (asked_by list.items)) }
+    ensures saved { IfOk words (λ list. IfSome (S.left source.old) (IsSavedSo (settings (texts_of list.items)) result)) }
+    ensures unread { IfErr words (AnswersNoWords N.Sink result (streams source.old out.old notes.old) (streams source.new out.new notes.new)) }
 {
     match words {
         Ok(words) => btb(rt, &words, source, out, notes, gate),

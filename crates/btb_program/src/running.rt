@@ -2,36 +2,24 @@
 ghost use Rattle.std.specs.Prelude.{◌≡◌, ◌≤◌, Ok, IfSome};
 ghost use Rattle.model_core.specs.declared.limits.TheConstants.{MOST_DEMO_STATIONS};
 ghost use Rattle.model_text.specs.ModelTexts.{model_of};
-ghost use Rattle.sim_io.specs.Words.{AreInBounds};
-ghost use Rattle.btb_program.specs.Answer.{as_read, refusal_line, answer_of_model, answer_to_model, demo_answer};
-ghost use Rattle.btb_program.specs.Answered.{EndsInput, EndsModel, EndsWords};
-ghost use Rattle.btb_program.specs.declared.status.TheConstants.{MODEL};
-ghost use Rattle.btb_program.specs.Endings.{IsRefusal, status_of_ending};
+ghost use Rattle.sim_io.specs.Words.{AreInBounds, settings, texts_of};
+ghost use Rattle.program_answers.specs.Answered.{EndsAsked, EndsInput, EndsModel};
+ghost use Rattle.program_answers.specs.Endings.{status_of_ending};
+ghost use Rattle.btb_program.specs.Answer.{as_read, answer_of_model, answer_to_model, asked_by, demo_answer};
 ghost use Rattle.btb_program.specs.SavedRuns.{IsSavedSo};
 
-use crate::ending::{Ending, ending_of};
-use crate::notes::refusal_line;
 use crate::saving::{resume_command, save_to_the_end};
 use crate::setting::{machine_of, telling_of};
 use crate::stack::grow_stack;
 use model_runs::{Job, Stage, run_model};
 use model_text::{AnyModel, Refusal, read_model};
 use node_team::Gate;
+use program_answers::{Ending, ending_of, refused};
 use queue_models::ring;
 use sim_io::{ENOUGH_BYTES, ReadEnd, Settings, Sink, Source, read_all, read_words};
 use sim_spec::Terms;
 use std::alloc::Global;
 use std::thread::Threads;
-
-/// The ending of a model that is refused with this code at this item.
-fn refused(alloc: Global, code: u8, item: u32) -> Ending
-    ensures { IsRefusal MODEL (refusal_line code item) result }
-{
-    match refusal_line(alloc, code, item) {
-        Ok(line) => Ending::RefusedModel { line },
-        Err(_) => Ending::OutOfMemory,
-    }
-}
 
 /// Simulates a model, of which these are the bytes, and writes what the command tells of that.
 fn answer_model<R: Threads + Sync, G: Gate, K: Sink>(
@@ -113,7 +101,8 @@ pub fn run_words<R: Threads + Sync, G: Gate, S: Source, K: Sink>(
     source: &mut S,
     out: &mut K,
 ) -> Ending
-    ensures { EndsWords S.Source K.Sink source.old source.new out.old out.new result words.now.items }
+    ensures ends { EndsAsked S.Source K.Sink source.old source.new out.old out.new result (asked_by words.now.items) }
+    ensures saved { IfSome (S.left source.old) (IsSavedSo (settings (texts_of words.now.items)) (status_of_ending result)) }
 {
     let settings = match read_words(words) {
         Ok(settings) => settings,

@@ -9,35 +9,25 @@ ghost use Rattle.run_save.specs.SavedLaws.{FitsTypes};
 ghost use Rattle.run_save.specs.SavedStates.{state_of};
 ghost use Rattle.run_save.specs.StateTexts.{state_text};
 ghost use Rattle.run_save.specs.declared.reading.TheConstants.{MOST_STATE_BYTES};
-ghost use Rattle.btb_program.specs.Answer.{as_read, state_line, answer_of_save, answer_of_state, answer_to_state};
-ghost use Rattle.btb_program.specs.Answered.{EndsInput, EndsModel};
-ghost use Rattle.btb_program.specs.declared.status.TheConstants.{END, STATE};
-ghost use Rattle.btb_program.specs.Endings.{IsRefusal, status_of_ending};
+ghost use Rattle.program_answers.specs.Answered.{EndsInput, EndsModel};
+ghost use Rattle.program_answers.specs.declared.status.TheConstants.{END};
+ghost use Rattle.program_answers.specs.Endings.{status_of_ending};
+ghost use Rattle.btb_program.specs.Answer.{as_read, answer_of_save, answer_of_state, answer_to_state};
 ghost use Rattle.btb_program.specs.SavedRuns.{IsSaved};
 
-use crate::ending::{Ending, ending_of};
 use crate::laws::law_saved_runs;
-use crate::notes::state_line;
 use crate::setting::spread_of;
+use crate::state_refusal::refused_state;
 use cycle_core::State;
 use model_runs::{Stage, resume_model, save_model};
 use model_text::AnyModel;
 use node_team::Gate;
+use program_answers::{Ending, ending_of};
 use run_save::{MOST_STATE_BYTES, Saved, StateCause, StateRefusal, put_state, read_state};
 use sim_io::{Failed, ReadEnd, Settings, Sink, Source, read_some, write_all};
 use sim_spec::Terms;
 use std::alloc::Global;
 use std::thread::Threads;
-
-/// The ending of a saved state that is refused with this code at this line.
-fn refused(alloc: Global, code: u8, line: u64) -> Ending
-    ensures { IsRefusal STATE (state_line code line) result }
-{
-    match state_line(alloc, code, line) {
-        Ok(line) => Ending::RefusedState { line },
-        Err(_) => Ending::OutOfMemory,
-    }
-}
 
 /// Writes a text and hands it on.
 fn hand_out<K: Sink>(text: &[u8], out: &mut K) -> Result<(), Failed>
@@ -62,7 +52,7 @@ fn write_state<K: Sink>(alloc: Global, state: &State, bytes: &[u8], out: &mut K)
         return Ending::OutOfMemory;
     }
     if text.len() > MOST_STATE_BYTES {
-        return refused(alloc, StateCause::TooLong.code(), 0);
+        return refused_state(alloc, StateCause::TooLong.code(), 0);
     }
     match hand_out(text.as_slice(), out) {
         Ok(()) => Ending::Saved,
@@ -116,7 +106,7 @@ pub fn resume_command<R: Threads + Sync, G: Gate, S: Source, K: Sink>(
             let spread = spread_of(Settings::Resume);
             ending_of(resume_model(stage, model, terms, spread, state, out))
         }
-        Err(StateRefusal::At { code, line }) => refused(stage.alloc, code, line),
+        Err(StateRefusal::At { code, line }) => refused_state(stage.alloc, code, line),
         Err(StateRefusal::OutOfMemory) => Ending::OutOfMemory,
     }
 }

@@ -1,10 +1,14 @@
 //! All that the program does, over any input and output.
-ghost use Rattle.btb_program.specs.Answered.{AnswersWords, streams};
+ghost use Rattle.std.specs.Prelude.{IfSome};
+ghost use Rattle.sim_io.specs.Words.{settings, texts_of};
+ghost use Rattle.program_answers.specs.Answered.{Answers, streams};
+ghost use Rattle.btb_program.specs.Answer.{asked_by};
+ghost use Rattle.btb_program.specs.SavedRuns.{IsSavedSo};
 
-use crate::notes::conclude;
 use crate::running::run_words;
 use model_runs::Stage;
 use node_team::Gate;
+use program_answers::conclude;
 use sim_io::{Sink, Source};
 use std::alloc::AllocGlobal;
 use std::thread::Threads;
@@ -33,7 +37,9 @@ pub fn btb<R: AllocGlobal + Threads + Sync, S: Source, K: Sink, N: Sink, G: Gate
     notes: &mut N,
     gate: &G,
 ) -> u8
-    ensures { AnswersWords S.Source K.Sink N.Sink result (streams source.old out.old notes.old) (streams source.new out.new notes.new) words.now.items }
+    ensures answers { Answers S.Source K.Sink N.Sink result (streams source.old out.old notes.old) (streams source.new out.new notes.new)
+        (asked_by words.now.items) }
+    ensures saved { IfSome (S.left source.old) (IsSavedSo (settings (texts_of words.now.items)) result) }
 {
     let stage = Stage {
         rt,

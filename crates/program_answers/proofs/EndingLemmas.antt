@@ -1,5 +1,5 @@
 -- How the program ends, and what it answers so.
-use Rattle.std.proofs.Common.{◌≡◌, ◌≢◌, ◌≤◌, ◌⊎◌, ℕ, List, [], Option, Result, Ok, Err, inl, inr, refl, sym, ap, ◌∙◌, subst, arith, append-nil}
+use Rattle.std.proofs.Common.{◌≡◌, ◌≢◌, ◌≤◌, ℕ, List, [], Option, inl, inr, refl, sym, ap, ◌∙◌, subst, arith, append-nil}
 use Rattle.std.specs.Io.KnownBytes.{Appends, Keeps}
 use Rattle.std.proofs.KnownBytes.{Appends-nil}
 use Rattle.sim_spec.specs.declared.stop.Stop.{Stop}
@@ -11,7 +11,7 @@ use Rattle.sim_text.proofs.WrittenLemmas.{no_prefix}
 use Rattle.program_answers.specs.declared.ending.Ending.{Ending}
 use Rattle.program_answers.specs.declared.ending.Ending.TheVariants.{Stopped, Saved, RefusedWords, RefusedModel, RefusedState, ReadFault, WriteFault, OutOfMemory}
 use Rattle.program_answers.specs.declared.status.TheConstants.{END, WORDS, MODEL, READ_FAULT, WRITE_FAULT, STATE}
-use Rattle.program_answers.specs.Answer.{Answer, status_of_stop}
+use Rattle.program_answers.specs.Answer.{Answer, refusal_line, status_of_stop}
 use Rattle.program_answers.specs.Answered.{EndsModel}
 use Rattle.program_answers.specs.Endings.{status_of_ending, line_of_ending, noted_line, IsAnswering, IsComplete, IsRefusal}
 
@@ -108,6 +108,11 @@ module _ {K : Type 0} (sink : Sink K) (out : K) where
   refusal_ends status line ending (inl spent) tells = subst (λ e. EndsModel sink out out e (record { output = []; notes = line; status = status })) (sym spent) (no_memory_left _)
   refusal_ends status line ending (inr told) tells =
       whole_ends sink out out ending _ (subst TellsOfModel (sym told.0) tells) (Appends-nil _) told.0 told.1 refl (λ kept. kept)
+
+-- a refusal with the same code and item is the same
+pub same_refusal : (ending : Ending) (code code' item item' : ℕ) → IsRefusal MODEL (refusal_line code item) ending → code ≡ code' → item ≡ item' → IsRefusal MODEL (refusal_line code' item') ending
+same_refusal ending code code' item item' refusal same_code same_item =
+    subst (λ line. IsRefusal MODEL line ending) (ap (λ n. refusal_line n item) same_code ∙ ap (refusal_line code') same_item) refusal
 
 pub end_status : TellsOfModel END
 end_status = record { no_words = λ is. cc; no_read_fault = λ is. cc; no_write_fault = λ is. cc }

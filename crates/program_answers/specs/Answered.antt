@@ -1,5 +1,5 @@
 -- What a program does: what it reads, writes and notes, and the status with which it ends.
-use Rattle.std.specs.Prelude.{◌≡◌, ◌≢◌, ◌≤◌, ◌⊎◌, ℕ, List, drop, Option, Some, IfSome}
+use Rattle.std.specs.Prelude.{◌≡◌, ◌≢◌, ◌≤◌, ◌⊎◌, ◌↔◌, ℕ, true, false, List, drop, Some, IfSome}
 use Rattle.std.specs.Io.KnownBytes.{Appends, Keeps}
 use Rattle.std.specs.declared.io.ErrorKind.{ErrorKind}
 use Rattle.sim_io.specs.declared.streams.sink.Sink.{Ghosts as Sink}
@@ -9,8 +9,8 @@ use Rattle.sim_io.specs.Causes.{Rose}
 use Rattle.sim_io.specs.Transfers.{AppendsPrefix}
 use Rattle.program_answers.specs.declared.ending.Ending.{Ending}
 use Rattle.program_answers.specs.declared.status.TheConstants.{WORDS, READ_FAULT, WRITE_FAULT, OUT_OF_MEMORY, STATE}
-use Rattle.program_answers.specs.Answer.{Answer, words_line, HandsOnPrefix, WritesOutput, WritesPrefix}
-use Rattle.program_answers.specs.Endings.{status_of_ending, line_of_ending, noted_line, IsAnswering, NotesLine, NotesPrefix}
+use Rattle.program_answers.specs.Answer.{Answer, Asked, words_line, OfAnswer, OfAccepted, HandsOnPrefix, WritesOutput, WritesPrefix}
+use Rattle.program_answers.specs.Endings.{status_of_ending, line_of_ending, noted_line, IsAnswering, IsComplete, TellsFault, NotesLine, NotesPrefix}
 
 module _ {K : Type 0} (sink : Sink K) (old new : K) (status : ℕ) where
   -- what is written is the output of the answer, or a prefix of it, and the status says which
@@ -41,6 +41,17 @@ module _ {S : Type 0} (source : Source S) (old new : S) (status : ℕ) where
     pub read_fault : status ≡ READ_FAULT → Rose (source.faults old) (source.faults new)
     pub read_quiet : status ≢ READ_FAULT → source.faults new ≡ source.faults old
 
+  -- the input is read to its end, or until it is too long, unless the words are refused or ask for nothing of it
+  pub record TakesInput (asked : Asked) : Type 0 where
+    pub refused_words : (status ≡ WORDS) ↔ (asked.refused ≡ true)
+    pub unread : asked.takes ≡ false → new ≡ old
+    pub read : IsAnswering status → asked.takes ≡ true → IfSome (source.left old) (λ bytes. source.left new ≡ Some (drop asked.most bytes))
+    pub reads : status ≡ READ_FAULT → asked.takes ≡ true
+
+-- what was noted is handed on, unless a write failed
+abbrev pub HandsOnNotes : {N : Type 0} → Sink N → N → N → Type 0
+HandsOnNotes notes old new = Keeps (notes.told new) (notes.handed new) ⊎ Rose (notes.faults old) (notes.faults new)
+
 -- nothing is written where the words are refused or reading failed
 abbrev pub LeavesOut : {K : Type 0} → K → K → ℕ → Type 0
 LeavesOut old new status = (status ≡ WORDS) ⊎ (status ≡ READ_FAULT) → new ≡ old
@@ -67,6 +78,14 @@ module _ {S K : Type 0} (source : Source S) (sink : Sink K) (from to : S) (old n
     pub unwritten : LeavesOut old new (status_of_ending ending)
     pub no_words : status_of_ending ending ≢ WORDS
 
+  -- the ending of words that ask for this
+  pub record EndsAsked (asked : Asked) : Type 0 where
+    pub answer : OfAnswer asked (source.left from) (EndsWith sink old new ending)
+    pub input : TakesInput source from to (status_of_ending ending) asked
+    pub reading : TellsReading source from to (status_of_ending ending)
+    pub writing : TellsWriting sink old new (status_of_ending ending)
+    pub unwritten : LeavesOut old new (status_of_ending ending)
+
 -- the streams of the program
 pub record Streams (S K N : Type 0) : Type 0 where
   pub source : S
@@ -76,6 +95,24 @@ pub record Streams (S K N : Type 0) : Type 0 where
 abbrev pub streams : {S K N : Type 0} → S → K → N → Streams S K N
 streams source out notes = record { source = source; out = out; notes = notes }
 
+module _ {S K N : Type 0} (source : Source S) (sink : Sink K) (notes : Sink N) (status : ℕ) (old new : Streams S K N) where
+  -- all that a program does with words that ask for this
+  pub record Answers (asked : Asked) : Type 0 where
+    pub known : status ≤ STATE
+    pub answer : OfAnswer asked (source.left old.source) (GivesAnswer sink old.out new.out status)
+    pub handed : OfAnswer asked (source.left old.source) (HandsOnAnswer sink old.out new.out status)
+    pub input : TakesInput source old.source new.source status asked
+    pub reading : TellsReading source old.source new.source status
+    pub writing : TellsWriting sink old.out new.out status
+    pub unwritten : LeavesOut old.out new.out status
+    pub noted : OfAnswer asked (source.left old.source) (NotesAnswer notes old.notes new.notes status)
+    -- what is noted of a fault or of want of memory needs no answer
+    pub noted_fault : TellsFault status → (a : Answer) → NotesAnswer notes old.notes new.notes status a
+    pub noted_on : HandsOnNotes notes old.notes new.notes
+    -- accepted words, an input that they accept and no fault give the whole answer, or want of memory
+    pub complete : OfAccepted asked (source.left old.source) (λ a.
+        IsComplete status a.status (Rose (source.faults old.source) (source.faults new.source)) (Rose (sink.faults old.out) (sink.faults new.out)))
+
 module _ {S K N : Type 0} (notes : Sink N) (status : ℕ) (old new : Streams S K N) where
   -- where the words can't be read, why is noted and nothing else is done: there was no memory, or one of them is no text
   pub record AnswersNoWords (kind : ErrorKind) : Type 0 where
@@ -84,5 +121,6 @@ module _ {S K N : Type 0} (notes : Sink N) (status : ℕ) (old new : Streams S K
     pub no_text : kind ≢ ErrorKind.OutOfMemory → status ≡ WORDS
     pub line_prefix : AppendsPrefix (notes.told old.notes) (notes.told new.notes) (noted_line status (words_line BadValue))
     pub line_whole : Appends (notes.told old.notes) (notes.told new.notes) (noted_line status (words_line BadValue)) ⊎ Rose (notes.faults old.notes) (notes.faults new.notes)
+    pub noted_on : HandsOnNotes notes old.notes new.notes
     pub unread : new.source ≡ old.source
     pub unwritten : new.out ≡ old.out

@@ -46,6 +46,10 @@ IsRefusal status line ending = (ending ≡ OutOfMemory) ⊎ ((status_of_ending e
 abbrev pub IsAnswering : ℕ → Type 0
 IsAnswering status = (status ≢ READ_FAULT) × (status ≢ WRITE_FAULT) × (status ≢ OUT_OF_MEMORY)
 
+-- a status that tells of a fault of a stream or of want of memory, whatever the answer is
+abbrev pub TellsFault : ℕ → Type 0
+TellsFault status = (status ≡ READ_FAULT) ⊎ (status ≡ WRITE_FAULT) ⊎ (status ≡ OUT_OF_MEMORY)
+
 -- what is noted with a status, where these are the notes of the answer
 abbrev pub noted_line : ℕ → List ℕ → List ℕ
 noted_line status notes =

@@ -1,9 +1,10 @@
 //! What is noted of how the program ends.
 ghost use Rattle.std.specs.Prelude.{◌≡◌, ◌⊎◌, IfOk, OnOk, OnErr};
-ghost use Rattle.std.specs.Io.KnownBytes.{Appends};
+ghost use Rattle.std.specs.Io.KnownBytes.{Appends, Keeps};
 ghost use Rattle.sim_io.specs.Causes.{HasCause, Rose};
 ghost use Rattle.sim_io.specs.Transfers.{AppendsPrefix};
 ghost use Rattle.program_answers.specs.Answer.{words_line, refusal_line};
+ghost use Rattle.program_answers.specs.Answered.{HandsOnNotes};
 ghost use Rattle.program_answers.specs.Endings.{status_of_ending, line_of_ending, IsRefusal};
 ghost use Rattle.program_answers.specs.declared.status.TheConstants.{MODEL};
 
@@ -62,12 +63,24 @@ fn note<N: Sink>(notes: &mut N, ending: &Ending) -> Result<(), Failed>
     }
 }
 
-/// Notes how the program ends, as far as that can be written, and answers its status.
+/// Notes the line of an ending, where it has one, and hands it on.
+fn hand_on_note<N: Sink>(notes: &mut N, ending: &Ending) -> Result<(), Failed>
+    ensures all { OnOk result (Appends (N.told notes.old) (N.told notes.new) (line_of_ending ending.now)) }
+    ensures handed { OnOk result (Keeps (N.told notes.new) (N.handed notes.new)) }
+    ensures prefix { AppendsPrefix (N.told notes.old) (N.told notes.new) (line_of_ending ending.now) }
+    ensures cause { HasCause (N.faults notes.old) (N.faults notes.new) result }
+{
+    note(notes, ending)?;
+    notes.flush()
+}
+
+/// Notes how the program ends, as far as that can be written and handed on, and answers its status.
 pub fn conclude<N: Sink>(ending: &Ending, notes: &mut N) -> u8
     ensures status { result ≡ status_of_ending ending.now }
     ensures prefix { AppendsPrefix (N.told notes.old) (N.told notes.new) (line_of_ending ending.now) }
     ensures whole { Appends (N.told notes.old) (N.told notes.new) (line_of_ending ending.now) ⊎ Rose (N.faults notes.old) (N.faults notes.new) }
+    ensures handed { HandsOnNotes N.Sink notes.old notes.new }
 {
-    let _told = note(notes, ending);
+    let _told = hand_on_note(notes, ending);
     ending.status()
 }

@@ -1,10 +1,8 @@
 -- How a table ends, and what is answered so.
-use Rattle.std.proofs.Common.{◌≡◌, ◌≤◌, ◌<◌, ◌^◌, ◌⊎◌, ℕ, Bool, true, false, List, [], ◌∷◌, Option, Some, None, Result, Ok, Err, inl, inr, refl, sym, ap, ◌∙◌, subst, arith}
-use Rattle.std.specs.Prelude.{IfOk, IfSome, IsErr, IsErrOf, IsOk, OnErr, OnOk, String, if◌then◌else◌, unwrap_or}
+use Rattle.std.proofs.Common.{◌≡◌, ◌≤◌, ◌<◌, ◌^◌, ℕ, Bool, true, false, List, [], ◌∷◌, Option, Some, None, Result, Ok, Err, inl, inr, refl, sym, ap, ◌∙◌, subst, arith}
+use Rattle.std.specs.Prelude.{IfOk, IfSome, IsErrOf, OnErr, OnOk, if◌then◌else◌, unwrap_or}
 use Rattle.std.specs.List.{list_any}
-use Rattle.std.specs.declared.alloc.Global.{Global}
 use Rattle.std.specs.Io.KnownBytes.{Appends, Keeps}
-use Rattle.std.proofs.KnownBytes.{Appends-kept, Appends-nil}
 use Rattle.model_text.specs.declared.described.ReadModel.{ReadModel}
 use Rattle.model_text.specs.declared.model.AnyModel.{AnyModel}
 use Rattle.model_text.specs.Checks.{Checked}
@@ -13,29 +11,24 @@ use Rattle.model_text.specs.ModelTexts.{FamilyOf, family_of}
 use Rattle.model_text.proofs.LongTexts.{family_of-take}
 use Rattle.sim_io.specs.declared.streams.reading.TheConstants.{ENOUGH_BYTES}
 use Rattle.sim_io.specs.declared.streams.sink.Sink.{Ghosts as Sink}
-use Rattle.sim_io.specs.declared.streams.source.Source.{Ghosts as Source}
 use Rattle.sim_io.specs.declared.words.WordFault.{WordFault}
 use Rattle.sim_io.specs.Causes.{Rose}
-use Rattle.sim_io.specs.Transfers.{AppendsPrefix, KeepsBackSome, TakesUpTo}
-use Rattle.sim_io.specs.Words.{texts_of}
+use Rattle.sim_io.specs.Transfers.{AppendsPrefix, TakesUpTo}
 use Rattle.sim_spec.specs.declared.stop.Stop.{Stop}
 use Rattle.sim_spec.specs.declared.stop.Stop.TheVariants.{End, Limit, Fault}
 use Rattle.sim_text.specs.declared.unfinished.Unfinished.{Unfinished}
-use Rattle.sim_text.proofs.WrittenLemmas.{no_prefix}
 use Rattle.program_answers.specs.declared.ending.Ending.{Ending}
-use Rattle.program_answers.specs.declared.ending.Ending.TheVariants.{Stopped, RefusedWords}
+use Rattle.program_answers.specs.declared.ending.Ending.TheVariants.{Stopped}
 use Rattle.program_answers.specs.declared.status.TheConstants.{END, EVENT_FAULT, EVENT_LIMIT, OUT_OF_MEMORY}
-use Rattle.program_answers.specs.Answer.{Answer, status_of_stop}
-use Rattle.program_answers.specs.Answered.{EndsInput, EndsModel, EndsWith, Streams}
-use Rattle.program_answers.specs.Endings.{status_of_ending, line_of_ending, ending_of, IsRefusal}
-use Rattle.program_answers.proofs.EndingLemmas.{completes, no_memory_ends, noted, stop_of_model, whole_ends, write_fault_ends}
-use Rattle.program_answers.proofs.InputLemmas.{some_all, some_map}
-use Rattle.program_answers.proofs.TopLemmas.{hands_on_prefix}
+use Rattle.program_answers.specs.Answer.{answer_to_fault, status_of_stop}
+use Rattle.program_answers.specs.Answered.{EndsModel}
+use Rattle.program_answers.specs.Endings.{status_of_ending, ending_of, IsRefusal}
+use Rattle.program_answers.proofs.EndingLemmas.{no_memory_ends, stop_of_model, whole_ends, write_fault_ends}
 use Rattle.replications.specs.declared.words.Replicate.{Replicate}
 use Rattle.replications.specs.declared.words.TheConstants.{LAST_SEED}
-use Rattle.replications.specs.ReplicateWords.{replicate_settings, IsGivenWithin}
+use Rattle.replications.specs.ReplicateWords.{IsGivenWithin}
 use Rattle.replications.specs.Studies.{StudyOf, graver, gravest, stops_between, table_text}
-use Rattle.replicate_program.specs.TableAnswers.{is_fault, is_limit, status_of_stops, answer_to_family, answer_to_study, answer_to_read, answer_to_words, answer, AnswersReplicate, EndsReplicate}
+use Rattle.replicate_program.specs.TableAnswers.{is_fault, is_limit, status_of_stops, answer_to_family, answer_to_study, answer_to_read, answer_to_words}
 
 -- the status of the gravest stop tells whether some run stopped at a fault, or else some at its limit
 pub gravest-status : (stops : List Stop) → status_of_stop (gravest stops) ≡ status_of_stops stops
@@ -109,79 +102,12 @@ module _ (old new : Option (List ℕ)) (taken slice : List ℕ) where
       by_left (Some bytes) None took = absurd took
       by_left (Some bytes) (Some rest) took = ap (answer_to_read asked) (sym is_read ∙ ap family_of (is_slice ∙ took.0) ∙ family_of-take bytes)
 
-module _ {S K : Type 0} (source : Source S) (sink : Sink K) (words : List (String Global)) where
-  -- the words are refused
-  pub refused_ends : (from : S) (out : K) (fault : WordFault) → replicate_settings (texts_of words) ≡ Err fault → EndsReplicate source sink from from out out (RefusedWords fault) words
-  unfolding answer answer_to_words
-  refused_ends from out fault is =
-      let So : Answer → Type 0 = EndsWith sink out out (RefusedWords fault) in
-      let refused : Result Replicate WordFault → Type 0 = IsErr in
-      let accepted : Result Replicate WordFault → Type 0 = IsOk in
-      record {
-        answer = some_all (source.left from) (λ bytes. subst So (sym (ap (λ r. answer_to_words r bytes) is)) (record {
-          given = record { output = λ _. Appends-nil _; same_status = λ _. refl; prefix = no_prefix _ _ };
-          line = λ _. refl;
-        }));
-        input = record {
-          refused_words = ((λ _. subst refused (sym is) refl), (λ _. refl));
-          unread = λ _. refl;
-          read = λ _ ok. absurd (let none : IsOk {T = Replicate} {E = WordFault} (Err fault) = subst accepted is ok in cc);
-          reads = λ is. absurd (let clash : ⊥ = cc in clash);
-        };
-        reading = record { read_fault = λ is. absurd (let clash : ⊥ = cc in clash); read_quiet = λ _. refl };
-        writing = record { write_fault = λ is. absurd (let clash : ⊥ = cc in clash); write_quiet = λ _. refl; handed = λ _ kept. kept };
-        unwritten = λ _. refl;
-      }
+module _ (said : Result Replicate WordFault) where
+  -- what is answered to words that are accepted, and to others
+  pub answer_accepted : (asked : Replicate) → said ≡ Ok asked → (bytes : List ℕ) → answer_to_read asked (family_of bytes) ≡ answer_to_words said bytes
+  unfolding answer_to_words
+  answer_accepted asked is bytes = sym (ap (λ r. answer_to_words r bytes) is)
 
-  module _ (asked : Replicate) (is : replicate_settings (texts_of words) ≡ Ok asked) where
-    same_answer : (bytes : List ℕ) → answer_to_read asked (family_of bytes) ≡ answer (texts_of words) bytes
-    unfolding answer answer_to_words
-    same_answer bytes = sym (ap (λ r. answer_to_words r bytes) is)
-
-    not_refused : IsErr (replicate_settings (texts_of words)) → ⊥
-    not_refused refused =
-        let P : Result Replicate WordFault → Type 0 = IsErr in
-        let none : IsErr {T = Replicate} {E = WordFault} (Ok asked) = subst P is refused in
-        cc
-
-    is_ok : IsOk (replicate_settings (texts_of words))
-    is_ok = (let P : Result Replicate WordFault → Type 0 = IsOk in subst P (sym is) refl)
-
-    -- the words are accepted
-    pub accepted_ends : (from to : S) (old new : K) (ending : Ending) → EndsInput source sink from to old new ending ENOUGH_BYTES (λ bytes. answer_to_read asked (family_of bytes))
-        → EndsReplicate source sink from to old new ending words
-    accepted_ends from to old new ending ends = record {
-      answer = some_map (source.left from) (λ bytes. subst (EndsWith sink old new ending) (same_answer bytes)) ends.answer;
-      input = record {
-        refused_words = ((λ refused. absurd (ends.no_words refused)), (λ refused. absurd (not_refused refused)));
-        unread = λ refused. absurd (not_refused refused);
-        read = λ done _. ends.read done;
-        reads = λ _. is_ok;
-      };
-      reading = ends.reading;
-      writing = ends.writing;
-      unwritten = ends.unwritten;
-    }
-
-module _ {S K N : Type 0} (source : Source S) (sink : Sink K) (notes : Sink N) (ending : Ending) (old new : Streams S K N)
-    (part : AppendsPrefix (notes.told old.notes) (notes.told new.notes) (line_of_ending ending))
-    (whole : Appends (notes.told old.notes) (notes.told new.notes) (line_of_ending ending) ⊎ Rose (notes.faults old.notes) (notes.faults new.notes)) where
-  -- how the words end is what is answered to them, and its line is noted
-  pub answers_replicate : (words : List (String Global)) → EndsReplicate source sink old.source new.source old.out new.out ending words → KeepsBackSome (sink.told new.out) (sink.handed new.out)
-      → AnswersReplicate source sink notes (status_of_ending ending) old new words
-  answers_replicate words ends in_order = record {
-    answer = some_map (source.left old.source) (λ bytes so. so.given) ends.answer;
-    handed = some_map (source.left old.source) (λ bytes so. record {
-      handed = λ done kept. Appends-kept _ _ _ _ (so.given.output done) (ends.writing.handed done.1 kept);
-      handed_prefix = hands_on_prefix _ _ _ (answer (texts_of words) bytes) so.given.prefix in_order;
-    }) ends.answer;
-    input = ends.input;
-    reading = ends.reading;
-    writing = ends.writing;
-    unwritten = ends.unwritten;
-    noted = some_map (source.left old.source) (λ bytes so. record {
-      notes_prefix = subst (AppendsPrefix (notes.told old.notes) (notes.told new.notes)) (noted ending _ so.line) part;
-      notes_whole = subst (λ line. Appends (notes.told old.notes) (notes.told new.notes) line ⊎ Rose (notes.faults old.notes) (notes.faults new.notes)) (noted ending _ so.line) whole;
-    }) ends.answer;
-    complete = some_map (source.left old.source) (λ bytes so _ _. completes ending _ _ _ so.given.same_status ends.reading.read_fault ends.writing.write_fault) ends.answer;
-  }
+  pub answer_refused : (fault : WordFault) → said ≡ Err fault → (bytes : List ℕ) → answer_to_fault fault ≡ answer_to_words said bytes
+  unfolding answer_to_words
+  answer_refused fault is bytes = sym (ap (λ r. answer_to_words r bytes) is)

@@ -1,13 +1,13 @@
 //! From words and a text to a table.
 ghost use Rattle.std.specs.Prelude.{◌≤◌, ◌<◌, ◌^◌};
-ghost use Rattle.program_answers.specs.Answered.{EndsInput, EndsModel};
+ghost use Rattle.program_answers.specs.Answered.{EndsAsked, EndsInput, EndsModel};
 ghost use Rattle.program_answers.specs.Endings.{status_of_ending};
 ghost use Rattle.program_answers.specs.declared.status.TheConstants.{EVENT_LIMIT};
 ghost use Rattle.model_text.specs.Meanings.{family_read};
 ghost use Rattle.model_text.specs.ModelTexts.{family_of};
 ghost use Rattle.sim_io.specs.declared.streams.reading.TheConstants.{ENOUGH_BYTES};
 ghost use Rattle.replications.specs.ReplicateWords.{AreInBounds};
-ghost use Rattle.replicate_program.specs.TableAnswers.{EndsReplicate, answer_to_family, answer_to_read};
+ghost use Rattle.replicate_program.specs.TableAnswers.{answer_to_family, answer_to_read, table_asked_by};
 
 use crate::text_seeds::TextSeeds;
 use model_text::{ReadModel, Refusal, read_family};
@@ -77,7 +77,7 @@ pub fn run_words<R: Threads + Sync, S: Source, K: Sink>(
     source: &mut S,
     out: &mut K,
 ) -> Ending
-    ensures ends { EndsReplicate S.Source K.Sink source.old source.new out.old out.new result words.now.items }
+    ensures ends { EndsAsked S.Source K.Sink source.old source.new out.old out.new result (table_asked_by words.now.items) }
     ensures known { status_of_ending result ≤ EVENT_LIMIT }
 {
     match read_replicate_words(words) {

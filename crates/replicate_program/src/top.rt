@@ -1,9 +1,9 @@
 //! All that the program `replicate` does.
 ghost use Rattle.std.specs.Prelude.{◌≤◌, IfOk, IfErr};
-ghost use Rattle.program_answers.specs.Answered.{AnswersNoWords, streams};
+ghost use Rattle.program_answers.specs.Answered.{Answers, AnswersNoWords, streams};
 ghost use Rattle.program_answers.specs.declared.status.TheConstants.{EVENT_LIMIT};
 ghost use Rattle.std.specs.Process.{exit_status};
-ghost use Rattle.replicate_program.specs.TableAnswers.{AnswersReplicate};
+ghost use Rattle.replicate_program.specs.TableAnswers.{table_asked_by};
 
 use crate::running::run_words;
 use program_answers::{conclude, program_words, unread_words};
@@ -39,7 +39,7 @@ pub fn replicate<R: AllocGlobal + Threads + Sync, S: Source, K: Sink, N: Sink>(
     notes: &mut N,
 ) -> u8
     ensures read { IfOk words (λ list.
-        AnswersReplicate S.Source K.Sink N.Sink result (streams source.old out.old notes.old) (streams source.new out.new notes.new) list.items) }
+        Answers S.Source K.Sink N.Sink result (streams source.old out.old notes.old) (streams source.new out.new notes.new) (table_asked_by list.items)) }
     ensures unread { IfErr words
         (AnswersNoWords N.Sink result (streams source.old out.old notes.old) (streams source.new out.new notes.new)) }
     ensures known { result ≤ EVENT_LIMIT }

@@ -1,8 +1,9 @@
 -- A command other than one that saves tells of a run.
 use Rattle.std.proofs.Common.{Ok, sym, subst}
-use Rattle.btb_program.specs.Answer.{Answer, as_read}
-use Rattle.btb_program.specs.Answered.{EndsModel}
-use Rattle.btb_program.specs.Endings.{status_of_ending}
+use Rattle.program_answers.specs.Answer.{Answer}
+use Rattle.btb_program.specs.Answer.{as_read}
+use Rattle.program_answers.specs.Answered.{EndsModel}
+use Rattle.program_answers.specs.Endings.{status_of_ending}
 use Rattle.btb_program.specs.SavedRuns.{IsSavedSo}
 use Rattle.btb_program.proofs.EndingLemmas.{run_ends}
 use Rattle.btb_program.proofs.SavedRunsLaw.{saves_none}

@@ -1,22 +1,16 @@
 -- What is answered to the model that was read is the answer to the input, and a refused model is answered by its line.
-use Rattle.std.proofs.Common.{◌≡◌, ℕ, Err, ap, ◌∙◌, subst}
+use Rattle.std.proofs.Common.{◌≡◌, Err, subst}
 use Rattle.sim_io.specs.declared.streams.reading.TheConstants.{ENOUGH_BYTES}
 use Rattle.model_text.specs.Checks.{Fails}
 use Rattle.model_text.specs.ModelTexts.{model_of}
 use Rattle.model_text.specs.declared.refusal.Refusal.{Refusal}
-use Rattle.btb_program.specs.declared.ending.Ending.{Ending}
-use Rattle.btb_program.specs.declared.status.TheConstants.{MODEL}
-use Rattle.btb_program.specs.Answer.{answer_to_model, refusal_line}
-use Rattle.btb_program.specs.Endings.{IsRefusal}
-use Rattle.btb_program.proofs.EndingLemmas.{refusal_ends, model_status}
-use Rattle.btb_program.proofs.InputLemmas.{model_input, no_memory_input, read_fault_input}
-use Rattle.btb_program.proofs.ReadingLemmas.{model_answers, leaves_rest}
+use Rattle.program_answers.specs.declared.status.TheConstants.{MODEL}
+use Rattle.btb_program.specs.Answer.{answer_to_model}
+use Rattle.program_answers.proofs.EndingLemmas.{model_status, refusal_ends, same_refusal}
+use Rattle.program_answers.proofs.InputLemmas.{leaves_rest, model_input, no_memory_input, read_fault_input}
+use Rattle.btb_program.proofs.ReadingLemmas.{model_answers}
 use Rattle.btb_program.proofs.SavedRunsLaw.{none_left, refused_none, whole_input}
 use Rattle.btb_program.proofs.running.run_command.Goals as goal
-
-same_refusal : (ending : Ending) (code code' item item' : ℕ) → IsRefusal MODEL (refusal_line code item) ending → code ≡ code' → item ≡ item' → IsRefusal MODEL (refusal_line code' item') ending
-same_refusal ending code code' item item' refusal same_code same_item =
-    subst (λ line. IsRefusal MODEL line ending) (ap (λ n. refusal_line n item) same_code ∙ ap (refusal_line code') same_item) refusal
 
 pub returns-in-Err-Failed-clause-answer : goal.returns-in-Err-Failed-clause-answer
 returns-in-Err-Failed-clause-answer g c = read_fault_input _ _ _ _ _ _ _ (c.in-Err-Failed.ensures.failed (cc c.in-Err-Failed.field-0-is))

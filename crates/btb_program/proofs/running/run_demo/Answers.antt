@@ -1,5 +1,5 @@
 -- The summary of the ring.
-use Rattle.std.proofs.Common.{◌≡◌, ap, ◌∙◌, subst}
+use Rattle.std.proofs.Common.{ap, ◌∙◌, subst}
 use Rattle.model_core.specs.Meaning.{Meaning}
 use Rattle.model_text.specs.ModelTexts.{ModelOf}
 use Rattle.queue_models.specs.Meaning.{network_meaning}
@@ -8,8 +8,9 @@ use Rattle.sim_spec.specs.declared.terms.Terms.{Terms}
 use Rattle.sim_spec.specs.State.{initial_state}
 use Rattle.sim_text.specs.declared.telling.Telling.{Telling}
 use Rattle.btb_program.specs.Answer.{answer_from}
-use Rattle.btb_program.specs.Answered.{EndsModel}
-use Rattle.btb_program.proofs.EndingLemmas.{no_memory_left, run_ends}
+use Rattle.program_answers.specs.Answered.{EndsModel}
+use Rattle.program_answers.proofs.EndingLemmas.{no_memory_left}
+use Rattle.btb_program.proofs.EndingLemmas.{run_ends}
 use Rattle.btb_program.proofs.running.run_demo.Goals as goal
 
 pub returns-in-Ok : goal.returns-in-Ok

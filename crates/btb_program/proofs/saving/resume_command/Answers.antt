@@ -4,17 +4,18 @@ use Rattle.run_save.specs.Checks.{Fails}
 use Rattle.run_save.specs.SavedStates.{state_of}
 use Rattle.run_save.specs.declared.reading.TheConstants.{MOST_STATE_BYTES}
 use Rattle.run_save.specs.declared.refusal.StateRefusal.{StateRefusal}
-use Rattle.btb_program.specs.declared.ending.Ending.{Ending}
-use Rattle.btb_program.specs.declared.status.TheConstants.{STATE}
+use Rattle.program_answers.specs.declared.ending.Ending.{Ending}
+use Rattle.program_answers.specs.declared.status.TheConstants.{STATE}
 use Rattle.btb_program.specs.Answer.{answer_to_state, state_line}
-use Rattle.btb_program.specs.Endings.{IsRefusal}
-use Rattle.btb_program.proofs.EndingLemmas.{run_ends, refusal_ends, state_status}
-use Rattle.btb_program.proofs.InputLemmas.{model_input, no_memory_input, read_fault_input}
-use Rattle.btb_program.proofs.ReadingLemmas.{state_answers, leaves_rest}
+use Rattle.program_answers.specs.Endings.{IsRefusal}
+use Rattle.program_answers.proofs.EndingLemmas.{refusal_ends, state_status}
+use Rattle.btb_program.proofs.EndingLemmas.{run_ends}
+use Rattle.program_answers.proofs.InputLemmas.{leaves_rest, model_input, no_memory_input, read_fault_input}
+use Rattle.btb_program.proofs.ReadingLemmas.{state_answers}
 use Rattle.btb_program.proofs.saving.resume_command.Goals as goal
 
-same_refusal : (ending : Ending) (code code' line line' : ℕ) → IsRefusal STATE (state_line code line) ending → code ≡ code' → line ≡ line' → IsRefusal STATE (state_line code' line') ending
-same_refusal ending code code' line line' refusal same_code same_place =
+same_state_refusal : (ending : Ending) (code code' line line' : ℕ) → IsRefusal STATE (state_line code line) ending → code ≡ code' → line ≡ line' → IsRefusal STATE (state_line code' line') ending
+same_state_refusal ending code code' line line' refusal same_code same_place =
     subst (λ told. IsRefusal STATE told ending) (ap (λ n. state_line n line) same_code ∙ ap (state_line code') same_place) refusal
 
 pub returns-in-Err-Failed : goal.returns-in-Err-Failed
@@ -35,7 +36,7 @@ unfolding answer_to_state
 returns-in-Err-At g c =
     let P : StateRefusal → Type 0 = λ refusal. Fails refusal (state_of c.as_slice.result.now) in
     let refused : state_of c.as_slice.result.now ≡ Err (record { code = c.in-Err-At.code; line = c.in-Err-At.line }) = subst P c.in-Err-At.field-0-is c.in-Err-At.ensures.exact in
-    model_input _ _ _ _ _ _ _ _ _ _ (refusal_ends _ _ STATE _ _ (same_refusal _ _ _ _ _ c.refused.ensures c.in-Err-At.code-is c.in-Err-At.line-is) state_status)
+    model_input _ _ _ _ _ _ _ _ _ _ (refusal_ends _ _ STATE _ _ (same_state_refusal _ _ _ _ _ c.refused_state.ensures c.in-Err-At.code-is c.in-Err-At.line-is) state_status)
     (state_answers _ _ _ _ _ c.in-Ok.ensures.all c.as_slice.ensures.value refused)
     c.in-Ok.ensures.quiet (leaves_rest (MOST_STATE_BYTES + 1) _ _ _ c.in-Ok.ensures.all)
 

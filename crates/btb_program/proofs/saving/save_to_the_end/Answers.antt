@@ -5,7 +5,7 @@ use Rattle.run_save.specs.SavedLaws.{FitsTypes}
 use Rattle.run_save.specs.StateTexts.{state_text}
 use Rattle.run_save.specs.declared.reading.TheConstants.{MOST_STATE_BYTES}
 use Rattle.btb_program.specs.Answer.{answer_of_save, as_read}
-use Rattle.btb_program.specs.Answered.{EndsModel}
+use Rattle.program_answers.specs.Answered.{EndsModel}
 use Rattle.btb_program.proofs.StateAnswers.{saved_ends, unsaved_ends, unfinished_status}
 use Rattle.btb_program.proofs.saving.save_to_the_end.Goals as goal
 

@@ -3,12 +3,13 @@ use Rattle.std.proofs.Common.{◌≡◌, ℕ, List, true, length, refl, sym, ap,
 use Rattle.std.specs.Io.KnownBytes.{Appends}
 use Rattle.sim_io.specs.Transfers.{AppendsPrefix}
 use Rattle.run_save.specs.StateTexts.{state_text}
-use Rattle.btb_program.specs.declared.ending.Ending.{Ending}
-use Rattle.btb_program.specs.declared.status.TheConstants.{STATE}
-use Rattle.btb_program.specs.Answer.{Answer, answer_with_text, state_line}
-use Rattle.btb_program.specs.Answered.{EndsModel}
-use Rattle.btb_program.specs.Endings.{IsRefusal}
-use Rattle.btb_program.proofs.EndingLemmas.{no_memory_left, refusal_ends, whole_ends, write_fault_ends, state_status, end_status}
+use Rattle.program_answers.specs.declared.ending.Ending.{Ending}
+use Rattle.program_answers.specs.declared.status.TheConstants.{STATE}
+use Rattle.program_answers.specs.Answer.{Answer}
+use Rattle.btb_program.specs.Answer.{answer_with_text, state_line}
+use Rattle.program_answers.specs.Answered.{EndsModel}
+use Rattle.program_answers.specs.Endings.{IsRefusal}
+use Rattle.program_answers.proofs.EndingLemmas.{no_memory_left, refusal_ends, whole_ends, write_fault_ends, state_status, end_status}
 use Rattle.btb_program.proofs.SavedRunsLaw.{refused_none}
 use Rattle.btb_program.proofs.StateAnswers.{too_long, short_enough, on_no_error, put_first}
 use Rattle.btb_program.proofs.saving.write_state.Goals as goal
@@ -21,8 +22,8 @@ returns-then-len-gt-MOST_STATE_BYTES-clause-answer g c =
     let text : c.put_state.new.into.items ≡ state_text c.args.state.now c.args.bytes.now =
     put_first _ _ _ c.new-text.ensures.items (on_no_error c.put_state.result _ c.if-is_err.ensures.value c.put_state.ensures.ok) in
     let is = sym (too_long c.args.state.now c.args.bytes.now (omega (arith, ap length text, c.len.ensures, c.if-len-gt-MOST_STATE_BYTES.true))) in
-    let refusal = subst (λ n. IsRefusal STATE (state_line n 0) c.refused.result) c.code.ensures c.refused.ensures in
-    subst (λ (a : Answer). EndsModel g.K.Sink c.args.out.now c.args.out.now c.refused.result a) is (refusal_ends _ _ STATE (state_line 1 0) c.refused.result refusal state_status)
+    let refusal = subst (λ n. IsRefusal STATE (state_line n 0) c.refused_state.result) c.code.ensures c.refused_state.ensures in
+    subst (λ (a : Answer). EndsModel g.K.Sink c.args.out.now c.args.out.now c.refused_state.result a) is (refusal_ends _ _ STATE (state_line 1 0) c.refused_state.result refusal state_status)
 
 pub returns-in-Ok-clause-answer : goal.returns-in-Ok-clause-answer
 returns-in-Ok-clause-answer g c =
@@ -51,10 +52,10 @@ pub returns-then-is_err-clause-short : goal.returns-then-is_err-clause-short
 returns-then-is_err-clause-short g c = λ is. absurd (let clash : ⊥ = cc in clash)
 
 pub returns-then-len-gt-MOST_STATE_BYTES-clause-fits : goal.returns-then-len-gt-MOST_STATE_BYTES-clause-fits
-returns-then-len-gt-MOST_STATE_BYTES-clause-fits g c = λ is. absurd (refused_none STATE _ _ (λ same. cc) c.refused.ensures is)
+returns-then-len-gt-MOST_STATE_BYTES-clause-fits g c = λ is. absurd (refused_none STATE _ _ (λ same. cc) c.refused_state.ensures is)
 
 pub returns-then-len-gt-MOST_STATE_BYTES-clause-short : goal.returns-then-len-gt-MOST_STATE_BYTES-clause-short
-returns-then-len-gt-MOST_STATE_BYTES-clause-short g c = λ is. absurd (refused_none STATE _ _ (λ same. cc) c.refused.ensures is)
+returns-then-len-gt-MOST_STATE_BYTES-clause-short g c = λ is. absurd (refused_none STATE _ _ (λ same. cc) c.refused_state.ensures is)
 
 pub returns-in-Ok-clause-fits : goal.returns-in-Ok-clause-fits
 returns-in-Ok-clause-fits g c = λ _. on_no_error c.put_state.result _ c.if-is_err.ensures.value c.put_state.ensures.fits

@@ -1,23 +1,15 @@
 -- What is answered to the model that was read is the answer to the input, and a refused model is answered by its line.
-use Rattle.std.proofs.Common.{◌≡◌, ℕ, Err, ap, ◌∙◌, subst, arith}
+use Rattle.std.proofs.Common.{◌≡◌, Err, subst, arith}
 use Rattle.sim_io.specs.declared.streams.reading.TheConstants.{ENOUGH_BYTES}
 use Rattle.model_text.specs.Checks.{Fails}
 use Rattle.model_text.specs.ModelTexts.{family_of}
 use Rattle.model_text.specs.declared.refusal.Refusal.{Refusal}
-use Rattle.program_answers.specs.declared.ending.Ending.{Ending}
 use Rattle.program_answers.specs.declared.status.TheConstants.{MODEL}
-use Rattle.program_answers.specs.Answer.{refusal_line}
-use Rattle.program_answers.specs.Endings.{IsRefusal}
-use Rattle.program_answers.proofs.EndingLemmas.{refusal_ends, model_status}
-use Rattle.program_answers.proofs.InputLemmas.{model_input, no_memory_input, read_fault_input}
-use Rattle.program_answers.proofs.InputLemmas.{leaves_rest}
+use Rattle.program_answers.proofs.EndingLemmas.{model_status, refusal_ends, same_refusal}
+use Rattle.program_answers.proofs.InputLemmas.{leaves_rest, model_input, no_memory_input, read_fault_input}
 use Rattle.replicate_program.specs.TableAnswers.{answer_to_read}
 use Rattle.replicate_program.proofs.AnswerLemmas.{family_answers, known_refusal}
 use Rattle.replicate_program.proofs.running.tabulate_input.Goals as goal
-
-same_refusal : (ending : Ending) (code code' item item' : ℕ) → IsRefusal MODEL (refusal_line code item) ending → code ≡ code' → item ≡ item' → IsRefusal MODEL (refusal_line code' item') ending
-same_refusal ending code code' item item' refusal same_code same_item =
-    subst (λ line. IsRefusal MODEL line ending) (ap (λ n. refusal_line n item) same_code ∙ ap (refusal_line code') same_item) refusal
 
 pub returns-in-Err-Failed-clause-ends : goal.returns-in-Err-Failed-clause-ends
 returns-in-Err-Failed-clause-ends g c = read_fault_input _ _ _ _ _ _ _ (c.in-Err-Failed.ensures.failed (cc c.in-Err-Failed.field-0-is))

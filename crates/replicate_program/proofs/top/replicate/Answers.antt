@@ -1,21 +1,22 @@
 -- What is answered comes of how the words end, and words that can't be read are answered by a line and a status.
-use Rattle.std.proofs.Common.{◌≤◌, refl, sym, ap, ◌∙◌, subst, arith}
+use Rattle.std.proofs.Common.{◌≤◌, refl, sym, ap, subst, arith}
 use Rattle.std.specs.Prelude.{IfErr, IfOk}
 use Rattle.program_answers.specs.declared.status.TheConstants.{EVENT_LIMIT, WORDS}
-use Rattle.program_answers.specs.Answered.{AnswersNoWords, streams}
+use Rattle.program_answers.specs.Answered.{Answers, AnswersNoWords, streams}
 use Rattle.program_answers.specs.Endings.{status_of_ending}
-use Rattle.program_answers.proofs.TopLemmas.{answers_no_words}
-use Rattle.replicate_program.specs.TableAnswers.{AnswersReplicate}
-use Rattle.replicate_program.proofs.AnswerLemmas.{answers_replicate, known_refusal}
+use Rattle.program_answers.proofs.TopLemmas.{answers_asked, answers_no_words}
+use Rattle.replicate_program.specs.TableAnswers.{table_asked_by}
+use Rattle.replicate_program.proofs.AnswerLemmas.{known_refusal}
 use Rattle.replicate_program.proofs.top.replicate.Goals as goal
 
 pub returns-in-Ok-clause-read : goal.returns-in-Ok-clause-read
 returns-in-Ok-clause-read g c =
     let old = streams c.args.source.now c.args.out.now c.args.notes.now in
     let new = streams c.run_words-ending.new.source c.run_words-ending.new.out c.conclude.new.notes in
-    subst (λ words. IfOk words (λ list. AnswersReplicate g.S.Source g.K.Sink g.N.Sink c.conclude.result old new list.items)) (sym c.in-Ok.is)
-    (subst (λ status. AnswersReplicate g.S.Source g.K.Sink g.N.Sink status old new c.in-Ok.words.items) (sym c.conclude.ensures.status)
-    (answers_replicate _ _ _ _ _ _ c.conclude.ensures.prefix c.conclude.ensures.whole _ c.run_words-ending.ensures.ends (g.met.K.Sink.in_order c.run_words-ending.new.out)))
+    subst (λ words. IfOk words (λ list. Answers g.S.Source g.K.Sink g.N.Sink c.conclude.result old new (table_asked_by list.items))) (sym c.in-Ok.is)
+    (subst (λ status. Answers g.S.Source g.K.Sink g.N.Sink status old new (table_asked_by c.in-Ok.words.items)) (sym c.conclude.ensures.status)
+    (answers_asked _ _ _ _ c.conclude.ensures.prefix c.conclude.ensures.whole c.conclude.ensures.handed _ _ _ c.run_words-ending.ensures.ends
+    (g.met.K.Sink.in_order c.run_words-ending.new.out)))
 
 pub returns-in-Ok-clause-known : goal.returns-in-Ok-clause-known
 returns-in-Ok-clause-known g c = subst (λ status. status ≤ EVENT_LIMIT) (sym c.conclude.ensures.status) c.run_words-ending.ensures.known
@@ -26,7 +27,7 @@ returns-in-Err-clause-unread g c =
     let new = streams c.args.source.now c.args.out.now c.conclude-in-Err.new.notes in
     subst (λ words. IfErr words (AnswersNoWords g.N.Sink c.conclude-in-Err.result old new)) (sym c.in-Err.is)
     (subst (λ status. AnswersNoWords g.N.Sink status old new c.in-Err.kind) (sym c.conclude-in-Err.ensures.status)
-    (answers_no_words _ _ _ _ c.conclude-in-Err.ensures.prefix c.conclude-in-Err.ensures.whole c.in-Err.kind c.unread_words.ensures.refusal
+    (answers_no_words _ _ _ _ c.conclude-in-Err.ensures.prefix c.conclude-in-Err.ensures.whole c.conclude-in-Err.ensures.handed c.in-Err.kind c.unread_words.ensures.refusal
     (λ is. ap status_of_ending (c.unread_words.ensures.no_memory is)) (λ other. ap status_of_ending (c.unread_words.ensures.no_text other)) refl refl))
 
 pub returns-in-Err-clause-known : goal.returns-in-Err-clause-known
