@@ -1,4 +1,5 @@
 pub mod CircuitLemmas
+pub mod Computing
 pub mod DrawLemmas
 pub mod JobLemmas
 pub mod PholdLemmas

@@ -1,30 +1,18 @@
 -- A small network with a job of its own, computed: at 0 the job of the list comes to a station with one server, which
 -- serves each for five ticks, and one may wait; a source makes two jobs, at 1 and at 3; a sink takes jobs out.
-use Rattle.std.proofs.Common.{lit<, lit≤, ◌≡◌, ℕ, false, refl, [], ◌∷◌}
+use Rattle.std.proofs.Common.{◌≡◌, ℕ, false, refl, [], ◌∷◌}
 use Rattle.std.specs.Prelude.{None}
-use Rattle.event_key.specs.Keys.{key_lt, key_cmp, same_key}
-use Rattle.event_key.specs.Stamps.{next_stamp, has_no_step}
-use Rattle.delta_exchange.specs.Changes.{cells_after_all, inverses_of}
 use Rattle.random_streams.specs.declared.law.Law.TheVariants.{Fixed}
-use Rattle.random_streams.specs.Laws.{draw, drawn_value, words_read}
-use Rattle.sim_spec.specs.declared.terms.Terms.{Terms}
-use Rattle.key_order.specs.Pending.{enqueue, enqueue_all}
-use Rattle.sim_spec.specs.Firing.{has_endless_chain, emissions, fired_by, fire}
-use Rattle.sim_spec.specs.State.{initial_state}
-use Rattle.sim_spec.specs.Run.{Next, does, next, next_of, next_fired}
-use Rattle.subject_laws.proofs.QueueLemmas.SmallShop.{key_at, told_at}
+use Rattle.sim_spec.specs.Run.{Next, does, next}
+use Rattle.subject_laws.proofs.QueueLemmas.SmallShop.{to_fifty, key_at, told_at}
 use Rattle.queue_models.specs.declared.kind.KindOver.TheVariants.{Source, Station, Sink}
-use Rattle.queue_models.specs.Meaning.{plain_meaning, network_meaning, start_of}
-use Rattle.queue_models.specs.Objects.{NetworkParts, sources_below}
-use Rattle.queue_models.specs.Sinks.{sink_effect}
-use Rattle.model_core.specs.Places.{place_changes}
-use Rattle.queue_models.specs.Sources.{idle_effect, last_effect, make_effect, source_effect}
-use Rattle.queue_models.specs.Stations.{take_effect, wait_effect, lose_effect, arrival_outcome, serve_effect, free_effect, done_effect, station_effect}
-use Rattle.run_laws.specs.Reached.{left_by, after_events, gathered}
-use Rattle.run_laws.specs.Sent.{sent_next}
+use Rattle.queue_models.specs.Meaning.{plain_meaning, network_meaning}
+use Rattle.queue_models.specs.Objects.{NetworkParts}
+use Rattle.run_laws.specs.Reached.{after_events}
 use Rattle.subject_laws.specs.Places.{at_event, in_line, has_left, was_lost}
 use Rattle.subject_laws.specs.Births.{births}
 use Rattle.subject_laws.specs.Jobs.{Job, listed, made_by, whereabouts, in_the_system}
+use Rattle.subject_laws.proofs.Computing.{network_run}
 
 crowd : NetworkParts
 crowd = record {
@@ -36,9 +24,6 @@ crowd = record {
   jobs = record { time = 0; at = 1; rank = 0 } ∷ [];
 }
 
-to_fifty : Terms
-to_fifty = record { end = 50; limit = 100; end_in_range = lit< tt; some_event = lit≤ tt; limit_in_range = lit≤ tt }
-
 from_list : Job
 from_list = record { origin = listed; number = 1 }
 
@@ -47,24 +32,24 @@ made number = record { origin = made_by 0; number = number }
 
 -- after three events the job of the list is served, and the source's first one, of the same number, waits
 after_three : whereabouts crowd to_fifty 3 ≡ (from_list, at_event (key_at 5 0 1 1 0)) ∷ (made 1, in_line 1 0) ∷ []
-unfolding crowd to_fifty from_list made whereabouts sent_next draw drawn_value words_read start_of sources_below place_changes idle_effect last_effect make_effect source_effect sink_effect take_effect wait_effect lose_effect arrival_outcome serve_effect free_effect done_effect station_effect plain_meaning network_meaning key_lt key_cmp same_key next_stamp has_no_step cells_after_all inverses_of enqueue enqueue_all has_endless_chain emissions fired_by fire initial_state next next_of next_fired left_by after_events
+unfolding crowd to_fifty from_list made network_run
 after_three = refl
 
 -- after seven the first has left, the second is served, and the source's second job was lost: it found the line full
 after_seven : whereabouts crowd to_fifty 7 ≡ (from_list, has_left) ∷ (made 1, at_event (key_at 10 0 1 1 2)) ∷ (made 2, was_lost) ∷ []
-unfolding crowd to_fifty from_list made whereabouts sent_next draw drawn_value words_read start_of sources_below place_changes idle_effect last_effect make_effect source_effect sink_effect take_effect wait_effect lose_effect arrival_outcome serve_effect free_effect done_effect station_effect plain_meaning network_meaning key_lt key_cmp same_key next_stamp has_no_step cells_after_all inverses_of enqueue enqueue_all has_endless_chain emissions fired_by fire initial_state next next_of next_fired left_by after_events
+unfolding crowd to_fifty from_list made network_run
 after_seven = refl
 
 -- one place is left in the system
 one_place : in_the_system crowd (after_events 7 (network_meaning crowd) to_fifty) ≡ (1, at_event (key_at 10 0 1 1 2)) ∷ []
-unfolding crowd to_fifty in_the_system draw drawn_value words_read start_of sources_below place_changes idle_effect last_effect make_effect source_effect sink_effect take_effect wait_effect lose_effect arrival_outcome serve_effect free_effect done_effect station_effect plain_meaning network_meaning key_lt key_cmp same_key next_stamp has_no_step cells_after_all inverses_of enqueue enqueue_all has_endless_chain emissions fired_by fire initial_state next next_of next_fired left_by after_events
+unfolding crowd to_fifty network_run
 one_place = refl
 
 -- the births are those of the list and of the source, and the first job is told to be 5 ticks old when it leaves at 5
 born_seen : births crowd to_fifty 7 ≡ 0 ∷ 1 ∷ 3 ∷ []
-unfolding crowd to_fifty gathered sent_next draw drawn_value words_read start_of sources_below place_changes idle_effect last_effect make_effect source_effect sink_effect take_effect wait_effect lose_effect arrival_outcome serve_effect free_effect done_effect station_effect plain_meaning network_meaning key_lt key_cmp same_key next_stamp has_no_step cells_after_all inverses_of enqueue enqueue_all has_endless_chain emissions fired_by fire initial_state next next_of next_fired left_by after_events
+unfolding crowd to_fifty network_run
 born_seen = refl
 
 age_seen : ◌≡◌ {A = Next} (next (plain_meaning crowd) to_fifty (after_events 6 (plain_meaning crowd) to_fifty)) (does (told_at (key_at 5 1 2 1 1) 9 1 5) (after_events 7 (plain_meaning crowd) to_fifty))
-unfolding crowd to_fifty draw drawn_value words_read start_of sources_below place_changes idle_effect last_effect make_effect source_effect sink_effect take_effect wait_effect lose_effect arrival_outcome serve_effect free_effect done_effect station_effect plain_meaning network_meaning key_lt key_cmp same_key next_stamp has_no_step cells_after_all inverses_of enqueue enqueue_all has_endless_chain emissions fired_by fire initial_state next next_of next_fired left_by after_events
+unfolding crowd to_fifty network_run
 age_seen = refl

@@ -2,26 +2,16 @@
 -- due is 4 ticks fails at the first job, which is 5 ticks old.
 use Rattle.std.proofs.Common.{◌≡◌, Bool, true, false, refl, [], ◌∷◌}
 use Rattle.std.specs.Prelude.{ℕ, Option, Some, None}
-use Rattle.event_key.specs.Keys.{key_lt, key_cmp}
-use Rattle.event_key.specs.Stamps.{next_stamp, has_no_step}
-use Rattle.delta_exchange.specs.Changes.{cells_after_all, inverses_of}
 use Rattle.random_streams.specs.declared.law.Law.TheVariants.{Fixed}
-use Rattle.random_streams.specs.Laws.{draw, drawn_value, words_read}
-use Rattle.key_order.specs.Pending.{enqueue, enqueue_all}
-use Rattle.model_core.specs.Places.{place_changes}
 use Rattle.sim_spec.specs.declared.stop.Stop.TheVariants.{Fault}
-use Rattle.sim_spec.specs.Firing.{has_endless_chain, emissions, fired_by, fire}
-use Rattle.sim_spec.specs.State.{initial_state}
-use Rattle.sim_spec.specs.Run.{Next, stops, next, next_of, next_fired}
+use Rattle.sim_spec.specs.Run.{Next, stops, next}
 use Rattle.queue_models.specs.declared.kind.KindOver.TheVariants.{Source, Station, Sink}
-use Rattle.queue_models.specs.Meaning.{plain_meaning, network_meaning, start_of}
-use Rattle.queue_models.specs.Objects.{NetworkParts, sources_below}
-use Rattle.queue_models.specs.Sinks.{sink_effect}
-use Rattle.queue_models.specs.Sources.{idle_effect, last_effect, make_effect, source_effect}
-use Rattle.queue_models.specs.Stations.{take_effect, wait_effect, lose_effect, arrival_outcome, serve_effect, free_effect, done_effect, station_effect}
-use Rattle.run_laws.specs.Reached.{left_by, after_events, gathered}
+use Rattle.queue_models.specs.Meaning.{plain_meaning, network_meaning}
+use Rattle.queue_models.specs.Objects.{NetworkParts}
+use Rattle.run_laws.specs.Reached.{after_events}
 use Rattle.subject_laws.specs.LossLaws.{IsToldBy}
 use Rattle.subject_laws.proofs.QueueLemmas.SmallShop.{to_fifty, key_at, told_at}
+use Rattle.subject_laws.proofs.Computing.{network_run}
 
 small_shop : Bool → Option ℕ → NetworkParts
 small_shop strict due = record {
@@ -35,7 +25,7 @@ small_shop strict due = record {
 
 -- the fourth event is the arrival of the second job
 second_is_lost : IsToldBy (plain_meaning (small_shop false None)) to_fifty (after_events 3 (plain_meaning (small_shop false None)) to_fifty) 5
-unfolding small_shop to_fifty gathered draw drawn_value words_read start_of sources_below place_changes idle_effect last_effect make_effect source_effect sink_effect take_effect wait_effect lose_effect arrival_outcome serve_effect free_effect done_effect station_effect plain_meaning network_meaning key_lt key_cmp next_stamp has_no_step cells_after_all inverses_of enqueue enqueue_all has_endless_chain emissions fired_by fire initial_state next next_of next_fired left_by after_events
+unfolding small_shop to_fifty network_run
 second_is_lost = record {
   told = told_at (key_at 3 1 1 0 2) 5 2 0;
   after = after_events 4 (plain_meaning (small_shop false None)) to_fifty;
@@ -44,9 +34,9 @@ second_is_lost = record {
 }
 
 a_strict_station_fails : ◌≡◌ {A = Next} (next (network_meaning (small_shop true None)) to_fifty (after_events 3 (network_meaning (small_shop true None)) to_fifty)) (stops (Fault (key_at 3 1 1 0 2) 2))
-unfolding small_shop to_fifty gathered draw drawn_value words_read start_of sources_below place_changes idle_effect last_effect make_effect source_effect sink_effect take_effect wait_effect lose_effect arrival_outcome serve_effect free_effect done_effect station_effect plain_meaning network_meaning key_lt key_cmp next_stamp has_no_step cells_after_all inverses_of enqueue enqueue_all has_endless_chain emissions fired_by fire initial_state next next_of next_fired left_by after_events
+unfolding small_shop to_fifty network_run
 a_strict_station_fails = refl
 
 a_sink_fails : ◌≡◌ {A = Next} (next (network_meaning (small_shop false (Some 4))) to_fifty (after_events 7 (network_meaning (small_shop false (Some 4))) to_fifty)) (stops (Fault (key_at 6 1 2 1 1) 3))
-unfolding small_shop to_fifty gathered draw drawn_value words_read start_of sources_below place_changes idle_effect last_effect make_effect source_effect sink_effect take_effect wait_effect lose_effect arrival_outcome serve_effect free_effect done_effect station_effect plain_meaning network_meaning key_lt key_cmp next_stamp has_no_step cells_after_all inverses_of enqueue enqueue_all has_endless_chain emissions fired_by fire initial_state next next_of next_fired left_by after_events
+unfolding small_shop to_fifty network_run
 a_sink_fails = refl

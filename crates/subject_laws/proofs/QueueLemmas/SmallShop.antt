@@ -4,33 +4,25 @@ use Rattle.std.proofs.Common.{lit<, lit≤, ◌≡◌, ℕ, false, refl, List, [
 use Rattle.std.specs.Prelude.{None}
 use Rattle.event_key.specs.declared.key.Key.{Key}
 use Rattle.event_key.specs.declared.key.TheConstants.{INITIAL}
-use Rattle.event_key.specs.Keys.{key_lt, key_cmp}
-use Rattle.event_key.specs.Stamps.{stamp_at, next_stamp, has_no_step}
-use Rattle.delta_exchange.specs.Changes.{cells_after_all, inverses_of}
+use Rattle.event_key.specs.Stamps.{stamp_at}
 use Rattle.random_streams.specs.declared.law.Law.TheVariants.{Fixed}
-use Rattle.random_streams.specs.Laws.{draw, drawn_value, words_read}
 use Rattle.model_core.specs.declared.event.Event.{Event}
 use Rattle.model_core.specs.declared.note.Note.{Note}
 use Rattle.sim_spec.specs.declared.terms.Terms.{Terms}
-use Rattle.key_order.specs.Pending.{enqueue, enqueue_all}
-use Rattle.sim_spec.specs.Firing.{has_endless_chain, emissions, fired_by, fire}
 use Rattle.sim_spec.specs.State.{State, initial_state}
-use Rattle.sim_spec.specs.Run.{next, next_of, next_fired, run, run_for, run_on}
+use Rattle.sim_spec.specs.Run.{next, run}
 use Rattle.queue_models.specs.declared.station.Station.{Station as StationOver}
 use Rattle.queue_models.specs.declared.kind.KindOver.TheVariants.{Source, Station, Sink}
-use Rattle.queue_models.specs.Meaning.{plain_meaning, network_meaning, start_of}
-use Rattle.queue_models.specs.Objects.{NetworkParts, object_at, sources_below}
-use Rattle.queue_models.specs.Sinks.{sink_effect}
-use Rattle.model_core.specs.Places.{place_changes}
-use Rattle.queue_models.specs.Sources.{idle_effect, last_effect, make_effect, source_effect}
-use Rattle.queue_models.specs.Stations.{take_effect, wait_effect, lose_effect, arrival_outcome, serve_effect, free_effect, done_effect, station_effect}
-use Rattle.run_laws.specs.Reached.{left_by, after_events, Reaches, gathered, first_records}
+use Rattle.queue_models.specs.Meaning.{plain_meaning, network_meaning}
+use Rattle.queue_models.specs.Objects.{NetworkParts, object_at}
+use Rattle.run_laws.specs.Reached.{after_events, Reaches, first_records}
 use Rattle.run_laws.specs.RunLaws.{IsCause}
-use Rattle.run_laws.specs.Sent.{sent_next, happened, all_sent, initial_events}
+use Rattle.run_laws.specs.Sent.{happened, all_sent, initial_events}
 use Rattle.subject_laws.specs.Draws.{draws_next}
 use Rattle.subject_laws.specs.WayLaws.{GoesOn}
 use Rattle.subject_laws.specs.Orders.{arrived_at, begun_at, done_at, numbers_of}
 use Rattle.subject_laws.specs.Stations.{IsStationAt, busy_at, waiting_at, in_service_at}
+use Rattle.subject_laws.proofs.Computing.{network_run}
 
 unfoldable pub counter : StationOver ℕ
 counter = record { servers = 1; service = Fixed 5; line = 2; strict = false; next = 2 }
@@ -63,7 +55,7 @@ four_records : first_records 4 (network_meaning shop) to_fifty ≡
     ∷ told_at (key_at 3 0 0 0 1) 2 2 2
     ∷ told_at (key_at 3 1 1 0 2) 4 2 1
     ∷ []
-unfolding gathered shop counter to_fifty draw drawn_value words_read start_of sources_below place_changes idle_effect last_effect make_effect source_effect sink_effect take_effect wait_effect lose_effect arrival_outcome serve_effect free_effect done_effect station_effect plain_meaning network_meaning key_lt key_cmp next_stamp has_no_step cells_after_all inverses_of enqueue enqueue_all has_endless_chain emissions fired_by fire initial_state next next_of next_fired left_by after_events
+unfolding shop to_fifty network_run
 four_records = refl
 
 -- the third of them sent the event of the fourth, one step later
@@ -74,7 +66,7 @@ second_arrival : Event
 second_arrival = record { key = key_at 3 1 1 0 2; kind = 3; a = 2; b = 3 }
 
 cause_of_fourth : IsCause (network_meaning shop) to_fifty 2 second_arrival
-unfolding third_event second_arrival sent_next shop counter to_fifty draw drawn_value words_read start_of sources_below place_changes idle_effect last_effect make_effect source_effect sink_effect take_effect wait_effect lose_effect arrival_outcome serve_effect free_effect done_effect station_effect plain_meaning network_meaning key_lt key_cmp next_stamp has_no_step cells_after_all inverses_of enqueue enqueue_all has_endless_chain emissions fired_by fire initial_state next next_of next_fired left_by after_events
+unfolding third_event second_arrival shop to_fifty network_run
 cause_of_fourth = record {
   cause = third_event;
   happens = record {
@@ -98,14 +90,14 @@ short_run : (run (network_meaning shop) to_three (initial_state (network_meaning
     ∷ told_at (key_at 3 0 0 0 1) 2 2 2
     ∷ told_at (key_at 3 1 1 0 2) 4 2 1
     ∷ []
-unfolding run run_for run_on to_three shop counter to_fifty draw drawn_value words_read start_of sources_below place_changes idle_effect last_effect make_effect source_effect sink_effect take_effect wait_effect lose_effect arrival_outcome serve_effect free_effect done_effect station_effect plain_meaning network_meaning key_lt key_cmp next_stamp has_no_step cells_after_all inverses_of enqueue enqueue_all has_endless_chain emissions fired_by fire initial_state next next_of next_fired left_by after_events
+unfolding to_three shop to_fifty network_run
 short_run = refl
 
 -- that is the second job, which goes to the counter at the next step
 second_goes_on : GoesOn (object_at shop.objects 0).kind (told_at (key_at 3 0 0 0 1) 2 2 2)
     (draws_next (plain_meaning shop) (object_at shop.objects 0).kind 0 (after_events 2 (plain_meaning shop) to_fifty) (next (plain_meaning shop) to_fifty (after_events 2 (plain_meaning shop) to_fifty)))
     second_arrival
-unfolding second_arrival shop counter to_fifty draw drawn_value words_read start_of sources_below place_changes idle_effect last_effect make_effect source_effect sink_effect take_effect wait_effect lose_effect arrival_outcome serve_effect free_effect done_effect station_effect plain_meaning network_meaning key_lt key_cmp next_stamp has_no_step cells_after_all inverses_of enqueue enqueue_all has_endless_chain emissions fired_by fire initial_state next next_of next_fired left_by after_events
+unfolding second_arrival shop to_fifty network_run
 second_goes_on = record { job = refl; way = (0, lit< tt, refl); chosen = λ router. absurd (cc); time = refl }
 
 -- by then four events have happened and two are pending: the initial one, and five that were sent
@@ -116,7 +108,7 @@ events_seen : ◌≡◌ {A = ℕ × ℕ × ℕ × ℕ} (
   length (all_sent 4 (network_meaning shop) to_fifty),
 )
     (4, 2, 1, 5)
-unfolding gathered sent_next shop counter to_fifty draw drawn_value words_read start_of sources_below place_changes idle_effect last_effect make_effect source_effect sink_effect take_effect wait_effect lose_effect arrival_outcome serve_effect free_effect done_effect station_effect plain_meaning network_meaning key_lt key_cmp next_stamp has_no_step cells_after_all inverses_of enqueue enqueue_all has_endless_chain emissions fired_by fire initial_state next next_of next_fired left_by after_events
+unfolding shop to_fifty network_run
 events_seen = refl
 
 -- six events are done: three jobs were made; the first is served, the others wait
@@ -132,7 +124,7 @@ unfolding shop
 is_counter = refl
 
 who_waits : ◌≡◌ {A = ℕ × List ℕ × List ℕ} (busy_at three_here 1, waiting_at three_here 1, map (λ e. e.a) (in_service_at three_here 1)) (1, 2 ∷ 3 ∷ [], 1 ∷ [])
-unfolding three_here shop counter to_fifty draw drawn_value words_read start_of sources_below place_changes idle_effect last_effect make_effect source_effect sink_effect take_effect wait_effect lose_effect arrival_outcome serve_effect free_effect done_effect station_effect plain_meaning network_meaning key_lt key_cmp next_stamp has_no_step cells_after_all inverses_of enqueue enqueue_all has_endless_chain emissions fired_by fire initial_state next next_of next_fired left_by after_events
+unfolding three_here shop to_fifty network_run
 who_waits = refl
 
 -- after eleven events all four jobs came in; three services began, and two of them have ended
@@ -142,5 +134,5 @@ eleven = after_events 11 (network_meaning shop) to_fifty
 in_turn : ◌≡◌ {A = List ℕ × List ℕ × List ℕ × List ℕ × List ℕ}
     (arrived_at shop to_fifty 1 11, begun_at shop to_fifty 1 11, done_at shop to_fifty 1 11, waiting_at eleven 1, numbers_of (in_service_at eleven 1))
     (1 ∷ 2 ∷ 3 ∷ 4 ∷ [], 1 ∷ 2 ∷ 3 ∷ [], 1 ∷ 2 ∷ [], 4 ∷ [], 3 ∷ [])
-unfolding eleven gathered sent_next shop counter to_fifty draw drawn_value words_read start_of sources_below place_changes idle_effect last_effect make_effect source_effect sink_effect take_effect wait_effect lose_effect arrival_outcome serve_effect free_effect done_effect station_effect plain_meaning network_meaning key_lt key_cmp next_stamp has_no_step cells_after_all inverses_of enqueue enqueue_all has_endless_chain emissions fired_by fire initial_state next next_of next_fired left_by after_events
+unfolding eleven shop to_fifty network_run
 in_turn = refl

@@ -1,20 +1,9 @@
 -- Both sides compute to the same.
 use Rattle.std.proofs.Common.{refl}
-use Rattle.event_key.specs.Keys.{key_lt, key_cmp}
-use Rattle.event_key.specs.Stamps.{next_stamp, has_no_step}
-use Rattle.delta_exchange.specs.Changes.{cells_after_all, inverses_of}
-use Rattle.key_order.specs.Pending.{enqueue, enqueue_all}
-use Rattle.sim_spec.specs.Firing.{has_endless_chain, emissions, fired_by, fire}
-use Rattle.sim_spec.specs.State.{initial_state}
-use Rattle.sim_spec.specs.Run.{next, next_of, next_fired, run, run_for, run_on}
-use Rattle.circuit_model.specs.Events.{output_on, output_after, gate_effect}
-use Rattle.circuit_model.specs.Gates.{value_of}
-use Rattle.circuit_model.specs.Meaning.{circuit_meaning}
-use Rattle.circuit_model.specs.Starts.{computes_below, flips_below, starts_of}
-use Rattle.circuit_model.specs.Wiring.{pins_below, fed_among}
 use Rattle.subject_laws.specs.CircuitExamples.{ring, fires_last}
+use Rattle.subject_laws.proofs.Computing.{circuit_run}
 use Rattle.subject_laws.proofs.circuit_examples.a_ring_without_delay_fails_at_the_last_step.Goals as goal
 
 pub returns : goal.returns
-unfolding key_lt key_cmp next_stamp has_no_step cells_after_all inverses_of enqueue enqueue_all has_endless_chain emissions fired_by fire initial_state next next_of next_fired run run_for run_on output_on output_after gate_effect value_of circuit_meaning computes_below flips_below starts_of pins_below fed_among ring fires_last
+unfolding ring fires_last circuit_run
 returns c = refl
