@@ -7,6 +7,7 @@ pub mod Leaves
 pub mod Pins
 pub mod Sends
 pub mod SettledLaw
+pub mod SmallPins
 pub mod Starting
 pub mod Timely
 pub mod Values

@@ -2,7 +2,10 @@
 use Rattle.event_key.specs.Keys.{key_lt, key_cmp, same_key}
 use Rattle.event_key.specs.Stamps.{next_stamp, has_no_step}
 use Rattle.delta_exchange.specs.Changes.{cells_after_all, inverses_of}
-use Rattle.random_streams.specs.Laws.{draw, drawn_value, words_read}
+use Rattle.rand_core.specs.Steps.{u32_at}
+use Rattle.rand_chacha.specs.Block.{quarter_round, column_round, diagonal_round, double_rounds, block_word}
+use Rattle.random_streams.specs.Laws.{draw, drawn_value, words_read, chosen_place}
+use Rattle.random_streams.specs.Words.{word_of}
 use Rattle.key_order.specs.Pending.{enqueue, enqueue_all}
 use Rattle.model_core.specs.Places.{place_changes}
 use Rattle.sim_spec.specs.Firing.{has_endless_chain, emissions, fired_by, fire}
@@ -29,9 +32,14 @@ use Rattle.sim_stats.specs.Sums.{last_told, sums_of}
 use Rattle.sim_stats.specs.Words.{words_told}
 use Rattle.subject_laws.specs.Jobs.{whereabouts, in_the_system}
 
+-- random words, and what is drawn by them
+unfoldable pub random_draw : Unit {0}
+unfolding word_of u32_at quarter_round column_round diagonal_round double_rounds block_word draw drawn_value words_read chosen_place
+random_draw = tt
+
 -- the run of any model
 unfoldable pub any_run : Unit {0}
-unfolding key_lt key_cmp same_key next_stamp has_no_step cells_after_all inverses_of draw drawn_value words_read enqueue enqueue_all place_changes
+unfolding random_draw key_lt key_cmp same_key next_stamp has_no_step cells_after_all inverses_of enqueue enqueue_all place_changes
     has_endless_chain emissions fired_by fire initial_state next next_of next_fired run run_for run_on left_by after_events gathered sent_next
 any_run = tt
 

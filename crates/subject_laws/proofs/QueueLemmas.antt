@@ -9,5 +9,7 @@ pub mod PlainRuns
 pub mod ServersLaw
 pub mod SmallLosses
 pub mod SmallShop
+pub mod SmallTelling
+pub mod SmallWays
 pub mod TellingLaw
 pub mod WaysLaw

@@ -2,3 +2,4 @@
 pub mod RingLaw
 pub mod RingParts
 pub mod RingSteps
+pub mod SmallDemo

@@ -1,5 +1,6 @@
 -- The examples are circuits.
 use Rattle.std.proofs.Common.{◌≡◌, ℕ, zero, suc, ◌<◌, ◌≤◌, ◌^◌, false, List, [], ◌∷◌, length, map, refl, lit<, lit≤, arith}
+use Rattle.std.proofs.lemmas.List.Elements.{All-nil, All-cons}
 use Rattle.std.specs.Prelude.{All, codes}
 use Rattle.circuit_model.specs.declared.gate.LogicKind.TheVariants.{Not, And}
 use Rattle.circuit_model.specs.Gates.{gate_at, is_flip_flop, value_of}
@@ -10,15 +11,7 @@ use Rattle.subject_laws.specs.CircuitFunctions.{computed, IsAcyclic}
 use Rattle.subject_laws.specs.CircuitExamples.{input, gate, gates_in_line, ring}
 
 All-one : {X : Type 0} (P : X → Type 0) (a : X) → P a → All P (a ∷ [])
-All-one P a here zero d within = here
-All-one P a here (suc i) d within = absurd (omega arith)
-
-All-cons : {X : Type 0} (P : X → Type 0) (a : X) (xs : List X) → P a → All P xs → All P (a ∷ xs)
-All-cons P a xs here rest zero d within = here
-All-cons P a xs here rest (suc i) d within = rest i d (omega arith)
-
-none : {X : Type 0} (P : X → Type 0) → All P []
-none P i d within = absurd (omega arith)
+All-one P a here = All-cons P a [] here (All-nil P)
 
 pub ring-circuit : IsCircuit ring
 unfolding ring flips_below pins_below fed_among
@@ -48,7 +41,7 @@ gates_in_line-circuit = record {
 }
   where
     a : IsGate gates_in_line (input (codes "a") (2 ∷ []))
-    a = record { delay = lit≤ tt; pins = refl; from = none (λ number. number < 3); flips = All-one (λ time. time < 2 ^ 46) 2 (lit< tt) }
+    a = record { delay = lit≤ tt; pins = refl; from = All-nil (λ number. number < 3); flips = All-one (λ time. time < 2 ^ 46) 2 (lit< tt) }
 
     n : IsGate gates_in_line (gate (codes "n") Not 1 (0 ∷ []))
     n = record { delay = lit≤ tt; pins = refl; from = All-one (λ number. number < 3) 0 (lit< tt); flips = refl }

@@ -1,6 +1,6 @@
 -- A small network with a job of its own, computed: at 0 the job of the list comes to a station with one server, which
 -- serves each for five ticks, and one may wait; a source makes two jobs, at 1 and at 3; a sink takes jobs out.
-use Rattle.std.proofs.Common.{◌≡◌, ℕ, false, refl, [], ◌∷◌}
+use Rattle.std.proofs.Common.{lit<, ◌≡◌, ℕ, false, refl, [], ◌∷◌}
 use Rattle.std.specs.Prelude.{None}
 use Rattle.random_streams.specs.declared.law.Law.TheVariants.{Fixed}
 use Rattle.sim_spec.specs.Run.{Next, does, next}
@@ -10,7 +10,7 @@ use Rattle.queue_models.specs.Meaning.{plain_meaning, network_meaning}
 use Rattle.queue_models.specs.Objects.{NetworkParts}
 use Rattle.run_laws.specs.Reached.{after_events}
 use Rattle.subject_laws.specs.Places.{at_event, in_line, has_left, was_lost}
-use Rattle.subject_laws.specs.Births.{births}
+use Rattle.subject_laws.specs.Births.{births, AreKept}
 use Rattle.subject_laws.specs.Jobs.{Job, listed, made_by, whereabouts, in_the_system}
 use Rattle.subject_laws.proofs.Computing.{network_run}
 
@@ -53,3 +53,8 @@ born_seen = refl
 age_seen : ◌≡◌ {A = Next} (next (plain_meaning crowd) to_fifty (after_events 6 (plain_meaning crowd) to_fifty)) (does (told_at (key_at 5 1 2 1 1) 9 1 5) (after_events 7 (plain_meaning crowd) to_fifty))
 unfolding crowd to_fifty network_run
 age_seen = refl
+
+-- after three events the births are kept where the jobs stand: 0 at the end of the service, and 1 in the line
+births_kept : AreKept crowd (after_events 3 (network_meaning crowd) to_fifty) (whereabouts crowd to_fifty 3) (births crowd to_fifty 3)
+unfolding crowd to_fifty network_run
+births_kept = ((record { key = key_at 5 0 1 1 0; kind = 2; a = 1; b = 0 }, (1, lit< tt, refl), refl, refl, refl), ((lit< tt, refl), tt))

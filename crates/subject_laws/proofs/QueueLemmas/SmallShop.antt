@@ -1,7 +1,7 @@
 -- A shop, computed: a source makes four jobs, one every two ticks from tick 1 on; a station with one server serves each
 -- for five ticks, and two may wait; a sink takes them out.
 use Rattle.std.proofs.Common.{lit<, lit≤, ◌≡◌, ℕ, false, refl, List, [], ◌∷◌, length, map}
-use Rattle.std.specs.Prelude.{None}
+use Rattle.std.specs.Prelude.{None, Contains}
 use Rattle.event_key.specs.declared.key.Key.{Key}
 use Rattle.event_key.specs.declared.key.TheConstants.{INITIAL}
 use Rattle.event_key.specs.Stamps.{stamp_at}
@@ -16,7 +16,7 @@ use Rattle.queue_models.specs.declared.kind.KindOver.TheVariants.{Source, Statio
 use Rattle.queue_models.specs.Meaning.{plain_meaning, network_meaning}
 use Rattle.queue_models.specs.Objects.{NetworkParts, object_at}
 use Rattle.run_laws.specs.Reached.{after_events, Reaches, first_records}
-use Rattle.run_laws.specs.RunLaws.{IsCause}
+use Rattle.run_laws.specs.RunLaws.{IsCause, Happens}
 use Rattle.run_laws.specs.Sent.{happened, all_sent, initial_events}
 use Rattle.subject_laws.specs.Draws.{draws_next}
 use Rattle.subject_laws.specs.WayLaws.{GoesOn}
@@ -78,6 +78,21 @@ cause_of_fourth = record {
   };
   sent = (0, lit< tt, refl);
   earlier = lit< tt;
+}
+
+-- it is pending once the third is done, and happens as the fourth
+is_pending : Contains (after_events 3 (network_meaning shop) to_fifty).pending second_arrival
+unfolding second_arrival shop to_fifty network_run
+is_pending = (0, lit< tt, refl)
+
+happens_fourth : Happens (network_meaning shop) to_fifty 3 second_arrival
+unfolding second_arrival shop to_fifty network_run
+happens_fourth = record {
+  rest = _;
+  told = told_at (key_at 3 1 1 0 2) 4 2 1;
+  after = after_events 4 (network_meaning shop) to_fifty;
+  pending = refl;
+  goes = refl;
 }
 
 -- the run to tick 3 has these four records alone
