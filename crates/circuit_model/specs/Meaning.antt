@@ -3,6 +3,7 @@ use Rattle.std.specs.Prelude.{List, length, ◌+◌, replicate, [], slice_index_
 use Rattle.delta_exchange.specs.Changes.{CellData}
 use Rattle.model_core.specs.declared.effect.Outcome.TheVariants.{Goes}
 use Rattle.model_core.specs.Meaning.{Meaning}
+use Rattle.model_core.specs.Words.{record_word, fault_word}
 use Rattle.circuit_model.specs.declared.gate.LogicGate.{LogicGate}
 use Rattle.circuit_model.specs.Events.{is_gate_cells, gate_effect}
 use Rattle.circuit_model.specs.Gates.{gate_at}
@@ -21,4 +22,6 @@ circuit_meaning gates = record {
   starts = length (starts_of gates);
   start_at = λ i. slice_index_or (starts_of gates) i (compute_start 0);
   label = λ number. (gate_at gates number).name;
+  word = record_word;
+  fault = fault_word;
 }

@@ -11,7 +11,10 @@ use crate::response::OUTPUT;
 use crate::starts::starts_of;
 use crate::wiring::{Pins, gate_at, wire};
 use model_core::model::Model as SimulationModel;
-use model_core::{Cells, Change, Digits, Effect, Ending, Event, OutOfMemory, Start};
+use model_core::{
+    Cells, Change, Digits, Effect, Ending, Event, OutOfMemory, Start, fault_word, record_word,
+    write_record_word,
+};
 use random_streams::Stream;
 use std::alloc::Global;
 
@@ -116,5 +119,18 @@ impl SimulationModel for Circuit {
         at: usize,
     ) -> Option<usize> {
         gate_at(&self.gates, object).name.write(into, at)
+    }
+
+    fn word(&self, number: u32) -> Option<&'static str> {
+        record_word(number)
+    }
+
+    fn fault(&self, code: u32) -> Option<&'static str> {
+        fault_word(code)
+    }
+
+    #[inline(always)]
+    fn write_word(&self, number: u32, into: &mut [u8], at: usize) -> Option<usize> {
+        write_record_word(number, into, at)
     }
 }

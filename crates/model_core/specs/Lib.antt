@@ -5,5 +5,6 @@ pub mod Meaning
 pub mod Notes
 pub mod Places
 pub mod Records
+pub mod SpacedWords
 pub mod Words
 pub mod Writing

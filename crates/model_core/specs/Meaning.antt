@@ -1,5 +1,5 @@
 -- What a model means, and the laws that each model keeps.
-use Rattle.std.specs.Prelude.{ℕ, ◌^◌, ◌<◌, ◌≤◌, Bool, IsTrue, List, [], ◌∷◌, length}
+use Rattle.std.specs.Prelude.{ℕ, ◌^◌, ◌<◌, ◌≤◌, Bool, IsTrue, List, [], ◌∷◌, length, Option}
 use Rattle.delta_exchange.specs.Changes.{CellData, AllFit, cells_after_all}
 use Rattle.event_key.specs.declared.key.TheConstants.{MOST_RANK}
 use Rattle.model_core.specs.declared.event.Event.{Event}
@@ -11,7 +11,8 @@ use Rattle.model_core.specs.declared.effect.Outcome.TheVariants.{Goes, Fails}
 use Rattle.model_core.specs.declared.limits.TheConstants.{MOST_OBJECTS}
 
 -- how many objects there are, which cells an object may have, what an event does at an object,
--- the cells of each object at the start, the initial events, and the names that are printed
+-- the cells of each object at the start, the initial events, the names that are printed, and the words of what events
+-- tell and of faults: a number without a word is printed as such
 pub record Meaning : Type 0 where
   pub objects : ℕ
   pub lawful : ℕ → CellData → Bool
@@ -20,6 +21,8 @@ pub record Meaning : Type 0 where
   pub starts : ℕ
   pub start_at : ℕ → Start
   pub label : ℕ → List ℕ
+  pub word : ℕ → Option (List ℕ)
+  pub fault : ℕ → Option (List ℕ)
 
 -- what is sent has a destination, no long delay and a small rank
 abbrev pub SendsInRange : ℕ → List Send → Type 0

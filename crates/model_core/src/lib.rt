@@ -37,7 +37,7 @@ pub use words::{
     CALLED_WORD, DELAYED_WORD, DONE_WORD, DOWN_WORD, DROPPED_WORD, ENDLESS_CHAIN, FREED_WORD,
     HELD_WORD, HOP_WORD, LATE, LEFT_WORD, LEVEL_WORD, LINE_FULL, LOAD_WORD, LOST_WORD, MADE_WORD,
     OPENED_WORD, OVERDUE_WORD, RENEGED_WORD, ROUTED_WORD, TAKEN_WORD, UP_WORD, WAITING_WORD,
-    WENT_WORD, fault_word, record_word,
+    WENT_WORD, fault_word, record_word, write_record_word,
 };
 pub use writing::{write_byte, write_first};
 

@@ -1,8 +1,9 @@
 //! What a simulation asks of a model.
-ghost use Rattle.std.specs.Prelude.{◌≡◌, ◌+◌, ◌<◌, ◌≤◌, ◌^◌, ◌++◌, length, IfOk, OnOk, OnErr, IfSome, IfNone, IsTrue};
+ghost use Rattle.std.specs.Prelude.{◌≡◌, ◌+◌, ◌<◌, ◌≤◌, ◌^◌, ◌++◌, length, option_map, IfOk, OnOk, OnErr, IfSome, IfNone, IsTrue};
 ghost use Rattle.event_key.specs.Stamps.{time_part};
 ghost use Rattle.model_core.specs.Effects.{outcome_by};
 ghost use Rattle.model_core.specs.Meaning.{Meaning, MeaningLaws};
+ghost use Rattle.model_core.specs.SpacedWords.{between_spaces, told_word};
 ghost use Rattle.model_core.specs.Writing.{WritesAt};
 
 use crate::digits::Digits;
@@ -14,6 +15,9 @@ use std::alloc::Global;
 
 /// For how many bytes there is room where a name is written.
 pub const NAME_ROOM: usize = 24;
+
+/// For how many bytes there is room where a word is written, with the spaces about it.
+pub const WORD_ROOM: usize = 22;
 
 /// A model: objects that change by events, each event at one object.
 pub trait Model: std::marker::Send + Sync + Drop {
@@ -95,6 +99,26 @@ pub trait Model: std::marker::Send + Sync + Drop {
         requires room { at + NAME_ROOM ≤ length into.old }
         ensures some { IfSome result (λ end. WritesAt into.old into.new at end ((meaning self.now).label object)) }
         ensures few { IfSome result (λ end. end ≤ at + NAME_ROOM) }
+        ensures none { IfNone result (into.new ≡ into.old) }
+    {
+        None
+    }
+
+    /// The text of a word that its events tell, where there is one with this number. A number without a word is told as
+    /// such.
+    fn word(&self, number: u32) -> Option<&'static str>
+        ensures { option_map (λ text. text.now) result ≡ (meaning self.now).word number };
+
+    /// The text of a fault, where there is one with this code, above 1.
+    fn fault(&self, code: u32) -> Option<&'static str>
+        ensures { option_map (λ text. text.now) result ≡ (meaning self.now).fault code };
+
+    /// Writes a word between spaces at a place with room for `WORD_ROOM` bytes, and answers the place behind it. A word that
+    /// isn't written so, as one that is longer, is left to `word`.
+    fn write_word(&self, number: u32, into: &mut [u8], at: usize) -> Option<usize>
+        requires { at + WORD_ROOM ≤ length into.old }
+        ensures some { IfSome result (λ end. WritesAt into.old into.new at end (between_spaces (told_word ((meaning self.now).word number) number))) }
+        ensures few { IfSome result (λ end. end ≤ at + WORD_ROOM) }
         ensures none { IfNone result (into.new ≡ into.old) }
     {
         None

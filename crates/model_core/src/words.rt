@@ -1,6 +1,10 @@
 //! The words of records and those of faults: the number by which a model tells each, and its text.
-ghost use Rattle.std.specs.Prelude.{◌≡◌, option_map};
+ghost use Rattle.std.specs.Prelude.{◌≡◌, ◌+◌, ◌≤◌, length, option_map, IfSome, IfNone, None};
 ghost use Rattle.model_core.specs.Words.{record_word, fault_word};
+ghost use Rattle.model_core.specs.SpacedWords.{IsSpaced, between_spaces, told_word};
+ghost use Rattle.model_core.specs.Writing.{WritesAt};
+
+use crate::writing::write_first;
 
 /// An event hops on to another object.
 pub const HOP_WORD: u32 = 1;
@@ -114,4 +118,57 @@ pub fn fault_word(code: u32) -> Option<&'static str>
         LATE => Some("late"),
         _ => None,
     }
+}
+
+/// The first ones of these bytes: a word between spaces.
+#[derive(Clone, Copy, Debug)]
+struct Spaced {
+    bytes: [u8; 8],
+    count: usize,
+}
+
+/// A word of records between spaces, where there is one with this number.
+#[inline(always)]
+fn spaced_word(number: u32) -> Option<Spaced>
+    ensures some { IfSome result (IsSpaced number) }
+    ensures none { IfNone result (record_word number ≡ None) }
+{
+    let (bytes, count) = match number {
+        HOP_WORD => (*b" hop    ", 5),
+        MADE_WORD => (*b" make   ", 6),
+        TAKEN_WORD => (*b" take   ", 6),
+        WAITING_WORD => (*b" wait   ", 6),
+        LOST_WORD => (*b" lose   ", 6),
+        DONE_WORD => (*b" done   ", 6),
+        HELD_WORD => (*b" hold   ", 6),
+        ROUTED_WORD => (*b" route  ", 7),
+        LEFT_WORD => (*b" leave  ", 7),
+        LOAD_WORD => (*b" load   ", 6),
+        LEVEL_WORD => (*b" level  ", 7),
+        DELAYED_WORD => (*b" delay  ", 7),
+        WENT_WORD => (*b" go     ", 4),
+        DROPPED_WORD => (*b" drop   ", 6),
+        OVERDUE_WORD => (*b" late   ", 6),
+        CALLED_WORD => (*b" call   ", 6),
+        FREED_WORD => (*b" free   ", 6),
+        RENEGED_WORD => (*b" renege ", 8),
+        OPENED_WORD => (*b" open   ", 6),
+        DOWN_WORD => (*b" down   ", 6),
+        UP_WORD => (*b" up     ", 4),
+        _ => return None,
+    };
+    Some(Spaced { bytes, count })
+}
+
+/// Writes a word of records between spaces at a place, and answers the place behind it. A number without a word isn't
+/// written.
+#[inline(always)]
+pub fn write_record_word(number: u32, into: &mut [u8], at: usize) -> Option<usize>
+    requires { at + 8 ≤ length into.old }
+    ensures some { IfSome result (λ end. WritesAt into.old into.new at end (between_spaces (told_word (record_word number) number))) }
+    ensures few { IfSome result (λ end. end ≤ at + 8) }
+    ensures none { IfNone result (into.new ≡ into.old) }
+{
+    let spaced = spaced_word(number)?;
+    Some(write_first(spaced.count, &spaced.bytes, into, at))
 }

@@ -52,13 +52,15 @@ pub record AreAlike (one other : Meaning) : Type 0 where
   pub starts : one.starts ≡ other.starts
   pub start_at : (i : ℕ) → one.start_at i ≡ other.start_at i
   pub label : (object : ℕ) → one.label object ≡ other.label object
+  pub word : (number : ℕ) → one.word number ≡ other.word number
+  pub fault : (code : ℕ) → one.fault code ≡ other.fault code
 
 -- a seed plays a part in what events do alone
 pub alike_under : (seed : ℕ) (model : AnyModel) → AreAlike (meaning_under seed model) (meaning_of model)
 unfolding phold_meaning starts_of network_meaning start_of
 alike_under seed (Phold model) =
-    record { objects = refl; lawful = λ object cells. refl; first = λ object. refl; starts = refl; start_at = λ i. refl; label = λ object. refl }
+    record { objects = refl; lawful = λ object cells. refl; first = λ object. refl; starts = refl; start_at = λ i. refl; label = λ object. refl; word = λ n. refl; fault = λ n. refl }
 alike_under seed (Network model) =
-    record { objects = refl; lawful = λ object cells. refl; first = λ object. refl; starts = refl; start_at = λ i. refl; label = λ object. refl }
+    record { objects = refl; lawful = λ object cells. refl; first = λ object. refl; starts = refl; start_at = λ i. refl; label = λ object. refl; word = λ n. refl; fault = λ n. refl }
 alike_under seed (Circuit model) =
-    record { objects = refl; lawful = λ object cells. refl; first = λ object. refl; starts = refl; start_at = λ i. refl; label = λ object. refl }
+    record { objects = refl; lawful = λ object cells. refl; first = λ object. refl; starts = refl; start_at = λ i. refl; label = λ object. refl; word = λ n. refl; fault = λ n. refl }

@@ -134,4 +134,29 @@ impl SimulationModel for AnyModel {
             AnyModel::Circuit(circuit) => circuit.write_name(digits, object, into, at),
         }
     }
+
+    fn word(&self, number: u32) -> Option<&'static str> {
+        match self {
+            AnyModel::Phold(phold) => phold.word(number),
+            AnyModel::Network(network) => network.word(number),
+            AnyModel::Circuit(circuit) => circuit.word(number),
+        }
+    }
+
+    fn fault(&self, code: u32) -> Option<&'static str> {
+        match self {
+            AnyModel::Phold(phold) => phold.fault(code),
+            AnyModel::Network(network) => network.fault(code),
+            AnyModel::Circuit(circuit) => circuit.fault(code),
+        }
+    }
+
+    #[inline(always)]
+    fn write_word(&self, number: u32, into: &mut [u8], at: usize) -> Option<usize> {
+        match self {
+            AnyModel::Phold(phold) => phold.write_word(number, into, at),
+            AnyModel::Network(network) => network.write_word(number, into, at),
+            AnyModel::Circuit(circuit) => circuit.write_word(number, into, at),
+        }
+    }
 }

@@ -72,4 +72,12 @@ impl SimulationModel for Seeded {
     fn put_name(&self, alloc: Global, object: u32, into: &mut Vec<u8>) -> Result<(), OutOfMemory> {
         self.model.put_name(alloc, object, into)
     }
+
+    fn word(&self, number: u32) -> Option<&'static str> {
+        self.model.word(number)
+    }
+
+    fn fault(&self, code: u32) -> Option<&'static str> {
+        self.model.fault(code)
+    }
 }

@@ -7,6 +7,7 @@ use Rattle.model_core.specs.declared.effect.Outcome.TheVariants.{Goes}
 use Rattle.model_core.specs.declared.event.Start.{Start}
 use Rattle.model_core.specs.declared.words.TheConstants.{HOP_WORD}
 use Rattle.model_core.specs.Meaning.{Meaning}
+use Rattle.model_core.specs.Words.{record_word, fault_word}
 use Rattle.model_core.specs.Places.{place_changes}
 use Rattle.random_streams.specs.Laws.{draw}
 use Rattle.random_streams.specs.Words.{word_of}
@@ -61,4 +62,6 @@ phold_meaning p = record {
   starts = length (starts_of p);
   start_at = λ i. slice_index_or (starts_of p) i (hop_start 0 0 0);
   label = λ object. codes "p" ++ decimal object;
+  word = record_word;
+  fault = fault_word;
 }

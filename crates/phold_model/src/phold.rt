@@ -7,7 +7,7 @@ use itoa::Buffer;
 use model_core::model::Model as SimulationModel;
 use model_core::{
     Cells, Digits, Effect, Ending, Entry, Event, HOP_WORD, Note, OutOfMemory, Part, Send, Start,
-    keep_place, write_byte,
+    fault_word, keep_place, record_word, write_byte, write_record_word,
 };
 use random_streams::{Divisor, Law, PreparedLaw, Stream};
 use std::alloc::Global;
@@ -223,5 +223,18 @@ impl SimulationModel for Phold {
     ) -> Option<usize> {
         let number = write_byte(b'p', into, at);
         Some(digits.write(u64::from(object), into, number))
+    }
+
+    fn word(&self, number: u32) -> Option<&'static str> {
+        record_word(number)
+    }
+
+    fn fault(&self, code: u32) -> Option<&'static str> {
+        fault_word(code)
+    }
+
+    #[inline(always)]
+    fn write_word(&self, number: u32, into: &mut [u8], at: usize) -> Option<usize> {
+        write_record_word(number, into, at)
     }
 }

@@ -3,6 +3,7 @@ use Rattle.std.specs.Prelude.{ℕ, ◌+◌, ◌-◌, nat_lt, if◌then◌else◌
 use Rattle.model_core.specs.declared.entry.Entry.{Entry}
 use Rattle.model_core.specs.declared.event.Start.{Start}
 use Rattle.model_core.specs.Meaning.{Meaning}
+use Rattle.model_core.specs.Words.{record_word, fault_word}
 use Rattle.queue_models.specs.declared.site.Site.{Site}
 use Rattle.queue_models.specs.Kinds.{is_lawful, effect_at, first_cells_of, first_time_of}
 use Rattle.queue_models.specs.Objects.{NetworkParts, object_at, source_numbers}
@@ -41,6 +42,8 @@ network_meaning p = record {
   starts = length (source_numbers p.objects) + length p.jobs;
   start_at = λ i. start_of p i;
   label = λ object. (object_at p.objects object).name;
+  word = record_word;
+  fault = fault_word;
 }
 
 -- what it would mean if no object were quiet or traced

@@ -9,7 +9,10 @@ ghost use Rattle.queue_models.specs.Meaning.{network_meaning};
 use crate::kind::Item;
 use crate::site::{ARRIVE, MAKE, Site};
 use model_core::model::Model as SimulationModel;
-use model_core::{Cells, Digits, Effect, Ending, Entry, Event, OutOfMemory, Start};
+use model_core::{
+    Cells, Digits, Effect, Ending, Entry, Event, OutOfMemory, Start, fault_word, record_word,
+    write_record_word,
+};
 use random_streams::Stream;
 use std::alloc::Global;
 
@@ -213,5 +216,18 @@ impl SimulationModel for Network {
         at: usize,
     ) -> Option<usize> {
         self.objects[object as usize].name.write(into, at)
+    }
+
+    fn word(&self, number: u32) -> Option<&'static str> {
+        record_word(number)
+    }
+
+    fn fault(&self, code: u32) -> Option<&'static str> {
+        fault_word(code)
+    }
+
+    #[inline(always)]
+    fn write_word(&self, number: u32, into: &mut [u8], at: usize) -> Option<usize> {
+        write_record_word(number, into, at)
     }
 }

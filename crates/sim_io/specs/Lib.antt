@@ -3,7 +3,6 @@ pub mod CycleTexts
 pub mod Gathering
 pub mod Heads
 pub mod Memory
-pub mod Tails
 pub mod Texts
 pub mod Transfers
 pub mod Words

@@ -1,11 +1,12 @@
 -- The text of a simulation: a line for each part of what its events tell, and a line that says why it stopped.
-use Rattle.std.specs.Prelude.{ℕ, ◌<◌, List, [], ◌∷◌, ◌++◌, unwrap_or, decimal, codes}
+use Rattle.std.specs.Prelude.{ℕ, ◌<◌, ◌==◌, List, [], ◌∷◌, ◌++◌, Option, Some, if◌then◌else◌, unwrap_or, decimal, codes}
 use Rattle.event_key.specs.declared.key.Key.{Key}
 use Rattle.event_key.specs.Stamps.{time_part, step_part}
 use Rattle.model_core.specs.declared.note.Note.{Note}
 use Rattle.model_core.specs.declared.note.Part.{Part}
 use Rattle.model_core.specs.Meaning.{Meaning}
-use Rattle.model_core.specs.Words.{record_word, fault_word}
+use Rattle.model_core.specs.SpacedWords.{told_word}
+use Rattle.model_core.specs.declared.words.TheConstants.{ENDLESS_CHAIN}
 use Rattle.sim_spec.specs.declared.terms.Terms.{Terms}
 use Rattle.sim_spec.specs.declared.stop.Stop.{Stop}
 use Rattle.sim_spec.specs.declared.stop.Stop.TheVariants.{End, Limit, Fault}
@@ -17,16 +18,20 @@ unfoldable pub stamp_text : ℕ → List ℕ
 stamp_text stamp = decimal (time_part stamp) ++ (codes "." ++ decimal (step_part stamp))
 
 -- the word of a note, or its number where it has no name
-unfoldable pub word_text : ℕ → List ℕ
-word_text number = unwrap_or (record_word number) (decimal number)
+unfoldable pub word_text : Meaning → ℕ → List ℕ
+word_text m number = told_word (m.word number) number
+
+-- the word of a fault, if it has one: that of an endless chain is the simulation's, and all others are the model's
+abbrev pub fault_word : Meaning → ℕ → Option (List ℕ)
+fault_word m code = if code == ENDLESS_CHAIN then Some (codes "chain") else m.fault code
 
 -- the word of a fault, or its code where it has no name
-unfoldable pub fault_text : ℕ → List ℕ
-fault_text code = unwrap_or (fault_word code) (decimal code)
+unfoldable pub fault_text : Meaning → ℕ → List ℕ
+fault_text m code = unwrap_or (fault_word m code) (decimal code)
 
 -- a word and its two numbers
-unfoldable pub part_text : Part → List ℕ
-part_text part = word_text part.word ++ ((codes " " ++ decimal part.a) ++ (codes " " ++ decimal part.b))
+unfoldable pub part_text : Meaning → Part → List ℕ
+part_text m part = word_text m part.word ++ ((codes " " ++ decimal part.a) ++ (codes " " ++ decimal part.b))
 
 -- when and where: the stamp, and the name of the object
 unfoldable pub place_text : Meaning → Key → List ℕ
@@ -34,7 +39,7 @@ place_text m key = stamp_text key.stamp ++ (codes " " ++ m.label key.dest)
 
 -- the line of one part of what an event tells
 unfoldable pub part_line : Meaning → Key → Part → List ℕ
-part_line m key part = place_text m key ++ (codes " " ++ (part_text part ++ codes "\n"))
+part_line m key part = place_text m key ++ (codes " " ++ (part_text m part ++ codes "\n"))
 
 -- the lines of an event: one for each part, in order
 unfoldable pub event_lines : Meaning → Key → List Part → List ℕ
@@ -48,7 +53,7 @@ record_lines m (told ∷ rest) = event_lines m told.0 told.1 ++ record_lines m r
 
 -- the line of a fault: when and where it happened, and what it is
 abbrev pub fault_line : Meaning → Key → ℕ → List ℕ
-fault_line m key code = codes "fault " ++ (place_text m key ++ (codes " " ++ (fault_text code ++ codes "\n")))
+fault_line m key code = codes "fault " ++ (place_text m key ++ (codes " " ++ (fault_text m code ++ codes "\n")))
 
 -- the line that says why a simulation stopped, after so many events
 unfoldable pub stop_line : Meaning → Terms → ℕ → Stop → List ℕ

@@ -97,7 +97,7 @@ fn put_failure<M: Model>(
     into.extend_from_slice(b"fault ")?;
     put_place(alloc, model, key, into)?;
     into.push(b' ')?;
-    put_fault(code, into)?;
+    put_fault(model, code, into)?;
     into.push(b'\n')?;
     Ok(())
 }

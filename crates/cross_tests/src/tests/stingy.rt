@@ -71,4 +71,12 @@ impl<M: SimulationModel> SimulationModel for Stingy<M> {
     fn put_name(&self, alloc: Global, object: u32, into: &mut Vec<u8>) -> Result<(), OutOfMemory> {
         self.inner.put_name(alloc, object, into)
     }
+
+    fn word(&self, number: u32) -> Option<&'static str> {
+        self.inner.word(number)
+    }
+
+    fn fault(&self, code: u32) -> Option<&'static str> {
+        self.inner.fault(code)
+    }
 }

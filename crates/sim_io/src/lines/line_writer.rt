@@ -1,11 +1,13 @@
 //! The lines of events.
 ghost use Rattle.std.specs.Prelude.{◌≡◌, ◌+◌, ◌<◌, ◌≤◌, ◌++◌, codes, take, vec_len, IfOk, OnOk, OnErr};
 ghost use Rattle.std.specs.Io.{StartsWith};
-ghost use Rattle.sim_io.specs.Texts.{event_lines, part_line, stamp_text};
+ghost use Rattle.model_core.specs.SpacedWords.{between_spaces};
+ghost use Rattle.sim_io.specs.Texts.{event_lines, part_line, stamp_text, word_text};
 
 use crate::lines::cut_back;
 use crate::lines::head::{Head, LINE};
-use crate::lines::tail::{TAIL, write_tail};
+use crate::lines::tail::{NUMBERS, TAIL, write_numbers};
+use crate::lines::text_parts::put_word;
 use crate::room::append;
 use event_key::Key;
 use model_core::model::{Model, NAME_ROOM};
@@ -64,7 +66,7 @@ impl LineWriter {
     }
 
     /// Appends a line. Its parts are written at their places, behind a copy of the head.
-    #[tactic(auto, unfolding(crate::specs::Texts::part_line, crate::specs::Texts::place_text))]
+    #[tactic(auto, unfolding(crate::specs::Texts::part_line, crate::specs::Texts::place_text, crate::specs::Texts::part_text))]
     fn put_line<M: Model>(
         &mut self,
         alloc: Global,
@@ -78,8 +80,9 @@ impl LineWriter {
         ensures prefix { StartsWith into.new.items into.old.items }
     {
         let name = self.begin(key.stamp, into)?;
-        let tail = self.put_name(alloc, model, key.dest, into, name)?;
-        let end = write_tail(&self.digits, part, into, tail);
+        let word = self.put_name(alloc, model, key.dest, into, name)?;
+        let numbers = self.put_word(model, part.word, into, word)?;
+        let end = write_numbers(&self.digits, part, into, numbers);
         into.truncate(end);
         Ok(())
     }
@@ -129,6 +132,33 @@ impl LineWriter {
         }
         into.truncate(at);
         model.put_name(alloc, object, into)?;
+        let end = into.len();
+        self.append_room(into)?;
+        Ok(end)
+    }
+    /// Puts a word between spaces at a place with room for it and for the numbers of a line. Answers the place behind it,
+    /// where there is still room for the numbers.
+    #[tactic(auto, unfolding(crate::specs::Texts::word_text))]
+    fn put_word<M: Model>(
+        &self,
+        model: &M,
+        number: u32,
+        into: &mut Vec<u8>,
+        at: usize,
+    ) -> Result<usize, OutOfMemory>
+        requires room { at + TAIL ≤ vec_len into.old }
+        ensures text { IfOk result (λ end. take end into.new.items
+            ≡ take at into.old.items ++ between_spaces (word_text (M.meaning model.now) number)) }
+        ensures room { IfOk result (λ end. end + NUMBERS ≤ vec_len into.new) }
+        ensures prefix { StartsWith into.new.items (take at into.old.items) }
+    {
+        if let Some(end) = model.write_word(number, into, at) {
+            return Ok(end);
+        }
+        into.truncate(at);
+        into.push(b' ')?;
+        put_word(model, number, into)?;
+        into.push(b' ')?;
         let end = into.len();
         self.append_room(into)?;
         Ok(end)

@@ -1,12 +1,12 @@
 //! The parts of a line. Each call appends a text; where memory runs out, it may have appended some of it.
 ghost use Rattle.std.specs.Prelude.{◌≡◌, ◌<◌, ◌++◌, OnOk, decimal};
 ghost use Rattle.std.specs.Io.{StartsWith};
-ghost use Rattle.sim_io.specs.Texts.{stamp_text, fault_text, place_text};
+ghost use Rattle.sim_io.specs.Texts.{stamp_text, fault_text, place_text, word_text};
 
 use event_key::{Key, step_of, time_of};
 use itoa::Buffer;
 use model_core::model::Model;
-use model_core::{OutOfMemory, fault_word};
+use model_core::{ENDLESS_CHAIN, OutOfMemory};
 use std::alloc::Global;
 
 /// A number in decimal.
@@ -47,13 +47,30 @@ pub fn put_place<M: Model>(
     model.put_name(alloc, key.dest, into)
 }
 
-/// The word of a fault, or its code where it has no name.
-#[tactic(auto, unfolding(crate::specs::Texts::fault_text))]
-pub fn put_fault(code: u32, into: &mut Vec<u8>) -> Result<(), OutOfMemory>
-    ensures ok { OnOk result (into.new.items ≡ into.old.items ++ fault_text code) }
+/// A word that events tell, or its number where it has no text.
+#[tactic(auto, unfolding(crate::specs::Texts::word_text))]
+pub fn put_word<M: Model>(model: &M, number: u32, into: &mut Vec<u8>) -> Result<(), OutOfMemory>
+    ensures ok { OnOk result (into.new.items ≡ into.old.items ++ word_text (M.meaning model.now) number) }
     ensures prefix { StartsWith into.new.items into.old.items }
 {
-    match fault_word(code) {
+    match model.word(number) {
+        Some(text) => into.extend_from_slice(text.as_bytes())?,
+        None => put_number(u64::from(number), into)?,
+    }
+    Ok(())
+}
+
+/// The word of a fault, or its code where it has no text. That of an endless chain is the simulation's.
+#[tactic(auto, unfolding(crate::specs::Texts::fault_text))]
+pub fn put_fault<M: Model>(model: &M, code: u32, into: &mut Vec<u8>) -> Result<(), OutOfMemory>
+    ensures ok { OnOk result (into.new.items ≡ into.old.items ++ fault_text (M.meaning model.now) code) }
+    ensures prefix { StartsWith into.new.items into.old.items }
+{
+    let word = match code {
+        ENDLESS_CHAIN => Some("chain"),
+        _ => model.fault(code),
+    };
+    match word {
         Some(text) => into.extend_from_slice(text.as_bytes())?,
         None => put_number(u64::from(code), into)?,
     }

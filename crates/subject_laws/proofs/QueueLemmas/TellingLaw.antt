@@ -4,6 +4,7 @@ use Rattle.std.specs.Prelude.{filter, nat_lt, if◌then◌else◌, slice_index}
 use Rattle.std.specs.List.{range_with_len}
 use Rattle.std.proofs.lemmas.List.{get_or-map, get_or_past, length-map}
 use Rattle.model_core.specs.Meaning.{Meaning}
+use Rattle.model_core.specs.Words.{record_word, fault_word}
 use Rattle.sim_spec.specs.declared.stop.Stop.{Stop}
 use Rattle.sim_spec.specs.declared.terms.Terms.{Terms}
 use Rattle.sim_spec.specs.State.{State}
@@ -82,6 +83,8 @@ same_meaning p =
           }
           else job_start p (i - length sources);
       label = λ object. (at object j).name;
+      word = record_word;
+      fault = fault_word;
     }
 
 pub telling_changes_notes : TellingChangesNotesAlone

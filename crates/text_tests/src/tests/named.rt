@@ -1,9 +1,12 @@
 //! A model whose objects have names and do nothing.
 ghost use Rattle.std.specs.Prelude.{codes, decimal, [], ◌++◌, true};
 ghost use Rattle.model_core.specs.declared.effect.Outcome.TheVariants.{Fails};
+ghost use Rattle.model_core.specs.Words.{record_word, fault_word};
 
 use model_core::model::Model as SimulationModel;
-use model_core::{Cells, Effect, Ending, Event, OutOfMemory, Start, Stream};
+use model_core::{
+    Cells, Effect, Ending, Event, OutOfMemory, Start, Stream, fault_word, record_word,
+};
 use std::alloc::Global;
 
 /// Nine objects, named by a `p` and their numbers.
@@ -21,6 +24,8 @@ impl SimulationModel for Named {
       starts = 1;
       start_at = λ _. record { time = 0; dest = 0; kind = 0; a = 0; b = 0; rank = 0 };
       label = λ object. codes "p" ++ decimal object;
+      word = record_word;
+      fault = fault_word;
     } };
 
     ghost laws = { λ _. Prim.grind arith };
@@ -67,5 +72,13 @@ impl SimulationModel for Named {
         let name = format!(in alloc; "p{object}")?;
         into.extend_from_slice(name.as_bytes())?;
         Ok(())
+    }
+
+    fn word(&self, number: u32) -> Option<&'static str> {
+        record_word(number)
+    }
+
+    fn fault(&self, code: u32) -> Option<&'static str> {
+        fault_word(code)
     }
 }
