@@ -292,18 +292,19 @@ module _ {M : Type 0} (meaning_of : M → Meaning) (first : NodeView M) where
   pub settling-first : (bound : ℕ) → IsHeldFrom m bound first → IsSettling m first bound bound first
   settling-first bound from = record { works = works-none m first first (as_before m first); from = from; within = omega arith; reached = inl refl }
 
-  pub settling-more : (bound fallen least : ℕ) (key : Key) (mid new : NodeView M) → bound ≤ end_stamp first.terms.end → IsSettling m first bound fallen mid → HasProcessed (meaning_of mid.model) fallen mid new key least
+  -- by a step below any bound up to the end
+  pub settling-more : (bound fallen below least : ℕ) (key : Key) (mid new : NodeView M) → below ≤ end_stamp first.terms.end → IsSettling m first bound fallen mid → HasProcessed (meaning_of mid.model) below mid new key least
       → IsSettling m first bound (min fallen least) new
-  settling-more bound fallen least key mid new far settling did_there =
-      let D : M → Type 0 = λ x. HasProcessed (meaning_of x) fallen mid new key least in
-      let did : HasProcessed m fallen mid new key least = subst D settling.works.same.model did_there in
-      let below = settling.within in
+  settling-more bound fallen below least key mid new far settling did_there =
+      let D : M → Type 0 = λ x. HasProcessed (meaning_of x) below mid new key least in
+      let did : HasProcessed m below mid new key least = subst D settling.works.same.model did_there in
+      let low = settling.within in
       let above = settling.from.above in
       record {
-        works = works-more m first mid new fallen key least settling.works did (omega arith);
+        works = works-more m first mid new below key least settling.works did far;
         from = record { least = min settling.from.least least; held = did.held settling.from.least settling.from.held; above = omega arith };
         within = omega arith;
-        reached = by_test (ltb least fallen) refl below above settling.reached;
+        reached = by_test (ltb least fallen) refl low above settling.reached;
       }
     where
       by_test : (b : Bool) → ltb least fallen ≡ b → fallen ≤ bound → fallen ≤ settling.from.least → (fallen ≡ bound) ⊎ (fallen ≡ settling.from.least) → (min fallen least ≡ bound) ⊎ (min fallen least ≡ min settling.from.least least)
