@@ -1,5 +1,5 @@
 use Rattle.shop_model.specs.Stations.{counts_of}
-use Rattle.shop_model.proofs.CountLemmas.{spare_frees}
+use Rattle.shop_model.specs.CountLaws.{spare_frees}
 use Rattle.shop_model.proofs.station.Station.take.Goals as goal
 
 pub begin-counts-requires-clause-free : goal.begin-counts-requires-clause-free

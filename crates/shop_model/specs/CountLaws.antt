@@ -13,3 +13,12 @@ spare_frees most counts are opened spare = by (counts.down == 0) spare
     by : (works : Bool) → 0 < (if works then counts.opened - busy_of most counts else 0) → counts.held < counts.free
     by true some = omega (arith, are.free, are.held)
     by false some = absurd (omega arith)
+
+-- no more servers are spare than are ever open
+pub spare-le : (most : ℕ) (counts : Counts) → counts.opened ≤ most → spare_of most counts ≤ most
+unfolding spare_of
+spare-le most counts opened = by (counts.down == 0)
+  where
+    by : (works : Bool) → (if works then counts.opened - busy_of most counts else 0) ≤ most
+    by true = omega arith
+    by false = omega arith

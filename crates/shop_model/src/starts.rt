@@ -1,0 +1,91 @@
+//! The events with which a shop begins.
+ghost use Rattle.std.specs.Prelude.{◌≡◌, ◌<◌, ◌≤◌, ◌+◌, ◌++◌, ◌∷◌, [], IfOk, OnOk, length, map};
+ghost use Rattle.shop_model.specs.declared.kinds.TheConstants.{MAKE};
+ghost use Rattle.model_core.specs.declared.limits.TheConstants.{MOST_OBJECTS};
+ghost use Rattle.shop_model.specs.Starts.{start_at, first_shift, first_work, first_arrival, station_starts, class_starts, starts_of};
+
+use crate::class::Class;
+use crate::kinds::{MAKE, MEND, SHIFT, rank_of};
+use crate::station::Station;
+use model_core::{OutOfMemory, Start};
+use std::alloc::Global;
+
+/// An event with which an object begins.
+fn start_at(object: u32, time: u64, kind: u32, b: u64) -> Start
+    ensures { result ≡ start_at object time kind b }
+{
+    Start {
+        time,
+        dest: object,
+        kind,
+        a: 0,
+        b,
+        rank: rank_of(kind),
+    }
+}
+
+impl Station {
+    /// Lists the events with which it begins as this object: its first shift, and that it works.
+    fn add_starts(&self, object: u32, starts: &mut Vec<Start>) -> Result<(), OutOfMemory>
+        ensures { OnOk result (starts.new.items ≡ starts.old.items ++ station_starts object self.now) }
+    {
+        if let Some(shift) = self.shifts.as_slice().first() {
+            starts.push(start_at(object, shift.at, SHIFT, 0))?;
+        }
+        if self.breakdowns.is_some() {
+            starts.push(start_at(object, 0, MEND, 0))?;
+        }
+        Ok(())
+    }
+}
+
+impl Class {
+    /// Lists the events with which it begins as this object: its arrivals, of those that follow each other the first.
+    fn add_starts(&self, object: u32, starts: &mut Vec<Start>) -> Result<(), OutOfMemory>
+        ensures { OnOk result (starts.new.items ≡ starts.old.items ++ class_starts object self.now) }
+    {
+        self.add_first(object, starts)?;
+        self.add_times(object, starts)
+    }
+
+    /// Lists the first of the arrivals that follow each other, if it comes in time.
+    fn add_first(&self, object: u32, starts: &mut Vec<Start>) -> Result<(), OutOfMemory>
+        ensures { OnOk result (starts.new.items ≡ starts.old.items
+            ++ first_arrival object self.now.every self.now.first self.now.until) }
+    {
+        if self.every.is_some() && self.first <= self.until {
+            starts.push(start_at(object, self.first, MAKE, 1))?;
+        }
+        Ok(())
+    }
+
+    /// Lists the arrivals whose ticks are named.
+    fn add_times(&self, object: u32, starts: &mut Vec<Start>) -> Result<(), OutOfMemory>
+        ensures { OnOk result (starts.new.items ≡ starts.old.items
+            ++ map (λ time. start_at object time MAKE 0) self.now.times) }
+    {
+        for time in self.times.as_slice() {
+            starts.push(start_at(object, *time, MAKE, 0))?;
+        }
+        Ok(())
+    }
+}
+
+/// The events with which a shop begins, object by object.
+pub(crate) fn starts_of(
+    alloc: Global,
+    stations: &[Station],
+    classes: &[Class],
+) -> Result<Vec<Start>, OutOfMemory>
+    requires { length stations.now + length classes.now ≤ MOST_OBJECTS }
+    ensures { IfOk result (λ starts. starts.items ≡ starts_of stations.now classes.now) }
+{
+    let mut starts = Vec::new(alloc);
+    for (number, station) in stations.iter().enumerate() {
+        station.add_starts(number as u32, &mut starts)?;
+    }
+    for (place, class) in classes.iter().enumerate() {
+        class.add_starts((stations.len() + place) as u32, &mut starts)?;
+    }
+    Ok(starts)
+}
