@@ -8,6 +8,7 @@ use Rattle.model_core.specs.declared.effect.Outcome.TheVariants.{Goes}
 use Rattle.model_core.specs.declared.event.Event.{Event}
 use Rattle.model_core.specs.Effects.{blank}
 use Rattle.model_core.specs.Meaning.{Meaning}
+use Rattle.model_core.specs.Words.{record_word}
 use Rattle.shop_model.specs.declared.class.Class.{Class}
 use Rattle.shop_model.specs.declared.job.Job.{Job}
 use Rattle.shop_model.specs.declared.kinds.TheConstants.{MAKE, COME, DONE, CALL, TIRE, SHIFT, BREAK, MEND}
@@ -105,4 +106,6 @@ shop_meaning p = record {
   starts = length (starts_of p.stations p.classes);
   start_at = λ i. slice_index_or (starts_of p.stations p.classes) i (start_at 0 0 0 0);
   label = λ object. name_at p object;
+  word = record_word;
+  fault = λ code. None;
 }

@@ -14,7 +14,10 @@ use crate::starts::starts_of;
 use crate::station::Station;
 use event_key::time_of;
 use model_core::model::Model as SimulationModel;
-use model_core::{Cells, Digits, Effect, Ending, Event, Name, OutOfMemory, Sequence, Start};
+use model_core::{
+    Cells, Digits, Effect, Ending, Event, Name, OutOfMemory, Sequence, Start, record_word,
+    write_record_word,
+};
 use random_streams::Stream;
 use std::alloc::Global;
 
@@ -194,5 +197,19 @@ impl SimulationModel for Shop {
         at: usize,
     ) -> Option<usize> {
         self.name(object).write(into, at)
+    }
+
+    fn word(&self, number: u32) -> Option<&'static str> {
+        record_word(number)
+    }
+
+    /// No event of a shop fails.
+    fn fault(&self, _code: u32) -> Option<&'static str> {
+        None
+    }
+
+    #[inline(always)]
+    fn write_word(&self, number: u32, into: &mut [u8], at: usize) -> Option<usize> {
+        write_record_word(number, into, at)
     }
 }
