@@ -17,7 +17,7 @@ pub records_are_no_states : RecordsAreNoStates
 unfolding stamp_text place_text part_line
 records_are_no_states m key part fits is =
     let start = begins_low (time_part key.stamp) (omega arith) in
-    let line : (((start.0 ∷ start.1) ++ (codes "." ++ decimal (step_part key.stamp))) ++ (codes " " ++ m.label key.dest)) ++ (codes " " ++ (part_text part ++ codes "\n")) ≡ codes "state 1\n" =
-    subst (λ (time : List ℕ). ((time ++ (codes "." ++ decimal (step_part key.stamp))) ++ (codes " " ++ m.label key.dest)) ++ (codes " " ++ (part_text part ++ codes "\n")) ≡ codes "state 1\n") start.2 is in
+    let line : (((start.0 ∷ start.1) ++ (codes "." ++ decimal (step_part key.stamp))) ++ (codes " " ++ m.label key.dest)) ++ (codes " " ++ (part_text m part ++ codes "\n")) ≡ codes "state 1\n" =
+    subst (λ (time : List ℕ). ((time ++ (codes "." ++ decimal (step_part key.stamp))) ++ (codes " " ++ m.label key.dest)) ++ (codes " " ++ (part_text m part ++ codes "\n")) ≡ codes "state 1\n") start.2 is in
     let head : start.0 ≡ 115 = ap (λ xs. get_or xs 0 0) line in
     omega (arith, head, start.3)
