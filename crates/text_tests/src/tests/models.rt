@@ -1,5 +1,6 @@
 //! What is read as a model, and what a text is refused for.
 mod circuits;
+mod limits;
 mod networks;
 
 use super::replaced;

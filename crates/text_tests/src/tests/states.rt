@@ -1,4 +1,6 @@
 //! The texts of saved states, and what they are refused for.
+mod limits;
+
 use super::replaced;
 use model_core::model::Model;
 use run_save::{StateRefusal, put_state, read_state, state_code_name};
