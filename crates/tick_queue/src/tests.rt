@@ -24,8 +24,8 @@ impl Model for Counted {
     ghost invariant = { λ counted. HasSerialsBelow counted.next counted.queue };
 }
 
-/// An event at a stamp.
-fn event(stamp: u64, serial: u32) -> Event
+/// An event of an object at a stamp.
+fn event(stamp: u64, dest: u32, serial: u32) -> Event
     ensures src { result.key.src ≡ 0 }
     ensures serial { result.key.serial ≡ serial }
 {
@@ -33,7 +33,7 @@ fn event(stamp: u64, serial: u32) -> Event
         key: Key {
             stamp,
             rank: 0,
-            dest: 0,
+            dest,
             src: 0,
             serial: u64::from(serial),
         },
@@ -51,25 +51,38 @@ impl Counted {
         })
     }
 
-    /// Pushes an event at a stamp.
-    fn push(&mut self, stamp: u64) -> Result<(), Fail> {
+    /// Pushes an event of an object at a stamp.
+    fn push_to(&mut self, stamp: u64, dest: u32) -> Result<(), Fail> {
         if self.next == u32::MAX {
             return Err(Fail::from("too many events"));
         }
-        self.queue.push(event(stamp, self.next))?;
+        self.queue.push(event(stamp, dest, self.next))?;
         self.next += 1;
         Ok(())
     }
 
-    /// Takes the first event, and answers its stamp.
-    fn take(&mut self) -> Result<Option<u64>, Fail> {
+    /// Pushes an event at a stamp.
+    fn push(&mut self, stamp: u64) -> Result<(), Fail> {
+        self.push_to(stamp, 0)
+    }
+
+    /// Takes the first event, and answers its key.
+    fn take_key(&mut self) -> Result<Option<Key>, Fail> {
         self.queue.settle()?;
         let Some(event) = self.queue.first() else {
             return Ok(None);
         };
-        let stamp = event.key.stamp;
+        let key = event.key;
         self.queue.drop_first();
-        Ok(Some(stamp))
+        Ok(Some(key))
+    }
+
+    /// Takes the first event, and answers its stamp.
+    fn take(&mut self) -> Result<Option<u64>, Fail> {
+        let Some(key) = self.take_key()? else {
+            return Ok(None);
+        };
+        Ok(Some(key.stamp))
     }
 }
 
@@ -144,6 +157,30 @@ fn events_come_in_the_order_of_a_sorted_list(rt: HostRuntime) -> Result<(), Fail
     }
     for stamp in sorted {
         assert_eq!(rt; counted.take()?, Some(stamp));
+    }
+    assert_eq!(rt; counted.take()?, None);
+    Ok(())
+}
+
+#[test]
+fn sixty_events_of_a_tick_come_in_the_order_of_their_keys(rt: HostRuntime) -> Result<(), Fail> {
+    let mut counted = Counted::new(rt.alloc())?;
+    let mut sorted = Vec::new(rt.alloc());
+    for serial in 0..60u32 {
+        // at three steps and ten objects, so that some keys differ in their serials alone
+        let stamp = 90 * STEPS + u64::from(serial % 3);
+        let dest = serial * 7 % 10;
+        counted.push_to(stamp, dest)?;
+        sorted.push((stamp, dest, u64::from(serial)))?;
+    }
+    sorted.sort_unstable();
+    for (stamp, dest, serial) in sorted {
+        let Some(key) = counted.take_key()? else {
+            return Err(Fail::from("an event is missing"));
+        };
+        assert_eq!(rt; key.stamp, stamp);
+        assert_eq!(rt; key.dest, dest);
+        assert_eq!(rt; key.serial, serial);
     }
     assert_eq!(rt; counted.take()?, None);
     Ok(())

@@ -1,5 +1,5 @@
 use Rattle.tick_queue.proofs.CountedLemmas.{counted_new, counted_pushed}
-use Rattle.tick_queue.proofs.tests.Counted.push.Goals as goal
+use Rattle.tick_queue.proofs.tests.Counted.push_to.Goals as goal
 
 pub push-requires-clause-new_key : goal.push-requires-clause-new_key
 push-requires-clause-new_key c = counted_new c.self.inside.next c.self.inside.queue c.event.result c.self.invariant c.event.ensures.src c.event.ensures.serial
