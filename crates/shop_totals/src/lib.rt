@@ -1,0 +1,16 @@
+//! Totals of a shop: for each station, each class at a station and each class what came of its jobs, and for how many ticks
+//! servers were busy, open or down, jobs waited, and jobs were inside, as sums over what is told from a tick on.
+#![tactic(auto)]
+
+mod class_sums;
+mod flow;
+mod kept;
+mod lines;
+mod station_sums;
+mod visit_sums;
+
+pub use class_sums::ClassSums;
+pub use flow::Flow;
+pub use kept::Kept;
+pub use station_sums::StationSums;
+pub use visit_sums::VisitSums;
