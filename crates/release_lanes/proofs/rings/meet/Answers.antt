@@ -54,6 +54,23 @@ look_all-requires-clause-slots c =
 taken_out : (c : After-drop-ends) → c.as_mut_slice.result.now ≡ (get_or c.args.ends.now c.args.from c.index-ends-from.result).outs.items
 taken_out c = c.as_mut_slice.ensures.value ∙ ap (λ v. v.items) c.replace-senders.ensures.value
 
+-- the end at the place, and the same while what it sends on is out
+abbrev held : After-drop-ends → RingEnd
+held c = get_or c.args.ends.now c.args.from c.index-ends-from.result
+
+abbrev bare : After-drop-ends → RingEnd
+bare c = record { number = (held c).number; outs = c.replace-senders.new.dest; ins = (held c).ins }
+
+-- the end as it is found again, and with what it sends on put back
+abbrev found : After-drop-ends → RingEnd
+found c = get_or c.look_all.new.ends c.args.from c.index-ends-from-2.result
+
+abbrev back : After-drop-ends → RingEnd
+back c = record { number = (found c).number; outs = with_items c.replace-senders.result c.look_all.new.senders; ins = (found c).ins }
+
+is_held : (c : After-drop-ends) → held c ≡ get_or c.args.ends.now c.args.from (held c)
+is_held c = get_or_default c.args.ends.now c.args.from c.index-ends-from.result (held c) c.requires.within
+
 -- the senders as they are put back
 are_whole : (c : After-drop-ends) → (with_items c.replace-senders.result c.look_all.new.senders).items ≡ c.look_all.new.senders
 are_whole c =
@@ -64,32 +81,15 @@ are_whole c =
 
 pub returns-clause-outlines : goal.returns-clause-outlines
 returns-clause-outlines c =
-    let ends = c.args.ends.now in
-    let mid = c.look_all.new.ends in
-    let from = c.args.from in
-    let e = get_or ends from c.index-ends-from.result in
-    let e1 = get_or mid from c.index-ends-from-2.result in
-    let out : RingEnd = record { number = e.number; outs = c.replace-senders.new.dest; ins = e.ins } in
-    let senders = with_items c.replace-senders.result c.look_all.new.senders in
-    let back : RingEnd = record { number = e1.number; outs = senders; ins = e1.ins } in
-    let at : e ≡ get_or ends from e = get_or_default ends from c.index-ends-from.result e c.requires.within in
     let rings = ap (map ring_out) (are_whole c) ∙ c.look_all.ensures.senders.0 ∙ ap (map ring_out) (taken_out c) in
-    let same = same_at outline mid (set ends from out) from c.index-ends-from-2.result c.look_all.ensures.outlines
-    ∙ ap outline (get_or-set_same ends from out c.index-ends-from-2.result c.requires.within) in
-    put_back outline ends mid from e out back c.requires.within at c.look_all.ensures.outlines
-    (ap (λ (o : Outline Ring). with_outs o (map ring_out senders.items)) same ∙ ap (λ l. with_outs (outline e) l) rings)
+    let same = same_at outline c.look_all.new.ends (set c.args.ends.now c.args.from (bare c)) c.args.from c.index-ends-from-2.result c.look_all.ensures.outlines
+    ∙ ap outline (get_or-set_same c.args.ends.now c.args.from (bare c) c.index-ends-from-2.result c.requires.within) in
+    put_back outline c.args.ends.now c.look_all.new.ends c.args.from (held c) (bare c) (back c) c.requires.within (is_held c) c.look_all.ensures.outlines
+    (ap (λ (o : Outline Ring). with_outs o (map ring_out (with_items c.replace-senders.result c.look_all.new.senders).items)) same ∙ ap (λ l. with_outs (outline (held c)) l) rings)
 
 sent_back : goal.returns-clause-sent
 sent_back c =
-    let ends = c.args.ends.now in
-    let mid = c.look_all.new.ends in
-    let from = c.args.from in
-    let e = get_or ends from c.index-ends-from.result in
-    let e1 = get_or mid from c.index-ends-from-2.result in
-    let out : RingEnd = record { number = e.number; outs = c.replace-senders.new.dest; ins = e.ins } in
-    let back : RingEnd = record { number = e1.number; outs = with_items c.replace-senders.result c.look_all.new.senders; ins = e1.ins } in
-    let at : e ≡ get_or ends from e = get_or_default ends from c.index-ends-from.result e c.requires.within in
-    put_back sent_row ends mid from e out back c.requires.within at (outs_show (λ v. map sent v.items) mid (set ends from out) c.look_all.ensures.outs)
+    put_back sent_row c.args.ends.now c.look_all.new.ends c.args.from (held c) (bare c) (back c) c.requires.within (is_held c) (outs_show (λ v. map sent v.items) c.look_all.new.ends (set c.args.ends.now c.args.from (bare c)) c.look_all.ensures.outs)
     (ap (map sent) (are_whole c) ∙ c.look_all.ensures.senders.1 ∙ ap (map sent) (taken_out c))
 
 pub returns-clause-sent : goal.returns-clause-sent
@@ -109,51 +109,29 @@ returns-clause-known c = λ i to ne.
 
 pub returns-clause-met : goal.returns-clause-met
 returns-clause-met c = λ to less.
-    let ends = c.args.ends.now in
-    let mid = c.look_all.new.ends in
-    let from = c.args.from in
-    let e = get_or ends from c.index-ends-from.result in
-    let e1 = get_or mid from c.index-ends-from-2.result in
-    let back : RingEnd = record { number = e1.number; outs = with_items c.replace-senders.result c.look_all.new.senders; ins = e1.ins } in
-    let at : e ≡ get_or ends from e = get_or_default ends from c.index-ends-from.result e c.requires.within in
-    ap (λ rows. lane_at rows to from ++ rest_on (set mid from back) from to) (map-set_same received_row mid from back c.index-ends-from-2.result refl)
-    ∙ ap (λ rows. received_on mid from to ++ lane_at rows to from) (map-set_same known_row mid from back c.index-ends-from-2.result refl)
+    ap (λ rows. lane_at rows to c.args.from ++ rest_on (set c.look_all.new.ends c.args.from (back c)) c.args.from to) (map-set_same received_row c.look_all.new.ends c.args.from (back c) c.index-ends-from-2.result refl)
+    ∙ ap (λ rows. received_on c.look_all.new.ends c.args.from to ++ lane_at rows to c.args.from) (map-set_same known_row c.look_all.new.ends c.args.from (back c) c.index-ends-from-2.result refl)
     ∙ c.look_all.ensures.met to (omega (arith, length-set {A = RingEnd}))
     ∙ ap (λ l. list_at (map sent l) to) (taken_out c)
-    ∙ sym (this_lane sent_row ends from to e c.requires.within at)
-    ∙ sym (ap (λ rows. lane_at rows from to) (sent_back c))
+    ∙ sym (this_lane sent_row c.args.ends.now c.args.from to (held c) c.requires.within (is_held c))
+    ∙ sym (ap (λ rows. lane_at rows c.args.from to) (sent_back c))
 
 pub returns-clause-others : goal.returns-clause-others
 returns-clause-others c = λ i to ne.
-    let ends = c.args.ends.now in
-    let mid = c.look_all.new.ends in
-    let from = c.args.from in
-    let e = get_or ends from c.index-ends-from.result in
-    let e1 = get_or mid from c.index-ends-from-2.result in
-    let out : RingEnd = record { number = e.number; outs = c.replace-senders.new.dest; ins = e.ins } in
-    let back : RingEnd = record { number = e1.number; outs = with_items c.replace-senders.result c.look_all.new.senders; ins = e1.ins } in
     ap (λ r. slice_index r to)
-    (ap (λ rows. get_or rows i []) (map-set free_row mid from back) ∙ get_or-set_other (map free_row mid) from i (free_row back) [] ne
-    ∙ ap (λ rows. get_or rows i []) (outs_show (λ v. map known_free v.items) mid (set ends from out) c.look_all.ensures.outs)
-    ∙ ap (λ rows. get_or rows i []) (map-set free_row ends from out) ∙ get_or-set_other (map free_row ends) from i (free_row out) [] ne)
+    (ap (λ rows. get_or rows i []) (map-set free_row c.look_all.new.ends c.args.from (back c)) ∙ get_or-set_other (map free_row c.look_all.new.ends) c.args.from i (free_row (back c)) [] ne
+    ∙ ap (λ rows. get_or rows i []) (outs_show (λ v. map known_free v.items) c.look_all.new.ends (set c.args.ends.now c.args.from (bare c)) c.look_all.ensures.outs)
+    ∙ ap (λ rows. get_or rows i []) (map-set free_row c.args.ends.now c.args.from (bare c)) ∙ get_or-set_other (map free_row c.args.ends.now) c.args.from i (free_row (bare c)) [] ne)
 
 pub returns-clause-free : goal.returns-clause-free
 returns-clause-free c = λ to less rested.
-    let ends = c.args.ends.now in
-    let mid = c.look_all.new.ends in
-    let from = c.args.from in
-    let e = get_or ends from c.index-ends-from.result in
-    let e1 = get_or mid from c.index-ends-from-2.result in
-    let back : RingEnd = record { number = e1.number; outs = with_items c.replace-senders.result c.look_all.new.senders; ins = e1.ins } in
-    let at : e ≡ get_or ends from e = get_or_default ends from c.index-ends-from.result e c.requires.within in
-    let out : RingEnd = record { number = e.number; outs = c.replace-senders.new.dest; ins = e.ins } in
-    let rests : received_on (set ends from out) from to ≡ list_at (map sent c.as_mut_slice.result.now) to =
-    ap (λ rows. lane_at rows to from) (map-set_same received_row ends from out c.index-ends-from.result refl)
-    ∙ rested ∙ this_lane sent_row ends from to e c.requires.within at ∙ ap (λ l. list_at (map sent l) to) (sym (taken_out c)) in
+    let rests : received_on (set c.args.ends.now c.args.from (bare c)) c.args.from to ≡ list_at (map sent c.as_mut_slice.result.now) to =
+    ap (λ rows. lane_at rows to c.args.from) (map-set_same received_row c.args.ends.now c.args.from (bare c) c.index-ends-from.result refl)
+    ∙ rested ∙ this_lane sent_row c.args.ends.now c.args.from to (held c) c.requires.within (is_held c) ∙ ap (λ l. list_at (map sent l) to) (sym (taken_out c)) in
     let free = c.look_all.ensures.free to (omega (arith, length-set {A = RingEnd})) rests in
-    let long = same_length outline mid (set ends from out) c.look_all.ensures.outlines in
+    let long = same_length outline c.look_all.new.ends (set c.args.ends.now c.args.from (bare c)) c.look_all.ensures.outlines in
     let inside = c.requires.within in
-    let within : from < length (map free_row mid) = omega (arith, length-map mid free_row, length-set {A = RingEnd}) in
-    let row = ap (λ rows. get_or rows from []) (map-set free_row mid from back) ∙ get_or-set_same (map free_row mid) from (free_row back) [] within ∙ ap (map known_free) (are_whole c) in
+    let within : c.args.from < length (map free_row c.look_all.new.ends) = omega (arith, length-map c.look_all.new.ends free_row, length-set {A = RingEnd}) in
+    let row = ap (λ rows. get_or rows c.args.from []) (map-set free_row c.look_all.new.ends c.args.from (back c)) ∙ get_or-set_same (map free_row c.look_all.new.ends) c.args.from (free_row (back c)) [] within ∙ ap (map known_free) (are_whole c) in
     let now = ap (λ r. slice_index r to) row in
     omega arith
