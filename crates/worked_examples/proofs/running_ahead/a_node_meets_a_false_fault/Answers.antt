@@ -1,28 +1,13 @@
 -- Both sides compute to the same.
 use Rattle.std.proofs.Common.{refl}
-use Rattle.event_key.specs.Keys.{key_lt, key_cmp}
-use Rattle.event_key.specs.Stamps.{next_stamp, has_no_step}
-use Rattle.delta_exchange.specs.Changes.{cells_after_all, inverses_of}
-use Rattle.random_streams.specs.Laws.{draw, drawn_value, words_read}
-use Rattle.model_core.specs.Places.{place_changes}
-use Rattle.queue_models.specs.Objects.{sources_below}
-use Rattle.queue_models.specs.Meaning.{start_of, network_meaning}
-use Rattle.queue_models.specs.Stations.{take_effect, wait_effect, arrival_outcome, serve_effect, free_effect, done_effect, station_effect}
-use Rattle.queue_models.specs.Sinks.{sink_effect}
-use Rattle.key_order.specs.Pending.{enqueue, enqueue_all}
-use Rattle.sim_spec.specs.Firing.{has_endless_chain, emissions, fired_by, fire}
-use Rattle.sim_spec.specs.State.{initial_state}
-use Rattle.key_order.specs.Stamps.{least_stamp}
-use Rattle.sim_spec.specs.Cut.{emissions_of}
-use Rattle.sim_spec.specs.Replay.{replay_fired, replay, events_at}
-use Rattle.world_spec.specs.Share.{log_of}
 use Rattle.worked_examples.specs.StrictStation.{pairs, strict_station}
+use Rattle.worked_examples.proofs.Computing.{network_buckets}
 use Rattle.worked_examples.proofs.running_ahead.a_node_meets_a_false_fault.Goals as goal
 
 pub returns-clause-fault : goal.returns-clause-fault
-unfolding pairs draw drawn_value words_read sources_below start_of network_meaning place_changes take_effect wait_effect arrival_outcome serve_effect free_effect done_effect station_effect sink_effect strict_station replay_fired replay events_at log_of key_lt key_cmp next_stamp has_no_step cells_after_all inverses_of enqueue enqueue_all has_endless_chain emissions fired_by fire initial_state
+unfolding pairs strict_station network_buckets
 returns-clause-fault c = refl
 
 pub returns-clause-bound : goal.returns-clause-bound
-unfolding pairs draw drawn_value words_read sources_below start_of network_meaning place_changes take_effect wait_effect arrival_outcome serve_effect free_effect done_effect station_effect sink_effect strict_station replay_fired replay events_at log_of least_stamp emissions_of key_lt key_cmp next_stamp has_no_step cells_after_all inverses_of enqueue enqueue_all has_endless_chain emissions fired_by fire initial_state
+unfolding pairs strict_station network_buckets
 returns-clause-bound c = refl
