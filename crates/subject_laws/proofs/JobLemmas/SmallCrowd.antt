@@ -11,7 +11,7 @@ use Rattle.queue_models.specs.Objects.{NetworkParts}
 use Rattle.run_laws.specs.Reached.{after_events}
 use Rattle.subject_laws.specs.Places.{at_event, in_line, has_left, was_lost}
 use Rattle.subject_laws.specs.Births.{births, AreKept}
-use Rattle.subject_laws.specs.Jobs.{Job, listed, made_by, whereabouts, in_the_system}
+use Rattle.subject_laws.specs.Jobs.{Job, listed, made_by, whereabouts, held, in_the_system}
 use Rattle.subject_laws.proofs.Computing.{network_run}
 
 crowd : NetworkParts
@@ -40,10 +40,14 @@ after_seven : whereabouts crowd to_fifty 7 ≡ (from_list, has_left) ∷ (made 1
 unfolding crowd to_fifty from_list made network_run
 after_seven = refl
 
--- one place is left in the system
+-- one place is left in the system, and that job holds it
 one_place : in_the_system crowd (after_events 7 (network_meaning crowd) to_fifty) ≡ (1, at_event (key_at 10 0 1 1 2)) ∷ []
 unfolding crowd to_fifty network_run
 one_place = refl
+
+one_holds_it : held (whereabouts crowd to_fifty 7) ≡ (1, at_event (key_at 10 0 1 1 2)) ∷ []
+unfolding crowd to_fifty from_list made network_run
+one_holds_it = refl
 
 -- the births are those of the list and of the source, and the first job is told to be 5 ticks old when it leaves at 5
 born_seen : births crowd to_fifty 7 ≡ 0 ∷ 1 ∷ 3 ∷ []

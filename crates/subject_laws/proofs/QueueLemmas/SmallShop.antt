@@ -20,7 +20,9 @@ use Rattle.run_laws.specs.RunLaws.{IsCause, Happens}
 use Rattle.run_laws.specs.Sent.{happened, all_sent, initial_events}
 use Rattle.subject_laws.specs.Draws.{draws_next}
 use Rattle.subject_laws.specs.WayLaws.{GoesOn}
+use Rattle.subject_laws.specs.OrderLaws.{IsFirstComeFirstServed}
 use Rattle.subject_laws.specs.Orders.{arrived_at, begun_at, done_at, numbers_of}
+use Rattle.subject_laws.specs.ServerLaws.{AreServing}
 use Rattle.subject_laws.specs.Stations.{IsStationAt, busy_at, waiting_at, in_service_at}
 use Rattle.subject_laws.proofs.Computing.{network_run}
 
@@ -108,7 +110,7 @@ short_run : (run (network_meaning shop) to_three (initial_state (network_meaning
 unfolding to_three shop to_fifty network_run
 short_run = refl
 
--- that is the second job, which goes to the counter at the next step
+-- that event is the second job, which goes to the counter at the next step
 second_goes_on : GoesOn (object_at shop.objects 0).kind (told_at (key_at 3 0 0 0 1) 2 2 2)
     (draws_next (plain_meaning shop) (object_at shop.objects 0).kind 0 (after_events 2 (plain_meaning shop) to_fifty) (next (plain_meaning shop) to_fifty (after_events 2 (plain_meaning shop) to_fifty)))
     second_arrival
@@ -142,6 +144,11 @@ who_waits : ◌≡◌ {A = ℕ × List ℕ × List ℕ} (busy_at three_here 1, w
 unfolding three_here shop to_fifty network_run
 who_waits = refl
 
+-- so the law of servers says of the counter what can be seen
+servers_there : AreServing three_here 1 counter
+unfolding three_here shop to_fifty network_run
+servers_there = record { no_more = lit≤ tt; under_way = refl; none_idle = λ waiting. refl; line = lit≤ tt }
+
 -- after eleven events all four jobs came in; three services began, and two of them have ended
 eleven : State
 eleven = after_events 11 (network_meaning shop) to_fifty
@@ -151,3 +158,7 @@ in_turn : ◌≡◌ {A = List ℕ × List ℕ × List ℕ × List ℕ × List �
     (1 ∷ 2 ∷ 3 ∷ 4 ∷ [], 1 ∷ 2 ∷ 3 ∷ [], 1 ∷ 2 ∷ [], 4 ∷ [], 3 ∷ [])
 unfolding eleven shop to_fifty network_run
 in_turn = refl
+
+served_in_turn : IsFirstComeFirstServed shop to_fifty 1 counter 11 eleven
+unfolding eleven shop to_fifty network_run
+served_in_turn = record { begun = refl; done = λ one. refl }

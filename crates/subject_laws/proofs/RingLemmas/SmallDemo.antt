@@ -1,12 +1,15 @@
 -- The demo of two stations, computed with its random words. At each of them a job begins; the first station and the delay
 -- behind it take one tick, the second station and its delay one or two.
-use Rattle.std.proofs.Common.{◌≡◌, ℕ, refl, [], ◌∷◌, map}
+use Rattle.std.proofs.Common.{◌≡◌, ℕ, refl, List, [], ◌∷◌, map}
 use Rattle.event_key.specs.Stamps.{time_part}
 use Rattle.queue_models.specs.Meaning.{network_meaning}
+use Rattle.queue_models.specs.Objects.{object_at}
 use Rattle.queue_models.specs.Rings.{ring_parts, ring_terms}
 use Rattle.run_laws.specs.Reached.{after_events, first_records}
 use Rattle.subject_laws.proofs.Computing.{network_run}
 use Rattle.subject_laws.proofs.QueueLemmas.SmallShop.{key_at}
+use Rattle.subject_laws.specs.DrawLaws.{first_draws}
+use Rattle.subject_laws.specs.Draws.{drawn_by, draw_place}
 use Rattle.subject_laws.specs.Jobs.{Job, listed, whereabouts, in_the_system}
 use Rattle.subject_laws.specs.Places.{at_event, in_line, word_told, job_told}
 
@@ -33,3 +36,10 @@ both_go_on : in_the_system (ring_parts 2) (after_events 9 (network_meaning (ring
     (2, at_event (key_at 4 0 0 3 0)) ∷ (1, at_event (key_at 5 0 0 3 1)) ∷ []
 unfolding network_run
 both_go_on = refl
+
+-- the second station drew 2 and 1: the first two of its law from its own words
+draws_seen : ◌≡◌ {A = List ℕ × List ℕ}
+    (drawn_by (ring_parts 2) ring_terms 2 9, first_draws 2 2 (object_at (ring_parts 2).objects 2).kind 2)
+    (2 ∷ 1 ∷ [], 2 ∷ 1 ∷ [])
+unfolding draw_place network_run
+draws_seen = refl

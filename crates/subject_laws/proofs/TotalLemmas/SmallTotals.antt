@@ -1,14 +1,14 @@
 -- Totals, computed: those of the counter of the small shop after eleven events, in which four jobs came, of which two were
 -- served, one is in service and one waits.
-use Rattle.std.proofs.Common.{◌≡◌, ℕ, refl}
+use Rattle.std.proofs.Common.{lit≤, ◌≡◌, ℕ, refl}
 use Rattle.std.specs.Prelude.{count_by}
 use Rattle.sim_stats.specs.declared.sums.Sums.{Sums}
 use Rattle.queue_models.specs.Meaning.{plain_meaning, network_meaning}
 use Rattle.run_laws.specs.Reached.{after_events}
 use Rattle.run_laws.specs.Sent.{all_sent}
-use Rattle.subject_laws.specs.FlowLaws.{comes_to, listed_at}
-use Rattle.subject_laws.proofs.QueueLemmas.SmallShop.{shop, to_fifty}
-use Rattle.subject_laws.specs.TotalLaws.{totals_at}
+use Rattle.subject_laws.specs.FlowLaws.{comes_to, listed_at, ArrivalsAddUp}
+use Rattle.subject_laws.proofs.QueueLemmas.SmallShop.{counter, shop, to_fifty}
+use Rattle.subject_laws.specs.TotalLaws.{totals_at, IsAccountedFor}
 use Rattle.subject_laws.proofs.Computing.{network_run}
 
 -- a job is taken at 1, and others wait from 3, 5 and 7 on; two are done, at 6 and at 11
@@ -24,6 +24,10 @@ totals_seen : ◌≡◌ {A = Sums} (totals_at shop to_fifty 1 11) (record {
 unfolding shop to_fifty network_run
 totals_seen = refl
 
+accounted_for : IsAccountedFor (totals_at shop to_fifty 1 11) (after_events 11 (network_meaning shop) to_fifty) 1 counter
+unfolding shop to_fifty network_run
+accounted_for = record { jobs = refl; busy = refl; waiting = refl; busy_ticks = lit≤ tt }
+
 -- after three events one job has come to the counter, and one is on its way; none is of the list, and two were sent
 flow_seen : ◌≡◌ {A = ℕ × ℕ × ℕ × ℕ} (
   (totals_at shop to_fifty 1 3).arrivals,
@@ -34,3 +38,7 @@ flow_seen : ◌≡◌ {A = ℕ × ℕ × ℕ × ℕ} (
     (1, 1, 0, 2)
 unfolding shop to_fifty network_run
 flow_seen = refl
+
+arrivals_add_up : ArrivalsAddUp shop to_fifty 1 3 (totals_at shop to_fifty 1 3) (after_events 3 (network_meaning shop) to_fifty)
+unfolding shop to_fifty network_run
+arrivals_add_up = refl
