@@ -4,6 +4,7 @@ pub mod CycleLemmas
 pub mod DeskLemmas
 pub mod FloorLemmas
 pub mod ForkLemmas
+pub mod LeastFloor
 pub mod RiseLemmas
 pub mod SeatingLemmas
 pub mod RunningLemmas

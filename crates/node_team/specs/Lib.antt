@@ -1,6 +1,7 @@
 pub mod Advances
 pub mod Cycles
 pub mod Desks
+pub mod Floors
 pub mod Forks
 pub mod Handings
 pub mod Readiness

@@ -1,6 +1,7 @@
 //! The floor of the word: a stamp that no node's offers fall below.
-ghost use Rattle.std.specs.Prelude.{◌≤◌};
+ghost use Rattle.std.specs.Prelude.{◌≡◌, ◌≤◌, ◌⊎◌};
 ghost use Rattle.cycle_core.specs.Places.{AtEach};
+ghost use Rattle.node_team.specs.Floors.{IsPastOne, IsPastOneOf};
 ghost use Rattle.node_team.specs.Teams.{IsFloorOf};
 
 use cycle_core::know;
@@ -11,6 +12,7 @@ use node_core::Node;
 fn lower_floor<M: SimulationModel>(node: &Node<M>, floor: u64) -> u64
     ensures lower { result ≤ floor }
     ensures floor { IsFloorOf (M.meaning node.now.model) result node.now }
+    ensures least { (result ≡ floor) ⊎ IsPastOne (M.meaning node.now.model) result node.now }
 {
     know(node);
     match node.least() {
@@ -23,6 +25,7 @@ fn lower_floor<M: SimulationModel>(node: &Node<M>, floor: u64) -> u64
 pub fn floor_of<M: SimulationModel>(nodes: &[Node<M>], end: u64) -> u64
     ensures end { result ≤ end }
     ensures floor { AtEach (λ number n. IsFloorOf (M.meaning n.model) result n) nodes.now }
+    ensures least { (result ≡ end) ⊎ IsPastOneOf M.meaning result nodes.now }
 {
     let mut floor = end;
     for node in nodes {
