@@ -1,5 +1,5 @@
 -- A number and its sum over the ticks, as time goes on and as a part more is told.
-use Rattle.std.proofs.Common.{◌≡◌, ℕ, ◌+◌, ◌-◌, ◌*◌, ◌<◌, ◌≤◌, zero, suc, cond, List, [], ◌∷◌, ◌++◌, refl, ap, sym, ◌∙◌, append-nil, arith}
+use Rattle.std.proofs.Common.{◌≡◌, ℕ, ◌+◌, ◌-◌, ◌*◌, ◌^◌, ◌<◌, ◌≤◌, zero, suc, cond, List, [], ◌∷◌, ◌++◌, refl, ap, sym, ◌∙◌, append-nil, mul-le-mul_right, arith}
 use Rattle.std.specs.Prelude.{nat_le, sum_by}
 use Rattle.std.specs.List.{range_with_len}
 use Rattle.std.proofs.lemmas.Bool.{le-leb, lt-leb}
@@ -105,3 +105,11 @@ kept_more after now first told one kept number is same =
     ap (λ n. let more : Kept = record kept { number = n } in more) (same ∙ was)
     ∙ ap (λ (k : Kept). let more : Kept = record k { number = number_after after now (told ++ one ∷ []) } in more) is
     ∙ ap (λ ticks. let more : Kept = record { number = number_after after now (told ++ one ∷ []); ticks = ticks } in more) (sym (ticks_more after now first told one))
+
+-- a number below 2 ^ 64, summed up over the ticks of the time that goes by
+pub ticks_within : (first earlier later ticks : ℕ) (kept passed : Kept) → kept.number < 2 ^ 64 → kept.ticks ≤ 2 ^ 64 * earlier → earlier ≤ later
+    → ticks ≡ ticks_between first earlier later → passed ≡ record kept { ticks = kept.ticks + kept.number * ticks } → passed.ticks ≤ 2 ^ 64 * later
+ticks_within first earlier later ticks kept passed small within le between passes =
+    let most : kept.number * ticks ≤ 2 ^ 64 * ticks = mul-le-mul_right ticks (omega arith) in
+    let sum : passed.ticks ≡ kept.ticks + kept.number * ticks = ap (λ (k : Kept). k.ticks) passes in
+    omega (arith, most, sum)

@@ -1,5 +1,5 @@
 -- What came of the jobs that came, by the words that are told.
-use Rattle.std.specs.Prelude.{ℕ, ◌+◌, ◌<◌, Bool, ◌==◌, ◌||◌, List, count_by}
+use Rattle.std.specs.Prelude.{ℕ, ◌+◌, ◌≤◌, Bool, ◌==◌, ◌||◌, List, count_by}
 use Rattle.std.specs.Int.{from_bool}
 use Rattle.model_core.specs.declared.words.TheConstants.{TAKEN_WORD, WAITING_WORD, LOST_WORD, DONE_WORD, CALLED_WORD, FREED_WORD, RENEGED_WORD}
 use Rattle.shop_totals.specs.declared.flow.Flow.{Flow}
@@ -44,10 +44,10 @@ flow_more flow word = record {
   reneged = flow.reneged + from_bool (is_reneging word);
 }
 
--- each count is below a number
-pub record IsFewer (most : ℕ) (flow : Flow) : Type 0 where
-  pub came : flow.came < most
-  pub begun : flow.begun < most
-  pub done : flow.done < most
-  pub lost : flow.lost < most
-  pub reneged : flow.reneged < most
+-- so many words were told at most
+pub record IsFlowWithin (words : ℕ) (flow : Flow) : Type 0 where
+  pub came : flow.came ≤ words
+  pub begun : flow.begun ≤ words
+  pub done : flow.done ≤ words
+  pub lost : flow.lost ≤ words
+  pub reneged : flow.reneged ≤ words

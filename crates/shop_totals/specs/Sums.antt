@@ -1,12 +1,11 @@
 -- The sums of a station, of a class at a station and of a class, over what is told of them.
-use Rattle.std.specs.Prelude.{ℕ, ◌+◌, ◌-◌, ◌^◌, ◌<◌, ◌==◌, ◌||◌, if◌then◌else◌, List, sum_by}
+use Rattle.std.specs.Prelude.{ℕ, ◌+◌, ◌-◌, ◌*◌, ◌^◌, ◌≤◌, ◌==◌, ◌||◌, if◌then◌else◌, List, sum_by}
 use Rattle.model_core.specs.declared.note.Part.{Part}
 use Rattle.model_core.specs.declared.words.TheConstants.{MADE_WORD, TAKEN_WORD, WAITING_WORD, DONE_WORD, LEFT_WORD, DROPPED_WORD, OVERDUE_WORD, CALLED_WORD, FREED_WORD, RENEGED_WORD, OPENED_WORD, DOWN_WORD, UP_WORD}
 use Rattle.shop_totals.specs.declared.class_sums.ClassSums.{ClassSums}
-use Rattle.shop_totals.specs.declared.kept.Kept.{Kept}
 use Rattle.shop_totals.specs.declared.station_sums.StationSums.{StationSums}
 use Rattle.shop_totals.specs.declared.visit_sums.VisitSums.{VisitSums}
-use Rattle.shop_totals.specs.Flows.{count_told, flow_of, IsFewer}
+use Rattle.shop_totals.specs.Flows.{count_told, flow_of, IsFlowWithin}
 use Rattle.shop_totals.specs.Kept.{kept_of}
 use Rattle.shop_totals.specs.Told.{TimedPart, told_from}
 
@@ -74,24 +73,25 @@ class_sums_of first told clock = record {
   inside = kept_of after_inside 0 first told clock;
 }
 
--- a sum to which 2 ^ 48 ticks of any number can be added
-abbrev pub IsKeptRoomy : Kept → Type 0
-IsKeptRoomy kept = kept.ticks < 2 ^ 120
+-- sums over so many parts at most, that are told before the clock or now
+pub record IsWithin (parts : ℕ) (sums : StationSums) : Type 0 where
+  pub flow : IsFlowWithin parts sums.flow
+  pub busy : sums.busy.number ≤ parts
+  pub waiting : sums.waiting.number ≤ parts
+  pub busy_ticks : sums.busy.ticks ≤ 2 ^ 64 * sums.clock
+  pub waiting_ticks : sums.waiting.ticks ≤ 2 ^ 64 * sums.clock
+  pub open_ticks : sums.opened.ticks ≤ 2 ^ 64 * sums.clock
+  pub down_ticks : sums.down.ticks ≤ 2 ^ 64 * sums.clock
 
-pub record IsRoomy (sums : StationSums) : Type 0 where
-  pub flow : IsFewer (2 ^ 63) sums.flow
-  pub busy : IsKeptRoomy sums.busy
-  pub few_busy : sums.busy.number < 2 ^ 63
-  pub waiting : IsKeptRoomy sums.waiting
-  pub few_waiting : sums.waiting.number < 2 ^ 63
-  pub opened : IsKeptRoomy sums.opened
-  pub down : IsKeptRoomy sums.down
+pub record IsVisitWithin (parts : ℕ) (sums : VisitSums) : Type 0 where
+  pub flow : IsFlowWithin parts sums.flow
+  pub waited : sums.waited ≤ 2 ^ 64 * parts
 
-pub record IsClassRoomy (sums : ClassSums) : Type 0 where
-  pub made : sums.made < 2 ^ 63
-  pub left : sums.left < 2 ^ 63
-  pub dropped : sums.dropped < 2 ^ 63
-  pub late : sums.late < 2 ^ 63
-  pub ages : sums.ages < 2 ^ 127
-  pub inside : IsKeptRoomy sums.inside
-  pub few_inside : sums.inside.number < 2 ^ 63
+pub record IsClassWithin (parts : ℕ) (sums : ClassSums) : Type 0 where
+  pub made : sums.made ≤ parts
+  pub left : sums.left ≤ parts
+  pub dropped : sums.dropped ≤ parts
+  pub late : sums.late ≤ parts
+  pub ages : sums.ages ≤ 2 ^ 64 * parts
+  pub inside : sums.inside.number ≤ parts
+  pub inside_ticks : sums.inside.ticks ≤ 2 ^ 64 * sums.clock

@@ -1,7 +1,7 @@
 //! The sums of a class.
 ghost use Rattle.std.specs.Prelude.{◌≡◌, ◌<◌, ◌≤◌, ◌+◌, ◌^◌, ◌++◌, ◌∷◌, [], ℕ, List};
 ghost use Rattle.shop_totals.specs.Told.{TimedPart, AreBy};
-ghost use Rattle.shop_totals.specs.Sums.{after_inside, age_told, class_sums_of, IsClassRoomy};
+ghost use Rattle.shop_totals.specs.Sums.{after_inside, age_told, class_sums_of, IsClassWithin};
 
 use crate::kept::{Kept, ticks_between};
 use model_core::{DROPPED_WORD, LEFT_WORD, MADE_WORD, OVERDUE_WORD, Part};
@@ -23,7 +23,8 @@ pub struct ClassSums {
 /// How many jobs are inside after a part.
 fn after_inside(inside: u64, part: Part) -> u64
     requires { inside < 2 ^ 63 }
-    ensures { result ≡ after_inside inside part }
+    ensures number { result ≡ after_inside inside part }
+    ensures few { result ≤ inside + 1 }
 {
     match part.word {
         MADE_WORD => inside + 1,
@@ -45,7 +46,10 @@ fn age_told(part: Part) -> u64
 impl ClassSums {
     /// Nothing was told yet; what counts is told from a tick on.
     pub fn new(first: u64) -> ClassSums
-        ensures { result ≡ class_sums_of first [] 0 }
+        ensures sums { result ≡ class_sums_of first [] 0 }
+        ensures within { IsClassWithin 0 result }
+        ensures clock { result.clock ≡ 0 }
+        ensures first { result.first ≡ first }
     {
         ClassSums {
             first,
@@ -63,9 +67,12 @@ impl ClassSums {
     pub fn pass(self, time: u64) -> ClassSums
         requires time { self.clock ≤ time }
         requires soon { time < 2 ^ 48 }
-        requires room { IsClassRoomy self }
-        ensures { (told : List TimedPart) → AreBy self.clock told → self ≡ class_sums_of self.first told self.clock
+        requires room { IsClassWithin (2 ^ 62) self }
+        ensures sums { (told : List TimedPart) → AreBy self.clock told → self ≡ class_sums_of self.first told self.clock
             → result ≡ class_sums_of self.first told time }
+        ensures within { (parts : ℕ) → IsClassWithin parts self → IsClassWithin parts result }
+        ensures clock { result.clock ≡ time }
+        ensures first { result.first ≡ self.first }
     {
         let ticks = ticks_between(self.first, self.clock, time);
         ClassSums {
@@ -77,8 +84,11 @@ impl ClassSums {
 
     /// The counts after a part that is told now. It counts from the first tick on.
     fn counted(self, part: Part) -> ClassSums
-        requires { IsClassRoomy self }
-        ensures { (told : List TimedPart) → self ≡ class_sums_of self.first told self.clock
+        requires { IsClassWithin (2 ^ 62) self }
+        ensures clock { result.clock ≡ self.clock }
+        ensures first { result.first ≡ self.first }
+        ensures within { (parts : ℕ) → IsClassWithin parts self → IsClassWithin (parts + 1) result }
+        ensures sums { (told : List TimedPart) → self ≡ class_sums_of self.first told self.clock
             → result ≡ record (class_sums_of self.first (told ++ record { time = self.clock; part = part } ∷ []) self.clock) { inside = self.inside } }
     {
         if self.clock < self.first {
@@ -96,8 +106,11 @@ impl ClassSums {
 
     /// A part is told, now.
     pub fn and(self, part: Part) -> ClassSums
-        requires room { IsClassRoomy self }
-        ensures { (told : List TimedPart) → AreBy self.clock told → self ≡ class_sums_of self.first told self.clock
+        requires room { IsClassWithin (2 ^ 62) self }
+        ensures within { (parts : ℕ) → IsClassWithin parts self → IsClassWithin (parts + 1) result }
+        ensures clock { result.clock ≡ self.clock }
+        ensures first { result.first ≡ self.first }
+        ensures sums { (told : List TimedPart) → AreBy self.clock told → self ≡ class_sums_of self.first told self.clock
             → result ≡ class_sums_of self.first (told ++ record { time = self.clock; part = part } ∷ []) self.clock }
     {
         let inside = Kept {

@@ -1,6 +1,6 @@
 //! What came of the jobs that came.
-ghost use Rattle.std.specs.Prelude.{◌≡◌, ◌<◌, ◌+◌, ◌^◌};
-ghost use Rattle.shop_totals.specs.Flows.{is_coming, is_beginning, is_end, flow_more, IsFewer};
+ghost use Rattle.std.specs.Prelude.{◌≡◌, ◌≤◌, ◌+◌, ◌^◌, ℕ};
+ghost use Rattle.shop_totals.specs.Flows.{is_coming, is_beginning, is_end, flow_more, IsFlowWithin};
 
 use model_core::{
     CALLED_WORD, DONE_WORD, FREED_WORD, LOST_WORD, RENEGED_WORD, TAKEN_WORD, WAITING_WORD,
@@ -53,8 +53,9 @@ impl Flow {
 
     /// As a word more leaves it.
     pub fn and(self, word: u32) -> Flow
-        requires { IsFewer (2 ^ 63) self }
-        ensures { result ≡ flow_more self word }
+        requires room { IsFlowWithin (2 ^ 62) self }
+        ensures flow { result ≡ flow_more self word }
+        ensures within { (words : ℕ) → IsFlowWithin words self → IsFlowWithin (words + 1) result }
     {
         Flow {
             came: self.came + u64::from(is_coming(word)),

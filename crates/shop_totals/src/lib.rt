@@ -7,6 +7,8 @@ mod flow;
 mod kept;
 mod lines;
 mod station_sums;
+#[cfg(test)]
+mod tests;
 mod visit_sums;
 
 pub use class_sums::ClassSums;

@@ -1,8 +1,8 @@
 //! The sums of a station.
 ghost use Rattle.std.specs.Prelude.{◌≡◌, ◌<◌, ◌≤◌, ◌+◌, ◌^◌, ◌++◌, ◌∷◌, [], ℕ, List};
-ghost use Rattle.shop_totals.specs.Flows.{flow_of, IsFewer};
+ghost use Rattle.shop_totals.specs.Flows.{flow_of, IsFlowWithin};
 ghost use Rattle.shop_totals.specs.Told.{TimedPart, told_from, AreBy};
-ghost use Rattle.shop_totals.specs.Sums.{after_busy, after_waiting, after_open, after_down, station_sums_of, IsRoomy};
+ghost use Rattle.shop_totals.specs.Sums.{after_busy, after_waiting, after_open, after_down, station_sums_of, IsWithin};
 
 use crate::flow::Flow;
 use crate::kept::{Kept, ticks_between};
@@ -27,7 +27,8 @@ pub struct StationSums {
 /// How many servers are busy after a part.
 fn after_busy(busy: u64, part: Part) -> u64
     requires { busy < 2 ^ 63 }
-    ensures { result ≡ after_busy busy part }
+    ensures number { result ≡ after_busy busy part }
+    ensures few { result ≤ busy + 1 }
 {
     match part.word {
         TAKEN_WORD | CALLED_WORD => busy + 1,
@@ -39,7 +40,8 @@ fn after_busy(busy: u64, part: Part) -> u64
 /// How many jobs wait after a part.
 fn after_waiting(waiting: u64, part: Part) -> u64
     requires { waiting < 2 ^ 63 }
-    ensures { result ≡ after_waiting waiting part }
+    ensures number { result ≡ after_waiting waiting part }
+    ensures few { result ≤ waiting + 1 }
 {
     match part.word {
         WAITING_WORD => waiting + 1,
@@ -73,7 +75,10 @@ fn after_down(down: u64, part: Part) -> u64
 impl StationSums {
     /// Nothing was told yet of a station with so many servers open, of which what counts is told from a tick on.
     pub fn new(first: u64, servers: u64) -> StationSums
-        ensures { result ≡ station_sums_of first servers [] 0 }
+        ensures sums { result ≡ station_sums_of first servers [] 0 }
+        ensures within { IsWithin 0 result }
+        ensures clock { result.clock ≡ 0 }
+        ensures first { result.first ≡ first }
     {
         StationSums {
             first,
@@ -90,9 +95,12 @@ impl StationSums {
     pub fn pass(self, time: u64) -> StationSums
         requires time { self.clock ≤ time }
         requires soon { time < 2 ^ 48 }
-        requires room { IsRoomy self }
-        ensures { (servers : ℕ) (told : List TimedPart) → AreBy self.clock told → self ≡ station_sums_of self.first servers told self.clock
+        requires room { IsWithin (2 ^ 62) self }
+        ensures sums { (servers : ℕ) (told : List TimedPart) → AreBy self.clock told → self ≡ station_sums_of self.first servers told self.clock
             → result ≡ station_sums_of self.first servers told time }
+        ensures within { (parts : ℕ) → IsWithin parts self → IsWithin parts result }
+        ensures clock { result.clock ≡ time }
+        ensures first { result.first ≡ self.first }
     {
         let ticks = ticks_between(self.first, self.clock, time);
         StationSums {
@@ -107,8 +115,9 @@ impl StationSums {
 
     /// What came of the jobs, after a part that is told now. It counts from the first tick on.
     fn flow_after(&self, part: Part) -> Flow
-        requires { IsFewer (2 ^ 63) self.now.flow }
-        ensures { (told : List TimedPart) → self.now.flow ≡ flow_of (told_from self.now.first told)
+        requires { IsFlowWithin (2 ^ 62) self.now.flow }
+        ensures within { (words : ℕ) → IsFlowWithin words self.now.flow → IsFlowWithin (words + 1) result }
+        ensures flow { (told : List TimedPart) → self.now.flow ≡ flow_of (told_from self.now.first told)
             → result ≡ flow_of (told_from self.now.first (told ++ record { time = self.now.clock; part = part } ∷ [])) }
     {
         if self.clock < self.first {
@@ -119,8 +128,11 @@ impl StationSums {
 
     /// A part is told, now.
     pub fn and(self, part: Part) -> StationSums
-        requires room { IsRoomy self }
-        ensures { (servers : ℕ) (told : List TimedPart) → AreBy self.clock told → self ≡ station_sums_of self.first servers told self.clock
+        requires room { IsWithin (2 ^ 62) self }
+        ensures within { (parts : ℕ) → IsWithin parts self → IsWithin (parts + 1) result }
+        ensures clock { result.clock ≡ self.clock }
+        ensures first { result.first ≡ self.first }
+        ensures sums { (servers : ℕ) (told : List TimedPart) → AreBy self.clock told → self ≡ station_sums_of self.first servers told self.clock
             → result ≡ station_sums_of self.first servers (told ++ record { time = self.clock; part = part } ∷ []) self.clock }
     {
         StationSums {

@@ -1,8 +1,7 @@
 //! The sums of a class at a station.
 ghost use Rattle.std.specs.Prelude.{◌≡◌, ◌<◌, ◌≤◌, ◌+◌, ◌^◌, ◌++◌, ◌∷◌, [], ℕ, List};
-ghost use Rattle.shop_totals.specs.Flows.{IsFewer};
 ghost use Rattle.shop_totals.specs.Told.{TimedPart};
-ghost use Rattle.shop_totals.specs.Sums.{ticks_waited, visit_sums_of};
+ghost use Rattle.shop_totals.specs.Sums.{ticks_waited, visit_sums_of, IsVisitWithin};
 
 use crate::flow::Flow;
 use model_core::{CALLED_WORD, Part, RENEGED_WORD};
@@ -28,7 +27,8 @@ impl VisitSums {
     /// Nothing was told yet.
     #[tactic(auto, unfolding(crate::specs::Sums::visit_sums_of, crate::specs::Flows::flow_of))]
     pub fn new() -> VisitSums
-        ensures { result ≡ visit_sums_of [] }
+        ensures sums { result ≡ visit_sums_of [] }
+        ensures within { IsVisitWithin 0 result }
     {
         VisitSums {
             flow: Flow::none(),
@@ -38,9 +38,9 @@ impl VisitSums {
 
     /// A part is told that counts.
     pub fn and(self, part: Part) -> VisitSums
-        requires flow { IsFewer (2 ^ 63) self.flow }
-        requires waited { self.waited < 2 ^ 127 }
-        ensures { (told : List TimedPart) (time : ℕ) → self ≡ visit_sums_of told
+        requires room { IsVisitWithin (2 ^ 62) self }
+        ensures within { (parts : ℕ) → IsVisitWithin parts self → IsVisitWithin (parts + 1) result }
+        ensures sums { (told : List TimedPart) (time : ℕ) → self ≡ visit_sums_of told
             → result ≡ visit_sums_of (told ++ record { time = time; part = part } ∷ []) }
     {
         VisitSums {

@@ -9,9 +9,9 @@ use Rattle.shop_totals.specs.Told.{TimedPart, told_from}
 use Rattle.shop_totals.proofs.FlowLemmas.{count_more, told_from-counts, told_from-passes}
 use Rattle.shop_totals.proofs.class_sums.ClassSums.counted.Goals as goal
 
-pub returns-then-self : goal.returns-then-self
+pub returns-then-self-clause-sums : goal.returns-then-self-clause-sums
 unfolding class_sums_of
-returns-then-self c told is =
+returns-then-self-clause-sums c told is =
     let sums = c.args.self in
     let one : TimedPart = record { time = sums.clock; part = c.args.part } in
     let same = told_from-passes sums.first told one (omega arith) in
@@ -25,9 +25,9 @@ returns-then-self c told is =
     } in all in
     ap (λ (s : ClassSums). let all : ClassSums = record s { first = sums.first; clock = sums.clock; inside = sums.inside } in all) is ∙ ap with_told (sym same)
 
-pub returns : goal.returns
+pub returns-clause-sums : goal.returns-clause-sums
 unfolding class_sums_of
-returns c told is =
+returns-clause-sums c told is =
     let sums = c.args.self in
     let one : TimedPart = record { time = sums.clock; part = c.args.part } in
     let more = told_from-counts sums.first told one (omega arith) in
