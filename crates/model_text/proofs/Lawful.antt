@@ -141,11 +141,11 @@ linked-lawful all find links_are k (o ∷ named) objects fine gives =
     (All-cons (IsObject all) first.0 others.0 lawful (linked-lawful all find links_are (k + 1) named others.0 (All-tail IsNamedItem o named fine) others.1))
 
 -- where a name stands for an object to which jobs go, that object is no source
-abbrev StandsAt : List NamedItem → ℕ → ℕ → Type 0
-StandsAt named k n = (i : ℕ) × (n ≡ k + i) × (i < length named) × (get_or (named_sources named) i false ≡ false)
+abbrev IsNoSourceAt : List NamedItem → ℕ → ℕ → Type 0
+IsNoSourceAt named k n = (i : ℕ) × (n ≡ k + i) × (i < length named) × (get_or (named_sources named) i false ≡ false)
 
 stands_first : (o : NamedItem) (named : List NamedItem) (k n : ℕ) (others : Option Place) (same : Bool) → cond same (Some (place_of k o)) others ≡ Some (placed n true)
-    → (others ≡ Some (placed n true) → StandsAt named (k + 1) n) → StandsAt (o ∷ named) k n
+    → (others ≡ Some (placed n true) → IsNoSourceAt named (k + 1) n) → IsNoSourceAt (o ∷ named) k n
 unfolding named_sources
 stands_first o named k n others true found later =
     let same : place_of k o ≡ placed n true = cc in
@@ -158,7 +158,7 @@ stands_first o named k n others false found later =
     let within : rest.0 < length named = rest.2 in
     (suc rest.0, omega arith, omega arith, rest.3)
 
-stands_at : (named : List NamedItem) (k n : ℕ) (name : List ℕ) → place_from (λ object. object.name) place_of k named name ≡ Some (placed n true) → StandsAt named k n
+stands_at : (named : List NamedItem) (k n : ℕ) (name : List ℕ) → place_from (λ object. object.name) place_of k named name ≡ Some (placed n true) → IsNoSourceAt named k n
 stands_at [] k n name found = cc
 stands_at (o ∷ named) k n name found =
     stands_first o named k n (place_from (λ (object : NamedItem). object.name) place_of (k + 1) named name) (bytes_eq name o.name) found (stands_at named (k + 1) n name)

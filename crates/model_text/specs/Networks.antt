@@ -3,14 +3,20 @@ use Rattle.std.specs.Prelude.{ℕ, ◌+◌, List, length, Ok, codes}
 use Rattle.toml.specs.Data.{array, Members, Items, no_items}
 use Rattle.model_core.specs.declared.limits.TheConstants.{MOST_ENTRIES, MOST_OBJECTS}
 use Rattle.model_core.specs.Meaning.{Meaning}
-use Rattle.queue_models.specs.Objects.{network_of}
+use Rattle.queue_models.specs.declared.network.Network.{Network}
+use Rattle.queue_models.specs.Objects.{network_of, network_under}
 use Rattle.queue_models.specs.Meaning.{network_meaning}
+use Rattle.queue_models.specs.Views.{parts_of}
 use Rattle.model_text.specs.declared.formats.Format.{Format}
 use Rattle.model_text.specs.Checks.{Checked, ◌>>=◌}
 use Rattle.model_text.specs.Fields.{array_of, optional}
 use Rattle.model_text.specs.Jobs.{jobs_from}
 use Rattle.model_text.specs.Names.{NamedItem, place_in}
 use Rattle.model_text.specs.Objects.{objects, linked_from}
+
+-- what a network means under each seed
+abbrev pub network_family : Network → ℕ → Meaning
+network_family model seed = network_meaning (network_under seed (parts_of model))
 
 -- passes two and three, after pass one; the items of the objects begin with 1, and those of the jobs follow them
 unfoldable pub linked_network : Format → List NamedItem → Items → Checked (ℕ → Meaning)

@@ -2,14 +2,12 @@
 ghost use Rattle.std.specs.Prelude.{◌≡◌, ◌≢◌, ◌+◌, ◌<◌, ◌≤◌, ◌^◌, IfOk, length, All, AllPairs};
 ghost use Rattle.toml.specs.View.{items_view, table_view};
 ghost use Rattle.model_core.specs.declared.limits.TheConstants.{MOST_ENTRIES, MOST_OBJECTS};
-ghost use Rattle.queue_models.specs.Meaning.{network_meaning};
-ghost use Rattle.queue_models.specs.Objects.{network_under};
 ghost use Rattle.queue_models.specs.Views.{parts_of};
 ghost use Rattle.model_text.specs.Checks.{Gives};
 ghost use Rattle.model_text.specs.Directories.{finder};
 ghost use Rattle.model_text.specs.NamedItems.{IsNamedItem};
 ghost use Rattle.model_text.specs.Names.{NamedItem, place_in};
-ghost use Rattle.model_text.specs.Networks.{linked_network, network};
+ghost use Rattle.model_text.specs.Networks.{linked_network, network, network_family};
 
 use crate::directory::Directory;
 use crate::fields::{array_of, optional};
@@ -48,7 +46,7 @@ fn linked_network(
     requires found { finder directory.now ≡ place_in named.items }
     requires in_range { All IsNamedItem named.items }
     requires names_differ { AllPairs (λ (a b : NamedItem). a.name ≢ b.name) named.items }
-    ensures read { Gives (λ model seed. network_meaning (network_under seed (parts_of model))) result (linked_network format named.items (items_view entries.now)) }
+    ensures read { Gives network_family result (linked_network format named.items (items_view entries.now)) }
     ensures own { IfOk result (λ model. (parts_of model).seed ≡ seed) }
 {
     let first_job = first_job_item(&named);
@@ -66,7 +64,7 @@ pub(crate) fn network(
     seed: u64,
 ) -> Result<Network, Refusal>
     requires { seed < 2 ^ 63 }
-    ensures read { Gives (λ model seed. network_meaning (network_under seed (parts_of model))) result (network format (table_view table.now)) }
+    ensures read { Gives network_family result (network format (table_view table.now)) }
     ensures own { IfOk result (λ model. (parts_of model).seed ≡ seed) }
 {
     let none = Value::Array(Vec::new(alloc));
