@@ -57,6 +57,18 @@ output_leaves cells output held levels room here = record {
   levels = drop-set-lt 2 cells.words 1 output (omega arith) ∙ here.levels;
 }
 
+-- what an event does at a gate whose output it leaves, or makes another
+abbrev effect_by : List LogicGate → ℕ → CellData → Event → Bool → Effect
+effect_by gates number cells event same =
+    let gate = gate_at gates number in
+    let output = output_after gate cells event in
+    if same then record { changes = pin_changes gate event; sends = []; note = [] }
+    else record {
+      changes = pin_changes gate event ++ Set 1 output ∷ [];
+      sends = map (level_to (delay_of gate) output) (fed_by gates number);
+      note = told gate output;
+    }
+
 -- an event leaves the output and the pins that it is said to leave
 pub gate_leaves : (gates : List LogicGate) (number : ℕ) (cells : CellData) (event : Event) → AreGateCells (length (gate_at gates number).from) cells
     → Leaves (cells_after_all (gate_effect gates number cells event).changes cells) (output_after (gate_at gates number) cells event) (levels_after (gate_at gates number) cells event)
@@ -69,13 +81,7 @@ gate_leaves gates number cells event are = by (output == output_of cells) refl
     output : ℕ
     output = output_after gate cells event
 
-    by : (same : Bool) → (output == output_of cells) ≡ same
-        → (let effect : Effect = if same then record { changes = pin_changes gate event; sends = []; note = [] }
-        else record {
-          changes = pin_changes gate event ++ Set 1 output ∷ [];
-          sends = map (level_to (delay_of gate) output) (fed_by gates number);
-          note = told gate output;
-        } in Leaves (cells_after_all effect.changes cells) output (levels_after gate cells event))
+    by : (same : Bool) → (output == output_of cells) ≡ same → Leaves (cells_after_all (effect_by gates number cells event same).changes cells) output (levels_after gate cells event)
     by true is =
         let held : output ≡ output_of cells = grind (arith, nat_tests) in
         let here = pin_leaves gate cells event in
@@ -94,19 +100,10 @@ pub gate_sends : (P : List Send → Type 0) (gates : List LogicGate) (number : �
 unfolding gate_effect
 gate_sends P gates number cells event stays differs = by (output == output_of cells) refl
   where
-    gate : LogicGate
-    gate = gate_at gates number
-
     output : ℕ
-    output = output_after gate cells event
+    output = output_after (gate_at gates number) cells event
 
-    by : (same : Bool) → (output == output_of cells) ≡ same
-        → (let effect : Effect = if same then record { changes = pin_changes gate event; sends = []; note = [] }
-        else record {
-          changes = pin_changes gate event ++ Set 1 output ∷ [];
-          sends = map (level_to (delay_of gate) output) (fed_by gates number);
-          note = told gate output;
-        } in P effect.sends)
+    by : (same : Bool) → (output == output_of cells) ≡ same → P (effect_by gates number cells event same).sends
     by true is = stays (grind (arith, nat_tests))
     by false is = differs
 
