@@ -45,6 +45,14 @@ did-floor m bound floor old new key least did far from =
     let first = all.0 in
     omega arith
 
+-- a node that was idle below a stamp is so after a step, below any stamp that isn't greater
+pub idle-after : {M : Type 0} (m : Meaning) (bound : ℕ) (old new : NodeView M) (key : Key) (least : ℕ) → IsKnown m old → HasProcessed m bound old new key least → (g h : ℕ) → g ≤ h
+    → IsIdle m (home old) old.number h (data_of old) → IsIdle m (home new) new.number g (data_of new)
+idle-after m bound old new key least known did g h low idle =
+    let on = idle-on m old.terms (home old) old.number bound _ _ (data_of old) (data_of new) known.stands.stands did.step g h low idle in
+    let H : HomesView → ℕ → Type 0 = λ homes k. IsIdle m (home_of homes) k g (data_of new) in
+    subst (λ k. H new.homes k) (sym did.same.number) (subst (λ homes. H homes old.number) (sym did.same.homes) on)
+
 module _ {M : Type 0} (meaning_of : M → Meaning) (first : NodeView M) (seat : SeatView) where
   abbrev m : Meaning
   m = meaning_of first.model
@@ -103,13 +111,8 @@ module _ {M : Type 0} (meaning_of : M → Meaning) (first : NodeView M) (seat : 
       -- idle below what was seen, and below what is seen now
       pub idle-later : IsKnown (meaning_of n.model) n → IsIdle m (home n) n.number now.seen (data_of n) → IsIdle m (home new) new.number later.seen (data_of new)
       idle-later known idle =
-          let did = did_here in
           let K : M → Type 0 = λ v. IsKnown (meaning_of v) n in
-          let here : IsKnown m n = subst K model-is known in
-          let on = idle-on m n.terms (home n) n.number bound _ _ (data_of n) (data_of new) here.stands.stands did.step later.seen now.seen gone.offered.seen idle in
-          let P : NodeView M → Type 0 = λ v. IsIdle m (home v) n.number later.seen (data_of new) in
-          let H : HomesView → ℕ → Type 0 = λ h k. IsIdle m (home_of h) k later.seen (data_of new) in
-          subst (λ k. H new.homes k) (sym did.same.number) (subst (λ h. H h n.number) (sym did.same.homes) on)
+          idle-after m bound n new gone.key gone.least (subst K model-is known) did_here later.seen now.seen gone.offered.seen idle
 
 module _ {M : Type 0} (told : Key → Type 0) where
   -- a node that has processed nothing has nothing to tell

@@ -1,5 +1,6 @@
 pub mod EndingLemmas
 pub mod AdvanceLemmas
+pub mod AloneLemmas
 pub mod CycleLemmas
 pub mod DeskLemmas
 pub mod FloorLemmas

@@ -1,4 +1,5 @@
 pub mod Advances
+pub mod Closes
 pub mod Cycles
 pub mod Desks
 pub mod Floors

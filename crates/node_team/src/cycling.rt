@@ -1,4 +1,4 @@
-//! A cycle in threads.
+//! A cycle, in threads where that pays.
 ghost use Rattle.std.specs.Prelude.{◌≡◌, true, false, IfOk, OnOk, OnErr};
 ghost use Rattle.sim_spec.specs.State.{State};
 ghost use Rattle.cycle_core.specs.Cycled.{CarriesOn, IsBucketOf, StandsAfter};
@@ -8,11 +8,10 @@ ghost use Rattle.node_team.specs.Handings.{AreWorkers};
 ghost use Rattle.node_team.specs.Readiness.{IsReady};
 ghost use Rattle.node_team.specs.Rises.{AllRise};
 
-use crate::ending::end_world;
+use crate::closing::close_world;
+use crate::ending::{end_world, processed_by};
 use crate::gate::Gate;
-use crate::handing::Handing;
 use crate::kept::Kept;
-use crate::running::advance_world;
 use crate::setting::Setting;
 use cycle_core::{World, bucket_of};
 use model_core::OutOfMemory;
@@ -38,17 +37,18 @@ fn run_cycle<R: Threads + Sync, M: SimulationModel, L: Lanes, G: Gate>(
     ensures fault { IfOk result (λ bucket. world.new.fault ≡ bucket.fault) }
     ensures ready { OnOk result (IsReady L.nodes L.are_at_rest world.old.homes.nodes kept.new) }
 {
-    let handing = Handing::of(kept.load.advance_threads(), setting.workers);
-    advance_world(setting, world, handing, &mut kept.seats)?;
-    let bound = world.close_cycle(setting.alloc)?;
+    let bound = close_world(setting, world, &kept.load, &mut kept.seats)?;
     let cut = world.commit_cut(setting.alloc, bound)?;
+    let total = processed_by(world);
     let records = end_world(setting, world, kept, bound, &cut)?;
     world.finish(&cut, records.len() as u64);
+    kept.load = kept.load.after(total, records.len() as u64);
     Ok(bucket_of(bound, &cut, records))
 }
 
-/// One cycle: the nodes advance in threads, below one shared word, and what is committed goes through lanes. Where there are
-/// workers, they take the nodes' turns of the advance and steal them from each other. After a refusal the world is spent.
+/// One cycle. Where a fork pays, the nodes advance in threads, below one shared word, and what is committed goes through
+/// lanes; where there are workers, they take the nodes' turns of the advance and steal them from each other. Else all is done
+/// on the calling thread, without a word or lanes. After a refusal the world is spent.
 pub fn cycle<R: Threads + Sync, M: SimulationModel, L: Lanes, G: Gate>(
     setting: &Setting<R, G>,
     world: &mut World<M>,

@@ -7,7 +7,7 @@ ghost use Rattle.cycle_core.specs.Cuts.{CanEnd, HaveEnded, IsCutOf};
 ghost use Rattle.cycle_core.specs.Cycled.{IsClosedAt};
 ghost use Rattle.cycle_core.specs.Known.{AreKnown};
 ghost use Rattle.cycle_core.specs.Places.{AtEach};
-ghost use Rattle.cycle_core.specs.Worlds.{StandsAt, IsSameWorld};
+ghost use Rattle.cycle_core.specs.Worlds.{HasNodes, IsSameWorld, StandsAt};
 ghost use Rattle.node_team.specs.Readiness.{IsReady};
 
 use crate::arriving::receive_arrived;
@@ -52,18 +52,20 @@ fn end_nodes<R: Threads + Sync, M: SimulationModel, L: Lanes, G>(
     Ok(records)
 }
 
-/// How many events these nodes have processed in all, modulo 2^64.
-fn processed_by<M: SimulationModel>(nodes: &[Node<M>]) -> u64 {
+/// How many events the nodes of a world have processed in all, modulo 2^64.
+pub fn processed_by<M: SimulationModel>(world: &World<M>) -> u64
+    requires { HasNodes world.now }
+{
     let mut count: u64 = 0;
-    for node in nodes {
-        count = count.wrapping_add(node.tallies().processed);
+    for number in 0..world.nodes() {
+        count = count.wrapping_add(world.node(number).tallies().processed);
     }
     count
 }
 
-/// Commits, releases and receipts of a closed cycle. Answers what is told, in the order of the keys. After a refusal the
-/// world has lost its nodes.
-pub fn end_world<R: Threads + Sync, M: SimulationModel, L: Lanes, G>(
+/// Commits and receipts of a closed cycle, with releases through lanes. Answers what is told, in the order of the keys. After
+/// a refusal the world has lost its nodes.
+fn release_world<R: Threads + Sync, M: SimulationModel, L: Lanes, G>(
     setting: &Setting<R, G>,
     world: &mut World<M>,
     kept: &mut Kept<L>,
@@ -92,10 +94,35 @@ pub fn end_world<R: Threads + Sync, M: SimulationModel, L: Lanes, G>(
     let mut lists = world.take_lists(setting.alloc)?;
     let mut nodes = world.take_nodes();
     know_all(&nodes);
-    let processed = processed_by(&nodes);
     let records = end_nodes(setting, &due, nodes.as_mut_slice(), kept, &mut lists)?;
     world.put_nodes(nodes);
     world.put_lists(lists);
-    kept.load = kept.load.after(processed, records.len() as u64);
     Ok(records)
+}
+
+/// Commits and receipts of a closed cycle. Where no fork pays, nothing goes through lanes, which stay at rest. Answers what
+/// is told, in the order of the keys. After a refusal the world has lost its nodes.
+pub fn end_world<R: Threads + Sync, M: SimulationModel, L: Lanes, G>(
+    setting: &Setting<R, G>,
+    world: &mut World<M>,
+    kept: &mut Kept<L>,
+    bound: u64,
+    cut: &Cut,
+) -> Result<RecordBuffer, OutOfMemory>
+    requires stands { (s : State) × StandsAt (M.meaning world.old.model) world.old s }
+    requires closed { IsClosedAt M.meaning world.old world.old.nodes bound }
+    requires cut { IsCutOf M.meaning world.old bound cut.now }
+    requires ready { IsReady L.nodes L.are_at_rest world.old.homes.nodes kept.old }
+    ensures ended { IfOk result (λ records. HaveEnded M.meaning bound cut.now.below world.old.nodes world.new.nodes records.items) }
+    ensures known { OnOk result (AreKnown M.meaning world.old.nodes) }
+    ensures known_now { OnOk result (AreKnown M.meaning world.new.nodes) }
+    ensures laws { MeaningLaws (M.meaning world.old.model) }
+    ensures made { IsSameWorld world.old world.new }
+    ensures world { OnOk result (world.new ≡ record world.old { nodes = world.new.nodes }) }
+    ensures ready { OnOk result (IsReady L.nodes L.are_at_rest world.old.homes.nodes kept.new) }
+{
+    if kept.load.forks_nothing() {
+        return world.end_cycle(setting.alloc, bound, cut);
+    }
+    release_world(setting, world, kept, bound, cut)
 }

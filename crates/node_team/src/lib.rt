@@ -2,7 +2,9 @@
 #![tactic(auto)]
 
 mod advancing;
+mod alone;
 mod arriving;
+mod closing;
 mod cycling;
 mod ending;
 mod floor;

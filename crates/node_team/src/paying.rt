@@ -40,6 +40,11 @@ impl Load {
         }
     }
 
+    /// Whether no fork pays: neither for the advance nor for the commit.
+    pub fn forks_nothing(&self) -> bool {
+        self.processed < MANY_EVENTS && self.committed < MANY_EVENTS
+    }
+
     /// In how many threads the nodes advance.
     pub fn advance_threads(&self) -> usize
         ensures { 0 < result }

@@ -8,7 +8,7 @@ use Rattle.cycle_core.specs.Worlds.{WorldView, HasNodes, AreNodesOf}
 use Rattle.cycle_core.proofs.CycleFacts.{can-end, cut-answers}
 use Rattle.cycle_core.proofs.WholeCycle.{whole-cycle}
 use Rattle.node_team.proofs.CycleLemmas.{none-worked}
-use Rattle.node_team.proofs.ending.end_world.Goals as goal
+use Rattle.node_team.proofs.ending.release_world.Goals as goal
 
 pub take_nodes-nodes-requires-after_bounds : goal.take_nodes-nodes-requires-after_bounds
 take_nodes-nodes-requires-after_bounds g c lifetimes outlives = subst HasNodes (sym c.take_lists.ensures.same) c.requires.stands.1.has

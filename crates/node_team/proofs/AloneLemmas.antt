@@ -1,0 +1,43 @@
+-- A node that advances on its own, below a plain bound.
+use Rattle.std.proofs.Common.{◌≡◌, ℕ, ◌≤◌, min, sym, subst, arith}
+use Rattle.event_key.specs.declared.key.Key.{Key}
+use Rattle.event_key.specs.Stamps.{end_stamp}
+use Rattle.model_core.specs.Meaning.{Meaning}
+use Rattle.node_core.specs.Nodes.{NodeView}
+use Rattle.node_core.specs.Steps.{HasProcessed, IsLeftIdle}
+use Rattle.cycle_core.specs.Known.{IsKnown}
+use Rattle.cycle_core.specs.Works.{IsSettled}
+use Rattle.cycle_core.proofs.WorkLemmas.{IsSettling, settling-more}
+use Rattle.node_team.specs.Advances.{IsIdleBelow}
+use Rattle.node_team.proofs.AdvanceLemmas.{idle-after}
+
+-- a node that has settled below what the bound fell to, and may go on past it
+pub record IsPast {M : Type 0} (m : Meaning) (first : NodeView M) (bound fallen : ℕ) (n : NodeView M) : Type 0 where
+  pub settling : IsSettling m first bound fallen n
+  pub idle : IsIdleBelow m fallen n
+
+module _ {M : Type 0} (meaning_of : M → Meaning) (first : NodeView M) (bound fallen : ℕ) (n : NodeView M) where
+  abbrev m : Meaning
+  m = meaning_of first.model
+
+  pub past-settled : IsPast m first bound fallen n → IsSettled m bound fallen n
+  past-settled past = record { from = past.settling.from; within = past.settling.within; reached = past.settling.reached; idle = past.idle }
+
+  -- it may as soon as it is idle
+  pub past-first : (new : NodeView M) → IsSettling m first bound fallen n → IsLeftIdle (meaning_of n.model) fallen n new → IsPast m first bound fallen new
+  past-first new settling left =
+      let P : NodeView M → Type 0 = λ x. IsPast m first bound fallen x in
+      let I : M → Type 0 = λ x. IsIdleBelow (meaning_of x) fallen n in
+      subst P (sym left.unchanged) (record { settling = settling; idle = subst I settling.works.same.model left.idle })
+
+  -- a step below any bound up to the end keeps it so
+  pub past-more : (below least : ℕ) (key : Key) (new : NodeView M) → below ≤ end_stamp first.terms.end → IsKnown (meaning_of n.model) n → IsPast m first bound fallen n
+      → HasProcessed (meaning_of n.model) below n new key least → IsPast m first bound (min fallen least) new
+  past-more below least key new far known past did =
+      let K : M → Type 0 = λ x. IsKnown (meaning_of x) n in
+      let D : M → Type 0 = λ x. HasProcessed (meaning_of x) below n new key least in
+      let same = past.settling.works.same.model in
+      record {
+        settling = settling-more meaning_of first bound fallen below least key n new far past.settling did;
+        idle = idle-after m below n new key least (subst K same known) (subst D same did) (min fallen least) fallen (omega arith) past.idle;
+      }

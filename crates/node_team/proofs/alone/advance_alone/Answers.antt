@@ -1,0 +1,79 @@
+use Rattle.std.proofs.Common.{◌≡◌, ◌≤◌, length, refl, sym, ap, ◌∙◌, subst, arith}
+use Rattle.event_key.specs.Stamps.{end_stamp}
+use Rattle.node_core.specs.Nodes.{NodeView}
+use Rattle.cycle_core.specs.Works.{IsSettled}
+use Rattle.cycle_core.proofs.WorkLemmas.{settling-first, settling-more, works-refused}
+use Rattle.node_team.proofs.AdvanceLemmas.{told-none, told-on}
+use Rattle.node_team.proofs.AloneLemmas.{past-first, past-more, past-settled}
+use Rattle.node_team.proofs.alone.advance_alone.Goals as goal
+
+pub near-init : goal.near-init
+near-init g c = (
+  settling-first g.M.Model.meaning c.args.node.now c.args.bound c.requires.from,
+  omega arith,
+  told-none (g.G.Gate.was_told c.args.gate.now c.args.node.now.number) c.args.node.now c.args.node.now refl,
+)
+
+pub returns-in_err-least-clause-works : goal.returns-in_err-least-clause-works
+returns-in_err-least-clause-works g c =
+    works-refused g.M.Model.meaning c.args.node.now c.near.node c.step_told.new.node c.near.invariant.0.works c.in_err-least.ensures.err
+
+pub returns-in_err-least-clause-told : goal.returns-in_err-least-clause-told
+returns-in_err-least-clause-told g c =
+    told-on (g.G.Gate.was_told c.args.gate.now) c.args.node.now c.near.node c.step_told.new.node c.near.invariant.0.works.same.number c.near.invariant.2 c.step_told.ensures.told
+
+pub near-preserved : goal.near-preserved
+near-preserved g c =
+    let did = rw c.in-Did.is at c.in_ok-least.ensures.ok in
+    let before = c.near.invariant in
+    let within = c.requires.within in
+    let low = before.0.within in
+    let one = did.processed in
+    let deep = before.1 in (
+      rw c.min-fallen.ensures
+          (settling-more g.M.Model.meaning c.args.node.now c.args.bound c.near.fallen c.near.fallen c.in-Did.least c.in-Did.key c.near.node c.step_told.new.node (omega arith) before.0 did),
+      omega arith,
+      told-on (g.G.Gate.was_told c.args.gate.now) c.args.node.now c.near.node c.step_told.new.node before.0.works.same.number before.2 c.step_told.ensures.told,
+    )
+
+pub far-init : goal.far-init
+far-init g c =
+    let left = rw c.in-Idle.is at c.in_ok-least.ensures.ok in
+    let before = c.near.invariant in
+    let deep = before.1 in
+    let same = ap (λ (n : NodeView _). length n.processed) left.unchanged in (
+      past-first g.M.Model.meaning c.args.node.now c.args.bound c.near.fallen c.near.node c.step_told.new.node before.0 left,
+      omega arith,
+      told-on (g.G.Gate.was_told c.args.gate.now) c.args.node.now c.near.node c.step_told.new.node before.0.works.same.number before.2 c.step_told.ensures.told,
+    )
+
+pub returns-in_err-least-2-clause-works : goal.returns-in_err-least-2-clause-works
+returns-in_err-least-2-clause-works g c =
+    works-refused g.M.Model.meaning c.args.node.now c.far.node c.step_told-in-far.new.node c.far.invariant.0.settling.works c.in_err-least-2.ensures.err
+
+pub returns-in_err-least-2-clause-told : goal.returns-in_err-least-2-clause-told
+returns-in_err-least-2-clause-told g c =
+    told-on (g.G.Gate.was_told c.args.gate.now) c.args.node.now c.far.node c.step_told-in-far.new.node c.far.invariant.0.settling.works.same.number c.far.invariant.2 c.step_told-in-far.ensures.told
+
+pub returns-in-Idle-2-clause-settled : goal.returns-in-Idle-2-clause-settled
+returns-in-Idle-2-clause-settled g c =
+    let left = rw c.in-Idle-2.is at c.in_ok-least-2.ensures.ok in
+    subst (λ n. IsSettled (g.M.Model.meaning c.args.node.now.model) c.args.bound c.far.fallen n) (sym left.unchanged)
+    (past-settled g.M.Model.meaning c.args.node.now c.args.bound c.far.fallen c.far.node c.far.invariant.0)
+
+pub returns-in-Idle-2-clause-told : goal.returns-in-Idle-2-clause-told
+returns-in-Idle-2-clause-told g c =
+    told-on (g.G.Gate.was_told c.args.gate.now) c.args.node.now c.far.node c.step_told-in-far.new.node c.far.invariant.0.settling.works.same.number c.far.invariant.2 c.step_told-in-far.ensures.told
+
+pub far-preserved : goal.far-preserved
+far-preserved g c =
+    let did = rw c.in-Did-2.is at c.in_ok-least-2.ensures.ok in
+    let before = c.far.invariant in
+    let end : c.end_bound-end.result ≡ end_stamp c.args.node.now.terms.end = c.end_bound-end.ensures ∙ ap (λ t. end_stamp t.end) c.terms.ensures in
+    let one = did.processed in
+    let deep = before.1 in (
+      rw c.min-fallen-in-Did-2.ensures
+          (past-more g.M.Model.meaning c.args.node.now c.args.bound c.far.fallen c.far.node c.end_bound-end.result c.in-Did-2.least c.in-Did-2.key c.step_told-in-far.new.node (omega arith) c.know.ensures before.0 did),
+      omega arith,
+      told-on (g.G.Gate.was_told c.args.gate.now) c.args.node.now c.far.node c.step_told-in-far.new.node before.0.settling.works.same.number before.2 c.step_told-in-far.ensures.told,
+    )
