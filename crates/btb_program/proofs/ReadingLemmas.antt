@@ -40,6 +40,15 @@ state_of-take bytes = by_length (leb (length bytes) MOST_STATE_BYTES) refl
     by_length true h = ap state_of (take_all (MOST_STATE_BYTES + 1) bytes (omega (arith, leb-true _ _ h)))
     by_length false h = rw (long h, h) refl
 
+module _ (taken slice : List ℕ) where
+  -- the answer to the model that was read is the one to what was taken
+  pub slice_answers : (chosen : Settings) (read : Checked ModelOf) → slice ≡ taken → model_of slice ≡ read → answer_to_model chosen slice read ≡ answer_to_model chosen taken (model_of taken)
+  slice_answers chosen read is_slice is_read = ap (answer_to_model chosen slice) (sym is_read) ∙ ap (λ xs. answer_to_model chosen xs (model_of xs)) is_slice
+
+  -- so it is with a saved state
+  pub slice_state_answers : (read : states.Checked SavedState) → slice ≡ taken → state_of slice ≡ read → answer_to_state read ≡ answer_to_state (state_of taken)
+  slice_state_answers read is_slice is_read = ap answer_to_state (sym is_read ∙ ap state_of is_slice)
+
 module _ (old new : Option (List ℕ)) (taken slice : List ℕ) where
   -- the answer to the model that was read is the one to the whole input
   pub model_answers : (chosen : Settings) (read : Checked ModelOf) → TakesUpTo ENOUGH_BYTES old new taken → slice ≡ taken → model_of slice ≡ read

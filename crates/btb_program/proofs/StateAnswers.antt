@@ -9,7 +9,7 @@ use Rattle.sim_spec.specs.State.{State, initial_state}
 use Rattle.sim_io.specs.declared.streams.sink.Sink.{Ghosts as Sink}
 use Rattle.sim_io.specs.Causes.{Rose}
 use Rattle.sim_io.specs.Transfers.{AppendsPrefix}
-use Rattle.sim_io.proofs.TransferLemmas.{AppendsPrefix-next}
+use Rattle.sim_io.proofs.TransferLemmas.{AppendsPrefix-next, prefix_longer}
 use Rattle.sim_text.specs.declared.unfinished.Unfinished.{Unfinished}
 use Rattle.sim_text.specs.WholeTexts.{first_lines}
 use Rattle.model_runs.specs.Handed.{HandsOn}
@@ -45,10 +45,6 @@ unfinished_status Unfinished.OutOfMemory ending same is = let clash : ⊥ = let 
 -- what was put into nothing
 pub put_first : (before after text : List ℕ) → before ≡ [] → after ≡ before ++ text → after ≡ text
 put_first before after text empty put = put ∙ ap (λ xs. xs ++ text) empty
-
--- a prefix of some bytes is one of more
-pub prefix_longer : (old new : Option (List ℕ)) (bytes more : List ℕ) → AppendsPrefix old new bytes → AppendsPrefix old new (bytes ++ more)
-prefix_longer old new bytes more part = (part.0, part.1 ++ more, ap (λ xs. xs ++ more) part.2 ∙ append_assoc part.0 part.1 more, part.3)
 
 module _ {K : Type 0} (sink : Sink K) (m : Meaning) (t : Terms) (cycles : ℕ) (bytes : List ℕ) where
   -- the records were written, and then what is written of the state

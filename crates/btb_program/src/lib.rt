@@ -13,6 +13,6 @@ mod state_refusal;
 mod tests;
 mod top;
 
-pub use process::run_process;
+pub use process::{run_process, run_streams};
 pub use program::run_program;
 pub use top::btb;

@@ -1,14 +1,12 @@
 -- What was written whole was written in part.
-use Rattle.std.proofs.Common.{ℕ, List, [], sym, append-nil, Option, Result, Ok, Err}
+use Rattle.std.proofs.Common.{ℕ, List, Option, Result, Ok, Err}
 use Rattle.std.specs.Prelude.{OnOk, OnErr}
 use Rattle.std.specs.Io.KnownBytes.{Appends, Keeps}
 use Rattle.std.proofs.KnownBytes.{Appends-kept}
 use Rattle.sim_io.specs.Transfers.{AppendsPrefix}
+use Rattle.sim_io.proofs.TransferLemmas.{all_prefix}
 
-pub all_prefix : (old new : Option (List ℕ)) (bytes : List ℕ) → Appends old new bytes → AppendsPrefix old new bytes
-all_prefix old new bytes all = (bytes, [], sym (append-nil bytes), all)
-
--- with either outcome
+-- what was written, with either outcome
 pub either_prefix : {T E : Type 0} (r : Result T E) (old new : Option (List ℕ)) (bytes : List ℕ) → OnOk r (Appends old new bytes) → OnErr r (AppendsPrefix old new bytes) → AppendsPrefix old new bytes
 either_prefix (Ok x) old new bytes whole part = all_prefix old new bytes whole
 either_prefix (Err e) old new bytes whole part = part

@@ -77,7 +77,7 @@ fn run_one_thread<K: Sink>(
 {
     let (model, mut run) = one_thread(alloc, model, terms)?;
     law_initial(&*model, &terms);
-    let cycle = |run: &mut OneThreadRun, alloc: Global| run.engine.bucket(alloc);
+    let cycle = |run: &mut OneThreadRun, alloc: Global, _out: &K| run.engine.bucket(alloc);
     simulate(alloc, &*model, &terms, &mut run, &cycle, telling, out)
 }
 
@@ -97,7 +97,7 @@ fn run_on_nodes<R: Threads + Sync, G: Gate, K: Sink>(
     let (model, mut run) = on_nodes(alloc, model, terms, spread)?;
     law_initial(&*model, &terms);
     let workers = spread.workers;
-    let cycle = |run: &mut TeamRun, alloc: Global| -> Result<Bucket, OutOfMemory>
+    let cycle = |run: &mut TeamRun, alloc: Global, _out: &K| -> Result<Bucket, OutOfMemory>
         requires { IsSync R.row × IsSync G.row × AreWorkers workers × GoesOn meaning_of run.old.team.world }
         ensures { HasCycled meaning_of run.old.team.world result run.new.team.world }
     { run.cycle(rt, alloc, workers, gate) };

@@ -69,7 +69,7 @@ fn save_after<R: Threads + Sync, G: Gate, K: Sink>(
     let (model, mut run) = on_nodes(alloc, model, terms, spread)?;
     law_initial(&*model, &terms);
     let workers = spread.workers;
-    let cycle = |run: &mut TeamRun, alloc: Global| -> Result<Bucket, OutOfMemory>
+    let cycle = |run: &mut TeamRun, alloc: Global, _out: &K| -> Result<Bucket, OutOfMemory>
         requires { IsSync R.row × IsSync G.row × AreWorkers workers × GoesOn meaning_of run.old.team.world }
         ensures { HasCycled meaning_of run.old.team.world result run.new.team.world }
     { run.cycle(rt, alloc, workers, gate) };
@@ -111,7 +111,7 @@ fn resume_at<R: Threads + Sync, G: Gate, K: Sink>(
     let Stage { rt, alloc, gate } = stage;
     let (model, mut run) = at_state(alloc, model, terms, spread, state)?;
     let workers = spread.workers;
-    let cycle = |run: &mut TeamRun, alloc: Global| -> Result<Bucket, OutOfMemory>
+    let cycle = |run: &mut TeamRun, alloc: Global, _out: &K| -> Result<Bucket, OutOfMemory>
         requires { IsSync R.row × IsSync G.row × AreWorkers workers × GoesOn meaning_of run.old.team.world }
         ensures { HasCycled meaning_of run.old.team.world result run.new.team.world }
     { run.cycle(rt, alloc, workers, gate) };

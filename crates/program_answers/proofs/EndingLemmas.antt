@@ -1,5 +1,5 @@
 -- How the program ends, and what it answers so.
-use Rattle.std.proofs.Common.{◌≡◌, ◌≢◌, ◌≤◌, ℕ, List, [], Option, inl, inr, refl, sym, ap, ◌∙◌, subst, arith, append-nil}
+use Rattle.std.proofs.Common.{◌≡◌, ◌≢◌, ◌≤◌, ℕ, List, [], inl, inr, refl, sym, ap, ◌∙◌, subst, arith}
 use Rattle.std.specs.Io.KnownBytes.{Appends, Keeps}
 use Rattle.std.proofs.KnownBytes.{Appends-nil}
 use Rattle.sim_spec.specs.declared.stop.Stop.{Stop}
@@ -7,6 +7,7 @@ use Rattle.sim_spec.specs.declared.stop.Stop.TheVariants.{End, Limit, Fault}
 use Rattle.sim_io.specs.declared.streams.sink.Sink.{Ghosts as Sink}
 use Rattle.sim_io.specs.Causes.{Rose}
 use Rattle.sim_io.specs.Transfers.{AppendsPrefix}
+use Rattle.sim_io.proofs.TransferLemmas.{all_prefix}
 use Rattle.sim_text.proofs.WrittenLemmas.{no_prefix}
 use Rattle.program_answers.specs.declared.ending.Ending.{Ending}
 use Rattle.program_answers.specs.declared.ending.Ending.TheVariants.{Stopped, Saved, RefusedWords, RefusedModel, RefusedState, ReadFault, WriteFault, OutOfMemory}
@@ -14,10 +15,6 @@ use Rattle.program_answers.specs.declared.status.TheConstants.{END, WORDS, MODEL
 use Rattle.program_answers.specs.Answer.{Answer, refusal_line, status_of_stop}
 use Rattle.program_answers.specs.Answered.{EndsModel}
 use Rattle.program_answers.specs.Endings.{status_of_ending, line_of_ending, noted_line, IsAnswering, IsComplete, IsRefusal}
-
--- all of some bytes is a prefix of them
-all_prefix : (old new : Option (List ℕ)) (bytes : List ℕ) → Appends old new bytes → AppendsPrefix old new bytes
-all_prefix old new bytes all = (bytes, [], sym (append-nil bytes), all)
 
 -- a status that tells neither of the words nor of a stream
 pub record TellsOfModel (status : ℕ) : Type 0 where

@@ -11,7 +11,7 @@ use Rattle.sim_text.proofs.WrittenLemmas.{no_prefix}
 use Rattle.program_answers.specs.declared.ending.Ending.{Ending}
 use Rattle.program_answers.specs.declared.ending.Ending.TheVariants.{RefusedWords, ReadFault, OutOfMemory}
 use Rattle.program_answers.specs.Answer.{Answer, Asked, answer_to_fault}
-use Rattle.program_answers.specs.Answered.{EndsWith, EndsModel, EndsInput, EndsAsked}
+use Rattle.program_answers.specs.Answered.{EndsWith, EndsModel, EndsInput, EndsAsked, HasGiven}
 use Rattle.program_answers.proofs.EndingLemmas.{no_memory_left}
 
 -- what holds of each value, or follows from what does
@@ -35,8 +35,10 @@ module _ {S K : Type 0} (source : Source S) (sink : Sink K) (from to : S) where
   module _ (most : ℕ) (answer_to : List ℕ → Answer) where
     -- the answer to what was read is the one to the whole input
     pub model_input : (old new : K) (ending : Ending) (a : Answer) → EndsModel sink old new ending a → IfSome (source.left from) (λ bytes. a ≡ answer_to bytes)
-        → source.faults to ≡ source.faults from → IfSome (source.left from) (λ bytes. source.left to ≡ Some (drop most bytes)) → EndsInput source sink from to old new ending most answer_to
-    model_input old new ending a ends same quiet taken = record {
+        → source.faults to ≡ source.faults from → IfSome (source.left from) (λ bytes. source.left to ≡ Some (drop most bytes)) → (bytes : List ℕ) → HasGiven source from to most bytes
+        → a ≡ answer_to bytes → EndsInput source sink from to old new ending most answer_to
+    model_input old new ending a ends same quiet taken bytes gives is = record {
+      given = inl (record { bytes = bytes; given = gives; answer = subst (EndsWith sink old new ending) is ends.answer });
       answer = some_map (source.left from) (λ bytes is. subst (EndsWith sink old new ending) is ends.answer) same;
       read = λ _. taken;
       reading = record { read_fault = λ is. absurd (ends.no_read_fault is); read_quiet = λ _. quiet };
@@ -51,6 +53,7 @@ module _ {S K : Type 0} (source : Source S) (sink : Sink K) (from to : S) where
         let ends : EndsModel sink out out OutOfMemory (answer_to []) = no_memory_left sink out (answer_to []) in
         record {
           answer = some_all (source.left from) (λ bytes. (no_memory_left sink out (answer_to bytes)).answer);
+          given = inr (inr (inr refl), refl);
           read = λ done. absurd (done.2 refl);
           reading = record { read_fault = λ is. absurd (ends.no_read_fault is); read_quiet = λ _. quiet };
           writing = ends.writing;
@@ -65,6 +68,7 @@ module _ {S K : Type 0} (source : Source S) (sink : Sink K) (from to : S) where
         given = record { output = λ done. absurd (done.0 refl); same_status = λ done. absurd (done.0 refl); prefix = no_prefix _ _ };
         line = λ done. absurd (done.0 refl);
       });
+      given = inr (inl refl, refl);
       read = λ done. absurd (done.0 refl);
       reading = record { read_fault = λ _. rose; read_quiet = λ other. absurd (other refl) };
       writing = record { write_fault = λ is. absurd (let clash : ⊥ = cc in clash); write_quiet = λ _. refl; handed = λ _ kept. kept };
@@ -87,6 +91,7 @@ module _ {S K : Type 0} (source : Source S) (sink : Sink K) (asked : Asked) wher
       given = record { output = λ _. Appends-nil _; same_status = λ _. refl; prefix = no_prefix _ _ };
       line = λ _. refl;
     });
+    given = λ takes. absurd (both_ways asked.takes takes untaken);
     input = record {
       refused_words = ((λ _. refused), (λ _. refl));
       unread = λ _. refl;
@@ -104,6 +109,7 @@ module _ {S K : Type 0} (source : Source S) (sink : Sink K) (asked : Asked) wher
         → EndsAsked source sink from from old new ending asked
     model_ends from old new ending a ends untaken same = record {
       answer = λ bytes _. subst (EndsWith sink old new ending) (same bytes) ends.answer;
+      given = λ takes. absurd (both_ways asked.takes takes untaken);
       input = record {
         refused_words = ((λ is. absurd (ends.no_words is)), (λ refused. absurd (both_ways asked.refused refused accepted)));
         unread = λ _. refl;
@@ -122,6 +128,10 @@ module _ {S K : Type 0} (source : Source S) (sink : Sink K) (asked : Asked) wher
       answer = λ bytes given. elim given [
         | inl left ↦ subst (EndsWith sink old new ending) (same bytes) (at_some (λ (bytes : List ℕ). EndsWith sink old new ending (answer_to bytes)) (source.left from) bytes left ends.answer)
         | inr untaken ↦ absurd (both_ways asked.takes takes untaken)
+      ];
+      given = λ _. elim ends.given [
+        | inl so ↦ inl (record { bytes = so.bytes; given = subst (λ n. HasGiven source from to n so.bytes) (sym taken) so.given; answer = subst (EndsWith sink old new ending) (same so.bytes) so.answer })
+        | inr spent ↦ inr spent
       ];
       input = record {
         refused_words = ((λ is. absurd (ends.no_words is)), (λ refused. absurd (both_ways asked.refused refused accepted)));

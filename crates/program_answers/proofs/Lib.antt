@@ -1,3 +1,4 @@
 pub mod EndingLemmas
 pub mod InputLemmas
+pub mod ProcessLemmas
 pub mod TopLemmas

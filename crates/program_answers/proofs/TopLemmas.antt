@@ -12,7 +12,7 @@ use Rattle.sim_io.specs.Transfers.{AppendsPrefix, KeepsBackSome}
 use Rattle.program_answers.specs.declared.ending.Ending.{Ending}
 use Rattle.program_answers.specs.declared.status.TheConstants.{WORDS, OUT_OF_MEMORY}
 use Rattle.program_answers.specs.Answer.{Answer, Asked, words_line, HandsOnPrefix, WritesPrefix}
-use Rattle.program_answers.specs.Answered.{Answers, AnswersNoWords, EndsAsked, HandsOnNotes, NotesAnswer, Streams}
+use Rattle.program_answers.specs.Answered.{Answers, AnswersNoWords, EndsAsked, EndsWith, HandsOnAnswer, HandsOnNotes, NotesAnswer, Streams, TellsWriting}
 use Rattle.program_answers.specs.Endings.{status_of_ending, line_of_ending, noted_line, IsAnswering, IsRefusal, TellsFault}
 use Rattle.program_answers.proofs.EndingLemmas.{completes, known_status, noted}
 
@@ -47,16 +47,31 @@ module _ {S K N : Type 0} (notes : Sink N) (ending : Ending) (old new : Streams 
     notes_whole = subst (λ text. Appends (notes.told old.notes) (notes.told new.notes) text ⊎ Rose (notes.faults old.notes) (notes.faults new.notes)) (noted ending _ line) whole;
   }
 
+  -- an ending that was handed on gives an answer that was
+  module _ {J : Type 0} (sink : Sink J) (out told : J) (writing : TellsWriting sink out told (status_of_ending ending)) (in_order : KeepsBackSome (sink.told told) (sink.handed told)) where
+    hands_on : (a : Answer) → EndsWith sink out told ending a → HandsOnAnswer sink out told (status_of_ending ending) a
+    hands_on a so = record {
+      handed = λ done kept. Appends-kept _ _ _ _ (so.given.output done) (writing.handed done.1 kept);
+      handed_prefix = hands_on_prefix _ _ _ a so.given.prefix in_order;
+    }
+
   -- how the words end is what is answered to them, and its line is noted
   pub answers_asked : (source : Source S) (sink : Sink K) (asked : Asked) → EndsAsked source sink old.source new.source old.out new.out ending asked → KeepsBackSome (sink.told new.out) (sink.handed new.out)
       → Answers source sink notes (status_of_ending ending) old new asked
   answers_asked source sink asked ends in_order = record {
     known = known_status ending;
     answer = λ bytes given. (ends.answer bytes given).given;
-    handed = λ bytes given. let so = ends.answer bytes given in record {
-      handed = λ done kept. Appends-kept _ _ _ _ (so.given.output done) (ends.writing.handed done.1 kept);
-      handed_prefix = hands_on_prefix _ _ _ (asked.answer bytes) so.given.prefix in_order;
-    };
+    handed = λ bytes given. hands_on sink old.out new.out ends.writing in_order (asked.answer bytes) (ends.answer bytes given);
+    given = λ takes. elim (ends.given takes) [
+      | inl so ↦ inl (record {
+        bytes = so.bytes;
+        given = so.given;
+        answer = so.answer.given;
+        handed = hands_on sink old.out new.out ends.writing in_order (asked.answer so.bytes) so.answer;
+        noted = notes_line (asked.answer so.bytes) so.answer.line;
+      })
+      | inr spent ↦ inr spent
+    ];
     input = ends.input;
     reading = ends.reading;
     writing = ends.writing;

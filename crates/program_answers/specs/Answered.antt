@@ -1,12 +1,12 @@
 -- What a program does: what it reads, writes and notes, and the status with which it ends.
-use Rattle.std.specs.Prelude.{◌≡◌, ◌≢◌, ◌≤◌, ◌⊎◌, ◌↔◌, ℕ, true, false, List, drop, Some, IfSome}
+use Rattle.std.specs.Prelude.{◌≡◌, ◌≢◌, ◌≤◌, ◌⊎◌, ◌↔◌, ℕ, true, false, List, length, drop, Some, IfSome}
 use Rattle.std.specs.Io.KnownBytes.{Appends, Keeps}
 use Rattle.std.specs.declared.io.ErrorKind.{ErrorKind}
 use Rattle.sim_io.specs.declared.streams.sink.Sink.{Ghosts as Sink}
 use Rattle.sim_io.specs.declared.streams.source.Source.{Ghosts as Source}
 use Rattle.sim_io.specs.declared.words.WordFault.TheVariants.{BadValue}
 use Rattle.sim_io.specs.Causes.{Rose}
-use Rattle.sim_io.specs.Transfers.{AppendsPrefix}
+use Rattle.sim_io.specs.Transfers.{AppendsPrefix, GivesMore}
 use Rattle.program_answers.specs.declared.ending.Ending.{Ending}
 use Rattle.program_answers.specs.declared.status.TheConstants.{WORDS, READ_FAULT, WRITE_FAULT, OUT_OF_MEMORY, STATE}
 use Rattle.program_answers.specs.Answer.{Answer, Asked, words_line, OfAnswer, OfAccepted, HandsOnPrefix, WritesOutput, WritesPrefix}
@@ -68,10 +68,23 @@ pub record EndsModel {K : Type 0} (sink : Sink K) (old new : K) (ending : Ending
   pub no_words : status_of_ending ending ≢ WORDS
   pub no_read_fault : status_of_ending ending ≢ READ_FAULT
 
+-- the source gave these bytes: all that came until its end, or so many
+pub record HasGiven {S : Type 0} (source : Source S) (from to : S) (most : ℕ) (bytes : List ℕ) : Type 0 where
+  pub gave : GivesMore (source.gave from) (source.gave to) bytes
+  pub enough : source.is_at_end to ⊎ (length bytes ≡ most)
+
 module _ {S K : Type 0} (source : Source S) (sink : Sink K) (from to : S) (old new : K) (ending : Ending) where
+  -- the ending of a command that has read its input
+  pub record EndsGiven (most : ℕ) (answer_to : List ℕ → Answer) : Type 0 where
+    pub bytes : List ℕ
+    pub given : HasGiven source from to most bytes
+    pub answer : EndsWith sink old new ending (answer_to bytes)
+
   -- the ending of a command that reads its input, so many bytes of it at most
   pub record EndsInput (most : ℕ) (answer_to : List ℕ → Answer) : Type 0 where
     pub answer : IfSome (source.left from) (λ bytes. EndsWith sink old new ending (answer_to bytes))
+    -- so it is whatever the source tells, unless reading ended early
+    pub given : EndsGiven most answer_to ⊎ (TellsFault (status_of_ending ending) × (new ≡ old))
     pub read : IsAnswering (status_of_ending ending) → IfSome (source.left from) (λ bytes. source.left to ≡ Some (drop most bytes))
     pub reading : TellsReading source from to (status_of_ending ending)
     pub writing : TellsWriting sink old new (status_of_ending ending)
@@ -81,6 +94,7 @@ module _ {S K : Type 0} (source : Source S) (sink : Sink K) (from to : S) (old n
   -- the ending of words that ask for this
   pub record EndsAsked (asked : Asked) : Type 0 where
     pub answer : OfAnswer asked (source.left from) (EndsWith sink old new ending)
+    pub given : asked.takes ≡ true → EndsGiven asked.most asked.answer ⊎ (TellsFault (status_of_ending ending) × (new ≡ old))
     pub input : TakesInput source from to (status_of_ending ending) asked
     pub reading : TellsReading source from to (status_of_ending ending)
     pub writing : TellsWriting sink old new (status_of_ending ending)
@@ -96,11 +110,21 @@ abbrev pub streams : {S K N : Type 0} → S → K → N → Streams S K N
 streams source out notes = record { source = source; out = out; notes = notes }
 
 module _ {S K N : Type 0} (source : Source S) (sink : Sink K) (notes : Sink N) (status : ℕ) (old new : Streams S K N) where
+  -- what the source gave in this call is answered to, whether or not it tells more
+  pub record AnswersGiven (asked : Asked) : Type 0 where
+    pub bytes : List ℕ
+    pub given : HasGiven source old.source new.source asked.most bytes
+    pub answer : GivesAnswer sink old.out new.out status (asked.answer bytes)
+    pub handed : HandsOnAnswer sink old.out new.out status (asked.answer bytes)
+    pub noted : NotesAnswer notes old.notes new.notes status (asked.answer bytes)
+
   -- all that a program does with words that ask for this
   pub record Answers (asked : Asked) : Type 0 where
     pub known : status ≤ STATE
     pub answer : OfAnswer asked (source.left old.source) (GivesAnswer sink old.out new.out status)
     pub handed : OfAnswer asked (source.left old.source) (HandsOnAnswer sink old.out new.out status)
+    -- and of the answer to what the source gave in this call, if nothing was told of what was left; nothing is written if reading ended early
+    pub given : asked.takes ≡ true → AnswersGiven asked ⊎ (TellsFault status × (new.out ≡ old.out))
     pub input : TakesInput source old.source new.source status asked
     pub reading : TellsReading source old.source new.source status
     pub writing : TellsWriting sink old.out new.out status

@@ -1,3 +1,4 @@
 pub mod Answer
 pub mod Answered
 pub mod Endings
+pub mod Process

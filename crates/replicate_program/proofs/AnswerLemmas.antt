@@ -91,6 +91,10 @@ module _ {K : Type 0} (sink : Sink K) (old new : K) (s : StudyOf) (count : ℕ) 
       subst (λ (e : Ending). EndsModel sink old new e (answer_to_family asked (family_read read))) (sym ends)
       (subst Told (is_study ∙ ap (λ (m : AnyModel). study_of_model asked read m first) is_model ∙ ap (study_of_model asked read read.model) is_first) counted)
 
+-- the answer to what was read is the one to what was taken
+pub slice_answers : (taken slice : List ℕ) (asked : Replicate) (read : Checked FamilyOf) → slice ≡ taken → family_of slice ≡ read → answer_to_read asked read ≡ answer_to_read asked (family_of taken)
+slice_answers taken slice asked read is_slice is_read = ap (answer_to_read asked) (sym is_read ∙ ap family_of is_slice)
+
 module _ (old new : Option (List ℕ)) (taken slice : List ℕ) where
   -- the answer to what was read is the one to the whole input
   pub family_answers : (asked : Replicate) (read : Checked FamilyOf) → TakesUpTo ENOUGH_BYTES old new taken → slice ≡ taken → family_of slice ≡ read

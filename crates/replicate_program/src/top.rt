@@ -2,16 +2,13 @@
 ghost use Rattle.std.specs.Prelude.{◌≤◌, IfOk, IfErr};
 ghost use Rattle.program_answers.specs.Answered.{Answers, AnswersNoWords, streams};
 ghost use Rattle.program_answers.specs.declared.status.TheConstants.{EVENT_LIMIT};
-ghost use Rattle.std.specs.Process.{exit_status};
 ghost use Rattle.replicate_program.specs.TableAnswers.{table_asked_by};
 
 use crate::running::run_words;
-use program_answers::{conclude, program_words, unread_words};
-use sim_io::{GatheringSink, Sink, Source, StdSink, StdSource};
+use program_answers::{conclude, unread_words};
+use sim_io::{Sink, Source};
 use std::alloc::AllocGlobal;
-use std::env::Env;
-use std::io::{ErrorKind, Read, Write};
-use std::process::ExitCode;
+use std::io::ErrorKind;
 use std::thread::Threads;
 
 /// Reads a model, runs it under as many seeds as the words say, shared out among workers, and writes the table: a head line,
@@ -51,21 +48,4 @@ pub fn replicate<R: AllocGlobal + Threads + Sync, S: Source, K: Sink, N: Sink>(
         }
         Err(kind) => conclude(&unread_words(kind), notes),
     }
-}
-
-/// Does what `replicate` does with the words of the process, reads the model from `input` and writes to `output`, in pieces
-/// of 16 KiB, and to `notes`. The status is one of those that `replicate` lists.
-pub fn run_process<R, I, O, N>(rt: &R, input: I, output: O, notes: N) -> ExitCode
-where
-    R: AllocGlobal + Env + Threads + Sync,
-    I: Read + Drop,
-    O: Write + Drop,
-    N: Write + Drop,
-    ensures known { exit_status result ≤ EVENT_LIMIT }
-{
-    let words = program_words(rt).map_err(|error| error.kind());
-    let mut source = StdSource::new(input);
-    let mut out = GatheringSink::new(rt.alloc(), StdSink::new(output));
-    let mut lines = StdSink::new(notes);
-    ExitCode::from(replicate(rt, words, &mut source, &mut out, &mut lines))
 }

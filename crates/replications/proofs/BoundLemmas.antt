@@ -5,20 +5,21 @@ use Rattle.std.specs.Str.Parse.{digits_value}
 use Rattle.std.proofs.lemmas.Grind.{common_steps}
 use Rattle.event_key.specs.declared.stamp.TheConstants.{LAST_TICK}
 use Rattle.sim_io.specs.declared.words.WordFault.{WordFault}
-use Rattle.sim_io.specs.Words.{and_then}
+use Rattle.sim_io.specs.declared.words.WordFault.TheVariants.{BadValue}
+use Rattle.sim_io.specs.Words.{and_then, is_number, number_within}
 use Rattle.replications.specs.declared.words.Choice.{Choice}
 use Rattle.replications.specs.declared.words.Choice.TheVariants.{First, From, Workers}
 use Rattle.replications.specs.declared.words.Given.{Given}
 use Rattle.replications.specs.declared.words.TheConstants.{LAST_SEED, MOST_WORKERS}
-use Rattle.replications.specs.ReplicateWords.{is_number, number_within, with_number, with_value, given_with, chosen, walked, IsGivenWithin, AreGivenInBounds}
+use Rattle.replications.specs.ReplicateWords.{with_number, given_with, chosen, walked, IsGivenWithin, AreGivenInBounds}
 
-pub number_within-bounds : (least most : ℕ) (word : List ℕ) (n : ℕ) → number_within least most word ≡ Some n → (least ≤ n) × (n ≤ most)
+pub number_within-bounds : (least most : ℕ) (word : List ℕ) (n : ℕ) → number_within least most word ≡ Ok n → (least ≤ n) × (n ≤ most)
 number_within-bounds least most word n is = by (is_number word && nat_le least (digits_value 10 word) && nat_le (digits_value 10 word) most) refl is
   where
     value : ℕ
     value = digits_value 10 word
 
-    by : (b : Bool) → (is_number word && nat_le least value && nat_le value most) ≡ b → (if b then Some value else None) ≡ Some n → (least ≤ n) × (n ≤ most)
+    by : (b : Bool) → (is_number word && nat_le least value && nat_le value most) ≡ b → (if b then Ok value else Err BadValue) ≡ Ok n → (least ≤ n) × (n ≤ most)
     by true tested gives =
         let same : value ≡ n = cc in
         let low : least ≤ value = grind (arith, common_steps, tested) in
@@ -30,23 +31,23 @@ number_within-bounds least most word n is = by (is_number word && nat_le least (
 given-bounds : (given next : Given) (choice : Choice) (word : List ℕ) → given_with given choice word ≡ Ok next → AreGivenInBounds given → AreGivenInBounds next
 given-bounds given next First word is fine = by (number_within 0 LAST_SEED word) refl is
   where
-    by : (o : Option ℕ) → number_within 0 LAST_SEED word ≡ o → with_value given First o ≡ Ok next → AreGivenInBounds next
-    by None read gives = absurd (cc)
-    by (Some n) read gives =
+    by : (r : Result ℕ WordFault) → number_within 0 LAST_SEED word ≡ r → and_then r (λ n. Ok (with_number given First n)) ≡ Ok next → AreGivenInBounds next
+    by (Err fault) read gives = absurd (cc)
+    by (Ok n) read gives =
         let same : with_number given First n ≡ next = cc in
         subst AreGivenInBounds same (record { first = number_within-bounds 0 LAST_SEED word n read; from = fine.from; workers = fine.workers })
 given-bounds given next From word is fine = by (number_within 0 LAST_TICK word) refl is
   where
-    by : (o : Option ℕ) → number_within 0 LAST_TICK word ≡ o → with_value given From o ≡ Ok next → AreGivenInBounds next
-    by None read gives = absurd (cc)
-    by (Some n) read gives =
+    by : (r : Result ℕ WordFault) → number_within 0 LAST_TICK word ≡ r → and_then r (λ n. Ok (with_number given From n)) ≡ Ok next → AreGivenInBounds next
+    by (Err fault) read gives = absurd (cc)
+    by (Ok n) read gives =
         let same : with_number given From n ≡ next = cc in
         subst AreGivenInBounds same (record { first = fine.first; from = number_within-bounds 0 LAST_TICK word n read; workers = fine.workers })
 given-bounds given next Workers word is fine = by (number_within 1 MOST_WORKERS word) refl is
   where
-    by : (o : Option ℕ) → number_within 1 MOST_WORKERS word ≡ o → with_value given Workers o ≡ Ok next → AreGivenInBounds next
-    by None read gives = absurd (cc)
-    by (Some n) read gives =
+    by : (r : Result ℕ WordFault) → number_within 1 MOST_WORKERS word ≡ r → and_then r (λ n. Ok (with_number given Workers n)) ≡ Ok next → AreGivenInBounds next
+    by (Err fault) read gives = absurd (cc)
+    by (Ok n) read gives =
         let same : with_number given Workers n ≡ next = cc in
         subst AreGivenInBounds same (record { first = fine.first; from = fine.from; workers = number_within-bounds 1 MOST_WORKERS word n read })
 

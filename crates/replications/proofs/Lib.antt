@@ -2,7 +2,6 @@ pub mod BoundLemmas
 pub mod CutLaw
 pub mod GravestLemmas
 pub mod JobLemmas
-pub mod NumberLemmas
 pub mod RowLemmas
 pub mod StayLemmas
 pub mod TableLemmas

@@ -75,9 +75,5 @@ pub one_row : (s : StudyOf) (number : ℕ) → rows_at s number ≡ rows_between
 unfolding rows_between
 one_row s number = sym (append-nil (rows_at s number))
 
--- a prefix of the first lines is one of all
-pub prefix_longer : (old new : Option (List ℕ)) (head rows : List ℕ) → AppendsPrefix old new head → AppendsPrefix old new (head ++ rows)
-prefix_longer old new head rows part = (part.0, part.1 ++ rows, ap (λ lines. lines ++ rows) part.2 ∙ append_assoc part.0 part.1 rows, part.3)
-
 pub prefix_next : (old mid new : Option (List ℕ)) (head rows : List ℕ) → Appends old mid head → AppendsPrefix mid new rows → AppendsPrefix old new (head ++ rows)
 prefix_next old mid new head rows written part = AppendsPrefix-next old mid new head rows [] (head ++ rows) written part (ap (λ rows. head ++ rows) (sym (append-nil rows)))

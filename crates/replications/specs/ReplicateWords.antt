@@ -1,30 +1,14 @@
 -- The words of `replicate`: what they set, or what is wrong with them.
-use Rattle.std.specs.Prelude.{◌≤◌, ℕ, Bool, not, ◌&&◌, List, [], ◌∷◌, length, Option, Some, None, is_some, unwrap_or, IfSome, Result, Ok, Err, if◌then◌else◌, codes, bytes_eq, nat_eq, nat_le, nat_lt}
-use Rattle.std.specs.Char.{is_ascii_digit}
-use Rattle.std.specs.List.{list_all, starts_with}
-use Rattle.std.specs.Str.Parse.{digits_value}
+use Rattle.std.specs.Prelude.{◌≤◌, ℕ, Bool, List, [], ◌∷◌, Option, Some, None, is_some, unwrap_or, IfSome, Result, Ok, Err, if◌then◌else◌, codes, bytes_eq}
 use Rattle.event_key.specs.declared.stamp.TheConstants.{LAST_TICK}
 use Rattle.sim_io.specs.declared.words.WordFault.{WordFault}
-use Rattle.sim_io.specs.declared.words.WordFault.TheVariants.{RepeatedOption, MissingValue, BadValue}
-use Rattle.sim_io.specs.Words.{and_then, stray_word}
+use Rattle.sim_io.specs.declared.words.WordFault.TheVariants.{RepeatedOption, MissingValue}
+use Rattle.sim_io.specs.Words.{and_then, number_within, stray_word}
 use Rattle.replications.specs.declared.words.Choice.{Choice}
 use Rattle.replications.specs.declared.words.Choice.TheVariants.{First, From, Workers}
 use Rattle.replications.specs.declared.words.Given.{Given}
 use Rattle.replications.specs.declared.words.Replicate.{Replicate}
 use Rattle.replications.specs.declared.words.TheConstants.{MOST_REPLICATIONS, LAST_SEED, MOST_WORKERS, DEFAULT_WORKERS}
-
--- one to nineteen digits, and no zero before others
-abbrev pub has_zero_first : List ℕ → Bool
-has_zero_first word = nat_lt 1 (length word) && starts_with nat_eq word (codes "0")
-
-abbrev pub is_number : List ℕ → Bool
-is_number word =
-    not (nat_eq (length word) 0) && nat_le (length word) 19 && list_all is_ascii_digit word && not (has_zero_first word)
-
--- the number that a word writes, where it lies between two
-abbrev pub number_within : ℕ → ℕ → List ℕ → Option ℕ
-number_within least most word =
-    if is_number word && nat_le least (digits_value 10 word) && nat_le (digits_value 10 word) most then Some (digits_value 10 word) else None
 
 abbrev pub choice_named : List ℕ → Option Choice
 choice_named word =
@@ -33,7 +17,7 @@ choice_named word =
     else if bytes_eq word (codes "--workers") then Some Workers
     else None
 
-abbrev pub value_of : Choice → List ℕ → Option ℕ
+abbrev pub value_of : Choice → List ℕ → Result ℕ WordFault
 value_of First word = number_within 0 LAST_SEED word
 value_of From word = number_within 0 LAST_TICK word
 value_of Workers word = number_within 1 MOST_WORKERS word
@@ -57,12 +41,8 @@ abbrev pub chosen : Given → List ℕ → Result Choice WordFault
 chosen given word = chosen_if given word (choice_named word)
 
 -- with what a word gives an option
-abbrev pub with_value : Given → Choice → Option ℕ → Result Given WordFault
-with_value given choice None = Err BadValue
-with_value given choice (Some n) = Ok (with_number given choice n)
-
 abbrev pub given_with : Given → Choice → List ℕ → Result Given WordFault
-given_with given choice word = with_value given choice (value_of choice word)
+given_with given choice word = and_then (value_of choice word) (λ n. Ok (with_number given choice n))
 
 -- options are walked in turn, each a word and its value
 unfoldable pub walked : Given → List (List ℕ) → Result Given WordFault
@@ -81,14 +61,11 @@ settings_of count given = record {
   workers = unwrap_or given.workers DEFAULT_WORKERS;
 }
 
-abbrev pub settings_if : Option ℕ → List (List ℕ) → Result Replicate WordFault
-settings_if None rest = Err BadValue
-settings_if (Some count) rest = and_then (walked no_options rest) (λ given. Ok (settings_of count given))
-
 -- the first word is how many replications there are, and the others are options
 unfoldable pub replicate_settings : List (List ℕ) → Result Replicate WordFault
 replicate_settings [] = Err MissingValue
-replicate_settings (word ∷ rest) = settings_if (number_within 1 MOST_REPLICATIONS word) rest
+replicate_settings (word ∷ rest) =
+    and_then (number_within 1 MOST_REPLICATIONS word) (λ count. and_then (walked no_options rest) (λ given. Ok (settings_of count given)))
 
 -- a number lies between two where it is there
 abbrev pub IsGivenWithin : ℕ → ℕ → Option ℕ → Type 0

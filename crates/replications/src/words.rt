@@ -1,12 +1,10 @@
 //! The words of `replicate`.
-ghost use Rattle.std.specs.Prelude.{◌≡◌, ◌≤◌, IfOk, IfSome};
-ghost use Rattle.std.specs.Char.{is_ascii_digit};
-ghost use Rattle.std.specs.List.{list_all};
+ghost use Rattle.std.specs.Prelude.{◌≡◌, IfOk};
 ghost use Rattle.sim_io.specs.Words.{texts_of};
-ghost use Rattle.replications.specs.ReplicateWords.{AreInBounds, choice_named, chosen, given_with, has_value, has_zero_first, is_number, number_within, replicate_settings, value_of, walked, with_number};
+ghost use Rattle.replications.specs.ReplicateWords.{AreInBounds, choice_named, chosen, given_with, has_value, replicate_settings, value_of, walked, with_number};
 
 use event_key::LAST_TICK;
-use sim_io::WordFault;
+use sim_io::{WordFault, number_within, stray_word};
 
 /// How many replications there are at most.
 pub const MOST_REPLICATIONS: u64 = 100_000;
@@ -61,44 +59,9 @@ fn choice_named(word: &str) -> Option<Choice>
     }
 }
 
-/// Whether a word has no byte that isn't a digit.
-fn has_digits(word: &str) -> bool
-    ensures { result ≡ list_all is_ascii_digit word.now }
-{
-    word.as_bytes().iter().all(|byte| byte.is_ascii_digit())
-}
-
-/// Whether a zero stands before others.
-fn has_zero_first(word: &str) -> bool
-    ensures { result ≡ has_zero_first word.now }
-{
-    word.len() > 1 && word.as_bytes().starts_with(b"0")
-}
-
-/// Whether a word is one to nineteen digits, without a zero before others.
-fn is_number(word: &str) -> bool
-    ensures { result ≡ is_number word.now }
-{
-    !word.is_empty() && word.len() <= 19 && has_digits(word) && !has_zero_first(word)
-}
-
-/// The number that a word writes, where it lies between two.
-fn number_within(least: u64, most: u64, word: &str) -> Option<u64>
-    ensures value { result ≡ number_within least most word.now }
-    ensures within { IfSome result (λ number. (least ≤ number) × (number ≤ most)) }
-{
-    if !is_number(word) {
-        return None;
-    }
-    match word.parse::<u64>() {
-        Ok(number) if least <= number && number <= most => Some(number),
-        _ => None,
-    }
-}
-
 impl Choice {
     /// The number that a word gives it.
-    fn value(self, word: &str) -> Option<u64>
+    fn value(self, word: &str) -> Result<u64, WordFault>
         ensures { result ≡ value_of self word.now }
     {
         match self {
@@ -146,11 +109,7 @@ impl Given {
         ensures { result ≡ chosen self.now word.now }
     {
         let Some(choice) = choice_named(word) else {
-            return Err(if word.as_bytes().starts_with(b"-") {
-                WordFault::UnknownOption
-            } else {
-                WordFault::ExtraWord
-            });
+            return Err(stray_word(word));
         };
         if self.has(choice) {
             return Err(WordFault::RepeatedOption);
@@ -162,10 +121,8 @@ impl Given {
     fn take(self, choice: Choice, word: &str) -> Result<Given, WordFault>
         ensures { result ≡ given_with self choice word.now }
     {
-        match choice.value(word) {
-            Some(number) => Ok(self.with(choice, number)),
-            None => Err(WordFault::BadValue),
-        }
+        let number = choice.value(word)?;
+        Ok(self.with(choice, number))
     }
 }
 
@@ -197,9 +154,7 @@ pub fn read_replicate_words(words: &Vec<String>) -> Result<Replicate, WordFault>
     let [count, rest @ ..] = words.as_slice() else {
         return Err(WordFault::MissingValue);
     };
-    let Some(count) = number_within(1, MOST_REPLICATIONS, count.as_str()) else {
-        return Err(WordFault::BadValue);
-    };
+    let count = number_within(1, MOST_REPLICATIONS, count.as_str())?;
     let none = Given {
         first: None,
         from: None,

@@ -1,5 +1,5 @@
 -- Reads and writes that go on from where the last one stopped.
-use Rattle.std.proofs.Common.{◌≡◌, ℕ, ◌-◌, ◌≤◌, List, ◌++◌, length, Option, Some, None, arith, append_assoc, length-append}
+use Rattle.std.proofs.Common.{◌≡◌, ℕ, ◌-◌, ◌≤◌, List, [], ◌++◌, length, Option, Some, None, arith, sym, ap, ◌∙◌, append_assoc, append-nil, length-append}
 use Rattle.std.proofs.lemmas.Grind.{common_steps}
 use Rattle.std.proofs.KnownBytes.{Appends-trans, Consumes-trans}
 use Rattle.std.specs.Io.KnownBytes.{Appends, Consumes, IsAtEnd}
@@ -32,3 +32,11 @@ AppendsPrefix-next old mid new before next back bytes added part is = (
   rw (is, part.2) (simp append_assoc),
   Appends-trans old mid new before part.0 added part.3,
 )
+
+-- all of some bytes is a prefix of them
+pub all_prefix : (old new : Option (List ℕ)) (bytes : List ℕ) → Appends old new bytes → AppendsPrefix old new bytes
+all_prefix old new bytes all = (bytes, [], sym (append-nil bytes), all)
+
+-- a prefix of some bytes is one of more
+pub prefix_longer : (old new : Option (List ℕ)) (bytes more : List ℕ) → AppendsPrefix old new bytes → AppendsPrefix old new (bytes ++ more)
+prefix_longer old new bytes more part = (part.0, part.1 ++ more, ap (λ xs. xs ++ more) part.2 ∙ append_assoc part.0 part.1 more, part.3)

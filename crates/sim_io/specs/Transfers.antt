@@ -23,3 +23,7 @@ AppendsPrefix old new bytes = (prefix back : List ℕ) × (bytes ≡ prefix ++ b
 -- a prefix of these bytes was added, and the rest of them is kept
 abbrev pub AppendsSome : Option (List ℕ) → Option (List ℕ) → List ℕ → List ℕ → Type 0
 AppendsSome old new bytes rest = (prefix : List ℕ) × Appends old new prefix × (bytes ≡ prefix ++ rest)
+
+-- what holds of the bytes that were given so far holds of these with more behind them
+abbrev pub GivesMore : (List ℕ → Type 0) → (List ℕ → Type 0) → List ℕ → Type 0
+GivesMore old new more = (bytes : List ℕ) → old bytes → new (bytes ++ more)

@@ -24,9 +24,9 @@ has_zero_first digits = nat_lt 1 (length digits) && starts_with nat_eq digits (c
 abbrev pub is_decimal : List ℕ → Bool
 is_decimal digits = nat_lt 0 (length digits) && not (has_zero_first digits)
 
--- one to seven digits, and no zero before others
+-- one to nineteen digits, and no zero before others
 abbrev pub is_number : List ℕ → Bool
-is_number word = is_decimal word && nat_le (length word) 7 && list_all is_ascii_digit word
+is_number word = is_decimal word && nat_le (length word) 19 && list_all is_ascii_digit word
 
 -- the number that a word writes, if it lies between two
 abbrev pub number_within : ℕ → ℕ → List ℕ → Result ℕ WordFault

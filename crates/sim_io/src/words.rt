@@ -9,12 +9,13 @@ mod values;
 
 use crate::words::commands::Command;
 use crate::words::options::{GivenOptions, read_options};
-use crate::words::values::number_within;
+use crate::words::values::small_number_within;
 use model_core::MOST_DEMO_STATIONS;
 pub use moves::Moves;
+pub use options::stray_word;
 use sim_spec::Placement;
 use thiserror::Error;
-pub use values::is_decimal;
+pub use values::{is_decimal, number_within};
 
 /// What is wrong with the words.
 #[derive(Clone, Copy, Debug, PartialEq, Eq, Error)]
@@ -124,7 +125,7 @@ fn only_number(words: &[String], least: u32, most: u32) -> Result<u32, WordFault
     let [number, rest @ ..] = words else {
         return Err(WordFault::MissingValue);
     };
-    let number = number_within(least, most, number.as_str())?;
+    let number = small_number_within(least, most, number.as_str())?;
     if rest.is_empty() {
         Ok(number)
     } else {

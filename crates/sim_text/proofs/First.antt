@@ -1,6 +1,7 @@
 -- The first cycles of a simulation: those so far, and those that may still come.
 use Rattle.std.proofs.Common.{◌≡◌, ◌≤◌, ◌-◌, ℕ, zero, suc, ◌+◌, Bool, true, false, List, [], ◌∷◌, ◌++◌, length, length-append, Option, Some, None, refl, sym, ap, ◌∙◌, append-nil, append_assoc, subst, arith}
 use Rattle.std.specs.Prelude.{is_some}
+use Rattle.std.specs.Io.KnownBytes.{Appends}
 use Rattle.event_key.specs.declared.key.Key.{Key}
 use Rattle.model_core.specs.declared.note.Note.{Note}
 use Rattle.model_core.specs.Meaning.{Meaning}
@@ -18,6 +19,7 @@ use Rattle.sim_spec.specs.Standing.{Standing, stands, ended, end_or_limit, IsCyc
 use Rattle.sim_io.specs.Texts.{record_lines}
 use Rattle.sim_io.proofs.TextLemmas.{record_lines-append}
 use Rattle.sim_text.specs.Rest.{AllAtObjects, StandsAtState}
+use Rattle.sim_text.specs.SoFar.{HasToldFirst}
 use Rattle.sim_text.specs.WholeTexts.{first_lines}
 use Rattle.sim_text.proofs.Rest.{end_or_limit-stops, ended-none, goes_on-cycles}
 use Rattle.sim_text.proofs.SummaryLemmas.{records_of_buckets-append, records_of_buckets-more}
@@ -27,6 +29,12 @@ use Rattle.sim_text.proofs.UnderWay.{leads-at_objects, stands-injective}
 unfoldable pub rest_for : ℕ → Meaning → Terms → State → Option (Key × ℕ) → Cycles
 rest_for n m t s None = cycles_for n m t s
 rest_for n m t s (Some fault) = no_cycles s (Fault fault.0 fault.1)
+
+-- none of them comes where none may
+none_yet : (m : Meaning) (t : Terms) (s : State) (fault : Option (Key × ℕ)) → ((rest_for 0 m t s fault).buckets ≡ []) × ((rest_for 0 m t s fault).last ≡ s)
+unfolding rest_for cycles_for
+none_yet m t s None = (refl, refl)
+none_yet m t s (Some fault) = (refl, refl)
 
 -- cycles with some buckets before theirs
 abbrev pub after_buckets : List Bucket → Cycles → Cycles
@@ -126,6 +134,17 @@ module _ (m : Meaning) (t : Terms) (from : State) (standing : Standing) (so_far 
         ∙ append-nil (record_lines m (records_of_buckets so_far));
     last = ap (λ (c : Cycles). c.last) (are.first n) ∙ none.1;
   }
+
+  -- the records of these cycles were written
+  pub told_first : (old now : Option (List ℕ)) → Appends old now (record_lines m (records_of_buckets so_far)) → HasToldFirst m t from old now standing
+  told_first old now told =
+      let all = all-so_far 0 (none_yet m t are.state are.fault) in
+      record {
+        done = length so_far + 0;
+        fault = are.fault;
+        at_state = are.at_state ∙ ap (λ s. stands s are.fault) (sym all.last);
+        told = subst (Appends old now) (sym all.lines) told;
+      }
 
   -- so it is where the simulation has ended
   pub all-ended : (most : ℕ) (stop : Stop) → length so_far ≤ most → ended m t standing ≡ Some stop → AreAll most

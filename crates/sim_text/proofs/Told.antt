@@ -21,14 +21,9 @@ use Rattle.sim_text.specs.declared.report.Report.{Report}
 use Rattle.sim_text.specs.declared.report.Report.TheVariants.{Sums}
 use Rattle.sim_text.specs.declared.telling.Telling.{Telling}
 use Rattle.sim_text.specs.Reports.{summary_of, report_of, CanGoOn, HasObjects, told_at_once, told_in_the_end}
+use Rattle.sim_text.specs.SoFar.{lines_so_far}
 use Rattle.sim_text.specs.WholeTexts.{is_whole, whole_cycles, last_stamp, text_from}
 use Rattle.sim_text.proofs.WritingLemmas.{writes_last, writes_prefix}
-
--- what was told at once of these buckets
-unfoldable pub lines_so_far : Meaning → Telling → List Bucket → List ℕ
-lines_so_far m (Telling.Lines cycles) bs = lines_of_buckets m cycles 1 bs
-lines_so_far m Telling.Totals bs = []
-lines_so_far m (Telling.Demo n) bs = []
 
 pub none_so_far : (m : Meaning) (telling : Telling) → lines_so_far m telling [] ≡ []
 unfolding lines_so_far lines_of_buckets

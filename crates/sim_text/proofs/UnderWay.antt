@@ -5,6 +5,7 @@ use Rattle.std.proofs.lemmas.List.{append-nil}
 use Rattle.std.proofs.lemmas.List.Elements.{All-cons}
 use Rattle.std.specs.List.{AllPairs}
 use Rattle.std.specs.Prelude.{IsSome, Result}
+use Rattle.std.specs.Io.KnownBytes.{Appends}
 use Rattle.delta_exchange.specs.declared.memory.OutOfMemory.{OutOfMemory}
 use Rattle.event_key.specs.declared.key.Key.{Key}
 use Rattle.event_key.specs.Keys.{key_lt}
@@ -27,7 +28,9 @@ use Rattle.sim_spec.proofs.RunLemmas.{run-stops}
 use Rattle.sim_stats.specs.Totals.{IsInTime, last_time}
 use Rattle.sim_stats.proofs.InTime.{in_time-ascending, in_time-behind, in_time-front}
 use Rattle.sim_io.specs.Texts.{IsAtObject}
+use Rattle.sim_text.specs.declared.telling.Telling.{Telling}
 use Rattle.sim_text.specs.Rest.{AllAtObjects}
+use Rattle.sim_text.specs.SoFar.{HasToldSoFar, lines_so_far}
 use Rattle.sim_text.proofs.Told.{EndsSo}
 use Rattle.sim_text.proofs.SummaryLemmas.{records_of_buckets-append, records_of_buckets-first, records_of_buckets-more}
 use Rattle.sim_text.proofs.Rest.{rest, IsNextFault, ended-next, ended-none, goes_on-end, goes_on-limit, rest-stops, rest-bucket}
@@ -55,6 +58,20 @@ pub record IsUnderWay (m : Meaning) (t : Terms) (from : State) (standing : Stand
   pub counted : state.count ≡ from.count + length (records_of_buckets so_far)
   pub few : length so_far ≤ state.count + 1
   pub few_whole : fault ≡ None → length so_far ≤ state.count
+
+-- a simulation under way has told of its buckets so far what was written of them
+pub told_so_far : (m : Meaning) (t : Terms) (from : State) (telling : Telling) (old now : Option (List ℕ)) (standing : Standing) (so_far : List Bucket) → IsUnderWay m t from standing so_far
+    → Appends old now (lines_so_far m telling so_far) → HasToldSoFar m t telling from old now standing
+told_so_far m t from telling old now standing so_far way told = record {
+  state = way.state;
+  fault = way.fault;
+  at_state = way.at_state;
+  so_far = so_far;
+  more = rest m t way.state way.fault;
+  buckets = way.buckets;
+  counted = way.counted;
+  told = told;
+}
 
 -- an engine that began there is under way
 pub record RunsOn (m : Meaning) (t : Terms) {E : Type 0} (StandsIn : E → Standing → Type 0) (engine : E) (so_far : List Bucket) (from : State) : Type 0 where

@@ -1,4 +1,5 @@
 pub mod Reports
 pub mod Rest
+pub mod SoFar
 pub mod WholeTexts
 pub mod Written

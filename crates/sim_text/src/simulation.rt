@@ -3,6 +3,7 @@ ghost use Rattle.std.specs.Prelude.{◌≡◌, None};
 ghost use Rattle.sim_spec.specs.State.{State};
 ghost use Rattle.sim_spec.specs.Standing.{Standing, ended, DoesCycles};
 ghost use Rattle.sim_text.specs.Rest.{BeginsAt, CanBeTold};
+ghost use Rattle.sim_text.specs.SoFar.{HasToldSoFar};
 ghost use Rattle.sim_text.specs.Written.{HasSimulated};
 
 use crate::report::Report;
@@ -17,9 +18,15 @@ use sim_spec::{Bucket, Engine, Stop, Terms};
 use std::alloc::Global;
 
 /// Runs an engine from a state of its model until it has ended, and writes the text of the simulation: after each cycle
-/// what is told of its bucket at once, and in the end what was kept of all, and why it stopped. No bucket is kept, and the
-/// memory for the text of one serves the next one too.
-pub fn simulate<M: Model, E: Engine, F: Fn(&mut E, Global) -> Result<Bucket, OutOfMemory>, K: Sink>(
+/// what is told of its bucket at once, and in the end what was kept of all, and why it stopped. A cycle begins only where
+/// all that is told at once of those before it was written, so it is given the sink to read. No bucket is kept, and the memory
+/// for the text of one serves the next one too.
+pub fn simulate<
+    M: Model,
+    E: Engine,
+    F: Fn(&mut E, Global, &K) -> Result<Bucket, OutOfMemory>,
+    K: Sink,
+>(
     alloc: Global,
     model: &M,
     terms: &Terms,
@@ -31,8 +38,11 @@ pub fn simulate<M: Model, E: Engine, F: Fn(&mut E, Global) -> Result<Bucket, Out
     requires meaning { E.meaning engine.old ≡ M.meaning model.now }
     requires terms { E.terms engine.old ≡ terms.now }
     requires begins { (from : State) × BeginsAt (M.meaning model.now) terms.now E.stands_at engine.old from × CanBeTold (M.meaning model.now) telling from }
-    requires may { (e : _) (at : Standing) → E.stands_at e.now at → ended (E.meaning e.now) (E.terms e.now) at ≡ None → F.pre cycle.now e alloc }
-    requires does { (e : _) (r : _) (f : _) → F.post cycle.now e alloc r f → DoesCycles E.meaning E.terms E.stands_at e.now r f.now }
+    requires may { (e : _) (at : Standing) (k : _) → E.stands_at e.now at → ended (E.meaning e.now) (E.terms e.now) at ≡ None
+        → (from : State) × BeginsAt (M.meaning model.now) terms.now E.stands_at engine.old from
+        × HasToldSoFar (M.meaning model.now) terms.now telling from (K.told sink.old) (K.told k.now) at
+        → F.pre cycle.now e alloc k }
+    requires does { (e : _) (k : _) (r : _) (f : _) → F.post cycle.now e alloc k r f → DoesCycles E.meaning E.terms E.stands_at e.now r f.now }
     ensures { (from : State) → BeginsAt (M.meaning model.now) terms.now E.stands_at engine.old from → CanBeTold (M.meaning model.now) telling from
         → HasSimulated K.Sink sink.old sink.new result (M.meaning model.now) terms.now telling from }
 {
@@ -54,7 +64,7 @@ pub fn simulate<M: Model, E: Engine, F: Fn(&mut E, Global) -> Result<Bucket, Out
             write_all(sink, text.as_slice())?;
             return Ok(stop);
         }
-        let bucket = cycle(engine, alloc)?;
+        let bucket = cycle(engine, alloc, &*sink)?;
         report.add(&mut lines, alloc, model, number, &bucket, &mut text)?;
         write_all(sink, text.as_slice())?;
         engine.give_back(bucket.done);

@@ -1,8 +1,9 @@
 //! A source and a sink that never fail.
-ghost use Rattle.std.specs.Prelude.{◌≡◌, None, Some, List, [], ℕ, ◌<◌, Ok, IfOk, OnOk, length, min};
+ghost use Rattle.std.specs.Prelude.{◌≡◌, None, Some, List, [], ℕ, ◌<◌, Ok, IfOk, OnOk, length, min, take};
 ghost use Rattle.std.specs.Io.{ReadsAtMost, WritesAtMost};
 ghost use Rattle.std.specs.Io.KnownBytes.{Keeps, ReadConsumes, WriteAppends};
 ghost use Rattle.sim_io.specs.Causes.{CountsIdle, HasCause};
+ghost use Rattle.sim_io.specs.Transfers.{GivesMore};
 
 use crate::streams::failed::Failed;
 use crate::streams::sink::Sink;
@@ -45,6 +46,8 @@ impl Source for CleanSource {
         ensures taken { ReadConsumes (Some self.old) (Some self.new) result into.new }
         ensures cause { HasCause 0 0 result }
         ensures quiet { OnOk result (◌≡◌ {A = ℕ} 0 0) }
+        ensures gave { IfOk result (λ n. GivesMore (⟦<CleanSource as Source>⟧.gave self.old) (⟦<CleanSource as Source>⟧.gave self.new) (take n into.new)) }
+        ensures end { IfOk result (λ n. n ≡ 0 → 0 < length into.new → ⟦<CleanSource as Source>⟧.is_at_end self.new) }
         ensures count { result ≡ Ok (min (length into.old) (length self.old)) }
     {
         let (_, left) = self.bytes.split_at(self.at);

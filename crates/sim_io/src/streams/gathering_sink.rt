@@ -50,6 +50,14 @@ impl<K: Sink> GatheringSink<K> {
     {
         &self.inner
     }
+
+    /// The sink that it hands on to, without what is kept back.
+    pub fn into_inner(self) -> K
+        ensures { result ≡ self.inner }
+    {
+        let GatheringSink { inner, gathered: _ } = self;
+        inner
+    }
 }
 
 /// Lets the first bytes go.

@@ -1,8 +1,9 @@
 //! A source in memory whose faults are chosen by the numbers of its calls.
-ghost use Rattle.std.specs.Prelude.{◌≡◌, ◌≤◌, ◌<◌, ◌↔◌, Some, length, Contains, IsErr, IfOk, OnOk};
+ghost use Rattle.std.specs.Prelude.{◌≡◌, ◌≤◌, ◌<◌, ◌↔◌, Some, length, take, Contains, IsErr, IfOk, OnOk};
 ghost use Rattle.std.specs.Io.{ReadsAtMost};
 ghost use Rattle.std.specs.Io.KnownBytes.{ReadConsumes};
 ghost use Rattle.sim_io.specs.Causes.{CountsFailures, HasCause, next_count};
+ghost use Rattle.sim_io.specs.Transfers.{GivesMore};
 ghost use Rattle.sim_io.specs.Memory.{moved_count, KeepsSourceRules};
 
 use crate::streams::failed::Failed;
@@ -65,6 +66,8 @@ impl Source for MemSource {
         ensures taken { ReadConsumes (Some self.old.left) (Some self.new.left) result into.new }
         ensures cause { HasCause self.old.faults self.new.faults result }
         ensures quiet { OnOk result (self.new.faults ≡ self.old.faults) }
+        ensures gave { IfOk result (λ n. GivesMore (⟦<MemSource as Source>⟧.gave self.old) (⟦<MemSource as Source>⟧.gave self.new) (take n into.new)) }
+        ensures end { IfOk result (λ n. n ≡ 0 → 0 < length into.new → ⟦<MemSource as Source>⟧.is_at_end self.new) }
         ensures calls { self.new.calls ≡ next_count self.old.calls }
         ensures fails { IsErr result ↔ Contains self.old.fails self.new.calls }
         ensures count { IfOk result (λ n. n ≡ moved_count self.old (length into.old)) }

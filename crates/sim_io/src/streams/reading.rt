@@ -1,8 +1,8 @@
 //! Reading an input.
-ghost use Rattle.std.specs.Prelude.{◌≡◌, ◌+◌, ◌-◌, ◌≤◌, ◌<◌, ◌++◌, ◌^◌, ℕ, List, length, vec_len, IfOk, OnOk, OnErr, IsErrOf};
+ghost use Rattle.std.specs.Prelude.{◌≡◌, ◌⊎◌, ◌+◌, ◌-◌, ◌≤◌, ◌<◌, ◌++◌, ◌^◌, ℕ, List, length, vec_len, IfOk, OnOk, OnErr, IsErrOf};
 ghost use Rattle.std.specs.Io.KnownBytes.{Consumes, IsAtEnd};
 ghost use Rattle.sim_io.specs.Causes.{Rose};
-ghost use Rattle.sim_io.specs.Transfers.{TakesUpTo, TakesSome};
+ghost use Rattle.sim_io.specs.Transfers.{GivesMore, TakesUpTo, TakesSome};
 ghost use Rattle.sim_io.specs.declared.streams.reading.ReadEnd.TheVariants.{OutOfMemory};
 
 use crate::streams::failed::Failed;
@@ -44,8 +44,9 @@ fn read_piece<S: Source>(
 ) -> Result<usize, ReadEnd>
     requires { vec_len bytes.old < enough }
     ensures appended { IfOk result (λ n. (piece : List ℕ) × (bytes.new.items ≡ bytes.old.items ++ piece) × (length piece ≡ n)
-        × Consumes (S.left source.old) (S.left source.new) piece) }
+        × Consumes (S.left source.old) (S.left source.new) piece × GivesMore (S.gave source.old) (S.gave source.new) piece) }
     ensures end { IfOk result (λ n. n ≡ 0 → IsAtEnd (S.left source.new)) }
+    ensures ended { IfOk result (λ n. n ≡ 0 → S.is_at_end source.new) }
     ensures short { OnOk result (vec_len bytes.new ≤ enough) }
     ensures refused { OnErr result (TakesSome (enough - vec_len bytes.old) (S.left source.old) (S.left source.new)) }
     ensures later { S.faults source.old ≤ S.faults source.new }
@@ -71,6 +72,8 @@ fn read_piece<S: Source>(
 pub fn read_some<S: Source>(alloc: Global, source: &mut S, most: usize) -> Result<Vec<u8>, ReadEnd>
     requires { most < 2 ^ 31 }
     ensures all { IfOk result (λ bytes. TakesUpTo (most + 1) (S.left source.old) (S.left source.new) bytes.items) }
+    ensures gave { IfOk result (λ bytes. GivesMore (S.gave source.old) (S.gave source.new) bytes.items) }
+    ensures enough { IfOk result (λ bytes. S.is_at_end source.new ⊎ (length bytes.items ≡ most + 1)) }
     ensures short { IfOk result (λ bytes. vec_len bytes ≤ most + 1) }
     ensures refused { OnErr result (TakesSome (most + 1) (S.left source.old) (S.left source.new)) }
     ensures later { S.faults source.old ≤ S.faults source.new }
@@ -91,6 +94,8 @@ pub fn read_some<S: Source>(alloc: Global, source: &mut S, most: usize) -> Resul
 /// Reads a model text: to its end, or until there are `ENOUGH_BYTES`. After a refusal the bytes that were read are lost.
 pub fn read_all<S: Source>(alloc: Global, source: &mut S) -> Result<Vec<u8>, ReadEnd>
     ensures all { IfOk result (λ bytes. TakesUpTo ENOUGH_BYTES (S.left source.old) (S.left source.new) bytes.items) }
+    ensures gave { IfOk result (λ bytes. GivesMore (S.gave source.old) (S.gave source.new) bytes.items) }
+    ensures enough { IfOk result (λ bytes. S.is_at_end source.new ⊎ (length bytes.items ≡ ENOUGH_BYTES)) }
     ensures short { IfOk result (λ bytes. vec_len bytes ≤ ENOUGH_BYTES) }
     ensures refused { OnErr result (TakesSome ENOUGH_BYTES (S.left source.old) (S.left source.new)) }
     ensures later { S.faults source.old ≤ S.faults source.new }

@@ -25,6 +25,21 @@ impl<W: Write> StdSink<W> {
     {
         StdSink { writer, faults: 0 }
     }
+
+    /// How often the writer failed or took nothing.
+    pub fn faults(&self) -> u64
+        ensures { result ≡ ⟦<StdSink<W> as Sink>⟧.faults self.now }
+    {
+        self.faults
+    }
+
+    /// The writer.
+    pub fn into_inner(self) -> W
+        ensures { W.contents result ≡ ⟦<StdSink<W> as Sink>⟧.told self }
+    {
+        let StdSink { writer, faults: _ } = self;
+        writer
+    }
 }
 
 impl<W: Write> Sink for StdSink<W> {

@@ -1,8 +1,9 @@
 //! A reader of std as a source.
-ghost use Rattle.std.specs.Prelude.{◌≡◌, OnOk};
+ghost use Rattle.std.specs.Prelude.{◌≡◌, ◌<◌, IfOk, OnOk, length, take};
 ghost use Rattle.std.specs.Io.{ReadsAtMost};
 ghost use Rattle.std.specs.Io.KnownBytes.{ReadConsumes};
 ghost use Rattle.sim_io.specs.Causes.{CountsFailures, HasCause};
+ghost use Rattle.sim_io.specs.Transfers.{GivesMore};
 
 use crate::streams::failed::Failed;
 use crate::streams::source::Source;
@@ -23,6 +24,14 @@ impl<R: Read> StdSource<R> {
     {
         StdSource { reader, faults: 0 }
     }
+
+    /// The reader.
+    pub fn into_inner(self) -> R
+        ensures { R.remaining result ≡ ⟦<StdSource<R> as Source>⟧.left self }
+    {
+        let StdSource { reader, faults: _ } = self;
+        reader
+    }
 }
 
 impl<R: Read> Source for StdSource<R> {
@@ -35,6 +44,8 @@ impl<R: Read> Source for StdSource<R> {
         ensures taken { ReadConsumes (⟦<StdSource<R> as Source>⟧.left self.old) (⟦<StdSource<R> as Source>⟧.left self.new) result into.new }
         ensures cause { HasCause (⟦<StdSource<R> as Source>⟧.faults self.old) (⟦<StdSource<R> as Source>⟧.faults self.new) result }
         ensures quiet { OnOk result (⟦<StdSource<R> as Source>⟧.faults self.new ≡ ⟦<StdSource<R> as Source>⟧.faults self.old) }
+        ensures gave { IfOk result (λ n. GivesMore (⟦<StdSource<R> as Source>⟧.gave self.old) (⟦<StdSource<R> as Source>⟧.gave self.new) (take n into.new)) }
+        ensures end { IfOk result (λ n. n ≡ 0 → 0 < length into.new → ⟦<StdSource<R> as Source>⟧.is_at_end self.new) }
         ensures faults { CountsFailures (⟦<StdSource<R> as Source>⟧.faults self.old) (⟦<StdSource<R> as Source>⟧.faults self.new) result }
     {
         match self.reader.read(into) {

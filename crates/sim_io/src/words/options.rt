@@ -5,7 +5,7 @@ ghost use Rattle.sim_io.specs.Words.{AreGivenInBounds, all_given, is_given, no_o
 use crate::words::WordFault;
 use crate::words::commands::{Command, CommandOption, ValuedOption};
 use crate::words::moves::Moves;
-use crate::words::values::{moves_named, number_within, placement_named};
+use crate::words::values::{moves_named, placement_named, small_number_within};
 use model_core::{MOST_AHEAD, MOST_NODES};
 use sim_spec::Placement;
 
@@ -23,7 +23,7 @@ pub struct GivenOptions {
 }
 
 /// What is wrong with a word that stands for nothing.
-fn stray_word(word: &str) -> WordFault
+pub fn stray_word(word: &str) -> WordFault
     ensures { result ≡ stray_word word.now }
 {
     if word.as_bytes().starts_with(b"-") {
@@ -90,10 +90,12 @@ impl GivenOptions {
             ..self
         };
         match option {
-            ValuedOption::Nodes => given.nodes = Some(number_within(1, MOST_NODES, value)?),
-            ValuedOption::Ahead => given.ahead = Some(number_within(0, MOST_AHEAD, value)?),
+            ValuedOption::Nodes => given.nodes = Some(small_number_within(1, MOST_NODES, value)?),
+            ValuedOption::Ahead => given.ahead = Some(small_number_within(0, MOST_AHEAD, value)?),
             ValuedOption::Placement => given.placement = Some(placement_named(value)?),
-            ValuedOption::Workers => given.workers = Some(number_within(1, MOST_NODES, value)?),
+            ValuedOption::Workers => given.workers = Some(small_number_within(
+                1, MOST_NODES, value,
+            )?),
             ValuedOption::Moves => given.moves = Some(moves_named(value)?),
         }
         Ok(given)

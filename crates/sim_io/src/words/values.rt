@@ -22,15 +22,15 @@ pub fn is_decimal(digits: &[u8]) -> bool
     !digits.is_empty() && !(digits.len() > 1 && digits.starts_with(b"0"))
 }
 
-/// Whether a word is one to seven digits, without a zero before others.
+/// Whether a word is one to nineteen digits, without a zero before others.
 fn is_number(word: &str) -> bool
     ensures { result ≡ is_number word.now }
 {
-    is_decimal(word.as_bytes()) && word.len() <= 7 && has_digits(word)
+    is_decimal(word.as_bytes()) && word.len() <= 19 && has_digits(word)
 }
 
 /// The number that a word writes, if it lies between two.
-pub fn number_within(least: u32, most: u32, word: &str) -> Result<u32, WordFault>
+pub fn number_within(least: u64, most: u64, word: &str) -> Result<u64, WordFault>
     ensures value { result ≡ number_within least most word.now }
     ensures low { IfOk result (λ number. least ≤ number) }
     ensures high { IfOk result (λ number. number ≤ most) }
@@ -38,10 +38,20 @@ pub fn number_within(least: u32, most: u32, word: &str) -> Result<u32, WordFault
     if !is_number(word) {
         return Err(WordFault::BadValue);
     }
-    match word.parse::<u32>() {
+    match word.parse::<u64>() {
         Ok(number) if least <= number && number <= most => Ok(number),
         _ => Err(WordFault::BadValue),
     }
+}
+
+/// The same of a number of 32 bits.
+pub fn small_number_within(least: u32, most: u32, word: &str) -> Result<u32, WordFault>
+    ensures value { result ≡ number_within least most word.now }
+    ensures low { IfOk result (λ number. least ≤ number) }
+    ensures high { IfOk result (λ number. number ≤ most) }
+{
+    let number = number_within(u64::from(least), u64::from(most), word)?;
+    Ok(number as u32)
 }
 
 /// The placement that a word names.

@@ -8,7 +8,7 @@ use Rattle.program_answers.specs.declared.status.TheConstants.{MODEL}
 use Rattle.btb_program.specs.Answer.{answer_to_model}
 use Rattle.program_answers.proofs.EndingLemmas.{model_status, refusal_ends, same_refusal}
 use Rattle.program_answers.proofs.InputLemmas.{leaves_rest, model_input, no_memory_input, read_fault_input}
-use Rattle.btb_program.proofs.ReadingLemmas.{model_answers}
+use Rattle.btb_program.proofs.ReadingLemmas.{model_answers, slice_answers}
 use Rattle.btb_program.proofs.SavedRunsLaw.{none_left, refused_none, whole_input}
 use Rattle.btb_program.proofs.running.run_command.Goals as goal
 
@@ -23,7 +23,8 @@ unfolding answer_to_model
 returns-in-Ok-read_model-clause-answer g c =
     model_input _ _ _ _ _ _ _ _ _ _ c.answer_model.ensures.answer
     (model_answers _ _ _ _ c.args.settings _ c.in-Ok.ensures.all c.as_slice-bytes.ensures.value c.in-Ok-read_model.ensures.read)
-    c.in-Ok.ensures.quiet (leaves_rest ENOUGH_BYTES _ _ _ c.in-Ok.ensures.all)
+    c.in-Ok.ensures.quiet (leaves_rest ENOUGH_BYTES _ _ _ c.in-Ok.ensures.all) _ (record { gave = c.in-Ok.ensures.gave; enough = c.in-Ok.ensures.enough })
+    (slice_answers _ _ c.args.settings _ c.as_slice-bytes.ensures.value c.in-Ok-read_model.ensures.read)
 
 pub returns-in-Err-At-clause-answer : goal.returns-in-Err-At-clause-answer
 unfolding answer_to_model
@@ -32,7 +33,8 @@ returns-in-Err-At-clause-answer g c =
     let refused : model_of c.as_slice-bytes.result.now ≡ Err (record { code = c.in-Err-At.code; item = c.in-Err-At.item }) = subst P c.in-Err-At.field-0-is c.in-Err-At.ensures.refused in
     model_input _ _ _ _ _ _ _ _ _ _ (refusal_ends _ _ MODEL _ _ (same_refusal _ _ _ _ _ c.refused.ensures c.in-Err-At.code-is c.in-Err-At.item-is) model_status)
     (model_answers _ _ _ _ c.args.settings _ c.in-Ok.ensures.all c.as_slice-bytes.ensures.value refused)
-    c.in-Ok.ensures.quiet (leaves_rest ENOUGH_BYTES _ _ _ c.in-Ok.ensures.all)
+    c.in-Ok.ensures.quiet (leaves_rest ENOUGH_BYTES _ _ _ c.in-Ok.ensures.all) _ (record { gave = c.in-Ok.ensures.gave; enough = c.in-Ok.ensures.enough })
+    (slice_answers _ _ c.args.settings _ c.as_slice-bytes.ensures.value refused)
 
 pub returns-clause-answer : goal.returns-clause-answer
 returns-clause-answer g c = no_memory_input _ _ _ _ _ _ _ c.in-Ok.ensures.quiet

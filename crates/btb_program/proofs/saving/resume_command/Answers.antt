@@ -11,7 +11,7 @@ use Rattle.program_answers.specs.Endings.{IsRefusal}
 use Rattle.program_answers.proofs.EndingLemmas.{refusal_ends, state_status}
 use Rattle.btb_program.proofs.EndingLemmas.{run_ends}
 use Rattle.program_answers.proofs.InputLemmas.{leaves_rest, model_input, no_memory_input, read_fault_input}
-use Rattle.btb_program.proofs.ReadingLemmas.{state_answers}
+use Rattle.btb_program.proofs.ReadingLemmas.{slice_state_answers, state_answers}
 use Rattle.btb_program.proofs.saving.resume_command.Goals as goal
 
 same_state_refusal : (ending : Ending) (code code' line line' : ℕ) → IsRefusal STATE (state_line code line) ending → code ≡ code' → line ≡ line' → IsRefusal STATE (state_line code' line') ending
@@ -29,7 +29,8 @@ unfolding answer_to_state
 returns-in-Ok-read_state g c =
     model_input _ _ _ _ _ _ _ _ _ _ (run_ends _ _ _ _ _ _ _ _ _ _ c.resume_model.ensures.simulated c.resume_model.ensures.handed c.ending_of.ensures refl)
     (state_answers _ _ _ _ _ c.in-Ok.ensures.all c.as_slice.ensures.value c.in-Ok-read_state.ensures.exact)
-    c.in-Ok.ensures.quiet (leaves_rest (MOST_STATE_BYTES + 1) _ _ _ c.in-Ok.ensures.all)
+    c.in-Ok.ensures.quiet (leaves_rest (MOST_STATE_BYTES + 1) _ _ _ c.in-Ok.ensures.all) _ (record { gave = c.in-Ok.ensures.gave; enough = c.in-Ok.ensures.enough })
+    (slice_state_answers _ _ _ c.as_slice.ensures.value c.in-Ok-read_state.ensures.exact)
 
 pub returns-in-Err-At : goal.returns-in-Err-At
 unfolding answer_to_state
@@ -38,7 +39,8 @@ returns-in-Err-At g c =
     let refused : state_of c.as_slice.result.now ≡ Err (record { code = c.in-Err-At.code; line = c.in-Err-At.line }) = subst P c.in-Err-At.field-0-is c.in-Err-At.ensures.exact in
     model_input _ _ _ _ _ _ _ _ _ _ (refusal_ends _ _ STATE _ _ (same_state_refusal _ _ _ _ _ c.refused_state.ensures c.in-Err-At.code-is c.in-Err-At.line-is) state_status)
     (state_answers _ _ _ _ _ c.in-Ok.ensures.all c.as_slice.ensures.value refused)
-    c.in-Ok.ensures.quiet (leaves_rest (MOST_STATE_BYTES + 1) _ _ _ c.in-Ok.ensures.all)
+    c.in-Ok.ensures.quiet (leaves_rest (MOST_STATE_BYTES + 1) _ _ _ c.in-Ok.ensures.all) _ (record { gave = c.in-Ok.ensures.gave; enough = c.in-Ok.ensures.enough })
+    (slice_state_answers _ _ _ c.as_slice.ensures.value refused)
 
 pub returns : goal.returns
 returns g c = no_memory_input _ _ _ _ _ _ _ c.in-Ok.ensures.quiet

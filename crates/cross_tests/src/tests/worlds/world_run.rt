@@ -194,7 +194,7 @@ pub fn run_world(
 {
     let (model, mut run) = run_of(alloc, model, terms, nodes, placement)?;
     law_initial(&*model, &terms);
-    let cycle = |any: &mut AnyRun, alloc: Global| -> Result<Bucket, OutOfMemory>
+    let cycle = |any: &mut AnyRun, alloc: Global, _out: &MemSink| -> Result<Bucket, OutOfMemory>
         requires { GoesOn meaning_of any.old.run }
         ensures { HasCycled meaning_of any.old.run result any.new.run }
     { any.run.cycle(alloc) };

@@ -15,7 +15,7 @@ use Rattle.model_text.specs.declared.model.AnyModel.{AnyModel}
 use Rattle.model_text.specs.Meanings.{meaning_of}
 use Rattle.model_runs.specs.declared.team_run.TeamRun.{TeamRun}
 use Rattle.model_runs.proofs.HandedLemmas.{saved_before, saved_short, saved_so}
-use Rattle.model_runs.proofs.SavingLemmas.{all_prefix}
+use Rattle.sim_io.proofs.TransferLemmas.{all_prefix}
 use Rattle.model_runs.proofs.saving.save_after.Goals as goal
 
 -- nodes that begin at the start of a model do what they do from there

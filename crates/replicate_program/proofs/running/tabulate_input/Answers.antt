@@ -8,7 +8,7 @@ use Rattle.program_answers.specs.declared.status.TheConstants.{MODEL}
 use Rattle.program_answers.proofs.EndingLemmas.{model_status, refusal_ends, same_refusal}
 use Rattle.program_answers.proofs.InputLemmas.{leaves_rest, model_input, no_memory_input, read_fault_input}
 use Rattle.replicate_program.specs.TableAnswers.{answer_to_read}
-use Rattle.replicate_program.proofs.AnswerLemmas.{family_answers, known_refusal}
+use Rattle.replicate_program.proofs.AnswerLemmas.{family_answers, known_refusal, slice_answers}
 use Rattle.replicate_program.proofs.running.tabulate_input.Goals as goal
 
 pub returns-in-Err-Failed-clause-ends : goal.returns-in-Err-Failed-clause-ends
@@ -22,7 +22,8 @@ unfolding answer_to_read
 returns-in-Ok-read_family-clause-ends g c =
     model_input _ _ _ _ _ _ _ _ _ _ c.tabulate.ensures.ends
     (family_answers _ _ _ _ c.args.asked _ c.in-Ok.ensures.all c.as_slice.ensures.value c.in-Ok-read_family.ensures.read)
-    c.in-Ok.ensures.quiet (leaves_rest ENOUGH_BYTES _ _ _ c.in-Ok.ensures.all)
+    c.in-Ok.ensures.quiet (leaves_rest ENOUGH_BYTES _ _ _ c.in-Ok.ensures.all) _ (record { gave = c.in-Ok.ensures.gave; enough = c.in-Ok.ensures.enough })
+    (slice_answers _ _ c.args.asked _ c.as_slice.ensures.value c.in-Ok-read_family.ensures.read)
 
 pub returns-in-Err-At-clause-ends : goal.returns-in-Err-At-clause-ends
 unfolding answer_to_read
@@ -31,7 +32,8 @@ returns-in-Err-At-clause-ends g c =
     let refused : family_of c.as_slice.result.now ≡ Err (record { code = c.in-Err-At.code; item = c.in-Err-At.item }) = subst P c.in-Err-At.field-0-is c.in-Err-At.ensures.refused in
     model_input _ _ _ _ _ _ _ _ _ _ (refusal_ends _ _ MODEL _ _ (same_refusal _ _ _ _ _ c.refused.ensures c.in-Err-At.code-is c.in-Err-At.item-is) model_status)
     (family_answers _ _ _ _ c.args.asked _ c.in-Ok.ensures.all c.as_slice.ensures.value refused)
-    c.in-Ok.ensures.quiet (leaves_rest ENOUGH_BYTES _ _ _ c.in-Ok.ensures.all)
+    c.in-Ok.ensures.quiet (leaves_rest ENOUGH_BYTES _ _ _ c.in-Ok.ensures.all) _ (record { gave = c.in-Ok.ensures.gave; enough = c.in-Ok.ensures.enough })
+    (slice_answers _ _ c.args.asked _ c.as_slice.ensures.value refused)
 
 pub returns-in-Err-At-clause-known : goal.returns-in-Err-At-clause-known
 returns-in-Err-At-clause-known g c = known_refusal MODEL _ _ c.refused.ensures (omega arith)

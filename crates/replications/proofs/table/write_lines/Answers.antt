@@ -5,7 +5,8 @@ use Rattle.model_core.proofs.Results.{on_err}
 use Rattle.sim_io.specs.Transfers.{AppendsPrefix}
 use Rattle.replications.specs.Families.{study_of}
 use Rattle.replications.specs.Studies.{rows_between, table_text}
-use Rattle.replications.proofs.TextLemmas.{prefix_longer, prefix_next}
+use Rattle.sim_io.proofs.TransferLemmas.{prefix_longer}
+use Rattle.replications.proofs.TextLemmas.{prefix_next}
 use Rattle.replications.proofs.table.write_lines.Goals as goal
 
 pub returns-in_err-write_all-clause-prefix : goal.returns-in_err-write_all-clause-prefix

@@ -12,7 +12,7 @@ returns-clause-bounds c =
     let from = or_else 0 LAST_TICK 0 given.from fine.from (omega arith) (omega arith) in
     let workers = or_else 1 MOST_WORKERS DEFAULT_WORKERS given.workers fine.workers (omega arith) (omega arith) in
     record {
-      count = c.in-Some.ensures.within;
+      count = (c.in_ok-count.ensures.low, c.in_ok-count.ensures.high);
       first_seed = fine.first;
       from = subst (λ n. n ≤ LAST_TICK) (sym c.unwrap_or.ensures) from.1;
       workers = subst (λ n. (1 ≤ n) × (n ≤ MOST_WORKERS)) (sym c.unwrap_or-2.ensures) workers;

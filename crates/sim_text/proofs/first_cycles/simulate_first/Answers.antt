@@ -12,7 +12,7 @@ use Rattle.sim_io.specs.Transfers.{AppendsPrefix}
 use Rattle.sim_text.specs.Rest.{AllAtObjects}
 use Rattle.sim_text.specs.WholeTexts.{first_lines}
 use Rattle.sim_text.proofs.WritingLemmas.{writes_prefix}
-use Rattle.sim_text.proofs.First.{none_first, lines-begin, all-ended, all-done, one_more, at_objects, lines-more, lines-go_on, is_none, is_some_of, stands_so, put_told}
+use Rattle.sim_text.proofs.First.{told_first, none_first, lines-begin, all-ended, all-done, one_more, at_objects, lines-more, lines-go_on, is_none, is_some_of, stands_so, put_told}
 use Rattle.sim_text.proofs.UnderWay.{held, ended-same, has_done}
 use Rattle.sim_text.proofs.WrittenLemmas.{no_prefix, rose_after, all_written, written_before, failed_before}
 use Rattle.sim_text.proofs.first_cycles.simulate_first.Goals as goal
@@ -42,7 +42,8 @@ pub cycle-requires : goal.cycle-requires
 cycle-requires g c =
     let i = c.loop-done.invariant in
     let r = i.first c.requires.begins.0 c.requires.begins.1 in
-    c.requires.may _ r.at r.stands (sym (c.ended.ensures r.at r.stands) ∙ is_none _ (sym c.if-is_some.ensures))
+    c.requires.may _ r.at _ r.stands (sym (c.ended.ensures r.at r.stands) ∙ is_none _ (sym c.if-is_some.ensures))
+    (c.requires.begins.0, c.requires.begins.1, told_first _ _ _ _ i.so_far r.first _ _ i.told)
 
 pub returns-then-is_some-clause-written : goal.returns-then-is_some-clause-written
 returns-then-is_some-clause-written g c = λ from starts.
@@ -79,7 +80,7 @@ put_records-requires-after_bounds g c κs within =
     let own_none = sym (c.ended.ensures r.at r.stands) ∙ is_none _ (sym c.if-is_some.ensures) in
     let not_ended = ended-same _ _ _ _ _ _ i.meaning i.terms (sym own_none) in
     let done = has_done (g.M.Model.meaning c.args.model.now) c.args.terms.now g.E.Engine.meaning g.E.Engine.terms g.E.Engine.stands_at c.loop-done.engine r.at c.cycle.result c.in_ok-bucket.bucket c.cycle.new.arg2 i.meaning i.terms c.in_ok-bucket.was
-    (c.requires.does _ c.cycle.result _ c.cycle.ensures r.at r.stands own_none) in
+    (c.requires.does _ _ c.cycle.result _ c.cycle.ensures r.at r.stands own_none) in
     let P : List (Key × Note) → Type 0 = AllAtObjects (g.M.Model.meaning c.args.model.now) in
     subst P (sym c.as_buffer.ensures) (at_objects _ _ _ _ i.so_far r.first i.buckets c.in_ok-bucket.bucket _ not_ended done.cycle i.next)
 
@@ -100,7 +101,7 @@ returns-in_err-write_all-clause-written g c = λ from starts.
     let own_none = sym (c.ended.ensures r.at r.stands) ∙ is_none _ (sym c.if-is_some.ensures) in
     let not_ended = ended-same _ _ _ _ _ _ i.meaning i.terms (sym own_none) in
     let done = has_done (g.M.Model.meaning c.args.model.now) c.args.terms.now g.E.Engine.meaning g.E.Engine.terms g.E.Engine.stands_at c.loop-done.engine r.at c.cycle.result c.in_ok-bucket.bucket c.cycle.new.arg2 i.meaning i.terms c.in_ok-bucket.was
-    (c.requires.does _ c.cycle.result _ c.cycle.ensures r.at r.stands own_none) in
+    (c.requires.does _ _ c.cycle.result _ c.cycle.ensures r.at r.stands own_none) in
     let m = g.M.Model.meaning c.args.model.now in
     let goes = lines-go_on _ _ _ _ i.so_far r.first i.buckets c.in_ok-bucket.bucket _ not_ended done.cycle c.args.most (omega (arith, i.numbered, c.loop-done-test.true)) in
     let P : List ℕ → Type 0 = AppendsPrefix (g.K.Sink.told c.loop-done.sink) (g.K.Sink.told c.write_all.new.sink) in
@@ -120,7 +121,7 @@ loop-done-preserved g c =
     let some_none = sym (c.ended.ensures some.at some.stands) ∙ is_none _ (sym c.if-is_some.ensures) in
     let some_ended = ended-same _ _ _ _ _ _ i.meaning i.terms (sym some_none) in
     let some_done = has_done m t g.E.Engine.meaning g.E.Engine.terms g.E.Engine.stands_at c.loop-done.engine some.at c.cycle.result b c.cycle.new.arg2 i.meaning i.terms c.in_ok-bucket.was
-    (c.requires.does _ c.cycle.result _ c.cycle.ensures some.at some.stands some_none) in
+    (c.requires.does _ _ c.cycle.result _ c.cycle.ensures some.at some.stands some_none) in
     let P : List ℕ → Type 0 = Appends (g.K.Sink.told c.loop-done.sink) (g.K.Sink.told c.write_all.new.sink) in
     let lines = held _ _ _ _ c.clear.ensures.items (put_told m _ _ _ _ c.as_buffer.ensures c.in_ok-put_records.ensures) c.as_slice.ensures.value in
     record {
@@ -134,7 +135,7 @@ loop-done-preserved g c =
           let own_none = sym (c.ended.ensures r.at r.stands) ∙ is_none _ (sym c.if-is_some.ensures) in
           let not_ended = ended-same _ _ _ _ _ _ i.meaning i.terms (sym own_none) in
           let done = has_done m t g.E.Engine.meaning g.E.Engine.terms g.E.Engine.stands_at c.loop-done.engine r.at c.cycle.result b c.cycle.new.arg2 i.meaning i.terms c.in_ok-bucket.was
-          (c.requires.does _ c.cycle.result _ c.cycle.ensures r.at r.stands own_none) in
+          (c.requires.does _ _ c.cycle.result _ c.cycle.ensures r.at r.stands own_none) in
           record { at = done.left; stands = c.give_back.ensures.stands done.left done.stands; first = one_more _ _ _ _ i.so_far r.first i.buckets b _ not_ended done.cycle };
       numbered = ap (λ n. n + 1) i.numbered ∙ sym (length-append i.so_far (b ∷ []));
       told = subst (Appends (g.K.Sink.told c.args.sink.now) (g.K.Sink.told c.write_all.new.sink)) (sym (lines-more _ _ _ _ i.so_far some.first i.buckets b _ some_ended some_done.cycle))

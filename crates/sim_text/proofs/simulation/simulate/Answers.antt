@@ -11,7 +11,7 @@ use Rattle.sim_spec.specs.Standing.{stands}
 use Rattle.sim_io.specs.Transfers.{AppendsPrefix}
 use Rattle.sim_text.specs.Reports.{report_of}
 use Rattle.sim_text.proofs.Told.{none_so_far, can_go_on, has_objects, told-prefix, bucket-prefix, bucket-told, end-prefix, end-told}
-use Rattle.sim_text.proofs.UnderWay.{begins, counted-here, held, held_both, none_of, ended-same, has_done, stop-at_object, stop-of_run, ends_so, bucket-at_objects, bucket-in_time, bucket-has_room, all-with_bucket, goes_on, few_cycles}
+use Rattle.sim_text.proofs.UnderWay.{told_so_far, begins, counted-here, held, held_both, none_of, ended-same, has_done, stop-at_object, stop-of_run, ends_so, bucket-at_objects, bucket-in_time, bucket-has_room, all-with_bucket, goes_on, few_cycles}
 use Rattle.sim_text.proofs.WrittenLemmas.{no_prefix, rose_after, all_written, simulated_before, simulated_failed}
 use Rattle.sim_text.proofs.simulation.simulate.Goals as goal
 
@@ -109,7 +109,8 @@ pub cycle-requires : goal.cycle-requires
 cycle-requires g c =
     let i = c.loop-stop.invariant in
     let r = i.runs c.requires.begins.0 c.requires.begins.1 c.requires.begins.2 in
-    c.requires.may _ r.at r.stands (sym (c.ended.ensures r.at r.stands) ∙ none_of _ c.in_default.not-Some)
+    c.requires.may _ r.at _ r.stands (sym (c.ended.ensures r.at r.stands) ∙ none_of _ c.in_default.not-Some)
+    (c.requires.begins.0, c.requires.begins.1, told_so_far _ _ _ c.args.telling _ _ _ i.so_far r.way i.told)
 
 pub returns-in_err-bucket : goal.returns-in_err-bucket
 returns-in_err-bucket g c = λ from starts can.
@@ -124,7 +125,7 @@ add-requires-clause-objects g c κs within =
     let own_none = sym (c.ended.ensures r.at r.stands) ∙ none_of _ c.in_default.not-Some in
     let not_ended = ended-same _ _ _ _ _ _ i.meaning i.terms (sym own_none) in
     let done = has_done (g.M.Model.meaning c.args.model.now) c.args.terms.now g.E.Engine.meaning g.E.Engine.terms g.E.Engine.stands_at c.loop-stop.engine r.at c.cycle.result c.in_ok-bucket.bucket c.cycle.new.arg2 i.meaning i.terms c.in_ok-bucket.was
-    (c.requires.does _ c.cycle.result _ c.cycle.ensures r.at r.stands own_none) in
+    (c.requires.does _ _ c.cycle.result _ c.cycle.ensures r.at r.stands own_none) in
     bucket-at_objects _ _ _ r.laws _ i.so_far r.way _ _ not_ended done.cycle
 
 pub add-requires-clause-sums : goal.add-requires-clause-sums
@@ -139,7 +140,7 @@ add-requires-clause-goes_on g c κs within =
     let own_none = sym (c.ended.ensures r.at r.stands) ∙ none_of _ c.in_default.not-Some in
     let not_ended = ended-same _ _ _ _ _ _ i.meaning i.terms (sym own_none) in
     let done = has_done (g.M.Model.meaning c.args.model.now) c.args.terms.now g.E.Engine.meaning g.E.Engine.terms g.E.Engine.stands_at c.loop-stop.engine r.at c.cycle.result c.in_ok-bucket.bucket c.cycle.new.arg2 i.meaning i.terms c.in_ok-bucket.was
-    (c.requires.does _ c.cycle.result _ c.cycle.ensures r.at r.stands own_none) in
+    (c.requires.does _ _ c.cycle.result _ c.cycle.ensures r.at r.stands own_none) in
     let few = few_cycles _ _ _ r.laws _ i.so_far r.way in
     can_go_on _ c.args.telling c.loop-stop.report i.so_far c.in_ok-bucket.bucket.done i.kept
     (λ totals. bucket-in_time _ _ _ r.laws _ i.so_far r.way _ _ not_ended done.cycle (c.requires.begins.2 totals))
@@ -159,7 +160,7 @@ returns-in_err-write_all-2 g c = λ from starts can.
     let own_none = sym (c.ended.ensures r.at r.stands) ∙ none_of _ c.in_default.not-Some in
     let not_ended = ended-same _ _ _ _ _ _ i.meaning i.terms (sym own_none) in
     let done = has_done (g.M.Model.meaning c.args.model.now) c.args.terms.now g.E.Engine.meaning g.E.Engine.terms g.E.Engine.stands_at c.loop-stop.engine r.at c.cycle.result c.in_ok-bucket.bucket c.cycle.new.arg2 i.meaning i.terms c.in_ok-bucket.was
-    (c.requires.does _ c.cycle.result _ c.cycle.ensures r.at r.stands own_none) in
+    (c.requires.does _ _ c.cycle.result _ c.cycle.ensures r.at r.stands own_none) in
     let all = all-with_bucket _ _ _ r.laws _ i.so_far r.way _ _ not_ended done.cycle in
     let P : List ℕ → Type 0 = AppendsPrefix (g.K.Sink.told c.loop-stop.sink) (g.K.Sink.told c.write_all-in-loop-stop.new.sink) in
     let lines = held _ _ _ _ c.clear.ensures.items c.in_ok-add.ensures.told c.as_slice-in-loop-stop.ensures.value in
@@ -183,7 +184,7 @@ loop-stop-preserved g c =
     let some = i.runs c.requires.begins.0 c.requires.begins.1 c.requires.begins.2 in
     let some_none = sym (c.ended.ensures some.at some.stands) ∙ none_of _ c.in_default.not-Some in
     let some_done = has_done m t g.E.Engine.meaning g.E.Engine.terms g.E.Engine.stands_at c.loop-stop.engine some.at c.cycle.result b c.cycle.new.arg2 i.meaning i.terms c.in_ok-bucket.was
-    (c.requires.does _ c.cycle.result _ c.cycle.ensures some.at some.stands some_none) in
+    (c.requires.does _ _ c.cycle.result _ c.cycle.ensures some.at some.stands some_none) in
     let P : List ℕ → Type 0 = Appends (g.K.Sink.told c.loop-stop.sink) (g.K.Sink.told c.write_all-in-loop-stop.new.sink) in
     let lines = held _ _ _ _ c.clear.ensures.items c.in_ok-add.ensures.told c.as_slice-in-loop-stop.ensures.value in
     record {
@@ -195,7 +196,7 @@ loop-stop-preserved g c =
           let own_none = sym (c.ended.ensures r.at r.stands) ∙ none_of _ c.in_default.not-Some in
           let not_ended = ended-same _ _ _ _ _ _ i.meaning i.terms (sym own_none) in
           let done = has_done m t g.E.Engine.meaning g.E.Engine.terms g.E.Engine.stands_at c.loop-stop.engine r.at c.cycle.result b c.cycle.new.arg2 i.meaning i.terms c.in_ok-bucket.was
-          (c.requires.does _ c.cycle.result _ c.cycle.ensures r.at r.stands own_none) in
+          (c.requires.does _ _ c.cycle.result _ c.cycle.ensures r.at r.stands own_none) in
           record { laws = r.laws; at = done.left; stands = c.give_back.ensures.stands done.left done.stands; way = goes_on _ _ _ r.laws _ i.so_far r.way b _ not_ended done.cycle };
       numbered = ap (λ n. n + 1) (i.numbered ∙ sym (length-append i.so_far (b ∷ [])));
       kept = c.add.ensures.kept _ c.args.telling i.so_far i.kept;

@@ -4,7 +4,7 @@ use Rattle.sim_spec.specs.declared.bucket.Bucket.{Bucket}
 use Rattle.sim_spec.specs.State.{State}
 use Rattle.sim_text.specs.Rest.{BeginsAt, CanBeTold}
 use Rattle.sim_text.specs.Reports.{report_of}
-use Rattle.sim_text.proofs.Told.{lines_so_far}
+use Rattle.sim_text.specs.SoFar.{lines_so_far}
 use Rattle.sim_text.proofs.UnderWay.{RunsOn}
 use Rattle.sim_text.proofs.simulation.simulate.Given as goal
 

@@ -1,0 +1,10 @@
+-- What is answered over the adapters of the streams is answered over the streams.
+use Rattle.std.proofs.Common.{sym, ap, ◌∙◌, subst}
+use Rattle.program_answers.proofs.ProcessLemmas.{append_known-none, err_map, ok_map, streams_answered, streams_left}
+use Rattle.btb_program.proofs.process.run_streams.Goals as goal
+
+pub returns-clause-read : goal.returns-clause-read
+returns-clause-read g c = ok_map c.args.words (λ list answers. streams_answered _ _ _ _ _ _ _ _ _ _ _ _
+    (record { left = c.new-source.ensures.left; handed = ap (λ s. g.O.Write.contents s.writer) c.new-out.ensures.inner ∙ c.new.ensures.handed; told = c.new-lines.ensures.told })
+    (record { left = sym c.into_inner.ensures; handed = sym (c.into_inner-3.ensures ∙ ap (λ s. g.O.Write.contents s.writer) c.into_inner-2.ensures); told = sym c.into_inner-4.ensures })
+    c.new-lines.ensures.faults c.faults.ensures _ _ answers) c.run_program-status.ensures.read

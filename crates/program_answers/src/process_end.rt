@@ -1,0 +1,11 @@
+//! How a process ends.
+
+/// The status of a program, the streams as they are left, and how often a write of its notes failed.
+#[derive(Drop)]
+pub struct ProcessEnd<I, O, N> {
+    pub status: u8,
+    pub input: I,
+    pub output: O,
+    pub notes: N,
+    pub note_faults: u64,
+}
