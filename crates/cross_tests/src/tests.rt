@@ -1,5 +1,6 @@
 //! What the tests share.
 mod engine;
+mod formats;
 mod logs;
 mod moves;
 mod nodes;
