@@ -2,6 +2,7 @@
 ghost use Rattle.std.specs.Prelude.{◌≡◌, ◌<◌, ◌≤◌, ◌^◌};
 ghost use Rattle.event_key.specs.Stamps.{time_part};
 
+mod buffers;
 mod gathering;
 mod lines;
 mod models;

@@ -172,3 +172,33 @@ fn a_call_that_fails_once_is_told_and_not_tried_again(rt: HostRuntime) -> Result
     assert_eq!(rt; writer.calls, 2);
     Ok(())
 }
+
+/// Takes all that it is given, and keeps it back until it is flushed.
+#[derive(Drop)]
+struct KeepsBack {
+    kept: usize,
+    handed: usize,
+}
+
+impl Write for KeepsBack {
+    fn write(&mut self, bytes: &[u8]) -> io::Result<usize> {
+        self.kept = self.kept.saturating_add(bytes.len());
+        Ok(bytes.len())
+    }
+
+    fn flush(&mut self) -> io::Result<()> {
+        self.handed = self.kept;
+        Ok(())
+    }
+}
+
+#[test]
+fn what_a_writer_keeps_back_is_handed_on_by_a_flush(rt: HostRuntime) -> Result<(), Fail> {
+    let mut writer = KeepsBack { kept: 0, handed: 0 };
+    let mut sink = StdSink::new(&mut writer);
+    write_all(&mut sink, TEXT)?;
+    assert_eq!(rt; sink.flush(), Ok(()));
+    drop(sink);
+    assert_eq!(rt; (writer.kept, writer.handed), (47, 47));
+    Ok(())
+}
