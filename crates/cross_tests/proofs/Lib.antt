@@ -1,2 +1,3 @@
 pub mod DriveFacts
 pub mod SavedRuns
+mod WatchedLemmas

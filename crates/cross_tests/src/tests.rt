@@ -1,5 +1,6 @@
 //! What the tests share.
 mod engine;
+mod forks;
 mod formats;
 mod logs;
 mod moves;
