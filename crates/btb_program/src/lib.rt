@@ -9,8 +9,6 @@ mod saving;
 mod setting;
 mod stack;
 mod state_refusal;
-#[cfg(test)]
-mod tests;
 mod top;
 
 pub use process::{run_process, run_streams};

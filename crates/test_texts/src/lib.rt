@@ -1,4 +1,4 @@
-//! Texts of models, and of a saved state, that the tests of several crates read: each stands here once.
+//! What the tests of several crates read: texts of models, of a saved state, and the words of a line. Each stands here once.
 #![tactic(auto)]
 
 use std::alloc::{AllocError, Global};
@@ -126,6 +126,18 @@ pub const NOTHING: &str = "format = 1
 model = \"network\"
 end = 20
 ";
+
+/// The words between the spaces of a line, of which an empty one has none.
+pub fn words_of(alloc: Global, line: &str) -> Result<Vec<String>, AllocError> {
+    let mut words = Vec::new(alloc);
+    if line.is_empty() {
+        return Ok(words);
+    }
+    for word in line.split(' ') {
+        words.push(String::from_str(alloc, word)?)?;
+    }
+    Ok(words)
+}
 
 /// The network of what stands at the top, and of these objects.
 pub fn network(alloc: Global, top: &str, objects: &str) -> Result<String, AllocError> {

@@ -1,4 +1,5 @@
 //! The engine for one thread.
+use super::ring;
 use event_key::Key;
 use model_core::model::Model as SimulationModel;
 use model_core::{Entry, Part};
@@ -44,32 +45,16 @@ fn hop(time: u64, object: u32, delay: u64, dest: u64) -> (u64, u32, Part) {
     (time.wrapping_mul(65536), object, part)
 }
 
-/// Three objects in a ring, whose events take five ticks from each to the next.
-fn ring(alloc: Global, terms: Terms) -> Result<OneThread<Phold>, Fail> {
-    let delay = Law::Fixed { value: 5 };
-    if !delay.is_delay() {
-        return Err(Fail::from("no delay"));
-    }
-    let start = vec![in alloc;
-        Entry {
-            time: 0,
-            at: 1,
-            rank: 0
-        },
-        Entry {
-            time: 5,
-            at: 0,
-            rank: 0
-        },
-    ]?;
-    let model = Phold::make(0, 3, delay, false, 0, start, 0)?;
-    Ok(OneThread::new(alloc, Arc::new(alloc, model)?, terms)?)
+/// The engine at the start of the ring.
+fn ring_engine(alloc: Global, terms: Terms) -> Result<OneThread<Phold>, Fail> {
+    let model = Arc::new(alloc, ring(alloc)?)?;
+    Ok(OneThread::new(alloc, model, terms)?)
 }
 
 #[test]
 fn an_event_at_the_horizon_waits(rt: HostRuntime) -> Result<(), Fail> {
     let terms = Terms { end: 9, limit: 100 };
-    let mut engine = ring(rt.alloc(), terms)?;
+    let mut engine = ring_engine(rt.alloc(), terms)?;
     assert_eq!(rt; engine.terms().end, 9);
     assert_eq!(rt; engine.model().objects(), 3);
 
@@ -96,7 +81,7 @@ fn an_event_at_the_horizon_waits(rt: HostRuntime) -> Result<(), Fail> {
 #[test]
 fn the_limit_cuts_a_bucket(rt: HostRuntime) -> Result<(), Fail> {
     let terms = Terms { end: 9, limit: 2 };
-    let mut engine = ring(rt.alloc(), terms)?;
+    let mut engine = ring_engine(rt.alloc(), terms)?;
     let first = next_bucket(rt.alloc(), &mut engine)?;
     assert!(rt; !first.limited);
     let second = next_bucket(rt.alloc(), &mut engine)?;

@@ -3,44 +3,25 @@ ghost use Rattle.std.specs.Prelude.{IfOk, OnOk};
 ghost use Rattle.sim_spec.specs.State.{State};
 ghost use Rattle.cycle_core.specs.Worlds.{StandsAt};
 
+use super::ring;
 use cycle_core::World;
-use model_core::Entry;
 use model_core::model::Model as SimulationModel;
 use object_moves::{Move, move_objects, plan_by_load};
 use phold_model::Phold;
-use random_streams::Law;
 use sim_spec::{Placement, Terms};
 use std::alloc::Global;
 use std::sync::Arc;
 use std::test::Fail;
 
-/// Three objects in a ring, whose events take five ticks from each to the next. The first of two nodes has two of the
-/// objects, and both events.
+/// The ring on two nodes, of which the first has two of the objects, and both events.
 fn uneven(alloc: Global) -> Result<World<Phold>, Fail>
     ensures { IfOk result (λ world. (s : State) × StandsAt (⟦<Phold as SimulationModel>⟧.meaning world.model) world s) }
 {
-    let delay = Law::Fixed { value: 5 };
-    if !delay.is_delay() {
-        return Err(Fail::from("no delay"));
-    }
-    let start = vec![in alloc;
-        Entry {
-            time: 0,
-            at: 1,
-            rank: 0
-        },
-        Entry {
-            time: 5,
-            at: 0,
-            rank: 0
-        },
-    ]?;
-    let model = Phold::make(0, 3, delay, false, 0, start, 0)?;
+    let model = Arc::new(alloc, ring(alloc)?)?;
     let terms = Terms {
         end: 9,
         limit: 1_000,
     };
-    let model = Arc::new(alloc, model)?;
     Ok(World::begin(alloc, model, terms, 2, Placement::Block)?)
 }
 

@@ -2,24 +2,19 @@
 use super::initial;
 use event_key::{Key, stamp_of};
 use model_core::{Event, Part};
+use model_text::{AnyModel, read_model};
+use sim_spec::Terms;
+use std::alloc::Global;
+use std::test::Fail;
 
 /// A station that serves a job for 4 ticks, has room for one more, and fails where a third one comes.
-pub const STATION: &str = "format = 1
-model = \"network\"
-end = 30
-
-[[object]]
-name = \"s\"
-kind = \"station\"
-service = { law = \"fixed\", value = 4 }
-line = 1
-strict = true
-next = \"out\"
-
-[[object]]
-name = \"out\"
-kind = \"sink\"
-";
+pub fn station(alloc: Global) -> Result<(AnyModel, Terms), Fail> {
+    let text = test_texts::strict_station(alloc, &[])?;
+    let Ok(read) = read_model(alloc, text.as_bytes()) else {
+        return Err(Fail::from("the model is refused"));
+    };
+    Ok(read)
+}
 
 /// The initial event at this place, at which a job arrives. Jobs are numbered from 1.
 pub fn arrival(time: u32, place: u32) -> Event {

@@ -1,17 +1,8 @@
 //! The words of the command line.
 use sim_io::{Moves, Settings, WordFault, read_words};
 use sim_spec::Placement;
-use std::alloc::Global;
 use std::test::Fail;
-
-/// The words between the spaces of a line.
-fn words_of(alloc: Global, line: &str) -> Result<Vec<String>, Fail> {
-    let mut words = Vec::new(alloc);
-    for word in line.split(' ') {
-        words.push(String::from_str(alloc, word)?)?;
-    }
-    Ok(words)
-}
+use test_texts::words_of;
 
 /// A run in round placement without lines of cycles.
 fn run(nodes: u32, ahead: u32, workers: Option<u32>, moves: Option<Moves>) -> Settings {

@@ -1,21 +1,19 @@
 //! A log of a station whose line is strict.
 use super::{Shared, back_to, commit, make_shared, next_told, process};
 use crate::tests::at;
-use crate::tests::strict::{self, STATION, arrival, first_done};
+use crate::tests::strict::{self, arrival, first_done};
 use event_chain::Chain;
 use event_key::{NO_STAMP, stamp_of};
 use model_core::{Cells, Note, OutOfMemory};
-use model_text::{AnyModel, read_model};
+use model_text::AnyModel;
 use object_log::{ObjectLog, Verdict};
 use std::alloc::Global;
 use std::process::Abort;
 use std::test::Fail;
 
 fn station(alloc: Global) -> Result<AnyModel, Fail> {
-    match read_model(alloc, STATION.as_bytes()) {
-        Ok((model, _)) => Ok(model),
-        Err(_) => Err(Fail::from("the model is refused")),
-    }
+    let (model, _) = strict::station(alloc)?;
+    Ok(model)
 }
 
 /// What is told of a job.

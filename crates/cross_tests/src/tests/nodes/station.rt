@@ -3,9 +3,9 @@ use super::driven::Driven;
 use super::{assert_counts, assert_step, commit_one};
 use crate::tests::at;
 use crate::tests::stingy::Stingy;
-use crate::tests::strict::{STATION, arrival, first_done, told};
+use crate::tests::strict::{self, arrival, first_done, told};
 use event_key::NO_STAMP;
-use model_text::{AnyModel, read_model};
+use model_text::AnyModel;
 use node_core::Step;
 use std::alloc::Global;
 use std::process::Abort;
@@ -13,9 +13,7 @@ use std::test::Fail;
 
 /// One node that has the whole model.
 fn station<R: Abort>(rt: &R, alloc: Global) -> Result<Driven<AnyModel>, Fail> {
-    let Ok((model, terms)) = read_model(alloc, STATION.as_bytes()) else {
-        return Err(Fail::from("the model is refused"));
-    };
+    let (model, terms) = strict::station(alloc)?;
     Driven::new(rt, alloc, model, terms, 0, 1)
 }
 
@@ -56,9 +54,7 @@ fn stingy_station<R: Abort>(
     alloc: Global,
     before: u64,
 ) -> Result<Driven<Stingy<AnyModel>>, Fail> {
-    let Ok((model, terms)) = read_model(alloc, STATION.as_bytes()) else {
-        return Err(Fail::from("the model is refused"));
-    };
+    let (model, terms) = strict::station(alloc)?;
     let mut driven = Driven::new(rt, alloc, Stingy::new(model, before), terms, 0, 1)?;
     driven.receive(rt, alloc, arrival(5, 0))?;
     driven.receive(rt, alloc, arrival(10, 1))?;

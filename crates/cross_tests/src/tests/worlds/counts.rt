@@ -1,12 +1,13 @@
 //! What nodes count over the cycles of a world.
+use super::world_of;
 use super::world_run::WorldRun;
-use super::{FALSE_FAULT, world_of};
 use model_text::AnyModel;
 use node_core::Tallies;
 use sim_spec::Placement;
 use std::alloc::Global;
 use std::process::Abort;
 use std::test::Fail;
+use test_texts::false_fault;
 
 /// After a cycle each node has committed all that it has processed, and this is how much in all.
 fn assert_committed<R: Abort>(
@@ -34,7 +35,8 @@ fn assert_committed<R: Abort>(
 #[test]
 fn a_node_alone_undoes_nothing(rt: HostRuntime) -> Result<(), Fail> {
     let alloc = rt.alloc();
-    let mut world = world_of(&rt, alloc, "end = 30", FALSE_FAULT, 1, Placement::Round)?;
+    let model = false_fault(alloc)?;
+    let mut world = world_of(&rt, alloc, model.as_str(), 1, Placement::Round)?;
     for count in [1, 2, 5, 6, 8, 9] {
         assert!(rt; world.next(alloc)?.is_some());
         assert_committed(&rt, alloc, &mut world, &[count])?;
@@ -47,7 +49,8 @@ fn a_node_alone_undoes_nothing(rt: HostRuntime) -> Result<(), Fail> {
 #[test]
 fn each_node_counts_what_happens_at_its_objects(rt: HostRuntime) -> Result<(), Fail> {
     let alloc = rt.alloc();
-    let mut world = world_of(&rt, alloc, "end = 30", FALSE_FAULT, 2, Placement::Round)?;
+    let model = false_fault(alloc)?;
+    let mut world = world_of(&rt, alloc, model.as_str(), 2, Placement::Round)?;
     for counts in [[1, 0], [2, 0], [4, 1], [5, 1], [6, 2], [6, 3]] {
         assert!(rt; world.next(alloc)?.is_some());
         assert_committed(&rt, alloc, &mut world, &counts)?;

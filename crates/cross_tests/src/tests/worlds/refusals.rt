@@ -1,8 +1,8 @@
 //! What stands of a team after its model has refused an effect for want of memory.
+use super::model_of;
 use super::team_run::TeamRun;
-use super::texts::SHOP_TEXT;
-use super::{SHOP, network_of};
 use crate::tests::stingy::Stingy;
+use crate::tests::wanted::SHOP_TEXT;
 use model_core::model::Model as SimulationModel;
 use model_text::AnyModel;
 use node_team::Open;
@@ -13,6 +13,7 @@ use std::process::Abort;
 use std::sync::Arc;
 use std::test::Fail;
 use std::thread::Threads;
+use test_texts::shop;
 
 /// Appends what is told of a bucket.
 fn put_bucket<R: Abort>(
@@ -56,8 +57,9 @@ fn ends_after<R: Abort + Threads + Sync>(rt: &R, alloc: Global, before: u64) -> 
     let records = SHOP_TEXT
         .strip_suffix("end 20 events 12\n")
         .ok_or("no end")?;
-    let (names, _) = network_of(alloc, "end = 20", SHOP)?;
-    let (shop, terms) = network_of(alloc, "end = 20", SHOP)?;
+    let text = shop(alloc, "end = 20")?;
+    let (names, _) = model_of(alloc, text.as_str())?;
+    let (shop, terms) = model_of(alloc, text.as_str())?;
     let model = Arc::new(alloc, Stingy::new(shop, before))?;
     let mut run = TeamRun::new(alloc, model, terms, 2, 8)?;
     let (text, ended) = told_by(rt, alloc, &names, &mut run)?;

@@ -4,8 +4,7 @@ ghost use Rattle.model_core.specs.declared.limits.TheConstants.{MOST_NODES};
 ghost use Rattle.sim_spec.specs.State.{State};
 ghost use Rattle.cycle_core.specs.Worlds.{IsSameWorld, StandsAt};
 
-use super::texts::BANK;
-use super::{FALSE_FAULT, PLACEMENTS, SHOP, network_of};
+use super::{PLACEMENTS, model_of};
 use cycle_core::{State, World};
 use event_key::{Key, stamp_of};
 use model_core::model::Model as SimulationModel;
@@ -15,53 +14,7 @@ use std::alloc::Global;
 use std::process::Abort;
 use std::sync::Arc;
 use std::test::Fail;
-
-const TWO_JOBS: &str = "
-[[object]]
-name = \"s\"
-kind = \"station\"
-service = { law = \"fixed\", value = 2 }
-next = \"out\"
-
-[[object]]
-name = \"out\"
-kind = \"sink\"
-
-[[job]]
-time = 4
-at = \"s\"
-
-[[job]]
-time = 4
-at = \"s\"
-";
-
-/// A line of one place, which overflows at the third job.
-const STRICT_LINE: &str = "
-[[object]]
-name = \"s\"
-kind = \"station\"
-service = { law = \"fixed\", value = 100 }
-line = 1
-strict = true
-next = \"out\"
-
-[[object]]
-name = \"out\"
-kind = \"sink\"
-
-[[job]]
-time = 5
-at = \"s\"
-
-[[job]]
-time = 6
-at = \"s\"
-
-[[job]]
-time = 7
-at = \"s\"
-";
+use test_texts::{bank, false_fault, shop, strict_line, two_jobs};
 
 /// More cycles than any of these models has.
 const MANY: usize = 100_000;
@@ -176,15 +129,14 @@ fn nodes_of<R: Abort>(rt: &R, count: u32, placement: Placement) -> Nodes {
     Nodes { count, placement }
 }
 
-/// A model with these objects does the same where it is saved after any of these numbers of cycles.
+/// A model does the same where it is saved after any of these numbers of cycles.
 fn assert_same<R: Abort>(
     rt: &R,
     alloc: Global,
-    head: &str,
-    objects: &str,
+    model: &str,
     saved_after: &[usize],
 ) -> Result<(), Fail> {
-    let (model, terms) = network_of(alloc, head, objects)?;
+    let (model, terms) = model_of(alloc, model)?;
     let model = Arc::new(alloc, model)?;
     let one = nodes_of(rt, 1, Placement::Round);
     let whole = done_whole(alloc, &model, terms, one)?;
@@ -207,10 +159,15 @@ fn assert_same<R: Abort>(
 fn a_run_goes_on_from_its_state_on_other_nodes(rt: HostRuntime) -> Result<(), Fail> {
     let alloc = rt.alloc();
     let all = [0, 1, 2, 3, 4, 5, 6, 7, 8];
-    assert_same(&rt, alloc, "end = 20", SHOP, &all)?;
-    assert_same(&rt, alloc, "end = 20\nlimit = 10", SHOP, &all)?;
-    assert_same(&rt, alloc, "end = 30", STRICT_LINE, &all)?;
-    assert_same(&rt, alloc, "end = 30", FALSE_FAULT, &all)
+    for model in [
+        shop(alloc, "end = 20")?.as_str(),
+        shop(alloc, "end = 20\nlimit = 10")?.as_str(),
+        strict_line(alloc)?.as_str(),
+        false_fault(alloc)?.as_str(),
+    ] {
+        assert_same(&rt, alloc, model, &all)?;
+    }
+    Ok(())
 }
 
 // A thousand customers with draws at each, who are in lines and on their way at each cycle.
@@ -218,14 +175,14 @@ fn a_run_goes_on_from_its_state_on_other_nodes(rt: HostRuntime) -> Result<(), Fa
 fn a_bank_goes_on_from_its_state_on_other_nodes(rt: HostRuntime) -> Result<(), Fail> {
     let alloc = rt.alloc();
     let some = [1, 10, 100, 1000];
-    assert_same(&rt, alloc, "end = 3000\nseed = 7", BANK, &some)
+    assert_same(&rt, alloc, bank(alloc, 3_000)?.as_str(), &some)
 }
 
 // Both jobs come at 4: one is served till 6, and the other one waits in line.
 #[test]
 fn a_snapshot_tells_the_state_between_two_cycles(rt: HostRuntime) -> Result<(), Fail> {
     let alloc = rt.alloc();
-    let (model, terms) = network_of(alloc, "end = 10", TWO_JOBS)?;
+    let (model, terms) = model_of(alloc, two_jobs(alloc)?.as_str())?;
     let model = Arc::new(alloc, model)?;
     for count in [1, 2] {
         let nodes = nodes_of(&rt, count, Placement::Round);

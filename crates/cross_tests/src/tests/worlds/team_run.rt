@@ -67,17 +67,4 @@ impl<M: SimulationModel> TeamRun<M> {
             None => Ok(Some(self.team.cycle(rt, alloc, gate)?)),
         }
     }
-
-    /// The same, but two workers steal the nodes' turns from each other.
-    pub fn next_by_two<R: Threads + Sync, G: Gate>(
-        &mut self,
-        rt: &R,
-        alloc: Global,
-        gate: &G,
-    ) -> Result<Option<Bucket>, OutOfMemory> {
-        match self.team.ended() {
-            Some(_) => Ok(None),
-            None => Ok(Some(self.team.cycle_by(rt, alloc, 2, gate)?)),
-        }
-    }
 }

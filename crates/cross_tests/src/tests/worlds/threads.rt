@@ -7,10 +7,13 @@ use std::alloc::Global;
 use std::hint;
 use std::process::Abort;
 use std::sync::Arc;
-use std::sync::atomic::{AtomicBool, AtomicU64, Ordering};
+use std::sync::atomic::{AtomicU64, Ordering};
 use std::test::Fail;
 
 const NODES: u64 = 4;
+
+/// How many events of a cycle are just enough for the next one to run in several threads.
+const ENOUGH: u32 = 1_536;
 
 /// Four nodes with so many objects, each of which sends its event to the next one in five ticks.
 fn hops(alloc: Global, objects: u32) -> Result<TeamRun<AnyModel>, Fail> {
@@ -76,11 +79,11 @@ impl Gate for Gathering {
 #[test]
 fn a_wide_cycle_runs_in_as_many_threads_as_there_are_nodes(rt: HostRuntime) -> Result<(), Fail> {
     let gate = Gathering::new(200_000_000);
-    let mut run = hops(rt.alloc(), 2_048)?;
+    let mut run = hops(rt.alloc(), ENOUGH)?;
     for _ in 0..3 {
         assert!(rt; run.next(&rt, rt.alloc(), &gate)?.is_some());
     }
-    assert_eq!(rt; run.count(), 3 * 2_048);
+    assert_eq!(rt; run.count(), 3 * u64::from(ENOUGH));
     assert_eq!(rt; gate.met(), 3 * NODES);
     Ok(())
 }
@@ -89,63 +92,11 @@ fn a_wide_cycle_runs_in_as_many_threads_as_there_are_nodes(rt: HostRuntime) -> R
 #[test]
 fn a_narrow_cycle_runs_in_one_thread_but_for_the_first(rt: HostRuntime) -> Result<(), Fail> {
     let gate = Gathering::new(1_000);
-    let mut run = hops(rt.alloc(), 64)?;
+    let mut run = hops(rt.alloc(), ENOUGH - 1)?;
     for _ in 0..3 {
         assert!(rt; run.next(&rt, rt.alloc(), &gate)?.is_some());
     }
-    assert_eq!(rt; run.count(), 3 * 64);
+    assert_eq!(rt; run.count(), 3 * u64::from(ENOUGH - 1));
     assert_eq!(rt; gate.met(), NODES + 2);
-    Ok(())
-}
-
-/// Holds the first entry of node 0 until node 2 has entered, for so many turns at most, and keeps whether it saw that.
-#[derive(Drop)]
-struct Stick {
-    held: AtomicBool,
-    came: AtomicBool,
-    seen: AtomicBool,
-}
-
-impl Stick {
-    fn new() -> Stick {
-        Stick {
-            held: AtomicBool::new(false),
-            came: AtomicBool::new(false),
-            seen: AtomicBool::new(false),
-        }
-    }
-
-    fn hold(&self) {
-        for _ in 0..200_000_000u64 {
-            if self.came.load(Ordering::SeqCst) {
-                self.seen.store(true, Ordering::SeqCst);
-                return;
-            }
-            hint::spin_loop();
-        }
-    }
-}
-
-impl Gate for Stick {
-    fn enter(&self, node: u32) {
-        if node == 2 {
-            self.came.store(true, Ordering::SeqCst);
-        }
-        if node == 0 && !self.held.swap(true, Ordering::SeqCst) {
-            self.hold();
-        }
-    }
-
-    fn did(&self, _node: u32, _key: &Key) {}
-}
-
-// The turns of nodes 0 and 2 begin in one deque, so node 0 sees node 2 enter only where another worker steals its turn.
-#[test]
-fn a_turn_that_waits_behind_another_is_stolen(rt: HostRuntime) -> Result<(), Fail> {
-    let gate = Stick::new();
-    let mut run = hops(rt.alloc(), 64)?;
-    assert!(rt; run.next_by_two(&rt, rt.alloc(), &gate)?.is_some());
-    assert_eq!(rt; run.count(), 64);
-    assert!(rt; gate.seen.load(Ordering::SeqCst));
     Ok(())
 }

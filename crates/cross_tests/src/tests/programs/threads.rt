@@ -1,9 +1,8 @@
 //! What the threads of a run do, as gates are told.
 ghost use Rattle.std.specs.Prelude.{◌<◌};
 
-use super::networks::SHOP_TEXT;
-use super::nodes::{FALSE_FAULT_TEXT, false_fault, shop};
-use super::{Ended, TIE, answer_at, sink_of, source_of};
+use super::told_at;
+use crate::tests::wanted::{FALSE_FAULT_TEXT, SHOP_TEXT};
 use event_key::Key;
 use node_team::Gate;
 use std::alloc::{AllocGlobal, Global};
@@ -12,12 +11,13 @@ use std::process::Abort;
 use std::sync::atomic::{AtomicBool, AtomicU64, Ordering};
 use std::test::Fail;
 use std::thread::Threads;
+use test_texts::{TIE, false_fault, shop};
 
 /// How often a gate asks before it gives up.
 const TURNS: u64 = 200_000_000;
 
 /// Whether a flag is raised before a gate gives up.
-pub(super) fn is_raised(flag: &AtomicBool) -> bool {
+fn is_raised(flag: &AtomicBool) -> bool {
     for _ in 0..TURNS {
         if flag.load(Ordering::SeqCst) {
             return true;
@@ -25,18 +25,6 @@ pub(super) fn is_raised(flag: &AtomicBool) -> bool {
         hint::spin_loop();
     }
     false
-}
-
-pub(super) fn told_at<R: AllocGlobal + Threads + Sync, G: Gate>(
-    rt: &R,
-    words: &[&str],
-    model: &str,
-    gate: &G,
-) -> Result<Ended, Fail> {
-    let alloc = rt.alloc();
-    let source = source_of(alloc, model, &[])?;
-    let out = sink_of(alloc, &[], &[])?;
-    answer_at(rt, words, source, out, gate)
 }
 
 /// Holds the first entry of each of two nodes until the other has entered.
@@ -89,13 +77,15 @@ impl Gate for Meet {
 
 #[test]
 fn two_nodes_run_at_once_each_with_its_own_objects(rt: HostRuntime) -> Result<(), Fail> {
-    let shop = shop(rt.alloc())?;
+    let shop = shop(rt.alloc(), "end = 20")?;
     // round puts the station on node 1, block the sink
-    for (placement, object) in [("round", 1), ("block", 2)] {
+    for (words, object) in [
+        ("run --nodes 2 --placement round", 1),
+        ("run --nodes 2 --placement block", 2),
+    ] {
         let gate = Meet::new(object);
-        let words = ["run", "--nodes", "2", "--placement", placement];
-        let run = told_at(&rt, words.as_slice(), shop.as_str(), &gate)?;
-        assert_eq!(rt; run.text.as_str(), SHOP_TEXT);
+        let run = told_at(&rt, words, shop.as_str(), &gate)?;
+        run.assert(&rt, 0, SHOP_TEXT, "", words);
         assert!(rt; gate.zero_met.load(Ordering::SeqCst));
         assert!(rt; gate.one_met.load(Ordering::SeqCst));
         assert!(rt; gate.told.load(Ordering::SeqCst) >= 12);
@@ -151,7 +141,7 @@ impl Gate for Trace {
 /// A node processes events of just these stamps, in this order, and the run has this text.
 fn assert_trace<R: Abort + AllocGlobal + Threads + Sync>(
     rt: &R,
-    words: &[&str],
+    words: &str,
     model: &str,
     text: &str,
     node: u32,
@@ -160,7 +150,7 @@ fn assert_trace<R: Abort + AllocGlobal + Threads + Sync>(
     let alloc = rt.alloc();
     let gate = Trace::new(alloc, node)?;
     let run = told_at(rt, words, model, &gate)?;
-    assert_eq!(rt; run.text.as_str(), text);
+    run.assert(rt, 0, text, "", words);
     assert_eq!(rt; gate.told(alloc)?.as_slice(), stamps);
     Ok(())
 }
@@ -201,9 +191,11 @@ fn a_node_processes_again_what_a_straggler_undid(rt: HostRuntime) -> Result<(), 
         at(18, 0),
         at(18, 1),
     ];
-    for (depth, stamps) in [("0", plain.as_slice()), ("8", ahead.as_slice())] {
-        let words = ["run", "--nodes", "1", "--ahead", depth];
-        assert_trace(&rt, &words, model.as_str(), FALSE_FAULT_TEXT, 0, stamps)?;
+    for (words, stamps) in [
+        ("run --nodes 1 --ahead 0", plain.as_slice()),
+        ("run --nodes 1 --ahead 8", ahead.as_slice()),
+    ] {
+        assert_trace(&rt, words, model.as_str(), FALSE_FAULT_TEXT, 0, stamps)?;
     }
     Ok(())
 }
@@ -212,18 +204,18 @@ fn a_node_processes_again_what_a_straggler_undid(rt: HostRuntime) -> Result<(), 
 // third.
 #[test]
 fn an_object_is_processed_at_the_node_whose_turn_it_was(rt: HostRuntime) -> Result<(), Fail> {
-    let shop = shop(rt.alloc())?;
+    let shop = shop(rt.alloc(), "end = 20")?;
     let zero = [at(1, 0), at(4, 1), at(7, 1), at(10, 1)];
     let one = [at(1, 1), at(3, 0), at(5, 0)];
     // what it does at 7.0 it undoes once the third job has come
     let two = [at(3, 1), at(4, 0), at(7, 0), at(5, 1), at(7, 0), at(10, 0)];
-    let words = ["run", "--nodes", "3", "--moves", "turn"];
+    let words = "run --nodes 3 --moves turn";
     for (node, stamps) in [
         (0, zero.as_slice()),
         (1, one.as_slice()),
         (2, two.as_slice()),
     ] {
-        assert_trace(&rt, &words, shop.as_str(), SHOP_TEXT, node, stamps)?;
+        assert_trace(&rt, words, shop.as_str(), SHOP_TEXT, node, stamps)?;
     }
     Ok(())
 }
@@ -248,9 +240,9 @@ fn an_object_goes_to_a_node_that_has_less_to_do(rt: HostRuntime) -> Result<(), F
     let model = TIE.replace(rt.alloc(), "end = 9", "end = 20")?;
     let zero = [at(5, 0), at(5, 0), at(10, 0), at(15, 0), at(20, 0)];
     let one = [at(0, 0), at(10, 0), at(15, 0), at(20, 0)];
-    let words = ["run", "--nodes", "2", "--moves", "load"];
+    let words = "run --nodes 2 --moves load";
     for (node, stamps) in [(0, zero.as_slice()), (1, one.as_slice())] {
-        assert_trace(&rt, &words, model.as_str(), LONGER_TIE_TEXT, node, stamps)?;
+        assert_trace(&rt, words, model.as_str(), LONGER_TIE_TEXT, node, stamps)?;
     }
     Ok(())
 }
@@ -299,16 +291,55 @@ start = [ { time = 0, at = 0 }, { time = 2, at = 1 }, { time = 6, at = 1 } ]
         zero: Trace::new(alloc, 0)?,
         one: Trace::new(alloc, 1)?,
     };
-    let words = ["run", "--nodes", "2", "--ahead", "0"];
-    let run = told_at(&rt, words.as_slice(), model, &gate)?;
-    assert_eq!(rt;
-        run.text.as_str(),
-        "0.0 p0 hop 5 1\n2.0 p1 hop 5 0\n5.0 p1 hop 5 0\n6.0 p1 hop 5 0\nend 6 events 4\n"
-    );
+    let words = "run --nodes 2 --ahead 0";
+    let text = "0.0 p0 hop 5 1\n2.0 p1 hop 5 0\n5.0 p1 hop 5 0\n6.0 p1 hop 5 0\nend 6 events 4\n";
+    told_at(&rt, words, model, &gate)?.assert(&rt, 0, text, "", words);
     assert_eq!(rt; gate.zero.told(alloc)?.as_slice(), [at(0, 0)].as_slice());
     assert_eq!(rt;
         gate.one.told(alloc)?.as_slice(),
         [at(2, 0), at(5, 0), at(6, 0)].as_slice()
     );
+    Ok(())
+}
+
+/// Holds the first entry of node 0 until node 2 has entered, and keeps whether it saw that.
+#[derive(Drop)]
+struct Stick {
+    held: AtomicBool,
+    came: AtomicBool,
+    seen: AtomicBool,
+}
+
+impl Stick {
+    fn new() -> Stick {
+        Stick {
+            held: AtomicBool::new(false),
+            came: AtomicBool::new(false),
+            seen: AtomicBool::new(false),
+        }
+    }
+}
+
+impl Gate for Stick {
+    fn enter(&self, node: u32) {
+        if node == 2 {
+            self.came.store(true, Ordering::SeqCst);
+        }
+        if node == 0 && !self.held.swap(true, Ordering::SeqCst) {
+            self.seen.store(is_raised(&self.came), Ordering::SeqCst);
+        }
+    }
+
+    fn did(&self, _node: u32, _key: &Key) {}
+}
+
+// The turn of node 2 begins behind that of node 0, so node 0 sees node 2 enter only where another worker steals its turn.
+#[test]
+fn a_turn_that_waits_behind_another_is_stolen(rt: HostRuntime) -> Result<(), Fail> {
+    let shop = shop(rt.alloc(), "end = 20")?;
+    let gate = Stick::new();
+    let words = "run --nodes 4 --workers 2";
+    told_at(&rt, words, shop.as_str(), &gate)?.assert(&rt, 0, SHOP_TEXT, "", words);
+    assert!(rt; gate.seen.load(Ordering::SeqCst));
     Ok(())
 }

@@ -1,23 +1,13 @@
 //! When the text is written, and what a failing end of it answers.
-use super::{answer_of, source_of, text_of, words_of};
-use crate::top::btb;
+use super::{ended_by, source_of, text_of};
+use btb_program::btb;
 use node_team::Open;
 use sim_io::{GatheringSink, MemSink};
+use std::alloc::Global;
 use std::test::Fail;
+use test_texts::{TIE, words_of};
 
-/// Three buckets, of the ticks 0, 5 and 10.
-const THREE: &str = "format = 1
-model = \"phold\"
-end = 12
-
-[phold]
-objects = 3
-delay = { law = \"fixed\", value = 5 }
-to = \"next\"
-start = [ { time = 0, at = 1 }, { time = 5, at = 0 } ]
-";
-
-/// What each bucket tells, and why the simulation stopped.
+/// What each bucket of three tells, and why the simulation stopped.
 const PIECES: [&str; 4] = [
     "0.0 p1 hop 5 2\n",
     "5.0 p0 hop 5 1\n5.0 p2 hop 5 0\n",
@@ -25,24 +15,29 @@ const PIECES: [&str; 4] = [
     "end 12 events 5\n",
 ];
 
+/// The model with these buckets, of the ticks 0, 5 and 10.
+fn three(alloc: Global) -> Result<String, Fail> {
+    Ok(TIE.replace(alloc, "end = 9", "end = 12")?)
+}
+
 #[test]
 fn each_bucket_is_written_after_its_cycle(rt: HostRuntime) -> Result<(), Fail> {
     let alloc = rt.alloc();
-    for command in ["run", "one"] {
+    let model = three(alloc)?;
+    for words in ["run", "one"] {
         let mut written = String::new(alloc);
         for (call, piece) in (1..).zip(PIECES) {
             let fails = vec![in alloc; call]?;
             let out = MemSink::new(alloc, 4096, fails, Vec::new(alloc), 4096)?;
-            let run = answer_of(&rt, &[command], source_of(alloc, THREE, &[])?, out)?;
-            assert_eq!(rt; run.status, 5);
-            assert_eq!(rt; run.text.as_str(), written.as_str(), "{call}");
-            assert_eq!(rt; run.notes.as_str(), "write failed\n");
+            let source = source_of(alloc, model.as_bytes(), &[])?;
+            let run = ended_by(&rt, words, source, out, &Open)?;
+            run.assert(&rt, 5, written.as_str(), "write failed\n", words);
             written.push_str(piece)?;
         }
         let out = MemSink::new(alloc, 4096, vec![in alloc; 5]?, Vec::new(alloc), 4096)?;
-        let run = answer_of(&rt, &[command], source_of(alloc, THREE, &[])?, out)?;
-        assert_eq!(rt; run.status, 0);
-        assert_eq!(rt; run.text.as_str(), written.as_str());
+        let source = source_of(alloc, model.as_bytes(), &[])?;
+        let run = ended_by(&rt, words, source, out, &Open)?;
+        run.assert(&rt, 0, written.as_str(), "", words);
     }
     Ok(())
 }
@@ -50,14 +45,15 @@ fn each_bucket_is_written_after_its_cycle(rt: HostRuntime) -> Result<(), Fail> {
 #[test]
 fn text_that_is_not_handed_on_is_a_write_that_failed(rt: HostRuntime) -> Result<(), Fail> {
     let alloc = rt.alloc();
-    let words = words_of(alloc, &["run"])?;
+    let model = three(alloc)?;
+    let words = words_of(alloc, "run")?;
     let text = PIECES.concat(alloc)?;
     // The text has 93 bytes, which are gathered until the end: ten writes.
     for call in 1..=11 {
         let inner = MemSink::new(alloc, 4096, vec![in alloc; call]?, Vec::new(alloc), 10)?;
         let mut out = GatheringSink::new(alloc, inner);
         let mut notes = MemSink::new(alloc, 4096, Vec::new(alloc), Vec::new(alloc), 4096)?;
-        let mut source = source_of(alloc, THREE, &[])?;
+        let mut source = source_of(alloc, model.as_bytes(), &[])?;
         let status = btb(&rt, &words, &mut source, &mut out, &mut notes, &Open);
         let (expected, length, line) = if call <= 10 {
             (5, (call as usize - 1) * 10, "write failed\n")
