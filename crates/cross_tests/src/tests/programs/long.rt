@@ -1,4 +1,6 @@
 //! Long texts: a tick up to its last step, a thousand customers, and a model of many pieces.
+ghost use Rattle.std.specs.Prelude.{◌≤◌};
+
 use super::{Ended, assert_by_all, ended_by, ring, sink_of, told_by};
 use node_team::Open;
 use sim_io::MemSource;
