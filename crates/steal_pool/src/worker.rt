@@ -1,5 +1,5 @@
 //! One worker: its own deque, and its passes to those of all.
-ghost use Rattle.std.specs.Prelude.{◌≢◌, ◌<◌, ◌≤◌, OnOk};
+ghost use Rattle.std.specs.Prelude.{◌≡◌, ◌≢◌, ◌⊎◌, ◌+◌, ◌<◌, ◌≤◌, OnOk};
 ghost use Rattle.steal_pool.specs.declared.worker.TheConstants.{MOST_WORKERS};
 ghost use Rattle.steal_pool.specs.Workers.{AllReady, Can, HasWorked};
 
@@ -27,6 +27,7 @@ fn other_in_round(number: usize, step: usize, count: usize) -> usize
     requires number { number < count }
     requires step { (0 < step) × (step < count) }
     requires count { count ≤ MOST_WORKERS }
+    ensures round { (result ≡ number + step) ⊎ (result + count ≡ number + step) }
     ensures within { result < count }
     ensures other { result ≢ number }
 {
