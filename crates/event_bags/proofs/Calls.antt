@@ -13,7 +13,7 @@ use Rattle.event_bags.proofs.ChainLemmas.{shows, chain_at}
 use Rattle.event_bags.proofs.Moves.{grows, reuses, pops}
 
 -- a number that was read, whatever stands for what isn't there
-reads : (xs : List ℕ) (i x : ℕ) → i < length xs → x ≡ get_or xs i x → slice_index xs i ≡ x
+pub reads : (xs : List ℕ) (i x : ℕ) → i < length xs → x ≡ get_or xs i x → slice_index xs i ≡ x
 reads xs i x within read = get_or_from_slice_get xs i x 0 (slice_get_read xs (length xs) i x refl within read)
 
 -- a bag that there is has a head

@@ -1,5 +1,5 @@
 //! Bags of values that share their memory.
-ghost use Rattle.std.specs.Prelude.{◌≡◌, ◌↔◌, true, ◌+◌, ◌<◌, ◌≤◌, [], ◌∷◌, length, slice_set, slice_index_or, replicate, IfOk, OnOk, IfSome, IfNone, OnSome};
+ghost use Rattle.std.specs.Prelude.{◌≡◌, ◌↔◌, true, ◌+◌, ◌<◌, ◌≤◌, [], ◌∷◌, ◌++◌, length, slice_set, slice_index_or, replicate, IfOk, OnOk, OnErr, IfSome, IfNone, OnSome};
 ghost use Rattle.std.specs.List.{sum_by};
 ghost use Rattle.event_bags.specs.Views.{BagsView, TakesFront};
 
@@ -63,7 +63,17 @@ impl<T> Bags<T> {
         if more <= self.unused {
             return Ok(());
         }
-        let fresh = more - self.unused;
+        self.grow(more)
+    }
+
+    /// Finds room for so many more values.
+    #[inline(never)]
+    fn grow(&mut self, more: usize) -> Result<(), OutOfMemory>
+        ensures room { OnOk result (more ≤ self.new.spare) }
+        ensures same { self.new.bags ≡ self.old.bags }
+        ensures never_less { self.old.spare ≤ self.new.spare }
+    {
+        let fresh = more.saturating_sub(self.unused);
         if fresh > NONE as usize - self.links.len() {
             return Err(OutOfMemory);
         }
@@ -128,5 +138,34 @@ impl<T: Copy> Bags<T> {
         self.free = at;
         self.unused += 1;
         Some(value)
+    }
+
+    /// Appends the values of a bag, from its front on, and leaves it without any. After a refusal all bags are as they were.
+    pub fn take_all(&mut self, bag: usize, into: &mut Vec<T>) -> Result<(), OutOfMemory>
+        requires { bag < length self.old.bags }
+        ensures taken { OnOk result (into.new.items ≡ into.old.items ++ slice_index_or self.old.bags bag []) }
+        ensures bags { OnOk result (self.new.bags ≡ slice_set self.old.bags bag []) }
+        ensures spare { OnOk result (self.new.spare ≡ self.old.spare + length (slice_index_or self.old.bags bag [])) }
+        ensures err { OnErr result (self.new ≡ self.old) }
+    {
+        let front = self.heads[bag];
+        if front == NONE {
+            return Ok(());
+        }
+        let before = into.len();
+        let mut last = front;
+        loop {
+            into.push(self.items[last as usize])?;
+            let next = self.links[last as usize];
+            if next == NONE {
+                break;
+            }
+            last = next;
+        }
+        self.links[last as usize] = self.free;
+        self.free = front;
+        self.heads[bag] = NONE;
+        self.unused += into.len() - before;
+        Ok(())
     }
 }

@@ -1,14 +1,15 @@
 -- Events that go from slot to slot.
-use Rattle.std.proofs.Common.{◌≡◌, ◌≢◌, ℕ, suc, ◌+◌, ◌*◌, ◌/◌, ◌^◌, ◌<◌, ◌≤◌, List, [], ◌∷◌, ◌++◌, length, append_assoc, append-nil, sym, refl, ap, ◌∙◌, subst, inl, inr, arith}
-use Rattle.std.specs.Prelude.{IsPermutation, slice_set, slice_index_or}
+use Rattle.std.proofs.Common.{◌≡◌, ◌≢◌, ℕ, suc, ◌+◌, ◌*◌, ◌/◌, ◌^◌, ◌<◌, ◌≤◌, List, [], ◌∷◌, ◌++◌, length, append-nil, sym, refl, ap, ◌∙◌, subst, inl, inr, arith}
+use Rattle.std.specs.Prelude.{IsPermutation, Result, Ok, Err, OnOk, OnErr, slice_set, slice_index_or}
 use Rattle.std.specs.List.{AllByRecursion as Each}
 use Rattle.std.proofs.lemmas.Bool.{cases_eq}
-use Rattle.std.proofs.lemmas.List.{set-set, set-get_or}
+use Rattle.std.proofs.lemmas.List.{set-set}
 use Rattle.std.proofs.lemmas.List.Sorted.{IsPermutation-refl, IsPermutation-trans}
 use Rattle.event_key.specs.Stamps.{time_part}
 use Rattle.model_core.specs.declared.event.Event.{Event}
 use Rattle.event_bags.specs.Views.{TakesFront}
 use Rattle.tick_queue.specs.Digits.{InSlot}
+use Rattle.tick_queue.specs.Slots.{SlotsView}
 use Rattle.tick_queue.specs.Levels.{joined, StandsIn, StandIn, PutsIn, Spreads, HasLeft}
 use Rattle.tick_queue.proofs.SlotLemmas.{read_same, read_other, slot_put, slot_take, within_some, each_none}
 
@@ -78,43 +79,26 @@ spreads_end now slot slots h none i =
       | inr ne ↦ h.others i ne
     ]
 
--- the events of a slot, as they are taken
-pub record Taking (first now : List (List Event)) (slot : ℕ) (taken : List Event) : Type 0 where
-  pub others : slice_set now slot [] ≡ slice_set first slot []
-  pub events : IsPermutation (slice_index_or first slot []) (taken ++ slice_index_or now slot [])
+-- all events of a slot are taken, or none where memory runs out
+pub taken_others : {T E : Type 0} (r : Result T E) (old new : SlotsView) (slot : ℕ) → OnOk r (new.slots ≡ slice_set old.slots slot []) → OnErr r (new ≡ old)
+    → slice_set new.slots slot [] ≡ slice_set old.slots slot []
+taken_others (Ok x) old new slot ok err = ap (λ ss. slice_set ss slot []) ok ∙ set-set old.slots slot [] []
+taken_others (Err e) old new slot ok err = ap (λ (v : SlotsView). slice_set v.slots slot []) err
 
-pub taking_start : (first : List (List Event)) (slot : ℕ) (taken : List Event) → taken ≡ [] → Taking first first slot taken
-taking_start first slot taken none = record {
-  others = refl;
-  events = let P : List Event → Type 0 = λ w. IsPermutation (slice_index_or first slot []) (w ++ slice_index_or first slot []) in subst P (sym none) (IsPermutation-refl (slice_index_or first slot []));
-}
+pub taken_left : {T E : Type 0} (r : Result T E) (old new : SlotsView) (slot : ℕ) → slot < length old.slots → OnOk r (new.slots ≡ slice_set old.slots slot []) → OnErr r (new ≡ old)
+    → HasLeft (slice_index_or old.slots slot []) (slice_index_or new.slots slot [])
+taken_left (Ok x) old new slot lt ok err =
+    let all : List Event = slice_index_or old.slots slot [] in
+    let none : slice_index_or new.slots slot [] ≡ [] = read_same old.slots new.slots slot [] lt ok in
+    let P : List Event → Type 0 = λ w. IsPermutation all w in
+    (all, subst P (sym (ap (λ w. all ++ w) none ∙ append-nil all)) (IsPermutation-refl all))
+taken_left (Err e) old new slot lt ok err =
+    let all : List Event = slice_index_or old.slots slot [] in
+    let P : SlotsView → Type 0 = λ v. IsPermutation all (slice_index_or v.slots slot []) in
+    ([], subst P (sym err) (IsPermutation-refl all))
 
-pub taking_step : (first s0 s1 : List (List Event)) (slot : ℕ) (taken more : List Event) (e : Event) → Taking first s0 slot taken → TakesFront s0 s1 slot e → more ≡ taken ++ e ∷ []
-    → Taking first s1 slot more
-taking_step first s0 s1 slot taken more e h takes is =
-    let rest : List Event = takes.0 in
-    let within : slot < length s0 = within_some s0 slot e rest takes.1 in
-    let left : slice_index_or s1 slot [] ≡ rest = read_same s0 s1 slot rest within takes.2 in
-    let P : List Event → Type 0 = λ w. IsPermutation (slice_index_or first slot []) w in
-    record {
-      others = ap (λ ss. slice_set ss slot []) takes.2 ∙ set-set s0 slot rest [] ∙ h.others;
-      events = subst P (ap (λ w. taken ++ w) takes.1 ∙ sym (append_assoc taken (e ∷ []) rest) ∙ (λ i. sym is i ++ sym left i)) h.events;
-    }
-
-pub taking_fewer : (s0 s1 : List (List Event)) (slot : ℕ) (e : Event) → TakesFront s0 s1 slot e → length (slice_index_or s1 slot []) < length (slice_index_or s0 slot [])
-taking_fewer s0 s1 slot e takes =
-    let within : slot < length s0 = within_some s0 slot e takes.0 takes.1 in
-    let left = ap length (read_same s0 s1 slot takes.0 within takes.2) in
-    let had = ap length takes.1 in
-    omega (arith, left, had)
-
-pub taking_left : (first now : List (List Event)) (slot : ℕ) (taken : List Event) → Taking first now slot taken → HasLeft (slice_index_or first slot []) (slice_index_or now slot [])
-taking_left first now slot taken h = (taken, h.events)
-
-pub taking_end : (first now : List (List Event)) (slot : ℕ) (taken : List Event) → Taking first now slot taken → slice_index_or now slot [] ≡ []
-    → (now ≡ slice_set first slot []) × IsPermutation (slice_index_or first slot []) taken
-taking_end first now slot taken h none =
-    let P : List Event → Type 0 = λ w. IsPermutation (slice_index_or first slot []) w in (
-      sym (set-get_or now slot []) ∙ ap (slice_set now slot) none ∙ h.others,
-      subst P (ap (λ w. taken ++ w) none ∙ append-nil taken) h.events,
-    )
+pub taken_moves : {T E : Type 0} (r : Result T E) (all before after : List Event) → before ≡ [] → OnOk r (after ≡ before ++ all) → OnOk r (IsPermutation all after)
+taken_moves (Ok x) all before after none is =
+    let P : List Event → Type 0 = λ w. IsPermutation all w in
+    subst P (sym (is ∙ ap (λ w. w ++ all) none)) (IsPermutation-refl all)
+taken_moves (Err e) all before after none is = tt

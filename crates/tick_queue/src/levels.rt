@@ -6,7 +6,7 @@ ghost use Rattle.tick_queue.specs.Levels.{Advances, HasLeft};
 
 use crate::digits::first_tick;
 use crate::slots::Slots;
-use crate::spread::{place, spread, take_all};
+use crate::spread::{place, spread};
 use delta_exchange::OutOfMemory;
 use model_core::Event;
 use std::alloc::Global;
@@ -51,6 +51,7 @@ impl Levels {
     }
 
     /// Makes room for so many more events.
+    #[inline(always)]
     pub fn reserve(&mut self, more: usize) -> Result<(), OutOfMemory>
         ensures room { OnOk result (more ≤ self.new.spare) }
         ensures tick { self.new.tick ≡ self.old.tick }
@@ -84,7 +85,7 @@ impl Levels {
             self.tick = first_tick(self.tick, slot);
             // a slot of the lowest level has one tick
             if slot < 64 {
-                return take_all(&mut self.slots, slot, due);
+                return self.slots.take_all(slot, due);
             }
             spread(&mut self.slots, self.tick, slot);
         }

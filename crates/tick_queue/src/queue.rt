@@ -57,6 +57,7 @@ impl TickQueue {
     }
 
     /// Adds an event. After a refusal the queue is as it was.
+    #[inline(always)]
     pub fn push(&mut self, event: Event) -> Result<(), OutOfMemory>
         requires new_key { IsNewKey event.key self.old.pending }
         requires room { length self.old.pending + 1 < 2 ^ 60 }

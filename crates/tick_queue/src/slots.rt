@@ -1,5 +1,5 @@
 //! Events in slots, of which the first that isn't empty is found at once.
-ghost use Rattle.std.specs.Prelude.{◌≡◌, ◌+◌, ◌<◌, ◌≤◌, [], ◌∷◌, length, IfOk, OnOk, IfSome, IfNone, OnSome, slice_set, slice_index_or};
+ghost use Rattle.std.specs.Prelude.{◌≡◌, ◌+◌, ◌<◌, ◌≤◌, [], ◌∷◌, ◌++◌, length, IfOk, OnOk, OnErr, IfSome, IfNone, OnSome, slice_set, slice_index_or};
 ghost use Rattle.event_bags.specs.Views.{TakesFront};
 ghost use Rattle.tick_queue.specs.Slots.{AllEmpty, IsFirst};
 
@@ -43,6 +43,7 @@ impl Slots {
     }
 
     /// Makes room for so many more events.
+    #[inline(always)]
     pub fn reserve(&mut self, more: usize) -> Result<(), OutOfMemory>
         ensures room { OnOk result (more ≤ self.new.spare) }
         ensures same { self.new.slots ≡ self.old.slots }
@@ -85,5 +86,17 @@ impl Slots {
         }
         unmark(&mut self.marks, slot);
         Some(event)
+    }
+
+    /// Appends the events of a slot, and leaves it without any. After a refusal all slots are as they were.
+    pub fn take_all(&mut self, slot: usize, into: &mut Vec<Event>) -> Result<(), OutOfMemory>
+        requires { slot < 512 }
+        ensures taken { OnOk result (into.new.items ≡ into.old.items ++ slice_index_or self.old.slots slot []) }
+        ensures slots { OnOk result (self.new.slots ≡ slice_set self.old.slots slot []) }
+        ensures err { OnErr result (self.new ≡ self.old) }
+    {
+        self.bags.take_all(slot, into)?;
+        unmark(&mut self.marks, slot);
+        Ok(())
     }
 }

@@ -1,11 +1,10 @@
-//! Events that go to the slots of their ticks, and out of a slot.
-ghost use Rattle.std.specs.Prelude.{◌≡◌, ◌+◌, ◌<◌, ◌≤◌, ◌^◌, [], ◌++◌, OnOk, IsPermutation, slice_set, slice_index_or};
+//! Events that go to the slots of their ticks.
+ghost use Rattle.std.specs.Prelude.{◌≡◌, ◌+◌, ◌<◌, ◌≤◌, ◌^◌, IsPermutation};
 ghost use Rattle.event_key.specs.Stamps.{time_part};
-ghost use Rattle.tick_queue.specs.Levels.{PutsIn, Spreads, StandIn, HasLeft, joined};
+ghost use Rattle.tick_queue.specs.Levels.{PutsIn, Spreads, StandIn, joined};
 
 use crate::digits::slot_of;
 use crate::slots::Slots;
-use delta_exchange::OutOfMemory;
 use event_key::time_of;
 use model_core::Event;
 
@@ -30,19 +29,4 @@ pub fn spread(slots: &mut Slots, now: u64, slot: usize)
     while let Some(event) = slots.take(slot) {
         place(slots, now, event);
     }
-}
-
-/// Takes the events of a slot. After a refusal some may be lost.
-pub fn take_all(slots: &mut Slots, slot: usize, taken: &mut Vec<Event>) -> Result<(), OutOfMemory>
-    requires slot { slot < 512 }
-    requires none { taken.old.items ≡ [] }
-    ensures others { slice_set slots.new.slots slot [] ≡ slice_set slots.old.slots slot [] }
-    ensures rest { HasLeft (slice_index_or slots.old.slots slot []) (slice_index_or slots.new.slots slot []) }
-    ensures left { OnOk result (slots.new.slots ≡ slice_set slots.old.slots slot []) }
-    ensures taken { OnOk result (IsPermutation (slice_index_or slots.old.slots slot []) taken.new.items) }
-{
-    while let Some(event) = slots.take(slot) {
-        taken.push(event)?;
-    }
-    Ok(())
 }

@@ -3,6 +3,7 @@ use Rattle.std.proofs.Common.{◌≡◌, ◌<◌, [], ◌++◌, length, refl, ar
 use Rattle.std.specs.Prelude.{IsPermutation, slice_set, slice_index_or}
 use Rattle.std.proofs.lemmas.List.Sorted.{IsPermutation-trans}
 use Rattle.tick_queue.specs.Levels.{LevelsView, joined, Advances}
+use Rattle.tick_queue.proofs.SpreadLemmas.{taken_others, taken_left, taken_moves}
 use Rattle.tick_queue.proofs.LevelLemmas.{some_stands, next_small, next_after, opened, levels-taken, taken_from, advances, advances_none, same_long, ok_both}
 use Rattle.tick_queue.proofs.levels.Levels.advance.Goals as goal
 
@@ -17,31 +18,40 @@ first_tick-self-inside-requires-clause-some c =
 
 pub invariant_of-self-then-slot-lt64 : goal.invariant_of-self-then-slot-lt64
 invariant_of-self-then-slot-lt64 c =
-    levels-taken c.loop-slot.self-inside.tick c.in-Some.slot c.first_tick-self-inside.result c.loop-slot.self-inside.slots.slots c.take_all.new.slots.slots
-    c.loop-slot.invariant.levels c.in-Some.ensures.some c.first_tick-self-inside.ensures c.if-slot-lt64.true c.take_all.ensures.others c.take_all.ensures.rest
+    let long = c.first.ensures.long in
+    let small = c.in-Some.ensures.some.small in
+    let old = c.loop-slot.self-inside.slots in
+    let new = c.take_all.new.self in
+    levels-taken c.loop-slot.self-inside.tick c.in-Some.slot c.first_tick-self-inside.result old.slots new.slots
+    c.loop-slot.invariant.levels c.in-Some.ensures.some c.first_tick-self-inside.ensures c.if-slot-lt64.true
+    (taken_others c.take_all.result old new c.in-Some.slot c.take_all.ensures.slots c.take_all.ensures.err)
+    (taken_left c.take_all.result old new c.in-Some.slot (omega arith) c.take_all.ensures.slots c.take_all.ensures.err)
 
 pub returns-then-slot-lt64-clause-advances : goal.returns-then-slot-lt64-clause-advances
 returns-then-slot-lt64-clause-advances c =
-    let now : LevelsView = record { tick = c.first_tick-self-inside.result; events = joined c.take_all.new.slots.slots; spare = c.take_all.new.slots.spare } in
-    ok_both c.take_all.result (c.take_all.new.slots.slots ≡ slice_set c.loop-slot.self-inside.slots.slots c.in-Some.slot []) (IsPermutation (slice_index_or c.loop-slot.self-inside.slots.slots c.in-Some.slot []) c.take_all.new.taken.items)
-    (Advances c.args.self.now now c.take_all.new.taken.items) c.take_all.ensures.left c.take_all.ensures.taken
+    let now : LevelsView = record { tick = c.first_tick-self-inside.result; events = joined c.take_all.new.self.slots; spare = c.take_all.new.self.spare } in
+    ok_both c.take_all.result (c.take_all.new.self.slots ≡ slice_set c.loop-slot.self-inside.slots.slots c.in-Some.slot []) (IsPermutation (slice_index_or c.loop-slot.self-inside.slots.slots c.in-Some.slot []) c.take_all.new.into.items)
+    (Advances c.args.self.now now c.take_all.new.into.items) c.take_all.ensures.slots
+    (taken_moves c.take_all.result (slice_index_or c.loop-slot.self-inside.slots.slots c.in-Some.slot []) c.loop-slot.due.items c.take_all.new.into.items c.loop-slot.invariant.none c.take_all.ensures.taken)
     (λ is taken.
-    advances c.loop-slot.self-inside.tick c.in-Some.slot c.first_tick-self-inside.result c.loop-slot.self-inside.slots.slots c.take_all.new.slots.slots c.take_all.new.taken.items c.args.self.now now
+    advances c.loop-slot.self-inside.tick c.in-Some.slot c.first_tick-self-inside.result c.loop-slot.self-inside.slots.slots c.take_all.new.self.slots c.take_all.new.into.items c.args.self.now now
     c.loop-slot.invariant.levels c.in-Some.ensures.some c.first_tick-self-inside.ensures c.if-slot-lt64.true c.loop-slot.invariant.events is taken refl refl)
 
 pub returns-then-slot-lt64-clause-left : goal.returns-then-slot-lt64-clause-left
 returns-then-slot-lt64-clause-left c =
     let old = c.loop-slot.self-inside.slots.slots in
-    let new = c.take_all.new.slots.slots in
+    let new = c.take_all.new.self.slots in
     let long = c.first.ensures.long in
     let small = c.in-Some.ensures.some.small in
-    let same = same_long old new c.in-Some.slot c.take_all.ensures.others in
     let within : c.in-Some.slot < length old = omega arith in
+    let others = taken_others c.take_all.result c.loop-slot.self-inside.slots c.take_all.new.self c.in-Some.slot c.take_all.ensures.slots c.take_all.ensures.err in
+    let left = taken_left c.take_all.result c.loop-slot.self-inside.slots c.take_all.new.self c.in-Some.slot within c.take_all.ensures.slots c.take_all.ensures.err in
+    let same = same_long old new c.in-Some.slot others in
     let within_new : c.in-Some.slot < length new = omega arith in
-    let gone = c.take_all.ensures.rest.0 in (
+    let gone = left.0 in (
       gone,
       IsPermutation-trans c.args.self.now.events (joined old) (gone ++ joined new) c.loop-slot.invariant.events
-          (taken_from old new c.in-Some.slot gone within within_new c.take_all.ensures.others c.take_all.ensures.rest.1),
+          (taken_from old new c.in-Some.slot gone within within_new others left.1),
     )
 
 pub spread-requires-clause-begins : goal.spread-requires-clause-begins
