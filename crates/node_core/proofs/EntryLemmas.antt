@@ -1,16 +1,15 @@
--- Entries by their places, and the least stamps that they hold.
-use Rattle.std.proofs.Common.{◌≡◌, ℕ, zero, suc, ◌+◌, ◌-◌, ◌<◌, ◌≤◌, min, Bool, true, false, cond, ◌||◌, List, [], ◌∷◌, ◌++◌, length, take, drop, get_or, set, refl, sym, ap, ◌∙◌, subst, arith}
+-- Entries by their places, and the least stamp that they send.
+use Rattle.std.proofs.Common.{◌≡◌, ℕ, zero, suc, ◌+◌, ◌<◌, ◌≤◌, min, Bool, true, false, cond, ◌||◌, List, [], ◌∷◌, ◌++◌, length, take, drop, get_or, set, refl, sym, ap, ◌∙◌, subst, arith}
 use Rattle.std.specs.List.{list_any}
-use Rattle.std.proofs.Math.Nat.{min-le_left, min-le_right, min-eq_left}
+use Rattle.std.proofs.Math.Nat.{min-eq_left}
 use Rattle.event_key.specs.declared.key.Key.{Key}
-use Rattle.event_key.specs.declared.stamp.TheConstants.{NO_STAMP}
 use Rattle.event_key.specs.Keys.{key_lt, same_key}
-use Rattle.event_key.proofs.Order.{key_lt-apart, key_lt-trans, same_key-itself, same_key-lt}
+use Rattle.event_key.proofs.Order.{key_lt-apart, key_lt-irrefl, key_lt-trans, same_key-itself, same_key-lt, stamp-le}
 use Rattle.key_order.proofs.AscendingLemmas.{key_lt-never, key_lt-turned}
 use Rattle.key_order.specs.Ascending.{After, Ascends}
 use Rattle.node_core.specs.declared.entries.Entry.{Entry}
-use Rattle.node_core.specs.Entries.{AreLeast, AreLeastBut, IsLeast, IsLeastBut, first_held, mark_in, marks_of}
-use Rattle.node_core.specs.Marks.{MarkView, AreInOrder, is_first, least_sent, place_of, put_mark, set_mark, without}
+use Rattle.node_core.specs.Entries.{mark_in, marks_of}
+use Rattle.node_core.specs.Marks.{MarkView, AreInOrder, AreLate, is_first, least_sent, place_of, put_mark, set_mark, without}
 use Rattle.node_core.specs.Rows.{keys_of}
 use Rattle.node_core.proofs.MarkLemmas.{behind}
 use Rattle.node_core.proofs.MarkedLemmas.{behind-trans, same-after}
@@ -123,6 +122,23 @@ pub put-behind : (e : Entry) (es : Entries) → place_of e.key (marks_of es) ≡
     → marks_of (es ++ e ∷ []) ≡ put_mark (mark_in e) (marks_of es)
 put-behind e es end none = ap marks_of (sym (inserted-behind (place_of e.key (marks_of es)) e es end)) ∙ place-put e es none
 
+-- a mark that is put in stands at the place of its key
+pub place-of-put : (x : MarkView) (ks : List MarkView) → list_any (same_key x.key) (keys_of ks) ≡ false → place_of x.key (put_mark x ks) ≡ place_of x.key ks
+unfolding place_of put_mark
+place-of-put x [] none = ap (λ b. cond b 1 0) (key_lt-irrefl x.key)
+place-of-put x (k ∷ ks) none = by_test (key_lt k.key x.key) refl (same_key x.key k.key) refl none (λ h. place-of-put x ks h)
+  where
+    by_test : (b : Bool) → key_lt k.key x.key ≡ b → (c : Bool) → same_key x.key k.key ≡ c → (c || list_any (same_key x.key) (keys_of ks)) ≡ false
+        → (list_any (same_key x.key) (keys_of ks) ≡ false → place_of x.key (put_mark x ks) ≡ place_of x.key ks)
+        → place_of x.key (cond (key_lt x.key k.key) (x ∷ k ∷ ks) (k ∷ put_mark x ks)) ≡ cond b (suc (place_of x.key ks)) 0
+    by_test b lt true h other more = absurd (cc)
+    by_test true lt false h other more =
+        ap (λ b. place_of x.key (cond b (x ∷ k ∷ ks) (k ∷ put_mark x ks))) (key_lt-turned k.key x.key lt)
+        ∙ ap (λ b. cond b (suc (place_of x.key (put_mark x ks))) 0) lt ∙ ap suc (more other)
+    by_test false lt false h other more =
+        ap (λ b. place_of x.key (cond b (x ∷ k ∷ ks) (k ∷ put_mark x ks))) (comes_before x.key k.key lt h)
+        ∙ ap (λ b. cond b (suc (place_of x.key (k ∷ ks))) 0) (key_lt-irrefl x.key)
+
 -- an entry in place of the one with its key
 pub place-set : (e : Entry) (es : Entries) → AreInOrder (marks_of es) → list_any (same_key e.key) (keys_of (marks_of es)) ≡ true
     → (place_of e.key (marks_of es) < length es) × (marks_of (set es (place_of e.key (marks_of es)) e) ≡ set_mark (mark_in e) (marks_of es))
@@ -185,114 +201,45 @@ unfolding without
 first-gone key [] here = absurd (cc)
 first-gone key (f ∷ es) here = ap (λ b. cond b (marks_of es) (mark_in f ∷ without key (marks_of es))) (sym here)
 
-pub least-gone : (es : Entries) → AreLeast es → AreLeast (drop 1 es)
-unfolding AreLeast
-least-gone [] least = tt
-least-gone (e ∷ es) least = least.1
+-- the least stamp that is sent
+sent-behind : (h : ℕ) (key : Key) (ks : List MarkView) → After (λ (m : MarkView). m.key) key ks → AreLate ks → h ≤ key.stamp → least_sent h ks ≡ h
+unfolding least_sent
+sent-behind h key [] behind late from = refl
+sent-behind h key (k ∷ ks) behind late from =
+    let le = stamp-le key k.key behind.0 in
+    let own = late.0 in
+    let is : min h k.least ≡ h = min-eq_left (omega arith) in
+    ap (λ g. least_sent g ks) is ∙ sent-behind h key ks behind.1 late.1 from
 
--- what entries hold
-held-most : (es : Entries) → AreLeast es → first_held es ≤ NO_STAMP
-unfolding AreLeast
-held-most [] least = omega arith
-held-most (e ∷ es) least = let more = held-most es least.1 in let is = least.0 in omega (arith, min-le_right e.mark.least (first_held es))
+pub sent-stops : (h : ℕ) (left rest : Entries) (e : Entry) → left ≡ e ∷ rest → AreInOrder (marks_of left) → AreLate (marks_of left) → h ≤ e.key.stamp → least_sent h (marks_of left) ≡ h
+unfolding least_sent Ascends
+sent-stops h left rest e is up late from =
+    let P : Entries → Type 0 = λ es. AreInOrder (marks_of es) in
+    let Q : Entries → Type 0 = λ es. AreLate (marks_of es) in
+    let order = subst P is up in
+    let all = subst Q is late in
+    let own = all.0 in
+    let first : min h e.mark.least ≡ h = min-eq_left (omega arith) in
+    ap (λ (es : Entries). least_sent h (marks_of es)) is
+    ∙ ap (λ g. least_sent g (marks_of rest)) first
+    ∙ sent-behind h e.key (marks_of rest) order.0 all.1 from
 
-least-sent : (h : ℕ) (es : Entries) → h ≤ NO_STAMP → AreLeast es → least_sent h (marks_of es) ≡ min h (first_held es)
-unfolding AreLeast least_sent
-least-sent h [] le least = sym (min-eq_left le)
-least-sent h (e ∷ es) le least =
-    let more = least-sent (min h e.mark.least) es (omega (arith, min-le_left h e.mark.least)) least.1 in
-    let is = least.0 in omega arith
+pub sent-goes : (h : ℕ) (left rest : Entries) (e : Entry) → left ≡ e ∷ rest → least_sent h (marks_of left) ≡ least_sent (min h e.mark.least) (marks_of rest)
+unfolding least_sent
+sent-goes h left rest e is = ap (λ (es : Entries). least_sent h (marks_of es)) is
 
-pub held-is : (es : Entries) → AreLeast es → first_held es ≡ least_sent NO_STAMP (marks_of es)
-held-is es least = let most = held-most es least in let is = least-sent NO_STAMP es (omega arith) least in omega arith
+pub sent-none : (h : ℕ) (es : Entries) → es ≡ [] → least_sent h (marks_of es) ≡ h
+unfolding least_sent
+sent-none h es is = ap (λ (es : Entries). least_sent h (marks_of es)) is
 
--- a blank entry changes nothing
-held-put : (n : ℕ) (e : Entry) (es : Entries) → e.held ≡ first_held (drop n es) → first_held (take n es ++ e ∷ drop n es) ≡ first_held es
-held-put zero e es is = is
-held-put (suc n) e [] is = is
-held-put (suc n) e (f ∷ es) is = refl
-
-pub held-behind : (es : Entries) → NO_STAMP ≡ first_held (drop (length es) es)
-held-behind [] = refl
-held-behind (e ∷ es) = held-behind es
-
-pub least-put : (n : ℕ) (e : Entry) (es : Entries) → e.mark.least ≡ NO_STAMP → e.held ≡ first_held (drop n es) → AreLeast es → AreLeast (take n es ++ e ∷ drop n es)
-unfolding AreLeast
-least-put zero e es blank is least = let most = held-most es least in (omega arith, least)
-least-put (suc n) e [] blank is least = (omega arith, tt)
-least-put (suc n) e (f ∷ es) blank is least = (least.0 ∙ ap (min f.mark.least) (sym (held-put n e es is)), least-put n e es blank is least.1)
-
--- an entry is mended
-pub but-weaker : (n : ℕ) (es : Entries) → AreLeast es → AreLeastBut n es
-unfolding AreLeast AreLeastBut
-but-weaker zero es least = least
-but-weaker (suc n) [] least = tt
-but-weaker (suc n) (e ∷ es) least = (still n, but-weaker n es least.1)
-  where
-    still : (n : ℕ) → IsLeastBut n e es
-    still zero = tt
-    still (suc n) = least.0
-
-pub but-set : (n : ℕ) (e : Entry) (es : Entries) → AreLeastBut (suc n) es → n < length es → IsLeast e (drop (suc n) es) → AreLeastBut n (set es n e)
-unfolding AreLeast AreLeastBut
-but-set n e [] but some is = absurd (omega arith)
-but-set zero e (f ∷ es) but some is = (is, but.1)
-but-set (suc n) e (f ∷ es) but some is = (still n es but.0, but-set n e es but.1 (omega arith) is)
-  where
-    still : (n : ℕ) (es : Entries) → IsLeast f es → IsLeastBut n f (set es n e)
-    still zero es h = tt
-    still (suc n) [] h = h
-    still (suc n) (g ∷ es) h = h
-
-pub but-stays : (n : ℕ) (e : Entry) (es : Entries) → AreLeastBut (suc n) es → n < length es → e ≡ get_or es n e → IsLeast e (drop (suc n) es) → AreLeast es
-unfolding AreLeast AreLeastBut
-but-stays n e [] but some at is = absurd (omega arith)
-but-stays zero e (f ∷ es) but some at is = let P : Entry → Type 0 = λ e. IsLeast e es in (subst P at is, but.1)
-but-stays (suc n) e (f ∷ es) but some at is = (but.0, but-stays n e es but.1 (omega arith) at is)
-
-pub but-removed : (n : ℕ) (es : Entries) → AreLeast es → AreLeastBut n (take n es ++ drop (suc n) es)
-unfolding AreLeast AreLeastBut
-but-removed zero [] least = tt
-but-removed zero (e ∷ es) least = least.1
-but-removed (suc n) [] least = tt
-but-removed (suc n) (e ∷ es) least = (still n es least.0, but-removed n es least.1)
-  where
-    still : (n : ℕ) (es : Entries) → IsLeast e es → IsLeastBut n e (take n es ++ drop (suc n) es)
-    still zero es h = tt
-    still (suc n) [] h = h
-    still (suc n) (f ∷ es) h = h
-
--- with what it says
-pub marks-set : (n : ℕ) (e f : Entry) (es : Entries) → f ≡ get_or es n f → mark_in e ≡ mark_in f → n < length es → marks_of (set es n e) ≡ marks_of es
-marks-set n e f [] at is some = absurd (omega arith)
-marks-set zero e f (g ∷ es) at is some = ap (λ m. m ∷ marks_of es) (is ∙ ap mark_in at)
-marks-set (suc n) e f (g ∷ es) at is some = ap (λ ms. mark_in g ∷ ms) (marks-set n e f es at is (omega arith))
+pub late-rest : (left rest : Entries) (e : Entry) → left ≡ e ∷ rest → AreLate (marks_of left) → AreLate (marks_of rest)
+late-rest left rest e is late = let P : Entries → Type 0 = λ es. AreLate (marks_of es) in let all = subst P is late in all.1
 
 -- the entry at a place
 pub first-at : (key : Key) (n : ℕ) (e : Entry) (es : Entries) → n < length es → e ≡ get_or es n e → same_key key e.key ≡ is_first key (marks_of (drop n es))
 first-at key n e [] some at = absurd (omega arith)
 first-at key zero e (f ∷ es) some at = ap (λ (x : Entry). same_key key x.key) at
 first-at key (suc n) e (f ∷ es) some at = first-at key n e es (omega arith) at
-
--- one step of mending
-pub mend-goes : (place : ℕ) (e : Entry) (es : Entries) → 0 < place → place ≤ length es → AreLeastBut place es → IsLeast e (drop place es) → AreLeastBut (place - 1) (set es (place - 1) e)
-mend-goes zero e es some inside but is = absurd (omega arith)
-mend-goes (suc n) e es some inside but is =
-    let P : ℕ → Type 0 = λ m. AreLeastBut m (set es m e) in
-    let at : suc n - 1 ≡ n = omega arith in
-    subst P (sym at) (but-set n e es but (omega arith) is)
-
-pub mend-stays : (place : ℕ) (e : Entry) (es : Entries) → 0 < place → place ≤ length es → AreLeastBut place es → e ≡ get_or es (place - 1) e → IsLeast e (drop place es) → AreLeast es
-mend-stays zero e es some inside but at is = absurd (omega arith)
-mend-stays (suc n) e es some inside but at is =
-    let P : ℕ → Type 0 = λ m. e ≡ get_or es m e in
-    let back : suc n - 1 ≡ n = omega arith in
-    but-stays n e es but (omega arith) (subst P back at) is
-
-pub mend-ends : (place : ℕ) (es : Entries) → place ≤ 0 → AreLeastBut place es → AreLeast es
-unfolding AreLeastBut
-mend-ends zero es none but = but
-mend-ends (suc n) es none but = absurd (omega arith)
 
 pub first-inside : (key : Key) (n : ℕ) (es : Entries) → is_first key (marks_of (drop n es)) ≡ true → n < length es
 first-inside key zero [] is = absurd (cc)

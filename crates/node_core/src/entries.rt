@@ -1,13 +1,12 @@
-//! Processed events in the order of their keys. Each entry has the least stamp that its event and those behind it send, so
-//! that the least of all is known at the first.
-ghost use Rattle.std.specs.Prelude.{◌≡◌, ◌<◌, ◌≤◌, ◌++◌, length, filter, drop, nat_lt, false, true, IsTrue, OnOk, OnErr};
+//! Processed events in the order of their keys.
+ghost use Rattle.std.specs.Prelude.{◌≡◌, ◌<◌, ◌≤◌, ◌++◌, length, filter, drop, nat_lt, false, true, IsTrue, IfOk, OnOk, OnErr};
 ghost use Rattle.std.specs.List.{list_any};
 ghost use Rattle.std.specs.VecDeque.{deque_len, deque_capacity};
 ghost use Rattle.event_key.specs.declared.stamp.TheConstants.{NO_STAMP};
 ghost use Rattle.event_key.specs.Keys.{same_key};
 ghost use Rattle.key_order.specs.Due.{is_due};
-ghost use Rattle.node_core.specs.Entries.{marks_of, blank_entry, AreLeast, AreLeastBut, first_held};
-ghost use Rattle.node_core.specs.Marks.{blank_at, set_mark, put_mark, without, first_fault, is_first, place_of, AreInOrder};
+ghost use Rattle.node_core.specs.Entries.{marks_of, blank_entry};
+ghost use Rattle.node_core.specs.Marks.{blank_at, set_mark, put_mark, without, first_fault, is_first, least_sent, place_of, AreInOrder, AreLate};
 ghost use Rattle.node_core.specs.Rows.{keys_of};
 
 use crate::marks::{Mark, is_same};
@@ -22,8 +21,6 @@ use std::collections::VecDeque;
 pub struct Entry {
     pub key: Key,
     pub mark: Mark,
-    /// The least stamp that it and the events behind it send, or `NO_STAMP`.
-    pub held: u64,
 }
 
 /// Entries in the order of their keys.
@@ -39,6 +36,23 @@ pub fn fault_in(entries: &Entries) -> Option<(Key, u32)>
         }
     }
     None
+}
+
+/// The least stamp that is sent, or `NO_STAMP`, if each event sends no stamp below its own: then the events from that
+/// stamp on needn't be looked at.
+pub fn least_in(entries: &Entries) -> u64
+    requires order { AreInOrder (marks_of entries.now.items) }
+    requires late { AreLate (marks_of entries.now.items) }
+    ensures { result ≡ least_sent NO_STAMP (marks_of entries.now.items) }
+{
+    let mut least = NO_STAMP;
+    for entry in entries.iter() {
+        if entry.key.stamp >= least {
+            return least;
+        }
+        least = least.min(entry.mark.least);
+    }
+    least
 }
 
 /// How many events are due, in time linear in that number.
@@ -112,37 +126,6 @@ fn place(entries: &Entries, key: &Key) -> usize
     }
 }
 
-/// The least stamp that the events from this place on send, or `NO_STAMP`.
-pub fn held_from(entries: &Entries, place: usize) -> u64
-    ensures { result ≡ first_held (drop place entries.now.items) }
-{
-    match entries.get(place) {
-        Some(entry) => entry.held,
-        None => NO_STAMP,
-    }
-}
-
-/// Mends the least stamps before a place, from there towards the front until one stays.
-fn mend(entries: &mut Entries, place: usize)
-    requires inside { place ≤ length entries.old.items }
-    requires but { AreLeastBut place entries.old.items }
-    ensures least { AreLeast entries.new.items }
-    ensures same { marks_of entries.new.items ≡ marks_of entries.old.items }
-    ensures capacity { deque_capacity entries.new ≡ deque_capacity entries.old }
-{
-    let mut place = place;
-    while place > 0 {
-        let held = held_from(entries, place);
-        place -= 1;
-        let entry = entries[place];
-        let held = entry.mark.least.min(held);
-        if held == entry.held {
-            return;
-        }
-        entries[place] = Entry { held, ..entry };
-    }
-}
-
 /// Whether a key comes behind all others.
 fn is_behind(entries: &Entries, key: &Key) -> bool
     requires { AreInOrder (marks_of entries.now.items) }
@@ -154,9 +137,9 @@ fn is_behind(entries: &Entries, key: &Key) -> bool
     }
 }
 
-/// An event of which nothing more is known yet, before events that send this least stamp.
-fn blank(key: Key, held: u64) -> Entry
-    ensures { result ≡ blank_entry key held }
+/// An event of which nothing more is known yet.
+fn blank(key: Key) -> Entry
+    ensures { result ≡ blank_entry key }
 {
     Entry {
         key,
@@ -164,84 +147,60 @@ fn blank(key: Key, held: u64) -> Entry
             least: NO_STAMP,
             fault: None,
         },
-        held,
     }
 }
 
-/// Puts an event in, of which nothing more is known yet. Constant behind the last one, else it moves the shorter side.
-pub fn put(entries: &mut Entries, key: Key) -> Result<(), OutOfMemory>
+/// Puts an event in, of which nothing more is known yet, and answers its place. Constant behind the last one, else it
+/// moves the shorter side.
+pub fn put(entries: &mut Entries, key: Key) -> Result<usize, OutOfMemory>
     requires order { AreInOrder (marks_of entries.old.items) }
-    requires least { AreLeast entries.old.items }
     requires new { list_any (same_key key) (keys_of (marks_of entries.old.items)) ≡ false }
     ensures ok { OnOk result (marks_of entries.new.items ≡ put_mark (blank_at key) (marks_of entries.old.items)) }
+    ensures place { IfOk result (λ place. place ≡ place_of key (marks_of entries.new.items)) }
     ensures err { OnErr result (marks_of entries.new.items ≡ marks_of entries.old.items) }
-    ensures least { AreLeast entries.new.items }
     ensures full { OnErr result (deque_capacity entries.old ≤ deque_len entries.old) }
     ensures capacity { deque_capacity entries.old ≤ deque_capacity entries.new }
 {
     if is_behind(entries, &key) {
-        entries.push_back(blank(key, NO_STAMP))?;
+        let place = entries.len();
+        entries.push_back(blank(key))?;
+        Ok(place)
     } else {
         let place = place(entries, &key);
-        let held = held_from(entries, place);
-        entries.insert(place, blank(key, held))?;
-    }
-    Ok(())
-}
-
-/// The place of an event: constant at either end.
-fn find(entries: &Entries, key: &Key) -> usize
-    requires order { AreInOrder (marks_of entries.now.items) }
-    requires here { list_any (same_key key.now) (keys_of (marks_of entries.now.items)) ≡ true }
-    ensures { result ≡ place_of key.now (marks_of entries.now.items) }
-{
-    match entries.back() {
-        Some(last) if is_same(key, &last.key) => entries.len() - 1,
-        _ => place(entries, key),
+        entries.insert(place, blank(key))?;
+        Ok(place)
     }
 }
 
-/// Says more of an event, and mends the least stamps before it.
-pub fn set(entries: &mut Entries, key: Key, mark: Mark)
+/// Says more of the event at a place.
+pub fn set(entries: &mut Entries, place: usize, key: Key, mark: Mark)
     requires order { AreInOrder (marks_of entries.old.items) }
-    requires least { AreLeast entries.old.items }
     requires here { list_any (same_key key) (keys_of (marks_of entries.old.items)) ≡ true }
+    requires place { place ≡ place_of key (marks_of entries.old.items) }
     ensures same { marks_of entries.new.items ≡ set_mark (record { key = key; least = mark.least; fault = mark.fault }) (marks_of entries.old.items) }
-    ensures least { AreLeast entries.new.items }
     ensures capacity { deque_capacity entries.new ≡ deque_capacity entries.old }
 {
-    let place = find(entries, &key);
-    let behind = held_from(entries, place + 1);
-    entries[place] = Entry {
-        key,
-        mark,
-        held: mark.least.min(behind),
-    };
-    mend(entries, place);
+    entries[place] = Entry { key, mark };
 }
 
 /// Puts an event in with what is known of it, where there is room. Takes no memory.
 pub fn put_known(entries: &mut Entries, key: Key, mark: Mark)
     requires order { AreInOrder (marks_of entries.old.items) }
-    requires least { AreLeast entries.old.items }
     requires new { list_any (same_key key) (keys_of (marks_of entries.old.items)) ≡ false }
     requires room { deque_len entries.old < deque_capacity entries.old }
     ensures same { marks_of entries.new.items ≡ put_mark (record { key = key; least = mark.least; fault = mark.fault }) (marks_of entries.old.items) }
-    ensures least { AreLeast entries.new.items }
     ensures capacity { deque_capacity entries.old ≤ deque_capacity entries.new }
 {
-    let Ok(_put) = put(entries, key) else {
+    let Ok(place) = put(entries, key) else {
         unreachable!()
     };
-    set(entries, key, mark);
+    set(entries, place, key, mark);
 }
 
-/// Takes an event out, and mends the least stamps before it. Constant at the first one, else it moves the shorter side.
+/// Takes an event out. Constant at the first one, else it moves the shorter side.
 pub fn remove(entries: &mut Entries, key: &Key)
-    requires order { AreInOrder (marks_of entries.old.items) }
-    requires least { AreLeast entries.old.items }
-    ensures same { marks_of entries.new.items ≡ without key.now (marks_of entries.old.items) }
-    ensures least { AreLeast entries.new.items }
+    requires { AreInOrder (marks_of entries.old.items) }
+    ensures { marks_of entries.new.items ≡ without key.now (marks_of entries.old.items) }
 {
     if is_at_place(entries, 0, key) {
         let _first = entries.pop_front();
@@ -252,17 +211,14 @@ pub fn remove(entries: &mut Entries, key: &Key)
 
 /// Takes an event out that isn't the first.
 fn remove_behind(entries: &mut Entries, key: &Key)
-    requires order { AreInOrder (marks_of entries.old.items) }
-    requires least { AreLeast entries.old.items }
-    ensures same { marks_of entries.new.items ≡ without key.now (marks_of entries.old.items) }
-    ensures least { AreLeast entries.new.items }
+    requires { AreInOrder (marks_of entries.old.items) }
+    ensures { marks_of entries.new.items ≡ without key.now (marks_of entries.old.items) }
 {
     let place = place(entries, key);
     if !is_at_place(entries, place, key) {
         return;
     }
     entries.remove(place);
-    mend(entries, place);
 }
 
 /// Whether an event is at a place.

@@ -155,7 +155,8 @@ impl<M: SimulationModel> Node<M> {
         count
     }
 
-    /// The least stamp of the messages that it holds, or `NO_STAMP`.
+    /// The least stamp of the messages that it holds, or `NO_STAMP`, in time linear in how many of its processed events come
+    /// before that stamp.
     pub fn open_cycle(&mut self) -> u64
         ensures same { self.new ≡ self.old }
         ensures least { IsHeldLeast (M.meaning self.old.model) self.old result }

@@ -18,7 +18,6 @@ loop-place-preserved c =
     record {
       marks = learn-next c.args.log.now.object c.args.log.now.done c.loop-place.place (marks_of c.args.entries.now.items) (marks_of c.loop-place.entries.items) x c.loop-place.invariant.marks c.tells.ensures.ordered c.requires.own c.entry_at-entry.ensures
           (marks_of c.put_known.new.entries.items) c.put_known.ensures.same;
-      least = c.put_known.ensures.least;
       capacity = omega (arith, c.loop-place.invariant.capacity, c.put_known.ensures.capacity);
       end = c.loop-place.invariant.end;
     }
