@@ -1,8 +1,2 @@
-pub mod EndingLemmas
-pub mod InputLemmas
-pub mod ReadingLemmas
-pub mod RecordLines
-pub mod SavedRunsLaw
+pub mod CommandLemmas
 pub mod SmallAnswers
-pub mod StateAnswers
-pub mod TopLemmas

@@ -31,7 +31,9 @@ use Rattle.sim_io.specs.CycleTexts.{cycle_line, told_cycle, bucket_lines, lines_
 use Rattle.sim_io.specs.Words.{settings}
 use Rattle.sim_text.specs.WholeTexts.{text_from}
 use Rattle.program_answers.specs.Answer.{refusal_line}
-use Rattle.btb_program.specs.Answer.{answer, answer_to_settings, answer_to_model}
+use Rattle.model_text.specs.Readers.{model_texts}
+use Rattle.model_program.specs.Answer.{answered, answer_to_model}
+use Rattle.btb_program.specs.Answer.{answer}
 
 number_at : List ℕ → ℕ → Members → Members
 number_at key n rest = member key (integer (pos n)) rest
@@ -49,7 +51,7 @@ tie =
     (member (codes "start") (array (item (start_at 0 1) (item (start_at 5 0) no_items)))
     (member (codes "to") (string (codes "next")) no_members))))) no_members)))
 
-tie_is_settled_by_destination : answer_to_model (One false) [] (own_models (top tie)) ≡ record {
+tie_is_settled_by_destination : answer_to_model model_texts (One false) [] (own_models (top tie)) ≡ record {
   output = codes "0.0 p1 hop 5 2\n5.0 p0 hop 5 1\n5.0 p2 hop 5 0\nend 9 events 3\n";
   notes = [];
   status = 0;
@@ -57,7 +59,7 @@ tie_is_settled_by_destination : answer_to_model (One false) [] (own_models (top 
 unfolding digits number_at start_at tie key_lt key_cmp next_stamp has_no_step cells_after_all inverses_of draw drawn_value words_read starts_of hop_delay hop_dest hop_next place_changes hop_effect phold_meaning top phold destination law fixed_law start_entry terms_of enqueue enqueue_all has_endless_chain emissions fired_by fire initial_state next next_of next_fired run run_for run_on least_stamp bucket_fired bucket_below horizon_bucket emissions_of objects_after state_with_done is_limited committed_events after cut cycles_behind cycles_on cycles_for cycles stamp_text word_text part_text place_text part_line event_lines record_lines stop_line cycle_line told_cycle bucket_lines lines_of_buckets text text_from answer_to_model
 tie_is_settled_by_destination = refl
 
-an_event_at_the_horizon_waits : answer_to_model (One true) [] (own_models (top tie)) ≡ record {
+an_event_at_the_horizon_waits : answer_to_model model_texts (One true) [] (own_models (top tie)) ≡ record {
   output = codes "0.0 p1 hop 5 2\ncycle 1 horizon 5.0 events 1\n5.0 p0 hop 5 1\n5.0 p2 hop 5 0\ncycle 2 horizon 10.0 events 2\nend 9 events 3\n";
   notes = [];
   status = 0;
@@ -66,13 +68,13 @@ unfolding digits number_at start_at tie key_lt key_cmp next_stamp has_no_step ce
 an_event_at_the_horizon_waits = refl
 
 no_bytes_are_no_model : answer (codes "run" ∷ []) [] ≡ record { output = []; notes = codes "model: 3 Missing item 0\n"; status = 3 }
-unfolding digits refusal_line settings answer answer_to_settings answer_to_model model_of family_of top is_utf8 chars parse_document lines skip_bom skip_from skip_ws
+unfolding digits refusal_line settings answered answer_to_model model_of family_of top is_utf8 chars parse_document lines skip_bom skip_from skip_ws
 no_bytes_are_no_model = refl
 
 no_word_is_no_command : answer [] [] ≡ record { output = []; notes = codes "words: no command\n"; status = 2 }
-unfolding settings answer answer_to_settings
+unfolding settings answered
 no_word_is_no_command = refl
 
 a_word_too_many : answer (codes "run" ∷ codes "x" ∷ []) [] ≡ record { output = []; notes = codes "words: extra word\n"; status = 2 }
-unfolding settings answer answer_to_settings
+unfolding settings answered
 a_word_too_many = refl

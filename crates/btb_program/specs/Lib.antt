@@ -1,4 +1,3 @@
 pub mod Answer
 pub mod Numbers
 pub mod SavedRuns
-pub mod Setting

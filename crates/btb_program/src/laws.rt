@@ -1,31 +1,21 @@
 //! Laws of saved runs and of numbers. Each function does nothing: its contract is the law.
 ghost use Rattle.btb_program.specs.Numbers.{Numbers};
-ghost use Rattle.btb_program.specs.SavedRuns.{RecordsAreNoStates, SavedRuns};
+ghost use Rattle.btb_program.specs.SavedRuns.{SavedRuns};
 
-use model_core::model::{Model, keeps_laws};
-use run_save::law_written;
+use model_core::model::Model;
+pub use model_program::laws::law_record_lines;
+use model_text::ModelTexts;
 use sim_spec::Terms;
-use sim_spec::laws::law_initial;
-use sim_text::laws::law_goes_on;
 
 /// What is told of the first cycles, and then of the simulation from the text of the state after them, is what is told of
 /// the whole run, and ends as it does.
 pub fn law_saved_runs<M: Model>(model: &M, terms: &Terms)
     ensures { SavedRuns (record { meaning = M.meaning model.now; terms = terms.now }) }
 {
-    keeps_laws(model);
-    law_initial(model, terms);
-    law_goes_on(model, terms);
-    law_written();
+    model_program::laws::law_saved_runs::<ModelTexts, M>(model, terms);
 }
 
 /// What the names of limits, codes and statuses stand for.
 pub fn law_numbers()
     ensures { Numbers }
-{}
-
-/// What `save` prints has one line `state 1` that can begin a state: no record is such a line.
-#[tactic(auto, using(crate::proofs::RecordLines::records_are_no_states))]
-pub fn law_record_lines()
-    ensures { RecordsAreNoStates }
 {}

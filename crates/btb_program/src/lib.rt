@@ -5,10 +5,7 @@ pub mod laws;
 mod process;
 mod program;
 mod running;
-mod saving;
-mod setting;
 mod stack;
-mod state_refusal;
 mod top;
 
 pub use process::{run_process, run_streams};

@@ -1,2 +1,3 @@
 pub mod HandedLemmas
+pub mod RunLemmas
 pub mod SavingLemmas

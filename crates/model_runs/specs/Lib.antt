@@ -1,4 +1,5 @@
 pub mod Handed
 pub mod Machines
 pub mod Plans
+pub mod RunStandings
 pub mod Saved

@@ -1,4 +1,4 @@
-//! A model of any kind, run to the end of its text: on one thread, or on nodes in threads.
+//! A model, whichever it is, run to the end of its text: on one thread, or on nodes in threads.
 #![tactic(auto)]
 
 mod handing;
@@ -10,6 +10,7 @@ mod running;
 mod saving;
 mod stage;
 mod team_run;
+mod told;
 
 pub use job::Job;
 pub use machine::{DEFAULT_SPREAD, Machine, Spread};

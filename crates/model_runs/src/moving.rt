@@ -6,12 +6,11 @@ ghost use Rattle.sim_spec.specs.State.{State};
 ghost use Rattle.cycle_core.specs.Standings.{WorldStandsAt};
 ghost use Rattle.cycle_core.specs.Worlds.{HasNodes, StandsAt};
 ghost use Rattle.object_moves.specs.Moves.{Exists};
-ghost use Rattle.model_text.specs.Meanings.{meaning_of};
 ghost use Rattle.model_runs.specs.Plans.{HasMoved, IsPlan, moves_by_turn};
 
 use cycle_core::World;
 use model_core::OutOfMemory;
-use model_text::AnyModel;
+use model_core::model::Model;
 use node_core::Homes;
 use node_team::Team;
 use object_moves::{Move, plan_by_load};
@@ -44,9 +43,9 @@ fn move_in_turn(alloc: Global, homes: &Homes, cycles: u64) -> Result<Vec<Move>, 
 }
 
 /// What moves after so many cycles.
-fn next_moves(
+fn next_moves<M: Model>(
     alloc: Global,
-    world: &World<AnyModel>,
+    world: &World<M>,
     moves: Moves,
     cycles: u64,
 ) -> Result<Vec<Move>, OutOfMemory>
@@ -79,13 +78,13 @@ impl Moving {
     }
 
     /// Makes the moves that come before the next cycle.
-    pub fn make_next(
+    pub fn make_next<M: Model>(
         self,
         alloc: Global,
-        team: &mut Team<AnyModel, RingLanes>,
+        team: &mut Team<M, RingLanes>,
     ) -> Result<(), OutOfMemory>
-        requires { (s : State) × StandsAt (meaning_of team.old.world.model) team.old.world s }
-        ensures at { (at : Standing) → WorldStandsAt meaning_of team.old.world at → WorldStandsAt meaning_of team.new.world at }
+        requires { (s : State) × StandsAt (M.meaning team.old.world.model) team.old.world s }
+        ensures at { (at : Standing) → WorldStandsAt M.meaning team.old.world at → WorldStandsAt M.meaning team.new.world at }
         ensures moved { OnOk result (HasMoved self.moves self.cycles team.old.world team.new.world) }
         ensures model { team.new.world.model ≡ team.old.world.model }
         ensures terms { team.new.world.terms ≡ team.old.world.terms }

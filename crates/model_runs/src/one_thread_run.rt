@@ -1,59 +1,76 @@
-//! The engine for one thread, on a model of any kind.
+//! The engine for one thread, on any model.
 ghost use Rattle.std.specs.Prelude.{◌≡◌, IfOk, None};
 ghost use Rattle.std.specs.Arc.{arc_value};
 ghost use Rattle.sim_spec.specs.State.{initial_state};
-ghost use Rattle.sim_spec.specs.Standing.{stands};
-ghost use Rattle.model_text.specs.Meanings.{meaning_of};
+ghost use Rattle.sim_spec.specs.Standing.{ended, stands};
+ghost use Rattle.model_runs.specs.RunStandings.{OneCycles, OneStandsAt};
 
+use crate::told::Told;
+use model_core::model::Model;
 use model_core::{OutOfMemory, Records};
-use model_text::AnyModel;
 use one_thread::OneThread;
-use sim_spec::{Engine, Stop, Terms};
+use sim_spec::{Bucket, Engine, Stop, Terms};
 use std::alloc::Global;
 use std::sync::Arc;
 
-/// A simulation of a model of any kind, on one thread.
+/// A simulation of a model, on one thread.
 #[derive(Drop)]
-pub struct OneThreadRun {
-    pub engine: OneThread<AnyModel>,
+pub struct OneThreadRun<M: Model> {
+    pub engine: OneThread<M>,
+    pub told: Told,
 }
 
-impl OneThreadRun {
+impl<M: Model> OneThreadRun<M> {
     /// The simulation at its start.
-    pub fn new(
-        alloc: Global,
-        model: Arc<AnyModel>,
-        terms: Terms,
-    ) -> Result<OneThreadRun, OutOfMemory>
+    pub fn new(alloc: Global, model: Arc<M>, terms: Terms) -> Result<OneThreadRun<M>, OutOfMemory>
         ensures model { IfOk result (λ run. run.engine.model ≡ arc_value model) }
         ensures terms { IfOk result (λ run. run.engine.terms ≡ terms) }
-        ensures begins { IfOk result (λ run. run.engine.standing ≡ stands (initial_state (meaning_of (arc_value model))) None) }
+        ensures begins { IfOk result (λ run. OneStandsAt M.meaning run (stands (initial_state (M.meaning (arc_value model))) None)) }
     {
         let engine = OneThread::new(alloc, model, terms)?;
-        Ok(OneThreadRun { engine })
+        let told = Told::new(engine.ended(), engine.count());
+        Ok(OneThreadRun { engine, told })
+    }
+
+    /// Hands the engine the records that were given back, whose room the next cycle takes.
+    fn reuse_room(&mut self)
+        ensures { self.new.engine ≡ self.old.engine }
+    {
+        if let Some(records) = self.told.spare.take() {
+            self.engine.give_back(records);
+        }
+    }
+
+    /// One cycle.
+    pub fn cycle(&mut self, alloc: Global) -> Result<Bucket, OutOfMemory>
+        requires { ended (M.meaning self.old.engine.model) self.old.engine.terms self.old.engine.standing ≡ None }
+        ensures { OneCycles M.meaning self.old result self.new }
+    {
+        self.reuse_room();
+        let bucket = self.engine.bucket(alloc);
+        self.told = Told::new(self.engine.ended(), self.engine.count());
+        bucket
     }
 }
 
-impl Engine for OneThreadRun {
-    ghost use Rattle.std.specs.Prelude.{◌≡◌};
-    ghost use Rattle.model_text.specs.Meanings.{meaning_of};
+impl<M: Model> Engine for OneThreadRun<M> {
+    ghost use Rattle.model_runs.specs.RunStandings.{OneStandsAt};
 
-    ghost meaning = { λ run. meaning_of run.engine.model };
+    ghost meaning = { λ run. M.meaning run.engine.model };
 
     ghost terms = { λ run. run.engine.terms };
 
-    ghost stands_at = { λ run at. run.engine.standing ≡ at };
+    ghost stands_at = { λ run. OneStandsAt M.meaning run };
 
     fn give_back(&mut self, records: Records) {
-        self.engine.give_back(records);
+        self.told.spare = Some(records);
     }
 
     fn ended(&self) -> Option<Stop> {
-        self.engine.ended()
+        self.told.ended
     }
 
-    #[tactic(auto, unfolding(sim_spec::specs::Standing::IsCountAt))]
     fn count(&self) -> u64 {
-        self.engine.count()
+        self.told.count
     }
 }

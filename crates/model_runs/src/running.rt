@@ -1,16 +1,16 @@
 //! A whole simulation of a model.
 ghost use Rattle.std.specs.Prelude.{◌≡◌, ◌≤◌, IfOk, None};
 ghost use Rattle.std.specs.Arc.{arc_value};
-ghost use Rattle.std.specs.Thread.{IsSync};
+ghost use Rattle.std.specs.Thread.{IsSend, IsSync};
 ghost use Rattle.model_core.specs.declared.limits.TheConstants.{MOST_NODES};
-ghost use Rattle.sim_spec.specs.Standing.{stands};
+ghost use Rattle.sim_spec.specs.Standing.{ended, stands};
 ghost use Rattle.sim_spec.specs.State.{initial_state};
 ghost use Rattle.sim_text.specs.Written.{HasSimulated};
-ghost use Rattle.cycle_core.specs.Standings.{WorldStandsAt, GoesOn, HasCycled};
+ghost use Rattle.cycle_core.specs.Standings.{GoesOn};
 ghost use Rattle.node_team.specs.Handings.{AreWorkers};
 ghost use Rattle.model_runs.specs.Handed.{HandsOn};
 ghost use Rattle.model_runs.specs.Machines.{IsMachine, IsSpread, IsSpreadAs};
-ghost use Rattle.model_text.specs.Meanings.{meaning_of};
+ghost use Rattle.model_runs.specs.RunStandings.{OneCycles, OneStandsAt, TeamCycles, TeamStandsAt};
 
 use crate::handing::hand_on;
 use crate::job::Job;
@@ -19,7 +19,7 @@ use crate::one_thread_run::OneThreadRun;
 use crate::stage::Stage;
 use crate::team_run::TeamRun;
 use model_core::OutOfMemory;
-use model_text::AnyModel;
+use model_core::model::Model;
 use node_team::Gate;
 use sim_io::Sink;
 use sim_spec::laws::law_initial;
@@ -30,15 +30,15 @@ use std::sync::Arc;
 use std::thread::Threads;
 
 /// A simulation at its start on one thread, and its model, which names what the simulation tells.
-fn one_thread(
+fn one_thread<M: Model>(
     alloc: Global,
-    model: AnyModel,
+    model: M,
     terms: Terms,
-) -> Result<(Arc<AnyModel>, OneThreadRun), OutOfMemory>
+) -> Result<(Arc<M>, OneThreadRun<M>), OutOfMemory>
     ensures named { IfOk result (λ both. arc_value both.0 ≡ model) }
     ensures model { IfOk result (λ both. both.1.engine.model ≡ model) }
     ensures terms { IfOk result (λ both. both.1.engine.terms ≡ terms) }
-    ensures begins { IfOk result (λ both. both.1.engine.standing ≡ stands (initial_state (meaning_of model)) None) }
+    ensures begins { IfOk result (λ both. OneStandsAt M.meaning both.1 (stands (initial_state (M.meaning model)) None)) }
 {
     let model = Arc::new(alloc, model)?;
     let run = OneThreadRun::new(alloc, model.clone()?, terms)?;
@@ -46,19 +46,19 @@ fn one_thread(
 }
 
 /// The same on nodes.
-pub(crate) fn on_nodes(
+pub(crate) fn on_nodes<M: Model>(
     alloc: Global,
-    model: AnyModel,
+    model: M,
     terms: Terms,
     spread: Spread,
-) -> Result<(Arc<AnyModel>, TeamRun), OutOfMemory>
+) -> Result<(Arc<M>, TeamRun<M>), OutOfMemory>
     requires low { 1 ≤ spread.nodes }
     requires high { spread.nodes ≤ MOST_NODES }
     ensures named { IfOk result (λ both. arc_value both.0 ≡ model) }
     ensures model { IfOk result (λ both. both.1.team.world.model ≡ model) }
     ensures terms { IfOk result (λ both. both.1.team.world.terms ≡ terms) }
     ensures spread { IfOk result (λ both. IsSpreadAs both.1.team both.1.moving spread) }
-    ensures begins { IfOk result (λ both. WorldStandsAt meaning_of both.1.team.world (stands (initial_state (meaning_of model)) None)) }
+    ensures begins { IfOk result (λ both. TeamStandsAt M.meaning both.1 (stands (initial_state (M.meaning model)) None)) }
 {
     let model = Arc::new(alloc, model)?;
     let run = TeamRun::new(alloc, model.clone()?, terms, spread)?;
@@ -66,40 +66,44 @@ pub(crate) fn on_nodes(
 }
 
 /// Runs a model on one thread, and writes what is to be told of its simulation.
-fn run_one_thread<K: Sink>(
+fn run_one_thread<M: Model, K: Sink>(
     alloc: Global,
-    model: AnyModel,
+    model: M,
     terms: Terms,
     telling: Telling,
     out: &mut K,
 ) -> Result<Stop, Unfinished>
-    ensures { HasSimulated K.Sink out.old out.new result (meaning_of model) terms telling (initial_state (meaning_of model)) }
+    ensures { HasSimulated K.Sink out.old out.new result (M.meaning model) terms telling (initial_state (M.meaning model)) }
 {
     let (model, mut run) = one_thread(alloc, model, terms)?;
     law_initial(&*model, &terms);
-    let cycle = |run: &mut OneThreadRun, alloc: Global, _out: &K| run.engine.bucket(alloc);
+    let cycle = |run: &mut OneThreadRun<M>, alloc: Global, _out: &K| -> Result<Bucket, OutOfMemory>
+        requires { IsSend M.row × IsSync M.row
+            × (ended (M.meaning run.old.engine.model) run.old.engine.terms run.old.engine.standing ≡ None) }
+        ensures { OneCycles M.meaning run.old result run.new }
+    { run.cycle(alloc) };
     simulate(alloc, &*model, &terms, &mut run, &cycle, telling, out)
 }
 
 /// Runs a model on nodes that advance in threads, and writes what is to be told of its simulation.
-fn run_on_nodes<R: Threads + Sync, G: Gate, K: Sink>(
+fn run_on_nodes<R: Threads + Sync, G: Gate, M: Model, K: Sink>(
     stage: Stage<R, G>,
-    model: AnyModel,
+    model: M,
     terms: Terms,
     spread: Spread,
     telling: Telling,
     out: &mut K,
 ) -> Result<Stop, Unfinished>
     requires { IsSpread spread }
-    ensures { HasSimulated K.Sink out.old out.new result (meaning_of model) terms telling (initial_state (meaning_of model)) }
+    ensures { HasSimulated K.Sink out.old out.new result (M.meaning model) terms telling (initial_state (M.meaning model)) }
 {
     let Stage { rt, alloc, gate } = stage;
     let (model, mut run) = on_nodes(alloc, model, terms, spread)?;
     law_initial(&*model, &terms);
     let workers = spread.workers;
-    let cycle = |run: &mut TeamRun, alloc: Global, _out: &K| -> Result<Bucket, OutOfMemory>
-        requires { IsSync R.row × IsSync G.row × AreWorkers workers × GoesOn meaning_of run.old.team.world }
-        ensures { HasCycled meaning_of run.old.team.world result run.new.team.world }
+    let cycle = |run: &mut TeamRun<M>, alloc: Global, _out: &K| -> Result<Bucket, OutOfMemory>
+        requires { IsSync R.row × IsSync G.row × IsSend M.row × IsSync M.row × AreWorkers workers × GoesOn M.meaning run.old.team.world }
+        ensures { TeamCycles M.meaning run.old result run.new }
     { run.cycle(rt, alloc, workers, gate) };
     simulate(alloc, &*model, &terms, &mut run, &cycle, telling, out)
 }
@@ -107,13 +111,13 @@ fn run_on_nodes<R: Threads + Sync, G: Gate, K: Sink>(
 /// Runs a model from its start, writes what is to be told of its simulation, and hands it on. The text is the same whatever
 /// the machine, the nodes, their placement, how far they work ahead, the workers, who steals what, which objects move, and
 /// the schedule of threads.
-pub fn run_model<R: Threads + Sync, G: Gate, K: Sink>(
+pub fn run_model<R: Threads + Sync, G: Gate, M: Model, K: Sink>(
     stage: Stage<R, G>,
-    job: Job,
+    job: Job<M>,
     out: &mut K,
 ) -> Result<Stop, Unfinished>
     requires { IsMachine job.machine }
-    ensures simulated { HasSimulated K.Sink out.old out.new result (meaning_of job.model) job.terms job.telling (initial_state (meaning_of job.model)) }
+    ensures simulated { HasSimulated K.Sink out.old out.new result (M.meaning job.model) job.terms job.telling (initial_state (M.meaning job.model)) }
     ensures handed { HandsOn K.Sink out.new result }
 {
     let Job {

@@ -1,18 +1,18 @@
 //! A simulation that is saved after its first cycles, and goes on from there.
 ghost use Rattle.std.specs.Prelude.{◌≡◌, ◌≤◌, IfOk, None, false};
 ghost use Rattle.std.specs.Arc.{arc_value};
-ghost use Rattle.std.specs.Thread.{IsSync};
+ghost use Rattle.std.specs.Thread.{IsSend, IsSync};
 ghost use Rattle.model_core.specs.declared.limits.TheConstants.{MOST_NODES};
 ghost use Rattle.sim_spec.specs.Standing.{stands};
 ghost use Rattle.sim_spec.specs.State.{Lawful};
 ghost use Rattle.sim_text.specs.Written.{HasSimulated};
 ghost use Rattle.sim_text.specs.declared.telling.Telling.TheVariants.{Lines};
-ghost use Rattle.cycle_core.specs.Standings.{WorldStandsAt, GoesOn, HasCycled};
+ghost use Rattle.cycle_core.specs.Standings.{GoesOn};
 ghost use Rattle.node_team.specs.Handings.{AreWorkers};
 ghost use Rattle.model_runs.specs.Handed.{HandsOn};
 ghost use Rattle.model_runs.specs.Machines.{IsSpread, IsSpreadAs};
+ghost use Rattle.model_runs.specs.RunStandings.{TeamCycles, TeamStandsAt};
 ghost use Rattle.model_runs.specs.Saved.{HasSaved};
-ghost use Rattle.model_text.specs.Meanings.{meaning_of};
 
 use crate::handing::hand_on;
 use crate::machine::Spread;
@@ -21,7 +21,7 @@ use crate::stage::Stage;
 use crate::team_run::TeamRun;
 use cycle_core::State;
 use model_core::OutOfMemory;
-use model_text::AnyModel;
+use model_core::model::Model;
 use node_team::Gate;
 use sim_io::Sink;
 use sim_spec::laws::law_initial;
@@ -32,21 +32,21 @@ use std::sync::Arc;
 use std::thread::Threads;
 
 /// A simulation at a state, and its model.
-fn at_state(
+fn at_state<M: Model>(
     alloc: Global,
-    model: AnyModel,
+    model: M,
     terms: Terms,
     spread: Spread,
     state: State,
-) -> Result<(Arc<AnyModel>, TeamRun), OutOfMemory>
+) -> Result<(Arc<M>, TeamRun<M>), OutOfMemory>
     requires low { 1 ≤ spread.nodes }
     requires high { spread.nodes ≤ MOST_NODES }
-    requires lawful { Lawful (meaning_of model) terms state }
+    requires lawful { Lawful (M.meaning model) terms state }
     ensures named { IfOk result (λ both. arc_value both.0 ≡ model) }
     ensures model { IfOk result (λ both. both.1.team.world.model ≡ model) }
     ensures terms { IfOk result (λ both. both.1.team.world.terms ≡ terms) }
     ensures spread { IfOk result (λ both. IsSpreadAs both.1.team both.1.moving spread) }
-    ensures begins { IfOk result (λ both. WorldStandsAt meaning_of both.1.team.world (stands state None)) }
+    ensures begins { IfOk result (λ both. TeamStandsAt M.meaning both.1 (stands state None)) }
 {
     let model = Arc::new(alloc, model)?;
     let run = TeamRun::from_state(alloc, model.clone()?, terms, spread, state)?;
@@ -54,24 +54,24 @@ fn at_state(
 }
 
 /// Writes the records of the first cycles of a model, and answers the state after them.
-fn save_after<R: Threads + Sync, G: Gate, K: Sink>(
+fn save_after<R: Threads + Sync, G: Gate, M: Model, K: Sink>(
     stage: Stage<R, G>,
-    model: AnyModel,
+    model: M,
     terms: Terms,
     spread: Spread,
     cycles: u32,
     out: &mut K,
 ) -> Result<State, Unfinished>
     requires { IsSpread spread }
-    ensures { HasSaved K.Sink out.old out.new result (meaning_of model) terms cycles }
+    ensures { HasSaved K.Sink out.old out.new result (M.meaning model) terms cycles }
 {
     let Stage { rt, alloc, gate } = stage;
     let (model, mut run) = on_nodes(alloc, model, terms, spread)?;
     law_initial(&*model, &terms);
     let workers = spread.workers;
-    let cycle = |run: &mut TeamRun, alloc: Global, _out: &K| -> Result<Bucket, OutOfMemory>
-        requires { IsSync R.row × IsSync G.row × AreWorkers workers × GoesOn meaning_of run.old.team.world }
-        ensures { HasCycled meaning_of run.old.team.world result run.new.team.world }
+    let cycle = |run: &mut TeamRun<M>, alloc: Global, _out: &K| -> Result<Bucket, OutOfMemory>
+        requires { IsSync R.row × IsSync G.row × IsSend M.row × IsSync M.row × AreWorkers workers × GoesOn M.meaning run.old.team.world }
+        ensures { TeamCycles M.meaning run.old result run.new }
     { run.cycle(rt, alloc, workers, gate) };
     simulate_first(alloc, &*model, &terms, &mut run, &cycle, cycles, out)?;
     Ok(run.team.snapshot(alloc)?)
@@ -79,16 +79,16 @@ fn save_after<R: Threads + Sync, G: Gate, K: Sink>(
 
 /// Runs a model from its start for so many cycles, or until it stops, on nodes, writes their records, and hands them on.
 /// It answers the state after them.
-pub fn save_model<R: Threads + Sync, G: Gate, K: Sink>(
+pub fn save_model<R: Threads + Sync, G: Gate, M: Model, K: Sink>(
     stage: Stage<R, G>,
-    model: AnyModel,
+    model: M,
     terms: Terms,
     spread: Spread,
     cycles: u32,
     out: &mut K,
 ) -> Result<State, Unfinished>
     requires { IsSpread spread }
-    ensures saved { HasSaved K.Sink out.old out.new result (meaning_of model) terms cycles }
+    ensures saved { HasSaved K.Sink out.old out.new result (M.meaning model) terms cycles }
     ensures handed { HandsOn K.Sink out.new result }
 {
     let outcome = save_after(stage, model, terms, spread, cycles, out);
@@ -96,24 +96,24 @@ pub fn save_model<R: Threads + Sync, G: Gate, K: Sink>(
 }
 
 /// Runs a model from a state until it stops, and writes its records and why.
-fn resume_at<R: Threads + Sync, G: Gate, K: Sink>(
+fn resume_at<R: Threads + Sync, G: Gate, M: Model, K: Sink>(
     stage: Stage<R, G>,
-    model: AnyModel,
+    model: M,
     terms: Terms,
     spread: Spread,
     state: State,
     out: &mut K,
 ) -> Result<Stop, Unfinished>
     requires spread { IsSpread spread }
-    requires lawful { Lawful (meaning_of model) terms state }
-    ensures { HasSimulated K.Sink out.old out.new result (meaning_of model) terms (Lines false) state }
+    requires lawful { Lawful (M.meaning model) terms state }
+    ensures { HasSimulated K.Sink out.old out.new result (M.meaning model) terms (Lines false) state }
 {
     let Stage { rt, alloc, gate } = stage;
     let (model, mut run) = at_state(alloc, model, terms, spread, state)?;
     let workers = spread.workers;
-    let cycle = |run: &mut TeamRun, alloc: Global, _out: &K| -> Result<Bucket, OutOfMemory>
-        requires { IsSync R.row × IsSync G.row × AreWorkers workers × GoesOn meaning_of run.old.team.world }
-        ensures { HasCycled meaning_of run.old.team.world result run.new.team.world }
+    let cycle = |run: &mut TeamRun<M>, alloc: Global, _out: &K| -> Result<Bucket, OutOfMemory>
+        requires { IsSync R.row × IsSync G.row × IsSend M.row × IsSync M.row × AreWorkers workers × GoesOn M.meaning run.old.team.world }
+        ensures { TeamCycles M.meaning run.old result run.new }
     { run.cycle(rt, alloc, workers, gate) };
     let telling = Telling::Lines { cycles: false };
     simulate(alloc, &*model, &terms, &mut run, &cycle, telling, out)
@@ -121,17 +121,17 @@ fn resume_at<R: Threads + Sync, G: Gate, K: Sink>(
 
 /// Runs a model from a state that a simulation of it can meet until it stops, on nodes, writes its records and why, and
 /// hands all on.
-pub fn resume_model<R: Threads + Sync, G: Gate, K: Sink>(
+pub fn resume_model<R: Threads + Sync, G: Gate, M: Model, K: Sink>(
     stage: Stage<R, G>,
-    model: AnyModel,
+    model: M,
     terms: Terms,
     spread: Spread,
     state: State,
     out: &mut K,
 ) -> Result<Stop, Unfinished>
     requires spread { IsSpread spread }
-    requires lawful { Lawful (meaning_of model) terms state }
-    ensures simulated { HasSimulated K.Sink out.old out.new result (meaning_of model) terms (Lines false) state }
+    requires lawful { Lawful (M.meaning model) terms state }
+    ensures simulated { HasSimulated K.Sink out.old out.new result (M.meaning model) terms (Lines false) state }
     ensures handed { HandsOn K.Sink out.new result }
 {
     let outcome = resume_at(stage, model, terms, spread, state, out);

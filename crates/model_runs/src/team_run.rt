@@ -1,4 +1,4 @@
-//! The engine on nodes, on a model of any kind.
+//! The engine on nodes, on any model.
 ghost use Rattle.std.specs.Prelude.{◌≡◌, ◌≤◌, ◌+◌, ◌-◌, ◌^◌, min, true, false, IfOk, OnOk, OnErr, None};
 ghost use Rattle.std.specs.Arc.{arc_value};
 ghost use Rattle.model_core.specs.declared.limits.TheConstants.{MOST_NODES};
@@ -6,15 +6,16 @@ ghost use Rattle.sim_spec.specs.State.{Lawful, initial_state};
 ghost use Rattle.sim_spec.specs.Standing.{Standing, stands};
 ghost use Rattle.cycle_core.specs.Standings.{GoesOn, HasCycled, WorldStandsAt};
 ghost use Rattle.node_team.specs.Handings.{AreWorkers};
-ghost use Rattle.model_text.specs.Meanings.{meaning_of};
 ghost use Rattle.model_runs.specs.Machines.{IsSpreadAs};
 ghost use Rattle.model_runs.specs.Plans.{HasMoved};
+ghost use Rattle.model_runs.specs.RunStandings.{TeamCycles, TeamStandsAt};
 
 use crate::machine::Spread;
 use crate::moving::Moving;
+use crate::told::Told;
 use cycle_core::{State, World};
+use model_core::model::Model;
 use model_core::{OutOfMemory, Records};
-use model_text::AnyModel;
 use node_team::{Gate, Team};
 use release_lanes::RingLanes;
 use sim_spec::{Bucket, Engine, Stop, Terms};
@@ -22,27 +23,28 @@ use std::alloc::Global;
 use std::sync::Arc;
 use std::thread::Threads;
 
-/// A simulation of a model of any kind, on nodes that advance in threads.
+/// A simulation of a model, on nodes that advance in threads.
 #[derive(Drop)]
-pub struct TeamRun {
-    pub team: Team<AnyModel, RingLanes>,
+pub struct TeamRun<M: Model> {
+    pub team: Team<M, RingLanes>,
     pub moving: Moving,
+    pub told: Told,
 }
 
-impl TeamRun {
+impl<M: Model> TeamRun<M> {
     /// The simulation at its start.
     pub fn new(
         alloc: Global,
-        model: Arc<AnyModel>,
+        model: Arc<M>,
         terms: Terms,
         spread: Spread,
-    ) -> Result<TeamRun, OutOfMemory>
+    ) -> Result<TeamRun<M>, OutOfMemory>
         requires low { 1 ≤ spread.nodes }
         requires high { spread.nodes ≤ MOST_NODES }
         ensures model { IfOk result (λ run. run.team.world.model ≡ arc_value model) }
         ensures terms { IfOk result (λ run. run.team.world.terms ≡ terms) }
         ensures spread { IfOk result (λ run. IsSpreadAs run.team run.moving spread) }
-        ensures begins { IfOk result (λ run. WorldStandsAt meaning_of run.team.world (stands (initial_state (meaning_of (arc_value model))) None)) }
+        ensures begins { IfOk result (λ run. TeamStandsAt M.meaning run (stands (initial_state (M.meaning (arc_value model))) None)) }
     {
         let world = World::begin(alloc, model, terms, spread.nodes, spread.placement)?;
         TeamRun::of(alloc, world, spread)
@@ -51,42 +53,46 @@ impl TeamRun {
     /// The simulation at a state.
     pub fn from_state(
         alloc: Global,
-        model: Arc<AnyModel>,
+        model: Arc<M>,
         terms: Terms,
         spread: Spread,
         state: State,
-    ) -> Result<TeamRun, OutOfMemory>
+    ) -> Result<TeamRun<M>, OutOfMemory>
         requires low { 1 ≤ spread.nodes }
         requires high { spread.nodes ≤ MOST_NODES }
-        requires lawful { Lawful (meaning_of (arc_value model)) terms state }
+        requires lawful { Lawful (M.meaning (arc_value model)) terms state }
         ensures model { IfOk result (λ run. run.team.world.model ≡ arc_value model) }
         ensures terms { IfOk result (λ run. run.team.world.terms ≡ terms) }
         ensures spread { IfOk result (λ run. IsSpreadAs run.team run.moving spread) }
-        ensures begins { IfOk result (λ run. WorldStandsAt meaning_of run.team.world (stands state None)) }
+        ensures begins { IfOk result (λ run. TeamStandsAt M.meaning run (stands state None)) }
     {
         let world = World::from_state(alloc, model, terms, spread.nodes, spread.placement, state)?;
         TeamRun::of(alloc, world, spread)
     }
 
     /// The simulation of a world.
-    fn of(alloc: Global, world: World<AnyModel>, spread: Spread) -> Result<TeamRun, OutOfMemory>
+    fn of(alloc: Global, world: World<M>, spread: Spread) -> Result<TeamRun<M>, OutOfMemory>
         requires nodes { world.homes.nodes ≡ spread.nodes }
         requires low { 1 ≤ spread.nodes }
         requires high { spread.nodes ≤ MOST_NODES }
         ensures world { IfOk result (λ run. run.team.world ≡ world) }
         ensures spread { IfOk result (λ run. IsSpreadAs run.team run.moving spread) }
+        ensures told { IfOk result (λ run. (at : Standing) → WorldStandsAt M.meaning world at → TeamStandsAt M.meaning run at) }
     {
         let lanes = RingLanes::new(alloc, spread.nodes)?;
+        let team = Team::new(alloc, world, lanes, spread.ahead)?;
+        let told = Told::new(team.ended(), team.count());
         Ok(TeamRun {
-            team: Team::new(alloc, world, lanes, spread.ahead)?,
+            team,
             moving: Moving::new(spread.moves),
+            told,
         })
     }
 
     /// Makes the moves that come before the next cycle, where there is one. After a refusal the world is spent.
     fn make_moves(&mut self, alloc: Global) -> Result<(), OutOfMemory>
-        requires { GoesOn meaning_of self.old.team.world }
-        ensures at { OnOk result ((at : Standing) → WorldStandsAt meaning_of self.old.team.world at → WorldStandsAt meaning_of self.new.team.world at) }
+        requires { GoesOn M.meaning self.old.team.world }
+        ensures at { OnOk result ((at : Standing) → WorldStandsAt M.meaning self.old.team.world at → WorldStandsAt M.meaning self.new.team.world at) }
         ensures moved { OnOk result (self.old.team.world.is_spent ≡ false
             → HasMoved self.old.moving.moves self.old.moving.cycles self.old.team.world self.new.team.world) }
         ensures moving { self.new.moving ≡ self.old.moving }
@@ -115,8 +121,8 @@ impl TeamRun {
         gate: &G,
     ) -> Result<Bucket, OutOfMemory>
         requires workers { AreWorkers workers }
-        requires goes_on { GoesOn meaning_of self.old.team.world }
-        ensures cycled { HasCycled meaning_of self.old.team.world result self.new.team.world }
+        requires goes_on { GoesOn M.meaning self.old.team.world }
+        ensures cycled { HasCycled M.meaning self.old.team.world result self.new.team.world }
         ensures moving { self.new.moving ≡ self.old.moving }
     {
         match workers {
@@ -125,8 +131,35 @@ impl TeamRun {
         }
     }
 
-    /// One cycle, by so many workers where there are some. What moves after a cycle does so before the next one: nothing moves
-    /// after the last.
+    /// One cycle, by so many workers where there are some, after the moves that come before it: nothing moves after the last.
+    fn move_and_cycle<R: Threads + Sync, G: Gate>(
+        &mut self,
+        rt: &R,
+        alloc: Global,
+        workers: Option<u32>,
+        gate: &G,
+    ) -> Result<Bucket, OutOfMemory>
+        requires workers { AreWorkers workers }
+        requires goes_on { GoesOn M.meaning self.old.team.world }
+        ensures cycled { HasCycled M.meaning self.old.team.world result self.new.team.world }
+        ensures moving { OnOk result (self.new.moving ≡ record { moves = self.old.moving.moves; cycles = min (self.old.moving.cycles + 1) (2 ^ 64 - 1) }) }
+    {
+        self.make_moves(alloc)?;
+        self.moving = self.moving.after();
+        self.cycle_team(rt, alloc, workers, gate)
+    }
+
+    /// Hands the team the records that were given back, whose room the next cycle takes.
+    fn reuse_room(&mut self)
+        ensures team { self.new.team ≡ self.old.team }
+        ensures moving { self.new.moving ≡ self.old.moving }
+    {
+        if let Some(records) = self.told.spare.take() {
+            self.team.give_back(records);
+        }
+    }
+
+    /// The same, after which the run tells where it stands.
     pub fn cycle<R: Threads + Sync, G: Gate>(
         &mut self,
         rt: &R,
@@ -135,35 +168,35 @@ impl TeamRun {
         gate: &G,
     ) -> Result<Bucket, OutOfMemory>
         requires workers { AreWorkers workers }
-        requires goes_on { GoesOn meaning_of self.old.team.world }
-        ensures cycled { HasCycled meaning_of self.old.team.world result self.new.team.world }
+        requires goes_on { GoesOn M.meaning self.old.team.world }
+        ensures cycled { TeamCycles M.meaning self.old result self.new }
         ensures moving { OnOk result (self.new.moving ≡ record { moves = self.old.moving.moves; cycles = min (self.old.moving.cycles + 1) (2 ^ 64 - 1) }) }
     {
-        self.make_moves(alloc)?;
-        self.moving = self.moving.after();
-        self.cycle_team(rt, alloc, workers, gate)
+        self.reuse_room();
+        let bucket = self.move_and_cycle(rt, alloc, workers, gate);
+        self.told = Told::new(self.team.ended(), self.team.count());
+        bucket
     }
 }
 
-impl Engine for TeamRun {
-    ghost use Rattle.model_text.specs.Meanings.{meaning_of};
-    ghost use Rattle.cycle_core.specs.Standings.{WorldStandsAt};
+impl<M: Model> Engine for TeamRun<M> {
+    ghost use Rattle.model_runs.specs.RunStandings.{TeamStandsAt};
 
-    ghost meaning = { λ run. meaning_of run.team.world.model };
+    ghost meaning = { λ run. M.meaning run.team.world.model };
 
     ghost terms = { λ run. run.team.world.terms };
 
-    ghost stands_at = { λ run. WorldStandsAt meaning_of run.team.world };
+    ghost stands_at = { λ run. TeamStandsAt M.meaning run };
 
     fn give_back(&mut self, records: Records) {
-        self.team.give_back(records);
+        self.told.spare = Some(records);
     }
 
     fn ended(&self) -> Option<Stop> {
-        self.team.ended()
+        self.told.ended
     }
 
     fn count(&self) -> u64 {
-        self.team.count()
+        self.told.count
     }
 }

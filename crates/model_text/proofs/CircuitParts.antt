@@ -15,8 +15,8 @@ use Rattle.circuit_model.specs.declared.limits.TheConstants.{MOST_FED}
 use Rattle.model_text.specs.declared.directory.Place.{Place}
 use Rattle.model_text.specs.declared.named.NamedGate.{NamedGate}
 use Rattle.model_text.specs.declared.refusal.Cause.TheVariants.{Limit}
-use Rattle.model_text.specs.declared.refusal.Refusal.{Refusal}
-use Rattle.model_text.specs.declared.refusal.Refusal.TheVariants.{At, OutOfMemory}
+use Rattle.model_reader.specs.declared.refusal.Refusal.{Refusal}
+use Rattle.model_reader.specs.declared.refusal.Refusal.TheVariants.{At, OutOfMemory}
 use Rattle.model_text.specs.Checks.{Checked, Fails, refusal_where, ◌>>=◌}
 use Rattle.model_text.specs.Circuits.{linked_gate, linked_gates, is_overloaded, fan_out, linked_circuit}
 use Rattle.model_text.specs.Fields.{each_of}

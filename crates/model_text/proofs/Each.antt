@@ -2,8 +2,8 @@
 use Rattle.std.proofs.Common.{◌≡◌, ℕ, zero, suc, ◌+◌, ◌<◌, List, [], ◌∷◌, ◌++◌, length, drop, get_or, Ok, Err, refl, sym, ap, ◌∙◌, append_assoc, arith}
 use Rattle.std.proofs.lemmas.List.{drop_more}
 use Rattle.model_text.specs.Checks.{Checked, Refused, ◌>>=◌, Fails}
-use Rattle.model_text.specs.declared.refusal.Refusal.{Refusal}
-use Rattle.model_text.specs.declared.refusal.Refusal.TheVariants.{At, OutOfMemory}
+use Rattle.model_reader.specs.declared.refusal.Refusal.{Refusal}
+use Rattle.model_reader.specs.declared.refusal.Refusal.TheVariants.{At, OutOfMemory}
 use Rattle.model_text.specs.Fields.{each_after, each_of, all_of, item_count}
 use Rattle.toml.specs.Data.{Data, item}
 use Rattle.toml.specs.View.{view, items_view}

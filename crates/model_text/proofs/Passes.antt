@@ -10,8 +10,8 @@ use Rattle.model_text.specs.Jobs.{jobs_from}
 use Rattle.model_text.specs.Objects.{linked_from}
 use Rattle.model_text.specs.Names.{Finder, NamedItem, place_in}
 use Rattle.model_text.specs.Networks.{linked_network}
-use Rattle.model_text.specs.declared.refusal.Refusal.{Refusal}
-use Rattle.model_text.specs.declared.refusal.Refusal.TheVariants.{At, OutOfMemory}
+use Rattle.model_reader.specs.declared.refusal.Refusal.{Refusal}
+use Rattle.model_reader.specs.declared.refusal.Refusal.TheVariants.{At, OutOfMemory}
 
 after_links : (format : Format) (named : List NamedItem) (find : Finder) (entries : Items) (objects : List Item) (first : ℕ) → find ≡ place_in named → first ≡ length named + 1
     → linked_from find 1 named ≡ Ok objects

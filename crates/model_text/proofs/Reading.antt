@@ -4,8 +4,8 @@ use Rattle.toml.specs.Data.{item}
 use Rattle.toml.specs.View.{view, items_view}
 use Rattle.toml.specs.declared.value.Value.{Value}
 use Rattle.toml.proofs.Views.{items_view-drop}
-use Rattle.model_text.specs.declared.refusal.Refusal.{Refusal}
-use Rattle.model_text.specs.declared.refusal.Refusal.TheVariants.{At, OutOfMemory}
+use Rattle.model_reader.specs.declared.refusal.Refusal.{Refusal}
+use Rattle.model_reader.specs.declared.refusal.Refusal.TheVariants.{At, OutOfMemory}
 use Rattle.model_text.specs.declared.formats.Format.{Format}
 use Rattle.model_text.specs.Checks.{Checked, Fails, ◌>>=◌}
 use Rattle.model_text.specs.Names.{Finder, NamedItem, place_in}

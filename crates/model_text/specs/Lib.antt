@@ -20,6 +20,7 @@ pub mod Names
 pub mod Networks
 pub mod Objects
 pub mod Phold
+pub mod Readers
 pub mod Routers
 pub mod Starts
 pub mod TermsOf

@@ -7,6 +7,7 @@ use Rattle.model_core.specs.Meaning.{Meaning}
 use Rattle.sim_spec.specs.declared.terms.Terms.{Terms}
 use Rattle.event_key.specs.declared.stamp.TheConstants.{LAST_TICK}
 use Rattle.model_core.specs.declared.limits.TheConstants.{MOST_EVENTS, MOST_TEXT_BYTES}
+use Rattle.model_reader.specs.Readings.{ModelOf}
 use Rattle.model_text.specs.declared.formats.Format.{Format}
 use Rattle.model_text.specs.declared.top.ModelKind.{ModelKind}
 use Rattle.model_text.specs.declared.top.ModelKind.TheVariants.{Phold, Network, Circuit}
@@ -23,11 +24,6 @@ use Rattle.model_text.specs.TermsOf.{terms_of}
 pub record FamilyOf : Type 0 where
   pub under : ℕ → Meaning
   pub seed : ℕ
-  pub terms : Terms
-
--- a model, and how far its simulation goes
-pub record ModelOf : Type 0 where
-  pub meaning : Meaning
   pub terms : Terms
 
 abbrev pub kind_of : Format → List ℕ → Checked ModelKind

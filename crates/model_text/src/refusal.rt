@@ -1,11 +1,8 @@
 //! Why a model text is refused.
 ghost use Rattle.std.specs.Prelude.{◌≡◌};
 ghost use Rattle.model_text.specs.Causes.{code_name};
-ghost use Rattle.model_text.specs.declared.refusal.Refusal.TheVariants.{OutOfMemory};
 
-use delta_exchange::OutOfMemory;
-use std::alloc::{AllocError, AllocFailed};
-use thiserror::Error;
+pub use model_reader::Refusal;
 
 /// What the first check that fails found.
 #[derive(Clone, Copy)]
@@ -26,44 +23,9 @@ pub(crate) enum Cause {
     Limit,
 }
 
-/// Why a model text is not read.
-#[derive(Clone, Copy, Debug, PartialEq, Eq, Error)]
-pub enum Refusal {
-    /// The code of the first check that fails, from 1 to 7, and the item that it speaks of. Item 0 is the model as a
-    /// whole. The entries of `start`, or the objects and after them the jobs, are counted from 1.
-    #[error("refused with code {code} at item {item}")]
-    At { code: u8, item: u32 },
-    #[error("out of memory")]
-    OutOfMemory,
-}
-
-impl From<AllocError> for Refusal {
-    ghost from_gives = { λ _ refusal. refusal ≡ OutOfMemory };
-
-    fn from(_: AllocError) -> Refusal {
-        Refusal::OutOfMemory
-    }
-}
-
-impl<T: Drop> From<AllocFailed<T>> for Refusal {
-    ghost from_gives = { λ _ refusal. refusal ≡ OutOfMemory };
-
-    fn from(_: AllocFailed<T>) -> Refusal {
-        Refusal::OutOfMemory
-    }
-}
-
-impl From<OutOfMemory> for Refusal {
-    ghost from_gives = { λ _ refusal. refusal ≡ OutOfMemory };
-
-    fn from(_: OutOfMemory) -> Refusal {
-        Refusal::OutOfMemory
-    }
-}
-
 impl Cause {
     ghost use Rattle.std.specs.Prelude.{◌≡◌};
-    ghost use Rattle.model_text.specs.declared.refusal.Refusal.TheVariants.{At};
+    ghost use Rattle.model_reader.specs.declared.refusal.Refusal.TheVariants.{At};
     ghost use Rattle.model_text.specs.Causes.{cause_code};
 
     /// Its code, from 1 to 7.

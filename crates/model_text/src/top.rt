@@ -139,7 +139,8 @@ fn tree(alloc: Global, bytes: &[u8]) -> Result<Table, Refusal>
 }
 
 /// What a text describes, or the first check that it fails: a model that can be had under any seed without reading the
-/// text again.
+/// text again. A refusal has the code of that check, from 1 to 7, and the item that it speaks of. Item 0 is the model as a
+/// whole. The entries of `start`, or the objects and after them the jobs, are counted from 1.
 #[tactic(auto, unfolding(crate::specs::ModelTexts::family_of))]
 pub fn read_family(alloc: Global, bytes: &[u8]) -> Result<ReadModel, Refusal>
     ensures read { IfOk result (λ read. family_of bytes.now ≡ Ok (family_read read)) }
@@ -154,7 +155,7 @@ pub fn read_family(alloc: Global, bytes: &[u8]) -> Result<ReadModel, Refusal>
     top(alloc, &table)
 }
 
-/// The model and the terms of a text, or the first check that it fails.
+/// The model and the terms of a text, or the first check that it fails, as `read_family` tells it.
 #[tactic(auto, unfolding(crate::specs::ModelTexts::model_of))]
 pub fn read_model(alloc: Global, bytes: &[u8]) -> Result<(AnyModel, Terms), Refusal>
     ensures read { IfOk result (λ read. model_of bytes.now ≡ Ok (record { meaning = meaning_of read.0; terms = read.1 })) }

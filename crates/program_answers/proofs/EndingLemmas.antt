@@ -107,9 +107,10 @@ module _ {K : Type 0} (sink : Sink K) (out : K) where
       whole_ends sink out out ending _ (subst TellsOfModel (sym told.0) tells) (Appends-nil _) told.0 told.1 refl (λ kept. kept)
 
 -- a refusal with the same code and item is the same
-pub same_refusal : (ending : Ending) (code code' item item' : ℕ) → IsRefusal MODEL (refusal_line code item) ending → code ≡ code' → item ≡ item' → IsRefusal MODEL (refusal_line code' item') ending
-same_refusal ending code code' item item' refusal same_code same_item =
-    subst (λ line. IsRefusal MODEL line ending) (ap (λ n. refusal_line n item) same_code ∙ ap (refusal_line code') same_item) refusal
+pub same_refusal : (ending : Ending) (code code' : ℕ) (name name' : List ℕ) (item item' : ℕ) → IsRefusal MODEL (refusal_line code name item) ending → code ≡ code' → name ≡ name' → item ≡ item'
+    → IsRefusal MODEL (refusal_line code' name' item') ending
+same_refusal ending code code' name name' item item' refusal same_code same_name same_item =
+    subst (λ line. IsRefusal MODEL line ending) (ap (λ n. refusal_line n name item) same_code ∙ ap (λ told. refusal_line code' told item) same_name ∙ ap (refusal_line code' name') same_item) refusal
 
 pub end_status : TellsOfModel END
 end_status = record { no_words = λ is. cc; no_read_fault = λ is. cc; no_write_fault = λ is. cc }

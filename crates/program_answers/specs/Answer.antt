@@ -1,7 +1,6 @@
 -- What a program writes, what it notes, and the status with which it ends.
 use Rattle.std.specs.Prelude.{◌≡◌, ◌⊎◌, ℕ, Bool, true, false, List, [], ◌++◌, Option, Some, IfSome, codes, decimal}
 use Rattle.std.specs.Io.KnownBytes.{Appends}
-use Rattle.model_text.specs.Causes.{code_name}
 use Rattle.sim_spec.specs.declared.stop.Stop.{Stop}
 use Rattle.sim_spec.specs.declared.stop.Stop.TheVariants.{End, Limit, Fault}
 use Rattle.sim_io.specs.declared.words.WordFault.{WordFault}
@@ -24,16 +23,16 @@ abbrev pub words_line : WordFault → List ℕ
 words_line fault = codes "words: " ++ (fault_name fault ++ codes "\n")
 
 -- the line for a model that is refused: the code and what it is called, and the item where it was met
-unfoldable pub refusal_line : ℕ → ℕ → List ℕ
-refusal_line code item = codes "model: " ++ (decimal code ++ (codes " " ++ (code_name code ++ (codes " item " ++ (decimal item ++ codes "\n")))))
+unfoldable pub refusal_line : ℕ → List ℕ → ℕ → List ℕ
+refusal_line code name item = codes "model: " ++ (decimal code ++ (codes " " ++ (name ++ (codes " item " ++ (decimal item ++ codes "\n")))))
 
 -- the answer to words that are refused
 abbrev pub answer_to_fault : WordFault → Answer
 answer_to_fault fault = record { output = []; notes = words_line fault; status = WORDS }
 
--- the answer to a model that is refused with this code at this item
-abbrev pub answer_to_refusal : ℕ → ℕ → Answer
-answer_to_refusal code item = record { output = []; notes = refusal_line code item; status = MODEL }
+-- the answer to a model that is refused with a code of this name at this item
+abbrev pub answer_to_refusal : ℕ → List ℕ → ℕ → Answer
+answer_to_refusal code name item = record { output = []; notes = refusal_line code name item; status = MODEL }
 
 -- what words ask for: whether they are refused, whether the input is read, how many bytes of it at most, which input is
 -- accepted, and what is answered to the input

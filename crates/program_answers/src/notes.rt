@@ -10,25 +10,23 @@ ghost use Rattle.program_answers.specs.declared.status.TheConstants.{MODEL};
 
 use crate::ending::Ending;
 use delta_exchange::OutOfMemory;
-use model_text::code_name;
 use sim_io::{Failed, Sink, WordFault, write_all};
 use std::alloc::Global;
 
-/// The line for a model that is refused with this code at this item.
+/// The line for a model that is refused with a code of this name at this item.
 #[tactic(auto, unfolding(crate::specs::Answer::refusal_line))]
-fn refusal_line(alloc: Global, code: u8, item: u32) -> Result<Vec<u8>, OutOfMemory>
-    ensures { IfOk result (λ line. line.items ≡ refusal_line code item) }
+fn refusal_line(alloc: Global, code: u8, name: &str, item: u32) -> Result<Vec<u8>, OutOfMemory>
+    ensures { IfOk result (λ line. line.items ≡ refusal_line code name.now item) }
 {
-    let name = code_name(code);
     let line = format!(in alloc; "model: {code} {name} item {item}\n")?;
     Ok(line.into_bytes())
 }
 
-/// The ending of a model that is refused with this code at this item.
-pub fn refused(alloc: Global, code: u8, item: u32) -> Ending
-    ensures { IsRefusal MODEL (refusal_line code item) result }
+/// The ending of a model that is refused with a code of this name at this item.
+pub fn refused(alloc: Global, code: u8, name: &str, item: u32) -> Ending
+    ensures { IsRefusal MODEL (refusal_line code name.now item) result }
 {
-    match refusal_line(alloc, code, item) {
+    match refusal_line(alloc, code, name, item) {
         Ok(line) => Ending::RefusedModel { line },
         Err(_) => Ending::OutOfMemory,
     }

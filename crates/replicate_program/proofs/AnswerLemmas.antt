@@ -5,10 +5,10 @@ use Rattle.std.specs.List.{list_any}
 use Rattle.std.specs.Io.KnownBytes.{Appends, Keeps}
 use Rattle.model_text.specs.declared.described.ReadModel.{ReadModel}
 use Rattle.model_text.specs.declared.model.AnyModel.{AnyModel}
-use Rattle.model_text.specs.Checks.{Checked}
+use Rattle.model_reader.specs.Checks.{Checked}
 use Rattle.model_text.specs.Meanings.{family_read, meaning_under}
 use Rattle.model_text.specs.ModelTexts.{FamilyOf, family_of}
-use Rattle.model_text.proofs.LongTexts.{family_of-take}
+use Rattle.model_text.specs.Readers.{family_of-take}
 use Rattle.sim_io.specs.declared.streams.reading.TheConstants.{ENOUGH_BYTES}
 use Rattle.sim_io.specs.declared.streams.sink.Sink.{Ghosts as Sink}
 use Rattle.sim_io.specs.declared.words.WordFault.{WordFault}

@@ -2,7 +2,8 @@
 use Rattle.std.specs.Prelude.{ℕ, Bool, true, false, ◌&&◌, if◌then◌else◌, List, [], is_err, is_ok, unwrap_or, Result, Ok, Err, String}
 use Rattle.std.specs.List.{list_any}
 use Rattle.std.specs.declared.alloc.Global.{Global}
-use Rattle.model_text.specs.Checks.{Checked}
+use Rattle.model_reader.specs.Checks.{Checked}
+use Rattle.model_text.specs.Causes.{code_name}
 use Rattle.model_text.specs.ModelTexts.{FamilyOf, family_of}
 use Rattle.sim_io.specs.declared.streams.reading.TheConstants.{ENOUGH_BYTES}
 use Rattle.sim_io.specs.declared.words.WordFault.{WordFault}
@@ -42,7 +43,7 @@ answer_to_family asked family = answer_to_study (study_asked asked family) asked
 
 -- the answer to a text that was read, or refused
 unfoldable pub answer_to_read : Replicate → Checked FamilyOf → Answer
-answer_to_read asked (Err refused) = answer_to_refusal refused.code refused.item
+answer_to_read asked (Err refused) = answer_to_refusal refused.code (code_name refused.code) refused.item
 answer_to_read asked (Ok family) = answer_to_family asked family
 
 unfoldable pub answer_to_words : Result Replicate WordFault → List ℕ → Answer

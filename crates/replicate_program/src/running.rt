@@ -10,7 +10,8 @@ ghost use Rattle.replications.specs.ReplicateWords.{AreInBounds};
 ghost use Rattle.replicate_program.specs.TableAnswers.{answer_to_family, answer_to_read, table_asked_by};
 
 use crate::text_seeds::TextSeeds;
-use model_text::{ReadModel, Refusal, read_family};
+use model_reader::Refusal;
+use model_text::{ReadModel, code_name, read_family};
 use program_answers::{Ending, ending_of, refused};
 use replications::{Replicate, Study, read_replicate_words, write_table};
 use sim_io::{ReadEnd, Sink, Source, read_all};
@@ -64,7 +65,7 @@ fn tabulate_input<R: Threads + Sync, S: Source, K: Sink>(
     };
     match read_family(alloc, bytes.as_slice()) {
         Ok(read) => tabulate(rt, alloc, read, asked, out),
-        Err(Refusal::At { code, item }) => refused(alloc, code, item),
+        Err(Refusal::At { code, item }) => refused(alloc, code, code_name(code), item),
         Err(Refusal::OutOfMemory) => Ending::OutOfMemory,
     }
 }

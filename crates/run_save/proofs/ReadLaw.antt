@@ -4,8 +4,8 @@ use Rattle.std.specs.Prelude.{codes, nat_le, nat_lt, ◌&&◌, ◌==◌}
 use Rattle.std.specs.List.{flat_map}
 use Rattle.std.proofs.lemmas.Bool.{and_parts, leb-true, ltb-true, eqb-true}
 use Rattle.model_core.specs.declared.limits.TheConstants.{MOST_OBJECTS, MOST_TEXT_BYTES}
-use Rattle.model_text.specs.Checks as models
-use Rattle.model_text.specs.ModelTexts.{ModelOf, model_of}
+use Rattle.model_reader.specs.Checks as models
+use Rattle.model_reader.specs.Readings.{ModelOf}
 use Rattle.run_save.specs.declared.reading.TheConstants.{MOST_STATE_BYTES}
 use Rattle.run_save.specs.declared.refusal.StateCause.TheVariants.{TooLong}
 use Rattle.run_save.specs.Checks.{wanted}
@@ -106,26 +106,27 @@ read_at-read : (line : ℕ) (check : models.Checked ModelOf) (read : ModelOf) �
 read_at-read line (Ok model) read reads = ap (λ (m : ModelOf). Ok m) (same_given model read reads)
 read_at-read line (Err refused) read reads = absurd cc
 
-pub read_is_written : ReadIsWritten
-unfolding state_of judged
-read_is_written bytes saved reads =
-    let short = bound (wanted (nat_le (length bytes) MOST_STATE_BYTES) TooLong 0) _ saved reads in
-    let draft = bound (whole_text (at bytes 1)) _ saved short.2 in
-    let read = bound (read_at draft.0.line (model_of draft.0.model)) _ saved draft.2 in
-    let lawful = bound (lawful_check read.0.meaning read.0.terms draft.0.state) _ saved read.2 in
-    let written = text-takes (at bytes 1) draft.0 draft.1 in
-    let within : length bytes ≤ MOST_STATE_BYTES = leb-true _ _ (passes _ _ _ _ short.1) in
-    let made : IsTextOf bytes (saved_with read.0 draft.0.state) = record {
-      model = draft.0.model;
-      text = written.text;
-      savable = record {
-        reads = read_at-read draft.0.line (model_of draft.0.model) read.0 read.1;
-        some_bytes = written.some;
-        few_bytes = written.few;
-        few_objects = written.few_objects;
-        lawful = check_is_lawful read.0.meaning read.0.terms draft.0.state lawful.0 (told_times None draft.0.state.pending written.turn) (turn_ascends None draft.0.state.pending written.turn) lawful.1;
-        fits = written.fits;
-        short = omega (arith, within, ap (λ (t : List ℕ). length t) written.text);
-      };
-    } in
-    subst (λ (s : SavedState). IsTextOf bytes s) (same_given (saved_with read.0 draft.0.state) saved lawful.2) made
+module _ (model_of : List ℕ → models.Checked ModelOf) where
+  pub read_is_written : ReadIsWritten model_of
+  unfolding state_of judged
+  read_is_written bytes saved reads =
+      let short = bound (wanted (nat_le (length bytes) MOST_STATE_BYTES) TooLong 0) _ saved reads in
+      let draft = bound (whole_text (at bytes 1)) _ saved short.2 in
+      let read = bound (read_at draft.0.line (model_of draft.0.model)) _ saved draft.2 in
+      let lawful = bound (lawful_check read.0.meaning read.0.terms draft.0.state) _ saved read.2 in
+      let written = text-takes (at bytes 1) draft.0 draft.1 in
+      let within : length bytes ≤ MOST_STATE_BYTES = leb-true _ _ (passes _ _ _ _ short.1) in
+      let made : IsTextOf model_of bytes (saved_with read.0 draft.0.state) = record {
+        model = draft.0.model;
+        text = written.text;
+        savable = record {
+          reads = read_at-read draft.0.line (model_of draft.0.model) read.0 read.1;
+          some_bytes = written.some;
+          few_bytes = written.few;
+          few_objects = written.few_objects;
+          lawful = check_is_lawful read.0.meaning read.0.terms draft.0.state lawful.0 (told_times None draft.0.state.pending written.turn) (turn_ascends None draft.0.state.pending written.turn) lawful.1;
+          fits = written.fits;
+          short = omega (arith, within, ap (λ (t : List ℕ). length t) written.text);
+        };
+      } in
+      subst (λ (s : SavedState). IsTextOf model_of bytes s) (same_given (saved_with read.0 draft.0.state) saved lawful.2) made

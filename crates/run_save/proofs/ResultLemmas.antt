@@ -6,8 +6,9 @@ use Rattle.delta_exchange.specs.declared.memory.OutOfMemory.{OutOfMemory}
 use Rattle.delta_exchange.specs.Changes.{CellData}
 use Rattle.event_key.specs.declared.key.Key.{Key}
 use Rattle.model_core.specs.declared.event.Event.{Event}
-use Rattle.model_text.specs.Meanings.{meaning_of}
-use Rattle.model_text.specs.ModelTexts.{ModelOf}
+use Rattle.model_core.specs.Meaning.{Meaning}
+use Rattle.model_reader.specs.Checks as models
+use Rattle.model_reader.specs.Readings.{ModelOf}
 use Rattle.sim_spec.specs.State.{State, Lawful}
 use Rattle.run_save.specs.declared.refusal.StateRefusal.{StateRefusal}
 use Rattle.run_save.specs.declared.saved.Saved.{Saved}
@@ -19,18 +20,19 @@ use Rattle.run_save.specs.Views.{saved_of}
 use Rattle.run_save.proofs.ReadLaw.{read_is_written}
 use Rattle.run_save.proofs.WrittenLaw.{written_is_read}
 
-pub is_text : (bytes : List ℕ) (r : Result Saved StateRefusal) → Gives (λ saved. saved_of saved) r (state_of bytes) → IfOk r (λ saved. IsTextOf bytes (saved_of saved))
-is_text bytes (Ok saved) gives = read_is_written bytes (saved_of saved) gives
-is_text bytes (Err refusal) gives = tt
+module _ {M : Type 0} (meaning_of : M → Meaning) (model_of : List ℕ → models.Checked ModelOf) where
+  pub is_text : (bytes : List ℕ) (r : Result (Saved M) StateRefusal) → Gives (saved_of meaning_of) r (state_of model_of bytes) → IfOk r (λ saved. IsTextOf model_of bytes (saved_of meaning_of saved))
+  is_text bytes (Ok saved) gives = read_is_written model_of bytes (saved_of meaning_of saved) gives
+  is_text bytes (Err refusal) gives = tt
 
-pub is_lawful : (bytes : List ℕ) (r : Result Saved StateRefusal) → Gives (λ saved. saved_of saved) r (state_of bytes) → IfOk r (λ saved. Lawful (meaning_of saved.model) saved.terms saved.state)
-is_lawful bytes (Ok saved) gives = (read_is_written bytes (saved_of saved) gives).savable.lawful
-is_lawful bytes (Err refusal) gives = tt
+  pub is_lawful : (bytes : List ℕ) (r : Result (Saved M) StateRefusal) → Gives (saved_of meaning_of) r (state_of model_of bytes) → IfOk r (λ saved. Lawful (meaning_of saved.model) saved.terms saved.state)
+  is_lawful bytes (Ok saved) gives = (read_is_written model_of bytes (saved_of meaning_of saved) gives).savable.lawful
+  is_lawful bytes (Err refusal) gives = tt
 
-pub is_again : (bytes : List ℕ) (r : Result Saved StateRefusal) (s : State) (model : List ℕ) (read : ModelOf) → IsSavable s model read → bytes ≡ state_text s model
-    → Gives (λ saved. saved_of saved) r (state_of bytes) → Gives (λ saved. saved_of saved) r (Ok (saved_with read s))
-is_again bytes r s model read savable text gives =
-    subst (λ (check : Checked SavedState). Gives (λ saved. saved_of saved) r check) (ap state_of text ∙ written_is_read s model read savable) gives
+  pub is_again : (bytes : List ℕ) (r : Result (Saved M) StateRefusal) (s : State) (model : List ℕ) (read : ModelOf) → IsSavable model_of s model read → bytes ≡ state_text s model
+      → Gives (saved_of meaning_of) r (state_of model_of bytes) → Gives (saved_of meaning_of) r (Ok (saved_with read s))
+  is_again bytes r s model read savable text gives =
+      subst (λ (check : Checked SavedState). Gives (saved_of meaning_of) r check) (ap (state_of model_of) text ∙ written_is_read model_of s model read savable) gives
 
 -- cells fit where their words and their lines do
 pub both_fit : (r : Result (Unit {0}) OutOfMemory) (cells : CellData) → IsLine cells.words → OnOk r (length cells.lines < 2 ^ 64) → OnOk r (AllByRecursion IsLine cells.lines) → OnOk r (FitsCells cells)

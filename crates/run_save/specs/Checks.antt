@@ -1,7 +1,7 @@
 -- A check gives a value, or the code and line of the first refusal that it meets.
 use Rattle.std.specs.Prelude.{ℕ, Bool, true, false, Option, Some, None, Result, Ok, Err}
-pub use Rattle.model_text.specs.Checks.{◌>>=◌}
-use Rattle.model_text.specs.Checks.{FailsWith, GivesBy}
+pub use Rattle.model_reader.specs.Checks.{◌>>=◌}
+use Rattle.model_reader.specs.Checks.{FailsWith, GivesBy}
 use Rattle.run_save.specs.declared.refusal.StateCause.{StateCause}
 use Rattle.run_save.specs.declared.refusal.StateRefusal.{StateRefusal}
 use Rattle.run_save.specs.declared.refusal.StateRefusal.TheVariants.{At, OutOfMemory}

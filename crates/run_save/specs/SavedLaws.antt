@@ -5,7 +5,8 @@ use Rattle.delta_exchange.specs.Changes.{CellData}
 use Rattle.event_key.specs.declared.key.Key.{Key}
 use Rattle.model_core.specs.declared.event.Event.{Event}
 use Rattle.model_core.specs.declared.limits.TheConstants.{MOST_OBJECTS, MOST_TEXT_BYTES}
-use Rattle.model_text.specs.ModelTexts.{ModelOf, model_of}
+use Rattle.model_reader.specs.Checks as models
+use Rattle.model_reader.specs.Readings.{ModelOf}
 use Rattle.sim_spec.specs.Firing.{ObjectState}
 use Rattle.sim_spec.specs.State.{State, Lawful}
 use Rattle.run_save.specs.declared.reading.TheConstants.{MOST_STATE_BYTES}
@@ -45,30 +46,32 @@ pub record FitsTypes (s : State) : Type 0 where
   pub many : length s.pending < 2 ^ 64
   pub pending : AllByRecursion FitsEvent s.pending
 
--- a state of a model that these bytes say, with a text that isn't too long
-pub record IsSavable (s : State) (model : List ℕ) (read : ModelOf) : Type 0 where
-  pub reads : model_of model ≡ Ok read
-  pub some_bytes : 0 < length model
-  pub few_bytes : length model ≤ MOST_TEXT_BYTES
-  pub few_objects : length s.objects ≤ MOST_OBJECTS
-  pub lawful : Lawful read.meaning read.terms s
-  pub fits : FitsTypes s
-  pub short : length (state_text s model) ≤ MOST_STATE_BYTES
-
 -- what a state comes to with a model
 abbrev pub saved_with : ModelOf → State → SavedState
 saved_with read s = record { meaning = read.meaning; terms = read.terms; state = s }
 
--- the text of such a state is read as that state, with its model and terms
-abbrev pub WrittenIsRead : Type 0
-WrittenIsRead = (s : State) (model : List ℕ) (read : ModelOf) → IsSavable s model read → state_of (state_text s model) ≡ Ok (saved_with read s)
+-- over the models that a reader reads
+module _ (model_of : List ℕ → models.Checked ModelOf) where
+  -- a state of a model that these bytes say, with a text that isn't too long
+  pub record IsSavable (s : State) (model : List ℕ) (read : ModelOf) : Type 0 where
+    pub reads : model_of model ≡ Ok read
+    pub some_bytes : 0 < length model
+    pub few_bytes : length model ≤ MOST_TEXT_BYTES
+    pub few_objects : length s.objects ≤ MOST_OBJECTS
+    pub lawful : Lawful read.meaning read.terms s
+    pub fits : FitsTypes s
+    pub short : length (state_text s model) ≤ MOST_STATE_BYTES
 
--- the bytes are the text of a state, with the bytes of a model
-pub record IsTextOf (bytes : List ℕ) (saved : SavedState) : Type 0 where
-  pub model : List ℕ
-  pub text : bytes ≡ state_text saved.state model
-  pub savable : IsSavable saved.state model (record { meaning = saved.meaning; terms = saved.terms })
+  -- the text of such a state is read as that state, with its model and terms
+  abbrev pub WrittenIsRead : Type 0
+  WrittenIsRead = (s : State) (model : List ℕ) (read : ModelOf) → IsSavable s model read → state_of model_of (state_text s model) ≡ Ok (saved_with read s)
 
--- what is read was written so
-abbrev pub ReadIsWritten : Type 0
-ReadIsWritten = (bytes : List ℕ) (saved : SavedState) → state_of bytes ≡ Ok saved → IsTextOf bytes saved
+  -- the bytes are the text of a state, with the bytes of a model
+  pub record IsTextOf (bytes : List ℕ) (saved : SavedState) : Type 0 where
+    pub model : List ℕ
+    pub text : bytes ≡ state_text saved.state model
+    pub savable : IsSavable saved.state model (record { meaning = saved.meaning; terms = saved.terms })
+
+  -- what is read was written so
+  abbrev pub ReadIsWritten : Type 0
+  ReadIsWritten = (bytes : List ℕ) (saved : SavedState) → state_of model_of bytes ≡ Ok saved → IsTextOf bytes saved

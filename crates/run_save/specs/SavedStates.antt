@@ -3,8 +3,8 @@ use Rattle.std.specs.Prelude.{ℕ, nat_le, List, length, Ok, Err}
 use Rattle.model_core.specs.Meaning.{Meaning}
 use Rattle.sim_spec.specs.declared.terms.Terms.{Terms}
 use Rattle.sim_spec.specs.State.{State}
-use Rattle.model_text.specs.Checks as models
-use Rattle.model_text.specs.ModelTexts.{ModelOf, model_of}
+use Rattle.model_reader.specs.Checks as models
+use Rattle.model_reader.specs.Readings.{ModelOf}
 use Rattle.run_save.specs.declared.refusal.StateCause.TheVariants.{TooLong, BadModel}
 use Rattle.run_save.specs.declared.reading.TheConstants.{MOST_STATE_BYTES}
 use Rattle.run_save.specs.Checks.{Checked, refusal, wanted, ◌>>=◌}
@@ -22,16 +22,18 @@ abbrev pub read_at : ℕ → models.Checked ModelOf → Checked ModelOf
 read_at line (Ok read) = Ok read
 read_at line (Err refused) = refusal BadModel line
 
--- what a text says, with the model that its bytes say
-unfoldable pub judged : Draft → Checked SavedState
-judged draft = do
-  read ← read_at draft.line (model_of draft.model)
-  lawful ← lawful_check read.meaning read.terms draft.state
-  Ok (record { meaning = read.meaning; terms = read.terms; state = draft.state })
+-- over the models that a reader reads
+module _ (model_of : List ℕ → models.Checked ModelOf) where
+  -- what a text says, with the model that its bytes say
+  unfoldable pub judged : Draft → Checked SavedState
+  judged draft = do
+    read ← read_at draft.line (model_of draft.model)
+    lawful ← lawful_check read.meaning read.terms draft.state
+    Ok (record { meaning = read.meaning; terms = read.terms; state = draft.state })
 
--- the saved state of a text, or the code and line of the first check that fails
-unfoldable pub state_of : List ℕ → Checked SavedState
-state_of bytes = do
-  short ← wanted (nat_le (length bytes) MOST_STATE_BYTES) TooLong 0
-  draft ← whole_text (record { bytes = bytes; line = 1 })
-  judged draft
+  -- the saved state of a text, or the code and line of the first check that fails
+  unfoldable pub state_of : List ℕ → Checked SavedState
+  state_of bytes = do
+    short ← wanted (nat_le (length bytes) MOST_STATE_BYTES) TooLong 0
+    draft ← whole_text (record { bytes = bytes; line = 1 })
+    judged draft

@@ -1,7 +1,7 @@
 -- What the code keeps, in the words of the definitions.
 use Rattle.std.specs.Prelude.{ℕ, List, map}
 use Rattle.std.specs.Global.{Vec}
-use Rattle.model_text.specs.Meanings.{meaning_of}
+use Rattle.model_core.specs.Meaning.{Meaning}
 use Rattle.run_save.specs.declared.cursor.Cursor.{Cursor}
 use Rattle.run_save.specs.declared.draft.Draft.{Draft as OwnDraft}
 use Rattle.run_save.specs.declared.saved.Saved.{Saved}
@@ -22,5 +22,5 @@ draft_of draft = record {
   line = draft.line;
 }
 
-abbrev pub saved_of : Saved → SavedState
-saved_of saved = record { meaning = meaning_of saved.model; terms = saved.terms; state = saved.state }
+abbrev pub saved_of : {M : Type 0} → (M → Meaning) → Saved M → SavedState
+saved_of meaning_of saved = record { meaning = meaning_of saved.model; terms = saved.terms; state = saved.state }

@@ -1,7 +1,6 @@
 //! Reading a state text.
 ghost use Rattle.std.specs.Prelude.{◌≡◌, ℕ, List, IfOk};
-ghost use Rattle.model_text.specs.Meanings.{meaning_of};
-ghost use Rattle.model_text.specs.ModelTexts.{ModelOf, model_of};
+ghost use Rattle.model_reader.specs.Readings.{ModelOf};
 ghost use Rattle.sim_spec.specs.State.{State, Lawful};
 ghost use Rattle.run_save.specs.Checks.{Gives};
 ghost use Rattle.run_save.specs.Lines.{model_bytes, whole_text};
@@ -18,7 +17,7 @@ use crate::refusal::{StateCause, StateRefusal};
 use crate::saved::Saved;
 use cycle_core::State;
 use model_core::{MOST_OBJECTS, MOST_TEXT_BYTES};
-use model_text::{AnyModel, Refusal, read_model};
+use model_reader::{ModelReader, Refusal};
 use sim_spec::Terms;
 use std::alloc::Global;
 
@@ -59,10 +58,15 @@ fn whole_text(alloc: Global, cursor: Cursor<'_>) -> Result<Draft<'_>, StateRefus
 }
 
 /// The model that the bytes at a line say.
-fn read_at(alloc: Global, line: u64, bytes: &[u8]) -> Result<(AnyModel, Terms), StateRefusal>
-    ensures { Gives (λ read. record { meaning = meaning_of read.0; terms = read.1 }) result (read_at line (model_of bytes.now)) }
+fn read_at<T: ModelReader>(
+    reader: &T,
+    alloc: Global,
+    line: u64,
+    bytes: &[u8],
+) -> Result<(T::Model, Terms), StateRefusal>
+    ensures { Gives (λ read. record { meaning = T.Model.meaning read.0; terms = read.1 }) result (read_at line (T.reading.read bytes.now)) }
 {
-    match read_model(alloc, bytes) {
+    match reader.read(alloc, bytes) {
         Ok(read) => Ok(read),
         Err(Refusal::At { .. }) => Err(StateCause::BadModel.at(line)),
         Err(Refusal::OutOfMemory) => Err(StateRefusal::OutOfMemory),
@@ -71,14 +75,18 @@ fn read_at(alloc: Global, line: u64, bytes: &[u8]) -> Result<(AnyModel, Terms), 
 
 /// The state that a text says, or the first check that fails.
 #[tactic(auto, unfolding(crate::specs::SavedStates::state_of, crate::specs::SavedStates::judged))]
-fn saved_state(alloc: Global, bytes: &[u8]) -> Result<Saved, StateRefusal>
-    ensures { Gives (λ saved. saved_of saved) result (state_of bytes.now) }
+fn saved_state<T: ModelReader>(
+    reader: &T,
+    alloc: Global,
+    bytes: &[u8],
+) -> Result<Saved<T::Model>, StateRefusal>
+    ensures { Gives (saved_of T.Model.meaning) result (state_of T.reading.read bytes.now) }
 {
     if bytes.len() > MOST_STATE_BYTES {
         return Err(StateCause::TooLong.at(0));
     }
     let draft = whole_text(alloc, Cursor::new(bytes))?;
-    let (model, terms) = read_at(alloc, draft.line, draft.model)?;
+    let (model, terms) = read_at(reader, alloc, draft.line, draft.model)?;
     check_lawful(&model, &terms, draft.count, &draft.objects, &draft.pending)?;
     let state = State {
         objects: draft.objects,
@@ -94,15 +102,19 @@ fn saved_state(alloc: Global, bytes: &[u8]) -> Result<Saved, StateRefusal>
 
 /// The state that a text says, with the model and the terms that its last bytes say, or the code and the line of the first
 /// check that fails. It takes time in proportion to the length of the text.
-pub fn read_state(alloc: Global, bytes: &[u8]) -> Result<Saved, StateRefusal>
+pub fn read_state<T: ModelReader>(
+    reader: &T,
+    alloc: Global,
+    bytes: &[u8],
+) -> Result<Saved<T::Model>, StateRefusal>
     // Which check it is.
-    ensures exact { Gives (λ saved. saved_of saved) result (state_of bytes.now) }
+    ensures exact { Gives (saved_of T.Model.meaning) result (state_of T.reading.read bytes.now) }
     // What is read was written so.
-    ensures read { IfOk result (λ saved. IsTextOf bytes.now (saved_of saved)) }
-    ensures lawful { IfOk result (λ saved. Lawful (meaning_of saved.model) saved.terms saved.state) }
+    ensures read { IfOk result (λ saved. IsTextOf T.reading.read bytes.now (saved_of T.Model.meaning saved)) }
+    ensures lawful { IfOk result (λ saved. Lawful (T.Model.meaning saved.model) saved.terms saved.state) }
     // What was written so is read, unless memory runs out.
-    ensures written { (s : State) (model : List ℕ) (read : ModelOf) → IsSavable s model read → bytes.now ≡ state_text s model
-        → Gives (λ saved. saved_of saved) result (Ok (saved_with read s)) }
+    ensures written { (s : State) (model : List ℕ) (read : ModelOf) → IsSavable T.reading.read s model read → bytes.now ≡ state_text s model
+        → Gives (saved_of T.Model.meaning) result (Ok (saved_with read s)) }
 {
-    saved_state(alloc, bytes)
+    saved_state(reader, alloc, bytes)
 }

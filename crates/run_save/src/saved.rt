@@ -1,12 +1,12 @@
 //! A state that was saved.
 use cycle_core::State;
-use model_text::AnyModel;
+use model_core::model::Model;
 use sim_spec::Terms;
 
 /// A state, with the model and the terms of its simulation.
 #[derive(Drop)]
-pub struct Saved {
-    pub model: AnyModel,
+pub struct Saved<M: Model> {
+    pub model: M,
     pub terms: Terms,
     pub state: State,
 }

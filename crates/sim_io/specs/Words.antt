@@ -190,6 +190,17 @@ unfoldable pub settings : List (List ℕ) → Result Settings WordFault
 settings [] = Err NoCommand
 settings (word ∷ rest) = settings_if (command_named word) rest
 
+-- a program that has no demos has the other commands
+abbrev pub but_demo : Option Command → Option Command
+but_demo None = None
+but_demo (Some Command.Demo) = None
+but_demo (Some command) = Some command
+
+-- what words set for such a program: to it `demo` is an unknown command
+unfoldable pub model_settings : List (List ℕ) → Result Settings WordFault
+model_settings [] = Err NoCommand
+model_settings (word ∷ rest) = settings_if (but_demo (command_named word)) rest
+
 -- the bytes of each word
 abbrev pub texts_of : List (String Global) → List (List ℕ)
 texts_of words = map (λ word. string_bytes word) words

@@ -15,5 +15,5 @@ pub use streams::{
 };
 pub use words::{
     DEFAULT_AHEAD, DEFAULT_NODES, MOST_SAVED_CYCLES, Moves, Settings, WordFault, is_decimal,
-    number_within, read_words, stray_word,
+    number_within, read_model_words, read_words, stray_word,
 };

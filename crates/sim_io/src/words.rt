@@ -1,6 +1,7 @@
 //! The words of the command line.
-ghost use Rattle.std.specs.Prelude.{◌≡◌, ◌≤◌, IfOk};
-ghost use Rattle.sim_io.specs.Words.{AreGivenInBounds, AreInBounds, command_settings, only_number, run_settings, settings, texts_of};
+ghost use Rattle.std.specs.Prelude.{◌≡◌, ◌≢◌, ◌≤◌, ℕ, IfOk};
+ghost use Rattle.sim_io.specs.Words.{AreGivenInBounds, AreInBounds, command_settings, model_settings, only_number, run_settings, settings, settings_if, texts_of};
+ghost use Rattle.sim_io.specs.declared.words.Settings.TheVariants.{Demo};
 
 mod commands;
 mod moves;
@@ -160,6 +161,17 @@ fn command_settings(command: Command, words: &[String]) -> Result<Settings, Word
     }
 }
 
+/// Reads the words after the first one, which names this command, if any.
+fn settings_if(command: Option<Command>, words: &[String]) -> Result<Settings, WordFault>
+    ensures value { result ≡ settings_if command (texts_of words.now) }
+    ensures bounds { IfOk result AreInBounds }
+{
+    match command {
+        None => Err(WordFault::UnknownCommand),
+        Some(command) => command_settings(command, words),
+    }
+}
+
 /// Reads the words that follow the program's name. It takes no memory.
 #[tactic(auto, unfolding(crate::specs::Words::settings))]
 pub fn read_words(words: &Vec<String>) -> Result<Settings, WordFault>
@@ -169,8 +181,18 @@ pub fn read_words(words: &Vec<String>) -> Result<Settings, WordFault>
     let [command, rest @ ..] = words.as_slice() else {
         return Err(WordFault::NoCommand);
     };
-    match Command::named(command.as_str()) {
-        None => Err(WordFault::UnknownCommand),
-        Some(command) => command_settings(command, rest),
-    }
+    settings_if(Command::named(command.as_str()), rest)
+}
+
+/// Reads them for a program that has no demos: to it `demo` is an unknown command.
+#[tactic(auto, unfolding(crate::specs::Words::model_settings))]
+pub fn read_model_words(words: &Vec<String>) -> Result<Settings, WordFault>
+    ensures value { result ≡ model_settings (texts_of words.now.items) }
+    ensures bounds { IfOk result AreInBounds }
+    ensures no_demo { IfOk result (λ settings. (n : ℕ) → settings ≢ Demo n) }
+{
+    let [command, rest @ ..] = words.as_slice() else {
+        return Err(WordFault::NoCommand);
+    };
+    settings_if(Command::named_but_demo(command.as_str()), rest)
 }

@@ -1,5 +1,6 @@
 //! Whole runs of the program, over sources and sinks in memory.
 mod long;
+mod readers;
 mod refusals;
 mod saving;
 mod streams;

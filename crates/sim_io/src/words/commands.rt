@@ -1,6 +1,6 @@
 //! The commands and their options.
 ghost use Rattle.std.specs.Prelude.{◌≡◌};
-ghost use Rattle.sim_io.specs.Words.{command_named, option_named, option_of, takes};
+ghost use Rattle.sim_io.specs.Words.{but_demo, command_named, option_named, option_of, takes};
 
 /// A command.
 #[derive(Clone, Copy)]
@@ -45,6 +45,16 @@ impl Command {
             "save" => Some(Command::Save),
             "resume" => Some(Command::Resume),
             _ => None,
+        }
+    }
+
+    /// The same for a program that has no demos.
+    pub fn named_but_demo(word: &str) -> Option<Command>
+        ensures { result ≡ but_demo (command_named word.now) }
+    {
+        match Command::named(word) {
+            Some(Command::Demo) => None,
+            command => command,
         }
     }
 

@@ -3,6 +3,7 @@ mod limits;
 
 use super::replaced;
 use model_core::model::Model;
+use model_text::ModelTexts;
 use run_save::{StateRefusal, put_state, read_state, state_code_name};
 use std::alloc::Global;
 use std::process::Abort;
@@ -17,7 +18,7 @@ fn saved(alloc: Global) -> Result<String, Fail> {
 
 /// The code and the line with which a text is refused, and code 0 where it is read.
 fn refusal_of(alloc: Global, text: &[u8]) -> Option<(u8, u64)> {
-    match read_state(alloc, text) {
+    match read_state(&ModelTexts, alloc, text) {
         Ok(_) => Some((0, 0)),
         Err(StateRefusal::At { code, line }) => Some((code, line)),
         Err(StateRefusal::OutOfMemory) => None,
@@ -43,7 +44,9 @@ fn assert_changed<R: Abort>(
 fn a_saved_state_is_read_and_written_again(rt: HostRuntime) -> Result<(), Fail> {
     let alloc = rt.alloc();
     let text = saved(alloc)?;
-    let saved = read_state(alloc, text.as_bytes()).ok().ok_or("it is read")?;
+    let saved = read_state(&ModelTexts, alloc, text.as_bytes())
+        .ok()
+        .ok_or("it is read")?;
     assert_eq!(rt; saved.terms.end, 10);
     assert_eq!(rt; saved.model.objects(), 2);
     assert_eq!(rt; saved.state.count, 2);

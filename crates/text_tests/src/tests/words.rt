@@ -1,5 +1,5 @@
 //! The words of the command line.
-use sim_io::{Moves, Settings, WordFault, read_words};
+use sim_io::{Moves, Settings, WordFault, read_model_words, read_words};
 use sim_spec::Placement;
 use std::test::Fail;
 use test_texts::words_of;
@@ -116,6 +116,25 @@ fn the_first_faulty_word_is_judged(rt: HostRuntime) -> Result<(), Fail> {
         ("resume resume -", WordFault::ExtraWord),
     ] {
         assert_eq!(rt; read_words(&words_of(alloc, line)?), Err(fault), "{line}");
+    }
+    Ok(())
+}
+
+#[test]
+fn demo_is_no_command_of_a_program_without_demos(rt: HostRuntime) -> Result<(), Fail> {
+    let alloc = rt.alloc();
+    assert_eq!(rt;
+        read_model_words(&Vec::new(alloc)),
+        Err(WordFault::NoCommand)
+    );
+    for (line, said) in [
+        ("demo", Err(WordFault::UnknownCommand)),
+        ("demo 1", Err(WordFault::UnknownCommand)),
+        ("demo 257 x", Err(WordFault::UnknownCommand)),
+        ("save 3", Ok(Settings::Save { c: 3 })),
+        ("run --nodes 0", Err(WordFault::BadValue)),
+    ] {
+        assert_eq!(rt; read_model_words(&words_of(alloc, line)?), said, "{line}");
     }
     Ok(())
 }

@@ -1,16 +1,16 @@
 -- The summary of the ring.
 use Rattle.std.proofs.Common.{ap, ◌∙◌, subst}
 use Rattle.model_core.specs.Meaning.{Meaning}
-use Rattle.model_text.specs.ModelTexts.{ModelOf}
+use Rattle.model_reader.specs.Readings.{ModelOf}
 use Rattle.queue_models.specs.Meaning.{network_meaning}
 use Rattle.queue_models.specs.Rings.{ring_parts}
 use Rattle.sim_spec.specs.declared.terms.Terms.{Terms}
 use Rattle.sim_spec.specs.State.{initial_state}
 use Rattle.sim_text.specs.declared.telling.Telling.{Telling}
-use Rattle.btb_program.specs.Answer.{answer_from}
+use Rattle.model_program.specs.Answer.{answer_from}
 use Rattle.program_answers.specs.Answered.{EndsModel}
 use Rattle.program_answers.proofs.EndingLemmas.{no_memory_left}
-use Rattle.btb_program.proofs.EndingLemmas.{run_ends}
+use Rattle.model_program.proofs.EndingLemmas.{run_ends}
 use Rattle.btb_program.proofs.running.run_demo.Goals as goal
 
 pub returns-in-Ok : goal.returns-in-Ok

@@ -1,26 +1,29 @@
--- The moves change nothing of where the world stands, so the cycle after them is the next one.
-use Rattle.std.proofs.Common.{sym, subst}
-use Rattle.std.proofs.lemmas.Result.{err_from_is_err_and}
-use Rattle.std.specs.Prelude.{Result}
-use Rattle.delta_exchange.specs.declared.memory.OutOfMemory.{OutOfMemory}
-use Rattle.sim_spec.specs.declared.bucket.Bucket.{Bucket}
-use Rattle.cycle_core.specs.Standings.{HasCycled}
-use Rattle.model_text.specs.Meanings.{meaning_of}
-use Rattle.cycle_core.proofs.SpentCycles.{spent-cycled}
-use Rattle.cycle_core.proofs.MovedCycles.{cycled-from}
+-- A cycle of the nodes is one of the run, which tells where they stand then.
+use Rattle.std.proofs.Common.{◌≡◌, sym, ap, ◌∙◌, subst}
+use Rattle.node_team.specs.Teams.{TeamView}
+use Rattle.sim_spec.specs.Standing.{IsCountAt}
+use Rattle.cycle_core.specs.Standings.{GoesOn, HasCycled}
 use Rattle.model_runs.proofs.team_run.TeamRun.cycle.Goals as goal
 
-pub returns-in_err-make_moves-clause-cycled : goal.returns-in_err-make_moves-clause-cycled
-returns-in_err-make_moves-clause-cycled g c =
-    let old = c.args.self.now.team.world in
-    let new = c.make_moves.new.self.team.world in
-    let refused = err_from_is_err_and c.from_residual.result c.from_residual.ensures.1 in
-    let P : Result Bucket OutOfMemory → Type 0 = λ answer. HasCycled meaning_of old answer new in
-    subst P (sym refused.1) (spent-cycled meaning_of old new c.make_moves.ensures.model c.make_moves.ensures.terms refused.0 c.in_err-make_moves.ensures.spent)
+pub move_and_cycle-bucket-requires-clause-goes_on : goal.move_and_cycle-bucket-requires-clause-goes_on
+move_and_cycle-bucket-requires-clause-goes_on g c lifetimes outlives =
+    subst (λ (t : TeamView g.row.M.Denot). GoesOn g.M.Model.meaning t.world) (sym c.reuse_room.ensures.team) c.requires.goes_on
 
 pub returns-clause-cycled : goal.returns-clause-cycled
-returns-clause-cycled g c =
-    let old = c.args.self.now.team.world in
-    let moved = c.make_moves.new.self.team.world in
-    let new = c.cycle_team.new.self.team.world in
-    cycled-from meaning_of old moved c.make_moves.ensures.model c.make_moves.ensures.terms c.in_ok-make_moves.ensures.at new c.cycle_team.result c.cycle_team.ensures.cycled
+returns-clause-cycled g c = λ at stands more.
+    let new = c.move_and_cycle-bucket.new.self.team.world in
+    let cycled = subst (λ (t : TeamView g.row.M.Denot). HasCycled g.M.Model.meaning t.world c.move_and_cycle-bucket.result new) c.reuse_room.ensures.team c.move_and_cycle-bucket.ensures.cycled in
+    let done = cycled at stands.0 more in
+    record {
+      left = done.left;
+      stands = (
+        done.stands,
+        record {
+          ended = c.new.ensures.ended ∙ c.ended.ensures done.left done.stands;
+          count = subst (λ n. IsCountAt done.left n) (sym c.new.ensures.count) (c.count.ensures.at done.left done.stands);
+        },
+      );
+      gives = done.gives;
+      same_meaning = done.same_meaning;
+      same_terms = done.same_terms;
+    }

@@ -1,4 +1,3 @@
-use Rattle.model_text.specs.Meanings.{meaning_of}
 use Rattle.cycle_core.proofs.WhereWorldStands.{can-cycle}
 use Rattle.model_runs.proofs.team_run.TeamRun.cycle_team.Goals as goal
 
@@ -6,9 +5,9 @@ use Rattle.model_runs.proofs.team_run.TeamRun.cycle_team.Goals as goal
 pub cycle_by-requires-clause-can : goal.cycle_by-requires-clause-can
 cycle_by-requires-clause-can g c lifetimes outlives =
     let on = c.requires.goes_on in
-    can-cycle meaning_of c.args.self.now.team.world on.at on.stands on.more
+    can-cycle g.M.Model.meaning c.args.self.now.team.world on.at on.stands on.more
 
 pub cycle-requires-after_bounds : goal.cycle-requires-after_bounds
 cycle-requires-after_bounds g c lifetimes outlives =
     let on = c.requires.goes_on in
-    can-cycle meaning_of c.args.self.now.team.world on.at on.stands on.more
+    can-cycle g.M.Model.meaning c.args.self.now.team.world on.at on.stands on.more

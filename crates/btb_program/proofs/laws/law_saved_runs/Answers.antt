@@ -1,5 +1,0 @@
-use Rattle.btb_program.proofs.SavedRunsLaw.{saved_runs}
-use Rattle.btb_program.proofs.laws.law_saved_runs.Goals as goal
-
-pub returns : goal.returns
-returns g c = saved_runs (record { meaning = g.M.Model.meaning c.args.model.now; terms = c.args.terms.now }) c.keeps_laws.ensures c.law_initial.ensures c.law_goes_on.ensures c.law_written.ensures

@@ -1,0 +1,57 @@
+//! The program over any reader, at the reader of `btb`: what `btb` does but for demos.
+use super::{sink_of, source_of, text_of};
+use crate::tests::wanted::TIE_TEXT;
+use model_program::{ModelProgram, run_program};
+use model_text::ModelTexts;
+use node_team::Open;
+use std::alloc::{AllocGlobal, Global};
+use std::process::Abort;
+use std::test::Fail;
+use std::thread::Threads;
+use test_texts::{TIE, TWO_JOBS_STATE, two_jobs, words_of};
+
+/// With these words and this input the program ends so.
+fn assert_told<R: Abort + AllocGlobal + Threads + Sync>(
+    rt: &R,
+    words: &str,
+    input: &str,
+    wanted: (u8, &str, &str),
+) -> Result<(), Fail> {
+    let alloc = rt.alloc();
+    let program = ModelProgram {
+        reader: &ModelTexts,
+        gate: &Open,
+    };
+    let mut source = source_of(alloc, input.as_bytes(), &[])?;
+    let mut out = sink_of(alloc, &[], &[])?;
+    let mut notes = sink_of(alloc, &[], &[])?;
+    let said = Ok(words_of(alloc, words)?);
+    let status = run_program(rt, &program, said, &mut source, &mut out, &mut notes);
+    assert_eq!(rt; text_of(alloc, &out)?.as_str(), wanted.1, "{words}");
+    assert_eq!(rt; text_of(alloc, &notes)?.as_str(), wanted.2, "{words}");
+    assert_eq!(rt; status, wanted.0, "{words}");
+    Ok(())
+}
+
+#[test]
+fn a_program_over_a_reader_has_all_commands_but_demo(rt: HostRuntime) -> Result<(), Fail> {
+    assert_told(&rt, "run", TIE, (0, TIE_TEXT, ""))?;
+    assert_told(&rt, "one", TIE, (0, TIE_TEXT, ""))?;
+    assert_told(&rt, "demo 1", TIE, (2, "", "words: unknown command\n"))?;
+    assert_told(&rt, "demo 257", TIE, (2, "", "words: unknown command\n"))?;
+    assert_told(&rt, "run --nodes 0", TIE, (2, "", "words: bad value\n"))?;
+    assert_told(&rt, "run", "", (3, "", "model: 3 Missing item 0\n"))?;
+    assert_told(&rt, "resume", TIE, (8, "", "state: 2 BadLine line 1\n"))
+}
+
+#[test]
+fn it_saves_a_simulation_and_goes_on_from_there(rt: HostRuntime) -> Result<(), Fail> {
+    let alloc = rt.alloc();
+    let model = two_jobs(alloc)?;
+    let state = format!(in alloc; "{TWO_JOBS_STATE}{model}")?;
+    let saved = format!(in alloc; "4.0 s take 1 0\n4.0 s wait 2 1\n{state}")?;
+    assert_told(&rt, "save 1", model.as_str(), (0, saved.as_str(), ""))?;
+    let rest =
+        "6.0 s done 1 0\n6.1 out leave 1 2\n8.0 s done 2 0\n8.1 out leave 2 4\nend 10 events 6\n";
+    assert_told(&rt, "resume", state.as_str(), (0, rest, ""))
+}

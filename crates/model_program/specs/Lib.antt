@@ -1,0 +1,3 @@
+pub mod Answer
+pub mod SavedRuns
+pub mod Setting
