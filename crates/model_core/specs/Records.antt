@@ -25,9 +25,9 @@ pub record IsAmong (parts : List Part) (head : RecordHead) : Type 0 where
   pub few : head.count ≤ 4
 
 module _ {Z : Type 0} where
-  -- all parts are there, with room for so many more records, and their places are below 2^32
+  -- all parts are there and few others, with room for so many more records
   pub record AreKept (heads : Vec RecordHead Z) (parts : Vec Part Z) (room : ℕ) : Type 0 where
     pub among : All (IsAmong parts.items) heads.items
     pub head_room : length heads.items + room ≤ vec_capacity heads
     pub part_room : length parts.items + 4 * room ≤ vec_capacity parts
-    pub places : length parts.items + 4 * room ≤ 4294967295
+    pub few_parts : length parts.items ≤ 4 * length heads.items

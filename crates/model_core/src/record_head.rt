@@ -6,6 +6,6 @@ use event_key::Key;
 pub struct RecordHead {
     pub key: Key,
     /// The place of its first part.
-    pub start: u32,
+    pub start: u64,
     pub count: u32,
 }

@@ -1,5 +1,5 @@
 //! What is told of events, one after another.
-ghost use Rattle.std.specs.Prelude.{◌≡◌, ◌+◌, ◌-◌, ◌*◌, ◌<◌, ◌≤◌, ◌==◌, [], ◌∷◌, ◌++◌, length, drop, slice_get, vec_len, vec_capacity, Some, OnOk, OnErr};
+ghost use Rattle.std.specs.Prelude.{◌≡◌, ℕ, ◌+◌, ◌-◌, ◌*◌, ◌<◌, ◌≤◌, ◌==◌, [], ◌∷◌, ◌++◌, length, drop, slice_get, vec_len, vec_capacity, Some, OnOk, OnErr};
 ghost use Rattle.event_key.specs.declared.key.Key.{Key};
 ghost use Rattle.model_core.specs.declared.note.Note.{Note};
 
@@ -9,9 +9,6 @@ use delta_exchange::OutOfMemory;
 use event_key::Key;
 use std::alloc::Global;
 use std::marker::Model;
-
-/// How many parts a buffer has at most: the places of all are below 2^32.
-const MOST_PARTS: usize = 4_294_967_295;
 
 /// How many parts a note has at most.
 const NOTE_PARTS: usize = 4;
@@ -39,13 +36,12 @@ impl Model for RecordBuffer {
 
 /// For how many more records these lists have room, with parts of others among them.
 fn room_of(heads: &Vec<RecordHead>, parts: &Vec<Part>) -> usize
-    requires { vec_len parts.now ≤ 4294967295 }
-    ensures heads { vec_len heads.now + result ≤ vec_capacity heads.now }
-    ensures parts { vec_len parts.now + 4 * result ≤ vec_capacity parts.now }
-    ensures places { vec_len parts.now + 4 * result ≤ 4294967295 }
+    ensures heads { result ≤ vec_capacity heads.now - vec_len heads.now }
+    ensures parts { 4 * result ≤ vec_capacity parts.now - vec_len parts.now }
+    ensures most { (most : ℕ) → vec_len heads.now + most ≤ vec_capacity heads.now → vec_len parts.now + 4 * most ≤ vec_capacity parts.now → most ≤ result }
 {
     let for_heads = heads.capacity() - heads.len();
-    let for_parts = parts.capacity().min(MOST_PARTS).saturating_sub(parts.len());
+    let for_parts = parts.capacity() - parts.len();
     for_heads.min(for_parts / NOTE_PARTS)
 }
 
@@ -87,7 +83,7 @@ impl RecordBuffer {
         (&head.key, &self.parts[start..end])
     }
 
-    /// Makes room for so many records more. It refuses too where their parts could be 2^32 or more.
+    /// Makes room for so many records more.
     pub fn reserve(&mut self, records: usize) -> Result<(), OutOfMemory>
         ensures room { OnOk result (records ≤ self.new.room) }
         ensures same { self.new.items ≡ self.old.items }
@@ -98,20 +94,23 @@ impl RecordBuffer {
         self.grow(records)
     }
 
+    /// Makes room for the records of two others together.
+    pub fn reserve_for(&mut self, one: &RecordBuffer, other: &RecordBuffer) -> Result<(), OutOfMemory>
+        ensures room { OnOk result (length one.now.items + length other.now.items ≤ self.new.room) }
+        ensures same { self.new.items ≡ self.old.items }
+    {
+        self.reserve(one.heads.len() + other.heads.len())
+    }
+
     /// Finds room for so many records more.
     fn grow(&mut self, records: usize) -> Result<(), OutOfMemory>
         ensures room { OnOk result (records ≤ self.new.room) }
         ensures same { self.new.items ≡ self.old.items }
     {
-        if records > MOST_PARTS {
-            return Err(OutOfMemory);
-        }
         self.heads.reserve(records)?;
-        self.parts.reserve(NOTE_PARTS * records)?;
+        // so many that their number is too large can't be had
+        self.parts.reserve(records.saturating_mul(NOTE_PARTS))?;
         self.room = room_of(&self.heads, &self.parts);
-        if self.room < records {
-            return Err(OutOfMemory);
-        }
         Ok(())
     }
 
@@ -121,7 +120,7 @@ impl RecordBuffer {
         ensures items { self.new.items ≡ self.old.items ++ (key.now, note.now) ∷ [] }
         ensures room { self.new.room + 1 ≡ self.old.room }
     {
-        let start = self.parts.len() as u32;
+        let start = self.parts.len() as u64;
         let count = note.len() as u32;
         note.put_into(&mut self.parts);
         self.heads.push_reserved(RecordHead {
@@ -150,7 +149,7 @@ impl RecordBuffer {
         ensures room { self.new.room + 1 ≡ self.old.room }
     {
         let (key, parts) = other.at(i);
-        let start = self.parts.len() as u32;
+        let start = self.parts.len() as u64;
         let count = parts.len() as u32;
         put_parts(parts, &mut self.parts);
         self.heads.push_reserved(RecordHead {
