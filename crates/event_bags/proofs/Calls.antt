@@ -122,9 +122,9 @@ none_unused : {T : Type 0} (items : List T) (links : List ℕ) (owner depth : �
 none_unused items links owner depth free left short chain none = ap length (ends items links owner depth 0 free left short chain none)
 
 pub fresh : {T : Type 0} {items : List T} {links heads : List ℕ} {free unused : ℕ} {bags : List (List T)} (held : HoldBags items links heads free unused bags) (one other : ℕ) (seen : BagsView T)
-    → record { bags = bags_of items links heads; spare = unused + room_of one other (length links) } ≡ seen → 1 ≤ seen.spare → free ≡ NO_PLACE
+    → record { bags = bags_of items links heads; spare = unused + room_of one other (length links) } ≡ seen → 1 ≤ seen.spare → free ≡ NO_PLACE → one < NO_PLACE
     → (length items < one) × (length links < other) × (length links < NO_PLACE)
-fresh {items = items} {links = links} {free = free} held one other seen view some none =
+fresh {items = items} {links = links} {free = free} held one other seen view some none short =
     let same = held.same_length in
     let range = held.in_range in
     let all_free = held.all_free in

@@ -8,7 +8,7 @@ use std::alloc::Global;
 use std::marker::Model;
 
 /// The link of the last place of a bag.
-const NONE: u32 = 4294967295;
+const NONE: usize = usize::MAX;
 
 /// Bags of values, numbered from 0 on. All values lie in one vector, each with the number of the place of the next
 /// value of its bag. Contracts see the list of bags, each a list of values from the front on, and for how many more
@@ -16,11 +16,11 @@ const NONE: u32 = 4294967295;
 #[derive(Drop)]
 pub struct Bags<T> {
     // the place of the front of each bag
-    heads: Vec<u32>,
+    heads: Vec<usize>,
     items: Vec<T>,
-    links: Vec<u32>,
+    links: Vec<usize>,
     // the first of the places that no bag uses, which are linked too, and how many they are
-    free: u32,
+    free: usize,
     unused: usize,
 }
 
@@ -74,9 +74,6 @@ impl<T> Bags<T> {
         ensures never_less { self.old.spare ≤ self.new.spare }
     {
         let fresh = more.saturating_sub(self.unused);
-        if fresh > NONE as usize - self.links.len() {
-            return Err(OutOfMemory);
-        }
         self.items.reserve(fresh)?;
         self.links.reserve(fresh)?;
         Ok(())
@@ -109,15 +106,15 @@ impl<T: Copy> Bags<T> {
         let front = self.heads[bag];
         let at = self.free;
         if at == NONE {
-            self.heads[bag] = self.links.len() as u32;
+            self.heads[bag] = self.links.len();
             self.items.push_reserved(value);
             self.links.push_reserved(front);
             return;
         }
-        self.free = self.links[at as usize];
+        self.free = self.links[at];
         self.unused -= 1;
-        self.items[at as usize] = value;
-        self.links[at as usize] = front;
+        self.items[at] = value;
+        self.links[at] = front;
         self.heads[bag] = at;
     }
 
@@ -132,9 +129,9 @@ impl<T: Copy> Bags<T> {
         if at == NONE {
             return None;
         }
-        let value = self.items[at as usize];
-        self.heads[bag] = self.links[at as usize];
-        self.links[at as usize] = self.free;
+        let value = self.items[at];
+        self.heads[bag] = self.links[at];
+        self.links[at] = self.free;
         self.free = at;
         self.unused += 1;
         Some(value)
@@ -155,14 +152,14 @@ impl<T: Copy> Bags<T> {
         let before = into.len();
         let mut last = front;
         loop {
-            into.push(self.items[last as usize])?;
-            let next = self.links[last as usize];
+            into.push(self.items[last])?;
+            let next = self.links[last];
             if next == NONE {
                 break;
             }
             last = next;
         }
-        self.links[last as usize] = self.free;
+        self.links[last] = self.free;
         self.free = front;
         self.heads[bag] = NONE;
         self.unused += into.len() - before;

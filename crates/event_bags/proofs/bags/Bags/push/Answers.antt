@@ -6,19 +6,19 @@ use Rattle.event_bags.proofs.bags.Bags.push.Goals as goal
 
 pub push_reserved-requires : goal.push_reserved-requires
 push_reserved-requires g c =
-    let room = fresh c.self.invariant.1 _ _ _ c.self.view_is c.requires.room c.if-at.true in
+    let room = fresh c.self.invariant.1 _ _ _ c.self.view_is c.requires.room c.if-at.true (omega (arith, c.self.inside.items.small)) in
     search rules
 
 pub push_reserved-requires-then-at : goal.push_reserved-requires-then-at
 push_reserved-requires-then-at g c =
-    let room = fresh c.self.invariant.1 _ _ _ c.self.view_is c.requires.room c.if-at.true in
+    let room = fresh c.self.invariant.1 _ _ _ c.self.view_is c.requires.room c.if-at.true (omega (arith, c.self.inside.items.small)) in
     search rules
 
 pub invariant_of-self : goal.invariant_of-self
 invariant_of-self g c =
     let held = c.self.invariant.1 in
     let within = there _ _ _ _ _ c.args.bag c.self.view_is c.requires.bag in
-    let room = fresh held _ _ _ c.self.view_is c.requires.room c.if-at.true in
+    let room = fresh held _ _ _ c.self.view_is c.requires.room c.if-at.true (omega (arith, c.self.inside.items.small)) in
     let size : c.len.result ≡ length c.self.inside.links.items = search rules in
     (set c.self.invariant.0 c.args.bag (c.args.value ∷ slice_index_or c.self.invariant.0 c.args.bag []), grown held c.args.bag c.args.value c.index-front.result.now c.len.result within room.2 c.index-front.ensures c.push_reserved.ensures.items c.push_reserved-then-at.ensures.items size)
 
@@ -26,14 +26,14 @@ pub returns-then-at-clause-bags : goal.returns-then-at-clause-bags
 returns-then-at-clause-bags g c =
     let held = c.self.invariant.1 in
     let within = there _ _ _ _ _ c.args.bag c.self.view_is c.requires.bag in
-    let room = fresh held _ _ _ c.self.view_is c.requires.room c.if-at.true in
+    let room = fresh held _ _ _ c.self.view_is c.requires.room c.if-at.true (omega (arith, c.self.inside.items.small)) in
     let size : c.len.result ≡ length c.self.inside.links.items = search rules in
     rw (sees held c.self.view_is) (shows (grown held c.args.bag c.args.value c.index-front.result.now c.len.result within room.2 c.index-front.ensures c.push_reserved.ensures.items c.push_reserved-then-at.ensures.items size))
 
 pub returns-then-at-clause-spare : goal.returns-then-at-clause-spare
 returns-then-at-clause-spare g c =
     let held = c.self.invariant.1 in
-    let room = fresh held _ _ _ c.self.view_is c.requires.room c.if-at.true in
+    let room = fresh held _ _ _ c.self.view_is c.requires.room c.if-at.true (omega (arith, c.self.inside.items.small)) in
     let same = held.same_length in
     let more : length c.push_reserved-then-at.new.self.items ≡ length c.self.inside.links.items + 1 = search rules in
     spare_falls _ c.push_reserved-then-at.new.self.items _ _ _ _ _ _ _ c.self.view_is (omega arith) room.1 room.2 c.push_reserved.ensures.capacity c.push_reserved-then-at.ensures.capacity more
