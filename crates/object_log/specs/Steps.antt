@@ -1,5 +1,5 @@
 -- What undoing one event does.
-use Rattle.std.specs.Prelude.{◌≡◌, ◌+◌, ◌^◌, [], ◌∷◌, ◌++◌, length, min}
+use Rattle.std.specs.Prelude.{◌≡◌, ◌+◌, ◌-◌, ◌^◌, [], ◌∷◌, ◌++◌, length, min}
 use Rattle.model_core.specs.declared.event.Event.{Event}
 use Rattle.object_log.specs.Dones.{Done}
 use Rattle.object_log.specs.Logs.{LogView, before}
@@ -14,3 +14,4 @@ pub record IsWithoutNewest (old new : LogView) (event : Event) (spent kept : Poo
   pub event_is : event ≡ newest.event
   pub events : kept.events ≡ min (spent.events + length newest.sends) (2 ^ 60)
   pub entries : kept.entries ≡ min (spent.entries + 1) (2 ^ 60)
+  pub lent : kept.lent ≡ spent.lent - 1

@@ -1,5 +1,5 @@
 //! One object, which fires events and takes them back.
-ghost use Rattle.std.specs.Prelude.{◌≡◌, ◌<◌, ◌≤◌, ◌+◌, ◌^◌, min, length, IfOk, IfErr, OnOk, OnErr, IsTrue};
+ghost use Rattle.std.specs.Prelude.{◌≡◌, ◌<◌, ◌≤◌, ◌+◌, ◌-◌, ◌^◌, min, length, IfOk, IfErr, OnOk, OnErr, IsTrue};
 ghost use Rattle.event_key.specs.Stamps.{time_part};
 ghost use Rattle.event_key.specs.declared.stamp.TheConstants.{NO_STAMP};
 ghost use Rattle.model_core.specs.Meaning.{Meaning};
@@ -99,6 +99,8 @@ impl Object {
         ensures spare { pool.old.events + self.old.sent ≤ pool.new.events + self.new.sent }
         ensures entries { pool.old.entries ≤ pool.new.entries + 1 }
         ensures entries_kept { OnErr result (pool.old.entries ≤ pool.new.entries) }
+        ensures lent { OnOk result (pool.new.lent ≡ pool.old.lent + 1) }
+        ensures refused { OnErr result (pool.new.lent ≡ pool.old.lent) }
     {
         keeps_laws(model);
         let Ok(ending) = settle(model, &mut self.words, &self.cells, event.get(), sheet) else {
@@ -148,6 +150,7 @@ impl Object {
         ensures event { result ≡ done.event }
         ensures events { pool.new.events ≡ min (pool.old.events + length done.sends) (2 ^ 60) }
         ensures entries { pool.new.entries ≡ min (pool.old.entries + 1) (2 ^ 60) }
+        ensures lent { pool.new.lent ≡ pool.old.lent - 1 }
     {
         let Done {
             event,

@@ -1,5 +1,5 @@
 //! What processed events leave to be used again.
-ghost use Rattle.std.specs.Prelude.{◌≡◌, ◌+◌, ◌≤◌, ◌^◌, min, length, OnOk, IfOk};
+ghost use Rattle.std.specs.Prelude.{◌≡◌, ◌+◌, ◌-◌, ◌≤◌, ◌^◌, min, length, OnOk, OnErr, IfOk};
 
 use crate::done::{Done, Verdict};
 use crate::lists::UndoLists;
@@ -9,7 +9,8 @@ use std::alloc::Global;
 use std::marker::Model;
 
 /// Empty cells of events, spent entries of logs, and the lists of changes that those had. One pool serves all logs of a
-/// thread: what one of them leaves another takes. Contracts see how many cells and how many entries there are.
+/// thread: what one of them leaves another takes. Contracts see how many cells and how many
+/// entries there are, and how many lists are handed out.
 #[derive(Drop)]
 pub struct LogPool {
     events: CellPool<Event>,
@@ -22,7 +23,7 @@ impl Model for LogPool {
 
     ghost Value = { PoolView };
 
-    ghost view = { λ pool. record { events = pool.events; entries = pool.entries } };
+    ghost view = { λ pool. record { events = pool.events; entries = pool.entries; lent = pool.lists.lent } };
 }
 
 /// What a committed event releases.
@@ -36,7 +37,7 @@ pub struct Released {
 impl LogPool {
     /// A pool of nothing.
     pub fn new() -> LogPool
-        ensures { result ≡ record { events = 0; entries = 0 } }
+        ensures { result ≡ record { events = 0; entries = 0; lent = 0 } }
     {
         LogPool {
             events: CellPool::new(),
@@ -66,6 +67,7 @@ impl LogPool {
         ensures event { result ≡ event }
         ensures events { self.new.events ≡ min (self.old.events + 1) (2 ^ 60) }
         ensures entries { self.new.entries ≡ self.old.entries }
+        ensures lent { self.new.lent ≡ self.old.lent }
     {
         self.events.recycle(event)
     }
@@ -77,6 +79,7 @@ impl LogPool {
         ensures verdict { result.verdict ≡ done.verdict }
         ensures events { self.new.events ≡ min (self.old.events + 1) (2 ^ 60) }
         ensures entries { self.new.entries ≡ min (self.old.entries + 1) (2 ^ 60) }
+        ensures lent { self.new.lent ≡ self.old.lent - 1 }
     {
         let Done {
             event,
@@ -98,6 +101,7 @@ impl LogPool {
         ensures entries { OnOk result (1 ≤ self.new.entries) }
         ensures events_kept { self.old.events ≤ self.new.events }
         ensures entries_kept { self.old.entries ≤ self.new.entries }
+        ensures lent { self.new.lent ≡ self.old.lent }
     {
         self.entries.reserve(alloc, 1)?;
         self.events.reserve(alloc, 8)?;
@@ -111,7 +115,9 @@ impl LogPool {
         changes: &[Change],
     ) -> Result<Vec<Change>, OutOfMemory>
         ensures list { IfOk result (λ list. list.items ≡ changes.now) }
-        ensures same { self.new ≡ self.old }
+        ensures same { self.new ≡ record self.old { lent = self.new.lent } }
+        ensures lent { OnOk result (self.new.lent ≡ self.old.lent + 1) }
+        ensures refused { OnErr result (self.new.lent ≡ self.old.lent) }
     {
         self.lists.copy_of(alloc, changes)
     }
@@ -122,6 +128,7 @@ impl LogPool {
         ensures value { result ≡ event }
         ensures events { self.new.events + 1 ≡ self.old.events }
         ensures entries { self.new.entries ≡ self.old.entries }
+        ensures lent { self.new.lent ≡ self.old.lent }
     {
         self.events.fill(event)
     }
@@ -132,6 +139,7 @@ impl LogPool {
         ensures value { result ≡ done }
         ensures events { self.new.events ≡ self.old.events }
         ensures entries { self.new.entries + 1 ≡ self.old.entries }
+        ensures lent { self.new.lent ≡ self.old.lent }
     {
         self.entries.fill(done)
     }
@@ -141,6 +149,7 @@ impl LogPool {
         ensures value { result ≡ entry }
         ensures events { self.new.events ≡ self.old.events }
         ensures entries { self.new.entries ≡ min (self.old.entries + 1) (2 ^ 60) }
+        ensures lent { self.new.lent ≡ self.old.lent }
     {
         self.entries.recycle(entry)
     }
@@ -149,6 +158,7 @@ impl LogPool {
     pub(crate) fn keep(&mut self, undo: Vec<Change>, sends: Chain<Event>)
         ensures events { self.new.events ≡ min (self.old.events + length sends) (2 ^ 60) }
         ensures entries { self.new.entries ≡ self.old.entries }
+        ensures lent { self.new.lent ≡ self.old.lent - 1 }
     {
         self.lists.give_back(undo);
         recycle_all(&mut self.events, sends);
