@@ -8,6 +8,7 @@ ghost use Rattle.tick_queue.specs.Queues.{IsSettled};
 ghost use Rattle.one_thread.specs.Engines.{state_of};
 ghost use Rattle.one_thread.specs.Turns.{IsTurn, HasDue};
 
+use crate::ahead::{ReadAhead, STEP};
 use crate::beginning::first_events;
 use crate::sending::send_all;
 use crate::turn::Turn;
@@ -26,6 +27,7 @@ pub struct Course {
     objects: Vec<Object>,
     queue: TickQueue,
     count: u64,
+    ahead: ReadAhead,
 }
 
 impl Model for Course {
@@ -48,6 +50,7 @@ impl Course {
             objects: first_objects(alloc, model)?,
             queue: first_events(alloc, model)?,
             count: 0,
+            ahead: ReadAhead::new(),
         })
     }
 
@@ -89,7 +92,11 @@ impl Course {
         ensures fresh { self.new.queue.fresh_least ≡ self.old.queue.fresh_least }
         ensures settled { OnOk result (IsSettled self.new.queue) }
     {
-        self.queue.settle()
+        self.queue.settle()?;
+        if self.count % STEP as u64 == 0 {
+            self.ahead.look(&self.objects, &self.queue);
+        }
+        Ok(())
     }
 
     /// Fires the next event of the bucket, where there is one, and tells of it in the sheet.

@@ -5,6 +5,7 @@
 //! their order, as one bucket, and then nothing is fresh any more.
 #![tactic(auto)]
 
+mod ahead;
 mod beginning;
 mod bucket;
 mod course;

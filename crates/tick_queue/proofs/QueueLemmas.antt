@@ -1,9 +1,10 @@
 -- Events at hand and later ones, in one list in the order of their keys.
-use Rattle.std.proofs.Common.{◌≡◌, ◌≢◌, ℕ, ◌+◌, ◌^◌, ◌<◌, ◌≤◌, true, false, cond, List, [], ◌∷◌, ◌++◌, length, length-append, append-nil, append_assoc, sym, refl, ap, ◌∙◌, subst, inl, inr, arith}
+use Rattle.std.proofs.Common.{◌≡◌, ◌≢◌, ℕ, zero, suc, drop, ◌+◌, ◌^◌, ◌<◌, ◌≤◌, true, false, cond, List, [], ◌∷◌, ◌++◌, length, length-append, append-nil, append_assoc, sym, refl, ap, ◌∙◌, subst, inl, inr, arith}
 use denote.Ref.{Bor}
-use Rattle.std.specs.Prelude.{Contains, IsPermutation, Option, Some, None, IfSome, Result, Ok, Err, OnOk, OnErr, nat_lt}
+use Rattle.std.specs.Prelude.{Contains, IsPermutation, Option, Some, None, IfSome, OnSome, Result, Ok, Err, OnOk, OnErr, nat_lt}
 use Rattle.std.specs.Bool.{OnTrue}
 use Rattle.std.proofs.lemmas.Bool.{OnTrue_from}
+use Rattle.std.proofs.lemmas.List.{length-drop}
 use Rattle.std.proofs.lemmas.Bool.Decides.{nat_tests}
 use Rattle.std.specs.List.{AllByRecursion as Each}
 use Rattle.std.proofs.lemmas.List.Sorted.{IsPermutation-refl, IsPermutation-sym, IsPermutation-trans, IsPermutation-cons, IsPermutation-middle, IsPermutation-append_left, IsPermutation-append_right, length_permutation, sum_by-IsPermutation}
@@ -230,6 +231,28 @@ some_at_hand near e starts = let long = ap length starts.1 in omega (arith, long
 pub starts_if : (near later : List Event) (r : Option (Bor Event)) → IfSome r (λ (e : Bor Event). StartsWith near e.now) → IfSome r (λ (e : Bor Event). StartsWith (pending_of near later) e.now)
 starts_if near later None starts = tt
 starts_if near later (Some e) starts = starts_pending near later e.now starts
+
+-- those behind the first ones
+drop_front : (near later : List Event) (k : ℕ) → k ≤ length near → drop k (near ++ later) ≡ drop k near ++ later
+drop_front near later zero le = refl
+drop_front [] later (suc k) le = absurd (omega arith)
+drop_front (x ∷ near) later (suc k) le = drop_front near later k (omega arith)
+
+starts_short : (near : List Event) (k : ℕ) (e : Event) → StartsWith (drop k near) e → k < length near
+starts_short near k e starts = let long = ap length starts.1 in let less = length-drop k near in omega (arith, long, less)
+
+starts_behind : (near later : List Event) (k : ℕ) (e : Event) → StartsWith (drop k near) e → StartsWith (drop k (pending_of near later)) e
+starts_behind near later k e starts =
+    let short = starts_short near k e starts in
+    (starts.0 ++ in_order later, drop_front near (in_order later) k (omega arith) ∙ ap (λ xs. xs ++ in_order later) starts.1)
+
+pub starts_behind_if : (near later : List Event) (k : ℕ) (r : Option (Bor Event)) → IfSome r (λ (e : Bor Event). StartsWith (drop k near) e.now) → IfSome r (λ (e : Bor Event). StartsWith (drop k (pending_of near later)) e.now)
+starts_behind_if near later k None starts = tt
+starts_behind_if near later k (Some e) starts = starts_behind near later k e.now starts
+
+pub at_hand_if : (near : List Event) (k : ℕ) (r : Option (Bor Event)) → IfSome r (λ (e : Bor Event). StartsWith (drop k near) e.now) → OnSome r (k < length near)
+at_hand_if near k None starts = tt
+at_hand_if near k (Some e) starts = starts_short near k e.now starts
 
 -- where an event goes
 pub goes_near : (near : List Event) (tick : ℕ) (later : List Event) (e : Event) → AreInOrder near tick later → Each (λ (x : Event). tick ≤ time_part x.key.stamp) later → IsNewKey e.key (pending_of near later)

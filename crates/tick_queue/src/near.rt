@@ -1,5 +1,5 @@
 //! Events at hand, in order.
-ghost use Rattle.std.specs.Prelude.{◌≡◌, ◌+◌, ◌<◌, ◌≤◌, ◌^◌, ◌↔◌, true, [], ◌∷◌, ◌++◌, length, OnOk, OnErr, IfSome, IfNone, IsTrue};
+ghost use Rattle.std.specs.Prelude.{◌≡◌, ◌+◌, ◌<◌, ◌≤◌, ◌^◌, ◌↔◌, true, [], ◌∷◌, ◌++◌, length, drop, OnOk, OnErr, IfSome, IfNone, IsTrue};
 ghost use Rattle.std.specs.Bool.{OnTrue, OnFalse};
 ghost use Rattle.std.specs.List.{AllByRecursion};
 ghost use Rattle.event_key.specs.Stamps.{time_part};
@@ -64,6 +64,17 @@ impl Near {
             return None;
         }
         Some(&self.events[self.at])
+    }
+
+    /// The event that comes so many after the first one, if so many are left.
+    pub fn after_first(&self, k: usize) -> Option<&Event>
+        ensures some { IfSome result (λ event. StartsWith (drop k self.now) event.now) }
+        ensures none { IfNone result (length self.now ≤ k) }
+    {
+        if k >= self.events.len() - self.at {
+            return None;
+        }
+        Some(&self.events[self.at + k])
     }
 
     /// Lets the first event go.

@@ -1,5 +1,5 @@
 //! The queue by ticks.
-ghost use Rattle.std.specs.Prelude.{◌≡◌, ◌+◌, ◌<◌, ◌^◌, [], ◌∷◌, ◌++◌, length, min, IfOk, OnOk, OnErr, OnSome, IfSome, IfNone};
+ghost use Rattle.std.specs.Prelude.{◌≡◌, ◌+◌, ◌<◌, ◌≤◌, ◌^◌, [], ◌∷◌, ◌++◌, length, drop, min, IfOk, OnOk, OnErr, OnSome, IfSome, IfNone};
 ghost use Rattle.event_key.specs.declared.stamp.TheConstants.{NO_STAMP};
 ghost use Rattle.key_order.specs.Keys.{IsNewKey};
 ghost use Rattle.key_order.specs.Pending.{enqueue};
@@ -110,6 +110,15 @@ impl TickQueue {
         ensures none { IfNone result (self.now.at_hand ≡ 0) }
     {
         self.near.first()
+    }
+
+    /// The event that comes so many after the first one, if it is at hand.
+    pub fn after_first(&self, k: usize) -> Option<&Event>
+        ensures some { IfSome result (λ event. StartsWith (drop k self.now.pending) event.now) }
+        ensures at_hand { OnSome result (k < self.now.at_hand) }
+        ensures none { IfNone result (self.now.at_hand ≤ k) }
+    {
+        self.near.after_first(k)
     }
 
     /// Lets the first event go.

@@ -77,6 +77,12 @@ impl Counted {
         Ok(Some(key))
     }
 
+    /// The object of the event that comes so many after the first one, if it is at hand.
+    fn dest_after(&self, k: usize) -> Option<u32> {
+        let event = self.queue.after_first(k)?;
+        Some(event.key.dest)
+    }
+
     /// Takes the first event, and answers its stamp.
     fn take(&mut self) -> Result<Option<u64>, Fail> {
         let Some(key) = self.take_key()? else {
@@ -103,6 +109,22 @@ fn fresh_least_is_of_what_came_since_the_merge(rt: HostRuntime) -> Result<(), Fa
     assert_eq!(rt; counted.take()?, Some(20 * STEPS));
     assert_eq!(rt; counted.take()?, Some(30 * STEPS));
     assert_eq!(rt; counted.take()?, None);
+    Ok(())
+}
+
+#[test]
+fn those_behind_the_first_are_seen_as_far_as_they_are_at_hand(rt: HostRuntime) -> Result<(), Fail> {
+    let mut counted = Counted::new(rt.alloc())?;
+    assert_eq!(rt; counted.dest_after(0), None);
+    for dest in [4, 2, 3, 1] {
+        counted.push_to(10 * STEPS, dest)?;
+    }
+    counted.push(20 * STEPS)?;
+    assert_eq!(rt; counted.take()?, Some(10 * STEPS));
+    assert_eq!(rt; counted.dest_after(0), Some(2));
+    assert_eq!(rt; counted.dest_after(1), Some(3));
+    assert_eq!(rt; counted.dest_after(2), Some(4));
+    assert_eq!(rt; counted.dest_after(3), None);
     Ok(())
 }
 

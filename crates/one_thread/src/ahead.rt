@@ -1,0 +1,44 @@
+//! Objects that are read before their events are fired.
+//!
+//! Where objects are many, most of them lie in no cache when their events come, and each event would wait for its own. So
+//! the next ones are read a few events ahead, by reads that don't wait for one another. That stands for a prefetch
+//! (Callahan, Kennedy and Porterfield, "Software Prefetching", 1991), and changes nothing that a simulation tells.
+use event_firing::Object;
+use tick_queue::TickQueue;
+
+/// So few objects lie in the caches anyway.
+const FEW: usize = 8_192;
+
+/// How many events are fired from one look ahead to the next.
+pub const STEP: usize = 8;
+
+/// A sum of all that was read ahead. Nobody asks for it, but what isn't used isn't read.
+#[derive(Drop)]
+pub struct ReadAhead {
+    sum: u64,
+}
+
+impl ReadAhead {
+    /// Nothing was read yet.
+    pub fn new() -> ReadAhead {
+        ReadAhead { sum: 0 }
+    }
+
+    /// Reads the objects of the events that are fired after the next look ahead, as far as these events are at hand.
+    #[inline(never)]
+    pub fn look(&mut self, objects: &[Object], queue: &TickQueue) {
+        if objects.len() <= FEW {
+            return;
+        }
+        for k in STEP..2 * STEP {
+            let Some(event) = queue.after_first(k) else {
+                return;
+            };
+            let Some(object) = objects.get(event.key.dest as usize) else {
+                return;
+            };
+            // an object takes more than one line of a cache
+            self.sum ^= object.sent() ^ u64::from(object.cells().words());
+        }
+    }
+}
