@@ -34,11 +34,18 @@ impl ReadAhead {
             let Some(event) = queue.after_first(k) else {
                 return;
             };
-            let Some(object) = objects.get(event.key.dest as usize) else {
-                return;
-            };
-            // an object takes more than one line of a cache
-            self.sum ^= object.sent() ^ u64::from(object.cells().words());
+            self.read(objects, event.key.dest as usize);
         }
+    }
+
+    /// Reads an object that isn't the last one. It takes some lines of a cache, the last of which has the beginning of the
+    /// next object too.
+    fn read(&mut self, objects: &[Object], at: usize) {
+        if objects.len() < 2 || at > objects.len() - 2 {
+            return;
+        }
+        let (object, next) = (&objects[at], &objects[at + 1]);
+        self.sum ^= object.sent() ^ u64::from(object.cells().words());
+        self.sum ^= u64::from(next.cells().words());
     }
 }
