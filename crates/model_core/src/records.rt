@@ -95,7 +95,11 @@ impl RecordBuffer {
     }
 
     /// Makes room for the records of two others together.
-    pub fn reserve_for(&mut self, one: &RecordBuffer, other: &RecordBuffer) -> Result<(), OutOfMemory>
+    pub fn reserve_for(
+        &mut self,
+        one: &RecordBuffer,
+        other: &RecordBuffer,
+    ) -> Result<(), OutOfMemory>
         ensures room { OnOk result (length one.now.items + length other.now.items ≤ self.new.room) }
         ensures same { self.new.items ≡ self.old.items }
     {
