@@ -6,8 +6,10 @@ use Rattle.model_core.specs.Meaning.{Meaning}
 use Rattle.key_order.specs.Pending.{in_order}
 use Rattle.sim_spec.specs.Firing.{ObjectState}
 use Rattle.sim_spec.specs.State.{State, Lawful, object_at, start_event}
+use Rattle.sim_spec.specs.declared.placement.Placement.{Placement}
 use Rattle.sim_spec.specs.declared.terms.Terms.{Terms}
 use Rattle.world_spec.specs.Share.{IsHome, is_at}
+use Rattle.world_spec.specs.World.{home_by}
 use Rattle.node_core.specs.Calls.{IsNewNode}
 use Rattle.node_core.specs.Homes.{HomesView, home_of}
 use Rattle.node_core.specs.Nodes.{NodeView, home, log_at}
@@ -23,6 +25,10 @@ pub record ArePlaced (m : Meaning) (homes : HomesView) : Type 0 where
   pub objects : length homes.homes ≡ m.objects
   pub nodes : (object : ℕ) → object < m.objects → home_of homes object < homes.nodes
   pub some : 0 < homes.nodes
+
+-- each object is on the node where this placement puts it
+abbrev pub ArePlacedBy : Placement → HomesView → Type 0
+ArePlacedBy placement homes = (object : ℕ) → object < length homes.homes → home_of homes object ≡ home_by placement (length homes.homes) homes.nodes object
 
 -- a chain for each node: those of these events whose home it is
 pub record ArePartsOf (homes : HomesView) (es : List Event) (parcels : List (List Event)) : Type 0 where

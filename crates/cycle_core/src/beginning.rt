@@ -6,7 +6,7 @@ ghost use Rattle.model_core.specs.declared.limits.TheConstants.{MOST_NODES};
 ghost use Rattle.model_core.specs.Meaning.{MeaningLaws};
 ghost use Rattle.model_core.specs.declared.event.Event.{Event};
 ghost use Rattle.sim_spec.specs.declared.terms.Terms.{Terms};
-ghost use Rattle.cycle_core.specs.Starts.{AreAllNew, ArePartsOf, ArePlaced, CanSet, HaveStatesFrom, first_events};
+ghost use Rattle.cycle_core.specs.Starts.{AreAllNew, ArePartsOf, ArePlaced, ArePlacedBy, CanSet, HaveStatesFrom, first_events};
 
 use crate::state::ObjectState;
 use event_chain::{Cell, Chain};
@@ -29,6 +29,7 @@ pub fn placed_homes<M: SimulationModel>(
     requires high { nodes ≤ MOST_NODES }
     ensures nodes { IfOk result (λ homes. (arc_value homes).nodes ≡ nodes) }
     ensures placed { IfOk result (λ homes. ArePlaced (M.meaning model.now) (arc_value homes)) }
+    ensures by { IfOk result (λ homes. ArePlacedBy placement (arc_value homes)) }
 {
     let homes = Homes::new(alloc, model.objects(), nodes, placement)?;
     Ok(Arc::new(alloc, homes)?)

@@ -31,10 +31,7 @@ fn merge_two(
         mem::swap(right, merged);
         return Ok(());
     }
-    let Some(records) = left.len().checked_add(right.len()) else {
-        return Err(OutOfMemory);
-    };
-    merged.reserve(records)?;
+    merged.reserve_for(left, right)?;
     let (mut i, mut j) = (0, 0);
     while i < left.len() && j < right.len() {
         if left.at(i).0.is_before(right.at(j).0) {

@@ -6,6 +6,7 @@ ghost use Rattle.sim_spec.specs.Standing.{stands};
 ghost use Rattle.sim_spec.specs.State.{State, Lawful};
 ghost use Rattle.cycle_core.specs.Places.{AtEach};
 ghost use Rattle.cycle_core.specs.Standings.{WorldStandsAt};
+ghost use Rattle.cycle_core.specs.Starts.{ArePlacedBy};
 ghost use Rattle.cycle_core.specs.Worlds.{StandsAt};
 
 use super::World;
@@ -34,6 +35,7 @@ impl<M: SimulationModel> World<M> {
         ensures model { IfOk result (λ world. world.model ≡ arc_value model) }
         ensures terms { IfOk result (λ world. world.terms ≡ terms) }
         ensures nodes { IfOk result (λ world. world.homes.nodes ≡ nodes) }
+        ensures placed { IfOk result (λ world. ArePlacedBy placement world.homes) }
         ensures stands { IfOk result (λ world. WorldStandsAt M.meaning world (stands state None)) }
         ensures new { IfOk result (λ world. AtEach (λ number n. n.processed ≡ []) world.nodes) }
     {
