@@ -17,7 +17,7 @@ use Rattle.key_order.proofs.SortLemmas.{sorted-ascends}
 use Rattle.tick_queue.specs.Order.{place_at, no_event, event_at, HaveWords, AreUnturned}
 
 -- one word more
-pub words_more : (ws : List ℕ) (w i : ℕ) → map place_at ws ≡ map (λ k. k) (range_with_len 0 i) → w % 1048576 ≡ i → map place_at (ws ++ w ∷ []) ≡ map (λ k. k) (range_with_len 0 (i + 1))
+pub words_more : (ws : List ℕ) (w i : ℕ) → map place_at ws ≡ map (λ k. k) (range_with_len 0 i) → w % 16384 ≡ i → map place_at (ws ++ w ∷ []) ≡ map (λ k. k) (range_with_len 0 (i + 1))
 words_more ws w i so_far is =
     map-append place_at ws (w ∷ []) ∙ (λ j. so_far j ++ is j ∷ []) ∙ sym (map-range_with_len_more (λ k. k) 0 i i (omega arith))
 
@@ -26,14 +26,14 @@ below : (a n m : ℕ) → a + n ≤ m → Each (λ (k : ℕ). k < m) (map (λ k.
 below a zero m le = tt
 below a (suc n) m le = (omega arith, below (a + 1) n m (omega arith))
 
-places_below : (m : ℕ) (ws : List ℕ) → Each (λ (k : ℕ). k < m) (map place_at ws) → Each (λ (w : ℕ). w % 1048576 < m) ws
+places_below : (m : ℕ) (ws : List ℕ) → Each (λ (k : ℕ). k < m) (map place_at ws) → Each (λ (w : ℕ). w % 16384 < m) ws
 places_below m [] all = tt
 places_below m (w ∷ ws) all = (all.0, places_below m ws all.1)
 
-pub words_inside : (es : List Event) (ws sorted : List ℕ) → HaveWords es ws → IsPermutation ws sorted → Each (λ (w : ℕ). w % 1048576 < length es) sorted
+pub words_inside : (es : List Event) (ws sorted : List ℕ) → HaveWords es ws → IsPermutation ws sorted → Each (λ (w : ℕ). w % 16384 < length es) sorted
 words_inside es ws sorted have moves =
     let P : List ℕ → Type 0 = Each (λ (k : ℕ). k < length es) in
-    Each-permutation (λ (w : ℕ). w % 1048576 < length es) ws sorted moves (places_below (length es) ws (subst P (sym have) (below 0 (length es) (length es) (omega arith))))
+    Each-permutation (λ (w : ℕ). w % 16384 < length es) ws sorted moves (places_below (length es) ws (subst P (sym have) (below 0 (length es) (length es) (omega arith))))
 
 -- what is read at all places is the list
 read_words : (es : List Event) (ws : List ℕ) → map (event_at es) ws ≡ map (λ k. get_or es k no_event) (map place_at ws)
@@ -55,10 +55,10 @@ gathered es ws sorted have moves =
     subst P (all_read es ws have) (IsPermutation-map (event_at es) ws sorted moves)
 
 -- one event more
-pub gathers : (es got : List Event) (ws : List ℕ) (i w : ℕ) (e : Event) → i < length ws → got ≡ map (event_at es) (take i ws) → w ≡ get_or ws i 0 → w % 1048576 < length es → e ≡ get_or es (w % 1048576) e
+pub gathers : (es got : List Event) (ws : List ℕ) (i w : ℕ) (e : Event) → i < length ws → got ≡ map (event_at es) (take i ws) → w ≡ get_or ws i 0 → w % 16384 < length es → e ≡ get_or es (w % 16384) e
     → got ++ e ∷ [] ≡ map (event_at es) (take (i + 1) ws)
 gathers es got ws i w e lt so_far is inside read =
-    let one : e ≡ event_at es (get_or ws i 0) = read ∙ get_or_default es (w % 1048576) e no_event inside ∙ ap (event_at es) is in
+    let one : e ≡ event_at es (get_or ws i 0) = read ∙ get_or_default es (w % 16384) e no_event inside ∙ ap (event_at es) is in
     (λ j. so_far j ++ one j ∷ []) ∙ sym (ap (map (event_at es)) (take_more ws i 0 lt) ∙ map-append (event_at es) (take i ws) (get_or ws i 0 ∷ []))
 
 pub each_at : (P : ℕ → Type 0) (ws : List ℕ) (i : ℕ) → Each P ws → i < length ws → P (get_or ws i 0)

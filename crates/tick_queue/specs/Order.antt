@@ -6,7 +6,7 @@ use Rattle.model_core.specs.declared.event.Event.{Event}
 
 -- the place of a word
 abbrev pub place_at : ℕ → ℕ
-place_at w = w % 1048576
+place_at w = w % 16384
 
 -- what stands where there is no event
 abbrev pub no_event : Event

@@ -14,7 +14,7 @@ use std::mem;
 /// So few events are sorted as they are.
 const FEW: usize = 12;
 
-/// So many events have words at most, which bounds the room: a tick that has more is rare. A place has 20 bits.
+/// So many events have words at most, which bounds the room: a tick that has more is rare. A place has 14 bits.
 const MOST: usize = 16_384;
 
 /// Room in which events are put in order.
@@ -24,28 +24,30 @@ pub struct Order {
     sorted: Vec<Event>,
 }
 
-/// A word for an event, with its place in the lowest 20 bits. The others are a rank, a destination and a source, as far as
-/// these fit, so most words are in the order of their events.
+/// A word for an event, with its place in the lowest 14 bits. The others are a rank, a destination, a source and the last bits
+/// of a serial, as far as these fit, so most words are in the order of their events. Without the serial those that one object
+/// sends to another at one time, as gates do, would be in the order in which they were put into their slots.
 fn word_of(event: &Event, place: u64) -> u64
-    requires { place < 1048576 }
-    ensures { result % 1048576 ≡ place }
+    requires { place < 16384 }
+    ensures { result % 16384 ≡ place }
 {
     let rank = u64::from(event.key.rank) % 256;
     let dest = u64::from(event.key.dest) % 65_536;
-    let src = u64::from(event.key.src) % 1_048_576;
-    ((rank * 65_536 + dest) * 1_048_576 + src) * 1_048_576 + place
+    let src = u64::from(event.key.src) % 65_536;
+    let serial = event.key.serial % 1_024;
+    (((rank * 65_536 + dest) * 65_536 + src) * 1_024 + serial) * 16_384 + place
 }
 
 /// The place of a word.
 fn place_of(word: u64) -> usize
-    ensures { result ≡ word % 1048576 }
+    ensures { result ≡ word % 16384 }
 {
-    (word % 1_048_576) as usize
+    (word % 16_384) as usize
 }
 
 /// Makes the words of events.
 fn put_words(words: &mut Vec<u64>, events: &Vec<Event>) -> Result<(), OutOfMemory>
-    requires { length events.now.items ≤ 1048576 }
+    requires { length events.now.items ≤ 16384 }
     ensures { OnOk result (HaveWords events.now.items words.new.items) }
 {
     words.clear();
@@ -58,7 +60,7 @@ fn put_words(words: &mut Vec<u64>, events: &Vec<Event>) -> Result<(), OutOfMemor
 
 /// Copies the events at the places of words, one after another.
 fn gather(sorted: &mut Vec<Event>, events: &Vec<Event>, words: &Vec<u64>) -> Result<(), OutOfMemory>
-    requires { AllByRecursion (λ w. w % 1048576 < length events.now.items) words.now.items }
+    requires { AllByRecursion (λ w. w % 16384 < length events.now.items) words.now.items }
     ensures { OnOk result (sorted.new.items ≡ map (event_at events.now.items) words.now.items) }
 {
     sorted.clear();
