@@ -23,6 +23,3 @@ pub use advancing::advance;
 pub use gate::{Gate, Open};
 pub use model_core::OutOfMemory;
 pub use team::Team;
-
-#[cfg(test)]
-mod tests;

@@ -1,5 +1,6 @@
 //! When a fork pays.
-ghost use Rattle.std.specs.Prelude.{◌<◌};
+ghost use Rattle.std.specs.Prelude.{◌≡◌, ◌<◌, ◌≤◌, ◌+◌, ◌↔◌, IsTrue, true, false};
+ghost use Rattle.node_team.specs.declared.paying.TheConstants.{MANY_EVENTS, MOST_THREADS};
 
 /// In how many threads a phase of a cycle runs at most. Beyond that a thread does several nodes one after another: a fork in
 /// four costs 65 microseconds on an idle machine, in eight 190, in sixteen 500 and more, while few programs have more than
@@ -16,14 +17,18 @@ const MANY_EVENTS: u64 = 1_536;
 #[derive(Clone, Copy, Debug, PartialEq, Eq)]
 pub struct Load {
     /// How many events were processed before, in all cycles, modulo 2^64.
-    total: u64,
-    processed: u64,
-    committed: u64,
+    pub total: u64,
+    /// How many of them in the last cycle, modulo 2^64.
+    pub processed: u64,
+    pub committed: u64,
 }
 
 impl Load {
     /// Nothing is known before the first cycle, which so forks: the nodes may have any number of events.
-    pub fn unknown() -> Load {
+    pub fn unknown() -> Load
+        ensures advance { MANY_EVENTS ≤ result.processed }
+        ensures commit { MANY_EVENTS ≤ result.committed }
+    {
         Load {
             total: 0,
             processed: u64::MAX,
@@ -32,7 +37,11 @@ impl Load {
     }
 
     /// After one more cycle: so many events are processed by now, in all cycles, and so many were committed in this one.
-    pub fn after(&self, total: u64, committed: u64) -> Load {
+    pub fn after(&self, total: u64, committed: u64) -> Load
+        ensures total { result.total ≡ total }
+        ensures processed { self.now.total ≤ total → self.now.total + result.processed ≡ total }
+        ensures committed { result.committed ≡ committed }
+    {
         Load {
             total,
             processed: total.wrapping_sub(self.total),
@@ -41,20 +50,26 @@ impl Load {
     }
 
     /// Whether no fork pays: neither for the advance nor for the commit.
-    pub fn forks_nothing(&self) -> bool {
+    pub fn forks_nothing(&self) -> bool
+        ensures { IsTrue result ↔ (self.now.processed < MANY_EVENTS) × (self.now.committed < MANY_EVENTS) }
+    {
         self.processed < MANY_EVENTS && self.committed < MANY_EVENTS
     }
 
     /// In how many threads the nodes advance.
     pub fn advance_threads(&self) -> usize
-        ensures { 0 < result }
+        ensures some { 0 < result }
+        ensures forks { MANY_EVENTS ≤ self.now.processed → result ≡ MOST_THREADS }
+        ensures alone { self.now.processed < MANY_EVENTS → result ≡ 1 }
     {
         threads(self.processed >= MANY_EVENTS)
     }
 
     /// In how many threads they commit.
     pub fn commit_threads(&self) -> usize
-        ensures { 0 < result }
+        ensures some { 0 < result }
+        ensures forks { MANY_EVENTS ≤ self.now.committed → result ≡ MOST_THREADS }
+        ensures alone { self.now.committed < MANY_EVENTS → result ≡ 1 }
     {
         threads(self.committed >= MANY_EVENTS)
     }
@@ -70,7 +85,9 @@ pub fn share(nodes: usize, threads: usize) -> usize
 
 /// The calling thread alone, unless a fork pays.
 fn threads(pays: bool) -> usize
-    ensures { 0 < result }
+    ensures some { 0 < result }
+    ensures forks { pays ≡ true → result ≡ MOST_THREADS }
+    ensures alone { pays ≡ false → result ≡ 1 }
 {
     if pays { MOST_THREADS } else { 1 }
 }
