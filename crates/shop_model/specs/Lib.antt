@@ -3,6 +3,7 @@ pub mod ClassKeeps
 pub mod Classes
 pub mod CountLaws
 pub mod EffectKeeps
+pub mod Entries
 pub mod EntrySteps
 pub mod HasStation
 pub mod JobLaws

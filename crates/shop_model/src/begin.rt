@@ -7,18 +7,17 @@ ghost use Rattle.model_core.specs.Effects.{blank};
 ghost use Rattle.model_core.specs.Places.{place_changes};
 ghost use Rattle.random_streams.specs.Delays.{is_delay_law};
 ghost use Rattle.shop_model.specs.declared.class.TheConstants.{MOST_STEPS};
-ghost use Rattle.shop_model.specs.Parts.{AreRoutes};
 ghost use Rattle.shop_model.specs.Routes.{HasJob};
 ghost use Rattle.shop_model.specs.Sites.{place_of};
-ghost use Rattle.shop_model.specs.HasStation.{HasStation, IsStation, AreCounts};
+ghost use Rattle.shop_model.specs.HasStation.{AreCounts};
 ghost use Rattle.shop_model.specs.Beginnings.{service_drawn, begin_changes, begin_sent, counts_begun};
 
 use crate::counts::Counts;
 use crate::job::{Job, job_at, served_by};
 use crate::kinds::DONE;
-use crate::routes::Routes;
 use crate::site::Site;
-use crate::station::{FREE_SERVERS, HELD, LAG, Station};
+use crate::station::{FREE_SERVERS, HELD, LAG};
+use crate::station_event::StationEvent;
 use crate::step::Visit;
 use model_core::{Cells, Change, Effect};
 use random_streams::Stream;
@@ -48,14 +47,11 @@ impl Visit {
     }
 }
 
-impl Station {
+impl StationEvent<'_> {
     /// Begins a job, whose service takes so long, and answers the counts after that.
     #[tactic(auto, unfolding(crate::specs::Beginnings::begin_changes, crate::specs::Beginnings::begin_sent, crate::specs::Beginnings::counts_begun))]
     pub(crate) fn begin(
         &self,
-        site: Site,
-        routes: &Routes,
-        cells: &Cells,
         visit: &Visit,
         service: u64,
         job: Job,
@@ -63,22 +59,19 @@ impl Station {
         counts: Counts,
         sheet: &mut Effect,
     ) -> Counts
-        requires routes { AreRoutes routes.now }
-        requires station { IsStation self.now }
-        requires cells { HasStation self.now cells.now.contents }
-        requires job { HasJob routes.now job }
+        requires job { HasJob self.now.routes.now job }
         requires step { job.step < MOST_STEPS }
         requires birth { birth < 2 ^ 48 }
-        requires counts { AreCounts self.now.most counts }
+        requires counts { AreCounts self.now.station.now.most counts }
         requires free { counts.held < counts.free }
-        requires same { counts.free ≡ length (line_of cells.now.contents FREE_SERVERS) }
+        requires same { counts.free ≡ length (line_of self.now.cells.now.contents FREE_SERVERS) }
         requires changes { length sheet.old.changes ≤ 8 }
         requires sends { sheet.old.sends ≡ [] }
         ensures counts { result ≡ counts_begun visit.now counts }
-        ensures are_counts { AreCounts self.now.most result }
-        ensures sheet { sheet.new ≡ record sheet.old {
-          changes = sheet.old.changes ++ begin_changes self.now cells.now.contents visit.now counts;
-          sends = begin_sent site routes.now cells.now.contents visit.now service job birth ∷ [];
+        ensures are_counts { AreCounts self.now.station.now.most result }
+        ensures sheet { let at = self.now in sheet.new ≡ record sheet.old {
+          changes = sheet.old.changes ++ begin_changes at.station.now at.cells.now.contents visit.now counts;
+          sends = begin_sent at.site at.routes.now at.cells.now.contents visit.now service job birth ∷ [];
         } }
     {
         if visit.service.is_none() {
@@ -87,20 +80,21 @@ impl Station {
                 word: HELD,
                 value: held,
             });
-            sheet.sends.push(routes.to(job, birth, job.step + 1, 0));
+            sheet
+                .sends
+                .push(self.routes.to(job, birth, job.step + 1, 0));
             return Counts { held, ..counts };
         }
-        let last = cells.line_len(FREE_SERVERS) - 1;
-        let server = cells.line_at(FREE_SERVERS, last);
+        let last = self.cells.line_len(FREE_SERVERS) - 1;
+        let server = self.cells.line_at(FREE_SERVERS, last);
         sheet.changes.push(Change::Unpush { line: FREE_SERVERS });
         sheet.changes.push(Change::Set {
-            word: self.mark(server as u32),
-            value: cells.word(LAG),
+            word: self.station.mark(server as u32),
+            value: self.cells.word(LAG),
         });
         let a = job_at(job.step, job.id);
-        sheet
-            .sends
-            .push(site.to_self(service, DONE, a, served_by(server, birth)));
+        let b = served_by(server, birth);
+        sheet.sends.push(self.site.to_self(service, DONE, a, b));
         Counts {
             free: counts.free - 1,
             ..counts

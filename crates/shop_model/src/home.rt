@@ -3,72 +3,98 @@ ghost use Rattle.std.specs.Prelude.{◌≡◌, ◌<◌, ◌≤◌, ◌+◌, ◌+
 ghost use Rattle.model_core.specs.Effects.{blank};
 ghost use Rattle.random_streams.specs.Delays.{is_delay_law};
 ghost use Rattle.shop_model.specs.declared.class.TheConstants.{MOST_STEPS};
-ghost use Rattle.shop_model.specs.Parts.{AreRoutes, IsBranch};
+ghost use Rattle.shop_model.specs.Parts.{IsBranch};
 ghost use Rattle.shop_model.specs.Routes.{HasJob, step_at};
-ghost use Rattle.shop_model.specs.Classes.{is_class_cells, come_home, leave_effect, stay_effect, go_effect, overdue};
+ghost use Rattle.shop_model.specs.Classes.{come_home, leave_effect, stay_effect, go_effect, overdue};
 
 use crate::class::{Class, INSIDE};
+use crate::class_event::ClassEvent;
 use crate::job::{Job, birth_of};
-use crate::routes::Routes;
-use crate::site::{Site, told};
+use crate::site::told;
 use crate::step::{Branch, Step};
 use model_core::{
-    Cells, Change, DELAYED_WORD, DROPPED_WORD, Effect, Event, LEFT_WORD, Note, OVERDUE_WORD, Part,
-    WENT_WORD, keep_place,
+    Change, DELAYED_WORD, DROPPED_WORD, Effect, LEFT_WORD, Note, OVERDUE_WORD, Part, WENT_WORD,
+    keep_place,
 };
 use random_streams::{DelayLaw, Stream, choose_by};
 
-impl Class {
+impl ClassEvent<'_> {
     /// A job comes that stands here at its step.
-    pub(crate) fn come(
-        &self,
-        words: &mut Stream,
-        site: Site,
-        routes: &Routes,
-        cells: &Cells,
-        job: Job,
-        event: &Event,
-        sheet: &mut Effect,
-    )
-        requires routes { AreRoutes routes.now }
-        requires cells { IsTrue (is_class_cells self.now.count cells.now.contents) }
-        requires job { HasJob routes.now job }
+    pub(crate) fn come(&self, words: &mut Stream, job: Job, sheet: &mut Effect)
+        requires job { HasJob self.now.routes.now job }
         requires blank { sheet.old ≡ blank }
-        ensures { sheet.new ≡ come_home site routes.now self.now (step_at routes.now job.class job.step) job cells.now.contents event.now }
+        ensures { let at = self.now in
+            sheet.new ≡ come_home at.site at.routes.now at.class.now (step_at at.routes.now job.class job.step) job at.cells.now.contents at.event.now }
     {
-        match routes.step(job.class, job.step) {
-            Some(Step::Delay { law }) => {
-                stay(words, site, routes, cells, law, job, event, sheet);
-            }
-            Some(Step::Go(branch)) => go(words, site, routes, cells, branch, job, event, sheet),
+        match self.routes.step(job.class, job.step) {
+            Some(Step::Delay { law }) => self.stay(words, law, job, sheet),
+            Some(Step::Go(branch)) => self.go(words, branch, job, sheet),
             Some(_) => {}
-            None => self.leave(site, cells, job, event, sheet),
+            None => self.leave(job, sheet),
         }
     }
 
     /// A job leaves, or is given up.
     #[tactic(auto, unfolding(crate::specs::Classes::leave_effect))]
-    fn leave(&self, site: Site, cells: &Cells, job: Job, event: &Event, sheet: &mut Effect)
-        requires cells { IsTrue (is_class_cells self.now.count cells.now.contents) }
-        requires blank { sheet.old ≡ blank }
-        ensures { sheet.new ≡ leave_effect site self.now job cells.now.contents event.now }
+    fn leave(&self, job: Job, sheet: &mut Effect)
+        requires { sheet.old ≡ blank }
+        ensures { let at = self.now in sheet.new ≡ leave_effect at.site at.class.now job at.cells.now.contents at.event.now }
     {
-        let inside = cells.word(INSIDE);
+        let inside = self.cells.word(INSIDE);
         if inside > 0 {
             sheet.changes.push(Change::Set {
                 word: INSIDE,
                 value: inside - 1,
             });
         }
-        let age = site.tick.saturating_sub(birth_of(event.b));
-        if job.step as usize > self.route.as_slice().len() {
+        let age = self.site.tick.saturating_sub(birth_of(self.event.b));
+        if job.step as usize > self.class.route.as_slice().len() {
             sheet.note = told(DROPPED_WORD, job.id, age);
         } else {
             sheet.note = told(LEFT_WORD, job.id, age);
-            self.tell_overdue(job.id, age, &mut sheet.note);
+            self.class.tell_overdue(job.id, age, &mut sheet.note);
         }
     }
 
+    /// A job stays with its class for a drawn while.
+    #[tactic(auto, unfolding(crate::specs::Classes::stay_effect))]
+    fn stay(&self, words: &mut Stream, law: &DelayLaw, job: Job, sheet: &mut Effect)
+        requires law { IsTrue (is_delay_law law.now) }
+        requires job { HasJob self.now.routes.now job }
+        requires step { job.step < MOST_STEPS }
+        requires blank { sheet.old ≡ blank }
+        ensures { let at = self.now in sheet.new ≡ stay_effect at.site at.routes.now law.now job at.cells.now.contents at.event.now }
+    {
+        let delay = self.site.draw(words, self.cells, law, sheet);
+        let next = self.routes.to(job, self.event.b, job.step + 1, delay);
+        sheet.sends.push(next);
+        sheet.note = told(DELAYED_WORD, job.id, delay);
+    }
+
+    /// A job goes to a drawn step.
+    #[tactic(auto, unfolding(crate::specs::Classes::go_effect))]
+    fn go(&self, words: &mut Stream, branch: &Branch, job: Job, sheet: &mut Effect)
+        requires branch { IsBranch MOST_STEPS branch.now }
+        requires job { HasJob self.now.routes.now job }
+        requires blank { sheet.old ≡ blank }
+        ensures { let at = self.now in sheet.new ≡ go_effect at.site at.routes.now branch.now job at.cells.now.contents at.event.now }
+    {
+        let place = self.cells.word(0);
+        let (way, next_place) = choose_by(
+            words,
+            self.site.seed,
+            self.site.object,
+            place,
+            &branch.weights,
+        );
+        keep_place(&mut sheet.changes, place, next_place);
+        let step = branch.step(way);
+        sheet.sends.push(self.routes.to(job, self.event.b, step, 0));
+        sheet.note = told(WENT_WORD, job.id, u64::from(step));
+    }
+}
+
+impl Class {
     /// Tells by how much a job leaves after its due.
     fn tell_overdue(&self, id: u64, age: u64, note: &mut Note)
         requires { length note.old ≤ 1 }
@@ -84,60 +110,6 @@ impl Class {
             }
         }
     }
-}
-
-/// A job stays with its class for a drawn while.
-#[tactic(auto, unfolding(crate::specs::Classes::stay_effect))]
-fn stay(
-    words: &mut Stream,
-    site: Site,
-    routes: &Routes,
-    cells: &Cells,
-    law: &DelayLaw,
-    job: Job,
-    event: &Event,
-    sheet: &mut Effect,
-)
-    requires routes { AreRoutes routes.now }
-    requires law { IsTrue (is_delay_law law.now) }
-    requires cells { 0 < length cells.now.contents.words }
-    requires job { HasJob routes.now job }
-    requires step { job.step < MOST_STEPS }
-    requires blank { sheet.old ≡ blank }
-    ensures { sheet.new ≡ stay_effect site routes.now law.now job cells.now.contents event.now }
-{
-    let delay = site.draw(words, cells, law, sheet);
-    sheet
-        .sends
-        .push(routes.to(job, event.b, job.step + 1, delay));
-    sheet.note = told(DELAYED_WORD, job.id, delay);
-}
-
-/// A job goes to a drawn step.
-#[tactic(auto, unfolding(crate::specs::Classes::go_effect))]
-fn go(
-    words: &mut Stream,
-    site: Site,
-    routes: &Routes,
-    cells: &Cells,
-    branch: &Branch,
-    job: Job,
-    event: &Event,
-    sheet: &mut Effect,
-)
-    requires routes { AreRoutes routes.now }
-    requires branch { IsBranch MOST_STEPS branch.now }
-    requires cells { 0 < length cells.now.contents.words }
-    requires job { HasJob routes.now job }
-    requires blank { sheet.old ≡ blank }
-    ensures { sheet.new ≡ go_effect site routes.now branch.now job cells.now.contents event.now }
-{
-    let place = cells.word(0);
-    let (way, next_place) = choose_by(words, site.seed, site.object, place, &branch.weights);
-    keep_place(&mut sheet.changes, place, next_place);
-    let step = branch.step(way);
-    sheet.sends.push(routes.to(job, event.b, step, 0));
-    sheet.note = told(WENT_WORD, job.id, u64::from(step));
 }
 
 impl Branch {

@@ -17,6 +17,13 @@ pub struct Level {
     pub until: u32,
 }
 
+/// The place of an entry: its level, and how many entries of the level stand before it.
+#[derive(Clone, Copy)]
+pub struct Entry {
+    pub level: u32,
+    pub place: usize,
+}
+
 impl Level {
     /// The lines of a level, counted from 0.
     pub fn at(level: u32) -> Level

@@ -4,16 +4,15 @@ ghost use Rattle.std.specs.Option.{ForSome};
 ghost use Rattle.model_core.specs.Effects.{blank};
 ghost use Rattle.model_core.specs.Places.{place_changes};
 ghost use Rattle.random_streams.specs.Delays.{is_delay_law};
-ghost use Rattle.shop_model.specs.Parts.{AreRoutes, IsClass};
 ghost use Rattle.shop_model.specs.Sites.{place_of, drawn_or};
-ghost use Rattle.shop_model.specs.Classes.{IsAtClass, is_class_cells, made_jobs, pause_drawn, arrival_of, next_arrival, one_made, make_effect};
+ghost use Rattle.shop_model.specs.Classes.{made_jobs, pause_drawn, arrival_of, next_arrival, one_made, make_effect};
 
 use crate::class::{Class, INSIDE, MADE};
+use crate::class_event::ClassEvent;
 use crate::job::{JOBS_A_CLASS, Job};
 use crate::kinds::MAKE;
-use crate::routes::Routes;
 use crate::site::{Site, told};
-use model_core::{Cells, Change, Effect, Event, MADE_WORD, keep_place};
+use model_core::{Change, Effect, MADE_WORD, keep_place};
 use random_streams::{DelayLaw, Stream};
 
 /// What an arrival brings: how many jobs, and after how long the next arrival comes, where it was drawn.
@@ -23,65 +22,46 @@ pub struct Arrival {
     pub pause: Option<u64>,
 }
 
-impl Class {
+impl ClassEvent<'_> {
     /// Makes a job of an arrival, and the others of it after that.
     #[tactic(auto, unfolding(crate::specs::Classes::make_effect))]
-    pub(crate) fn make(
-        &self,
-        words: &mut Stream,
-        site: Site,
-        routes: &Routes,
-        cells: &Cells,
-        event: &Event,
-        sheet: &mut Effect,
-    )
-        requires class { IsClass routes.now.stations self.now }
-        requires routes { AreRoutes routes.now }
-        requires here { IsAtClass routes.now site }
-        requires cells { IsTrue (is_class_cells self.now.count cells.now.contents) }
-        requires blank { sheet.old ≡ blank }
-        ensures { sheet.new ≡ make_effect site routes.now self.now cells.now.contents event.now }
+    pub(crate) fn make(&self, words: &mut Stream, sheet: &mut Effect)
+        requires { sheet.old ≡ blank }
+        ensures { let at = self.now in
+            sheet.new ≡ make_effect at.site at.routes.now at.class.now at.cells.now.contents at.event.now }
     {
-        let made = cells.word(MADE);
-        if made < u64::from(self.count) {
-            let arrival = self.arrival(words, site, cells, event, sheet);
+        let made = self.cells.word(MADE);
+        if made < u64::from(self.class.count) {
+            let arrival = self.arrival(words, sheet);
             if arrival.jobs > 0 {
-                self.make_one(site, routes, cells, arrival.jobs, sheet);
-                self.arrive_again(site, made + 1, arrival.pause, sheet);
+                self.make_one(arrival.jobs, sheet);
+                self.class
+                    .arrive_again(self.site, made + 1, arrival.pause, sheet);
             } else {
-                self.arrive_again(site, made, arrival.pause, sheet);
+                self.class
+                    .arrive_again(self.site, made, arrival.pause, sheet);
             }
         }
     }
 
     /// What the arrival of an event brings.
     #[tactic(auto, unfolding(crate::specs::Classes::arrival_of))]
-    fn arrival(
-        &self,
-        words: &mut Stream,
-        site: Site,
-        cells: &Cells,
-        event: &Event,
-        sheet: &mut Effect,
-    ) -> Arrival
-        requires batch { ForSome self.now.batch (λ law. IsTrue (is_delay_law law)) }
-        requires every { ForSome self.now.every (λ law. IsTrue (is_delay_law law)) }
-        requires cells { 0 < length cells.now.contents.words }
-        requires blank { sheet.old ≡ blank }
-        ensures arrival { result ≡ (arrival_of site self.now cells.now.contents event.now).0 }
+    fn arrival(&self, words: &mut Stream, sheet: &mut Effect) -> Arrival
+        requires { sheet.old ≡ blank }
+        ensures arrival { let at = self.now in result ≡ (arrival_of at.site at.class.now at.cells.now.contents at.event.now).0 }
         ensures bounded { IfSome result.pause (λ pause. pause ≤ 2 ^ 40) }
         ensures few { length sheet.new.changes ≤ 1 }
-        ensures sheet { sheet.new ≡ record blank {
-          changes = place_changes (place_of cells.now.contents) (arrival_of site self.now cells.now.contents event.now).1;
+        ensures sheet { let at = self.now in sheet.new ≡ record blank {
+          changes = place_changes (place_of at.cells.now.contents) (arrival_of at.site at.class.now at.cells.now.contents at.event.now).1;
         } }
     {
-        let place = cells.word(0);
-        words.move_to(site.seed, site.object, place);
-        let arrival = if event.a == 0 {
-            self.new_arrival(words, event.b)
+        let place = self.cells.word(0);
+        words.move_to(self.site.seed, self.site.object, place);
+        let arrival = if self.event.a == 0 {
+            self.class.new_arrival(words, self.event.b)
         } else {
             Arrival {
-                jobs: event.a,
+                jobs: self.event.a,
                 pause: None,
             }
         };
@@ -89,6 +69,42 @@ impl Class {
         arrival
     }
 
+    /// Makes a job, and leaves the others of its arrival for the next step of the tick.
+    #[tactic(auto, unfolding(crate::specs::Classes::one_made))]
+    fn make_one(&self, jobs: u64, sheet: &mut Effect)
+        requires left { made_jobs self.now.cells.now.contents < self.now.class.now.count }
+        requires some { 0 < jobs }
+        requires changes { length sheet.old.changes ≤ 1 }
+        requires sends { sheet.old.sends ≡ [] }
+        ensures few { length sheet.new.sends ≤ 2 }
+        ensures sheet { let at = self.now in let one = one_made at.site at.routes.now at.class.now at.cells.now.contents jobs in
+            sheet.new ≡ record one { changes = sheet.old.changes ++ one.changes } }
+    {
+        let number = self.cells.word(MADE) + 1;
+        let inside = self.cells.word(INSIDE) + 1;
+        let class = self.site.object - self.routes.stations;
+        let job = Job {
+            class,
+            step: 0,
+            id: u64::from(class) * JOBS_A_CLASS + number,
+        };
+        sheet.changes.push(Change::Set {
+            word: MADE,
+            value: number,
+        });
+        sheet.changes.push(Change::Set {
+            word: INSIDE,
+            value: inside,
+        });
+        sheet.sends.push(self.routes.to(job, self.site.tick, 0, 0));
+        if jobs > 1 && number < u64::from(self.class.count) {
+            sheet.sends.push(self.site.to_self(0, MAKE, jobs - 1, 0));
+        }
+        sheet.note = told(MADE_WORD, job.id, inside);
+    }
+}
+
+impl Class {
     /// How many jobs a new arrival brings, and when the next one comes, where this event begins it.
     fn new_arrival(&self, words: &mut Stream, b: u64) -> Arrival
         requires batch { ForSome self.now.batch (λ law. IsTrue (is_delay_law law)) }
@@ -103,45 +119,6 @@ impl Class {
         let jobs = drawn_or(words, &self.batch, 1);
         let pause = drawn_pause(words, &self.every, b);
         Arrival { jobs, pause }
-    }
-
-    /// Makes a job, and leaves the others of its arrival for the next step of the tick.
-    #[tactic(auto, unfolding(crate::specs::Classes::one_made))]
-    fn make_one(&self, site: Site, routes: &Routes, cells: &Cells, jobs: u64, sheet: &mut Effect)
-        requires class { IsClass routes.now.stations self.now }
-        requires routes { AreRoutes routes.now }
-        requires here { IsAtClass routes.now site }
-        requires cells { IsTrue (is_class_cells self.now.count cells.now.contents) }
-        requires left { made_jobs cells.now.contents < self.now.count }
-        requires some { 0 < jobs }
-        requires changes { length sheet.old.changes ≤ 1 }
-        requires sends { sheet.old.sends ≡ [] }
-        ensures few { length sheet.new.sends ≤ 2 }
-        ensures sheet { sheet.new ≡ record (one_made site routes.now self.now cells.now.contents jobs) {
-          changes = sheet.old.changes ++ (one_made site routes.now self.now cells.now.contents jobs).changes;
-        } }
-    {
-        let number = cells.word(MADE) + 1;
-        let inside = cells.word(INSIDE) + 1;
-        let class = site.object - routes.stations;
-        let job = Job {
-            class,
-            step: 0,
-            id: u64::from(class) * JOBS_A_CLASS + number,
-        };
-        sheet.changes.push(Change::Set {
-            word: MADE,
-            value: number,
-        });
-        sheet.changes.push(Change::Set {
-            word: INSIDE,
-            value: inside,
-        });
-        sheet.sends.push(routes.to(job, site.tick, 0, 0));
-        if jobs > 1 && number < u64::from(self.count) {
-            sheet.sends.push(site.to_self(0, MAKE, jobs - 1, 0));
-        }
-        sheet.note = told(MADE_WORD, job.id, inside);
     }
 
     /// Sends the next arrival, where it was drawn, comes in time, and a job is left after so many.

@@ -4,6 +4,7 @@ ghost use Rattle.std.specs.Option.{option_copied};
 ghost use Rattle.shop_model.specs.declared.class.TheConstants.{MOST_STEPS};
 ghost use Rattle.shop_model.specs.Parts.{AreRoutes};
 ghost use Rattle.shop_model.specs.Routes.{class_at, step_at, is_job, job_of, object_at, visit_at, moved, HasJob};
+ghost use Rattle.shop_model.specs.Meaning.{job_here, is_served};
 
 use crate::class::Class;
 use crate::job::{Job, birth_of, class_of, id_of, job_at, number_of, step_of};
@@ -76,6 +77,32 @@ impl Routes {
             Some(Step::Visit(visit)) => visit.station,
             Some(Step::Free { station }) => *station,
             _ => self.stations + class,
+        }
+    }
+
+    /// The job that an event names, where it stands at this object.
+    #[tactic(auto, unfolding(crate::specs::Meaning::job_here))]
+    pub fn job_here(&self, object: u32, a: u64) -> Option<Job>
+        requires { AreRoutes self.now }
+        ensures job { result ≡ job_here self.now object a }
+        ensures there { IfSome result (HasJob self.now) }
+    {
+        let job = self.job(a)?;
+        if self.object_at(job.class, job.step) == object {
+            Some(job)
+        } else {
+            None
+        }
+    }
+
+    /// Whether a server serves a job at its step.
+    pub fn is_served(&self, job: Job) -> bool
+        requires { HasJob self.now job }
+        ensures { result ≡ is_served (step_at self.now job.class job.step) }
+    {
+        match self.step(job.class, job.step) {
+            Some(Step::Visit(visit)) => visit.service.is_some(),
+            _ => false,
         }
     }
 

@@ -1,41 +1,43 @@
 //! A shift begins.
 ghost use Rattle.std.specs.Prelude.{◌≡◌, ◌<◌, ◌≤◌, [], length};
 ghost use Rattle.model_core.specs.Effects.{blank};
-ghost use Rattle.shop_model.specs.HasStation.{HasStation, IsStation};
+ghost use Rattle.shop_model.specs.HasStation.{IsStation};
 ghost use Rattle.shop_model.specs.StationEffects.{shift_at, shift_sent, shift_effect};
 
 use crate::counts::Counts;
 use crate::kinds::SHIFT;
 use crate::site::{Site, told};
 use crate::station::{OPEN, Shift, Station};
-use model_core::{Cells, Change, Effect, Event, OPENED_WORD};
+use crate::station_event::StationEvent;
+use model_core::{Change, Effect, OPENED_WORD};
 
-impl Station {
+impl StationEvent<'_> {
     /// So many servers are open from now on as the shift says.
     #[tactic(auto, unfolding(crate::specs::StationEffects::shift_effect))]
-    pub(crate) fn shift(&self, site: Site, cells: &Cells, event: &Event, sheet: &mut Effect)
-        requires station { IsStation self.now }
-        requires cells { HasStation self.now cells.now.contents }
-        requires blank { sheet.old ≡ blank }
-        ensures { sheet.new ≡ shift_effect site self.now cells.now.contents event.now }
+    pub(crate) fn shift(&self, sheet: &mut Effect)
+        requires { sheet.old ≡ blank }
+        ensures { let at = self.now in sheet.new ≡ shift_effect at.site at.station.now at.cells.now.contents at.event.now }
     {
-        if event.a >= self.shifts.as_slice().len() as u64 {
+        let number = self.event.a;
+        if number >= self.station.shifts.as_slice().len() as u64 {
             return;
         }
-        let opened = u64::from(self.shift_at(event.a).servers);
+        let opened = u64::from(self.station.shift_at(number).servers);
         sheet.changes.push(Change::Set {
             word: OPEN,
             value: opened,
         });
-        self.send_shift(site, event.a, sheet);
+        self.station.send_shift(self.site, number, sheet);
         let counts = Counts {
             opened,
-            ..Counts::of(cells)
+            ..Counts::of(self.cells)
         };
-        counts.call(self.most, site, sheet);
-        sheet.note = told(OPENED_WORD, opened, counts.busy(self.most));
+        counts.call(self.station.most, self.site, sheet);
+        sheet.note = told(OPENED_WORD, opened, counts.busy(self.station.most));
     }
+}
 
+impl Station {
     /// The shift with this number.
     fn shift_at(&self, number: u64) -> Shift
         requires { number < length self.now.shifts }

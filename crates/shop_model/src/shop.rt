@@ -7,11 +7,13 @@ ghost use Rattle.shop_model.specs.Starts.{starts_of};
 ghost use Rattle.shop_model.specs.Meaning.{shop_meaning};
 
 use crate::class::Class;
+use crate::class_event::ClassEvent;
 use crate::routes::Routes;
 use crate::site::Site;
 use crate::standing::first_class_cells;
 use crate::starts::starts_of;
 use crate::station::Station;
+use crate::station_event::StationEvent;
 use event_key::time_of;
 use model_core::model::Model as SimulationModel;
 use model_core::{
@@ -122,11 +124,23 @@ impl Shop {
             tick: time_of(event.key.stamp),
         };
         if object < self.routes.stations {
-            let station = self.station(object);
-            station.react(words, site, &self.routes, cells, event, sheet);
+            let at = StationEvent {
+                station: self.station(object),
+                site,
+                routes: &self.routes,
+                cells,
+                event,
+            };
+            at.react(words, sheet);
         } else {
-            let class = self.class(object);
-            class.react(words, site, &self.routes, cells, event, sheet);
+            let at = ClassEvent {
+                class: self.class(object),
+                site,
+                routes: &self.routes,
+                cells,
+                event,
+            };
+            at.react(words, sheet);
         }
         Ok(Ending::Goes)
     }

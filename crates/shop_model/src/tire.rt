@@ -2,126 +2,92 @@
 ghost use Rattle.std.specs.Prelude.{◌≡◌, ◌<◌, ◌≤◌, ◌+◌, ◌^◌, ◌++◌, ◌∷◌, [], true, length, slice_index};
 ghost use Rattle.model_core.specs.Effects.{blank};
 ghost use Rattle.shop_model.specs.declared.class.TheConstants.{MOST_STEPS};
-ghost use Rattle.shop_model.specs.Parts.{AreRoutes, IsVisit};
+ghost use Rattle.shop_model.specs.Entries.{HasEntry};
+ghost use Rattle.shop_model.specs.Parts.{IsVisit};
 ghost use Rattle.shop_model.specs.Routes.{HasJob};
-ghost use Rattle.shop_model.specs.HasStation.{HasStation, IsStation, AreCounts};
 ghost use Rattle.delta_exchange.specs.Changes.{line_of};
 ghost use Rattle.shop_model.specs.Routes.{job_of};
 ghost use Rattle.shop_model.specs.Stations.{jobs_line};
 ghost use Rattle.shop_model.specs.StationEffects.{tire_effect, tires, renege_job, renege_effect};
 
 use crate::job::Job;
-use crate::levels::{EMPTY, Level};
-use crate::routes::Routes;
-use crate::site::{Site, told};
-use crate::station::{Station, WAITING};
+use crate::levels::{EMPTY, Entry, Level};
+use crate::site::told;
+use crate::station::WAITING;
+use crate::station_event::StationEvent;
 use crate::step::{Step, Visit};
-use model_core::{Cells, Change, Effect, Event, RENEGED_WORD};
+use model_core::{Change, Effect, RENEGED_WORD};
 
-impl Station {
+impl StationEvent<'_> {
     /// The job whose patience ends now goes away, and leaves its place empty.
     #[tactic(auto, unfolding(crate::specs::StationEffects::tire_effect))]
-    pub(crate) fn tire(
-        &self,
-        site: Site,
-        routes: &Routes,
-        cells: &Cells,
-        event: &Event,
-        sheet: &mut Effect,
-    )
-        requires routes { AreRoutes routes.now }
-        requires station { IsStation self.now }
-        requires cells { HasStation self.now cells.now.contents }
-        requires blank { sheet.old ≡ blank }
-        ensures { sheet.new ≡ tire_effect site routes.now self.now cells.now.contents event.now }
+    pub(crate) fn tire(&self, sheet: &mut Effect)
+        requires { sheet.old ≡ blank }
+        ensures { let at = self.now in
+            sheet.new ≡ tire_effect at.site at.routes.now at.station.now at.cells.now.contents at.event.now }
     {
-        if event.b >= u64::from(self.levels) {
+        if self.event.b >= u64::from(self.station.levels) {
             return;
         }
-        let level = event.b as u32;
-        let gone = cells.word(self.gone(level));
-        if event.a >= gone && self.tires(site, cells, level, event.a - gone) {
-            self.give_up(site, routes, cells, level, event.a - gone, sheet);
+        let level = self.event.b as u32;
+        let gone = self.cells.word(self.station.gone(level));
+        if self.event.a >= gone && self.tires(level, self.event.a - gone) {
+            let place = (self.event.a - gone) as usize;
+            self.give_up(Entry { level, place }, sheet);
         }
     }
 
     /// Whether the job at a place of a level waits until now at most.
     #[tactic(auto, unfolding(crate::specs::StationEffects::tires))]
-    fn tires(&self, site: Site, cells: &Cells, level: u32, place: u64) -> bool
-        requires station { IsStation self.now }
-        requires cells { HasStation self.now cells.now.contents }
-        requires level { level < self.now.levels }
-        ensures tires { result ≡ tires site cells.now.contents level place }
-        ensures within { result ≡ true → place < length (line_of cells.now.contents (jobs_line level)) }
+    fn tires(&self, level: u32, place: u64) -> bool
+        requires { level < self.now.station.now.levels }
+        ensures tires { result ≡ tires self.now.site self.now.cells.now.contents level place }
+        ensures within { result ≡ true → place < length (line_of self.now.cells.now.contents (jobs_line level)) }
     {
         let lines = Level::at(level);
-        place < cells.line_len(lines.jobs) as u64
-            && cells.line_at(lines.jobs, place as usize) < EMPTY
-            && cells.line_at(lines.until, place as usize) == site.tick
+        place < self.cells.line_len(lines.jobs) as u64
+            && self.cells.line_at(lines.jobs, place as usize) < EMPTY
+            && self.cells.line_at(lines.until, place as usize) == self.site.tick
     }
 
-    /// The job at a place of a level goes away.
-    fn give_up(
-        &self,
-        site: Site,
-        routes: &Routes,
-        cells: &Cells,
-        level: u32,
-        place: u64,
-        sheet: &mut Effect,
-    )
-        requires routes { AreRoutes routes.now }
-        requires station { IsStation self.now }
-        requires cells { HasStation self.now cells.now.contents }
-        requires level { level < self.now.levels }
-        requires place { place < length (line_of cells.now.contents (jobs_line level)) }
+    /// The job of an entry goes away.
+    fn give_up(&self, entry: Entry, sheet: &mut Effect)
+        requires entry { HasEntry self.now.station.now self.now.cells.now.contents entry }
         requires blank { sheet.old ≡ blank }
-        ensures { sheet.new ≡ renege_job site routes.now level place cells.now.contents
-            (job_of routes.now (slice_index (line_of cells.now.contents (jobs_line level)) place)) }
+        ensures { let at = self.now in
+            sheet.new ≡ renege_job at.site at.routes.now entry.level entry.place at.cells.now.contents
+            (job_of at.routes.now (slice_index (line_of at.cells.now.contents (jobs_line entry.level)) entry.place)) }
     {
-        let a = cells.line_at(Level::at(level).jobs, place as usize);
-        if let Some(job) = routes.job(a) {
-            if let Some(Step::Visit(visit)) = routes.step(job.class, job.step) {
-                self.renege(site, routes, cells, level, place, visit, job, sheet);
+        let jobs = Level::at(entry.level).jobs;
+        if let Some(job) = self.routes.job(self.cells.line_at(jobs, entry.place)) {
+            if let Some(Step::Visit(visit)) = self.routes.step(job.class, job.step) {
+                self.renege(entry, visit, job, sheet);
             }
         }
     }
 
-    /// A job that waited at a place of a level goes away, and leaves the place empty.
+    /// A job that waited goes away, and leaves its place empty.
     #[tactic(auto, unfolding(crate::specs::StationEffects::renege_effect))]
-    fn renege(
-        &self,
-        site: Site,
-        routes: &Routes,
-        cells: &Cells,
-        level: u32,
-        place: u64,
-        visit: &Visit,
-        job: Job,
-        sheet: &mut Effect,
-    )
-        requires routes { AreRoutes routes.now }
-        requires station { IsStation self.now }
-        requires cells { HasStation self.now cells.now.contents }
-        requires level { level < self.now.levels }
-        requires place { place < length (line_of cells.now.contents (jobs_line level)) }
-        requires visit { IsVisit routes.now.stations MOST_STEPS visit.now }
-        requires job { HasJob routes.now job }
+    fn renege(&self, entry: Entry, visit: &Visit, job: Job, sheet: &mut Effect)
+        requires entry { HasEntry self.now.station.now self.now.cells.now.contents entry }
+        requires visit { IsVisit self.now.routes.now.stations MOST_STEPS visit.now }
+        requires job { HasJob self.now.routes.now job }
         requires blank { sheet.old ≡ blank }
-        ensures { sheet.new ≡ renege_effect site routes.now level place visit.now job cells.now.contents }
+        ensures { let at = self.now in
+            sheet.new ≡ renege_effect at.site at.routes.now entry.level entry.place visit.now job at.cells.now.contents }
     {
-        let lines = Level::at(level);
-        let birth = cells.line_at(lines.births, place as usize);
-        let since = cells.line_at(lines.since, place as usize);
+        let lines = Level::at(entry.level);
+        let birth = self.cells.line_at(lines.births, entry.place);
+        let since = self.cells.line_at(lines.since, entry.place);
         sheet.changes.push(Change::Set {
             word: WAITING,
-            value: cells.word(WAITING).saturating_sub(1),
+            value: self.cells.word(WAITING).saturating_sub(1),
         });
         sheet.changes.push(Change::Flip {
             line: lines.jobs,
-            place,
+            place: entry.place as u64,
         });
-        sheet.sends.push(routes.to(job, birth, visit.away, 0));
-        sheet.note = told(RENEGED_WORD, job.id, site.tick.saturating_sub(since));
+        sheet.sends.push(self.routes.to(job, birth, visit.away, 0));
+        sheet.note = told(RENEGED_WORD, job.id, self.site.tick.saturating_sub(since));
     }
 }

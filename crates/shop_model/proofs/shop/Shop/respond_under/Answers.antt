@@ -18,40 +18,40 @@ use Rattle.shop_model.specs.Stations.{level_of}
 use Rattle.shop_model.specs.Views.{parts_of}
 use Rattle.shop_model.proofs.shop.Shop.respond_under.Goals as goal
 
-pub react-requires-clause-cells : goal.react-requires-clause-cells
+pub invariant_of-at-clause-lawful : goal.invariant_of-at-clause-lawful
 unfolding shop_meaning
-react-requires-clause-cells c =
+invariant_of-at-clause-lawful c =
     let early : c.args.object < length c.args.self.now.stations.items = omega (arith, c.args.self.now.numbered) in
-    subst (λ (station : Station). HasStation station c.args.cells.now.contents) (sym c.station-station.ensures)
+    subst (λ (station : Station). HasStation station c.args.cells.now.contents) (sym c.station.ensures)
     (station_stands (parts_of c.args.self.now) c.args.object c.args.cells.now.contents early c.requires.lawful)
 
-pub react-requires-clause-levels : goal.react-requires-clause-levels
-react-requires-clause-levels c class within =
+pub invariant_of-at-clause-levels : goal.invariant_of-at-clause-levels
+invariant_of-at-clause-levels c class within =
     let p = parts_of c.args.self.now in
     let early : c.args.object < length c.args.self.now.stations.items = omega (arith, c.args.self.now.numbered) in
-    subst (λ (station : Station). level_of station.order (class_at (routes_of p) class).priority < station.levels) (sym c.station-station.ensures)
+    subst (λ (station : Station). level_of station.order (class_at (routes_of p) class).priority < station.levels) (sym c.station.ensures)
     (has_levels p (station_at p.stations c.args.object) (station_fine p c.args.object c.args.self.now.in_range early) class within)
 
-pub react-requires-else-object-self-clause-class : goal.react-requires-else-object-self-clause-class
+pub invariant_of-at-else-object-self-clause-in_range : goal.invariant_of-at-else-object-self-clause-in_range
 unfolding shop_meaning
-react-requires-else-object-self-clause-class c =
+invariant_of-at-else-object-self-clause-in_range c =
     let p = parts_of c.args.self.now in
     let there = c.requires.object in
-    subst (λ (class : Class). IsClass c.args.self.now.routes.stations class) (sym c.class-class.ensures)
+    subst (λ (class : Class). IsClass c.args.self.now.routes.stations class) (sym c.class.ensures)
     (subst (λ (stations : ℕ). IsClass stations (class_at (routes_of p) (c.args.object - length p.stations))) (sym c.args.self.now.numbered)
     (class_fine (routes_of p) (c.args.object - length p.stations) c.args.self.now.in_range.routes (omega (arith, c.args.self.now.numbered))))
 
-pub react-requires-else-object-self-clause-here : goal.react-requires-else-object-self-clause-here
+pub invariant_of-at-else-object-self-clause-here : goal.invariant_of-at-else-object-self-clause-here
 unfolding shop_meaning
-react-requires-else-object-self-clause-here c =
+invariant_of-at-else-object-self-clause-here c =
     let there = c.requires.object in
     record { after = omega arith; exists = omega (arith, c.args.self.now.numbered); tick = omega (arith, c.time_of.ensures, c.requires.time) }
 
-pub react-requires-else-object-self-clause-cells : goal.react-requires-else-object-self-clause-cells
+pub invariant_of-at-else-object-self-clause-lawful : goal.invariant_of-at-else-object-self-clause-lawful
 unfolding shop_meaning
-react-requires-else-object-self-clause-cells c =
+invariant_of-at-else-object-self-clause-lawful c =
     let late : length c.args.self.now.stations.items ≤ c.args.object = omega (arith, c.args.self.now.numbered) in
-    subst (λ (class : Class). IsTrue (is_class_cells class.count c.args.cells.now.contents)) (sym c.class-class.ensures)
+    subst (λ (class : Class). IsTrue (is_class_cells class.count c.args.cells.now.contents)) (sym c.class.ensures)
     (lawful_class (parts_of c.args.self.now) c.args.object c.args.cells.now.contents late c.requires.lawful)
 
 pub returns-then-object-self : goal.returns-then-object-self
@@ -66,9 +66,9 @@ returns-then-object-self c =
     let routes = λ (stations : ℕ). let all : Routes = record { stations = stations; classes = shop.routes.classes } in all in
     ap Goes
     (c.react.ensures
-    ∙ ap (λ (tick : ℕ). station_effect (site tick) shop.routes c.station-station.result.now cells event) c.time_of.ensures
-    ∙ ap (λ (stations : ℕ). station_effect (site (time_part event.key.stamp)) (routes stations) c.station-station.result.now cells event) shop.numbered
-    ∙ ap (λ (station : Station). station_effect (site (time_part event.key.stamp)) (routes_of p) station cells event) c.station-station.ensures
+    ∙ ap (λ (tick : ℕ). station_effect (site tick) shop.routes c.station.result.now cells event) c.time_of.ensures
+    ∙ ap (λ (stations : ℕ). station_effect (site (time_part event.key.stamp)) (routes stations) c.station.result.now cells event) shop.numbered
+    ∙ ap (λ (station : Station). station_effect (site (time_part event.key.stamp)) (routes_of p) station cells event) c.station.ensures
     ∙ sym (effect_station p c.args.object cells event early))
 
 pub returns-else-object-self : goal.returns-else-object-self
@@ -83,7 +83,7 @@ returns-else-object-self c =
     let routes = λ (stations : ℕ). let all : Routes = record { stations = stations; classes = shop.routes.classes } in all in
     ap Goes
     (c.react-else-object-self.ensures
-    ∙ ap (λ (tick : ℕ). class_effect (site tick) shop.routes c.class-class.result.now cells event) c.time_of.ensures
-    ∙ ap (λ (stations : ℕ). class_effect (site (time_part event.key.stamp)) (routes stations) c.class-class.result.now cells event) shop.numbered
-    ∙ ap (λ (class : Class). class_effect (site (time_part event.key.stamp)) (routes_of p) class cells event) c.class-class.ensures
+    ∙ ap (λ (tick : ℕ). class_effect (site tick) shop.routes c.class.result.now cells event) c.time_of.ensures
+    ∙ ap (λ (stations : ℕ). class_effect (site (time_part event.key.stamp)) (routes stations) c.class.result.now cells event) shop.numbered
+    ∙ ap (λ (class : Class). class_effect (site (time_part event.key.stamp)) (routes_of p) class cells event) c.class.ensures
     ∙ sym (effect_class p c.args.object cells event late))
