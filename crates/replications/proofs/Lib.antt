@@ -2,6 +2,7 @@ pub mod BoundLemmas
 pub mod CutLaw
 pub mod GravestLemmas
 pub mod JobLemmas
+pub mod PrefixLemmas
 pub mod RowLemmas
 pub mod StayLemmas
 pub mod TableLemmas

@@ -1,11 +1,10 @@
 //! The table of many replications.
-ghost use Rattle.std.specs.Prelude.{◌≡◌, ◌≤◌, ◌<◌, ◌+◌, ◌*◌, ◌^◌, ◌++◌, ℕ, List, length, IfOk, OnOk, OnErr, IsErrOf};
-ghost use Rattle.std.specs.Io.KnownBytes.{Appends, Keeps};
+ghost use Rattle.std.specs.Prelude.{◌≡◌, ◌≤◌, ◌<◌, ◌^◌, ◌++◌, ℕ, List, length, IfOk, OnOk, IsErrOf};
+ghost use Rattle.std.specs.Io.KnownBytes.{Keeps};
 ghost use Rattle.steal_pool.specs.declared.worker.TheConstants.{MOST_WORKERS};
 ghost use Rattle.sim_spec.specs.declared.stop.Stop.{Stop};
-ghost use Rattle.sim_io.specs.Causes.{Rose};
-ghost use Rattle.sim_io.specs.Transfers.{AppendsPrefix};
-ghost use Rattle.sim_text.specs.declared.unfinished.Unfinished.TheVariants.{WriteFault, OutOfMemory as NoMemory};
+ghost use Rattle.sim_text.specs.declared.unfinished.Unfinished.TheVariants.{OutOfMemory as NoMemory};
+ghost use Rattle.sim_text.specs.Written.{TellsFaults, WritesText};
 ghost use Rattle.replications.specs.Families.{study_of};
 ghost use Rattle.replications.specs.Studies.{StudyOf, AreDone, rows_between, stops_between, table_text, gravest};
 
@@ -42,18 +41,27 @@ fn batch_size(objects: u32, workers: u32) -> u64
     (BATCH_BYTES / rows).min(EACH * u64::from(workers)).max(1)
 }
 
+/// So many replications of a study, shared out among so many workers.
+#[derive(Drop)]
+struct Table<'a, R, S> {
+    rt: &'a R,
+    alloc: Global,
+    study: &'a Study<S>,
+    count: u64,
+    workers: u32,
+    ghost seed: { study.now.first_seed < 2 ^ 63 },
+    ghost few: { count < 2 ^ 32 },
+    ghost some_workers: { 1 ≤ workers },
+    ghost few_workers: { workers ≤ MOST_WORKERS },
+}
+
 /// Writes the rows of a batch in order, until there was no memory for a replication.
 fn write_rows<K: Sink>(jobs: &[Job], worst: &mut Stop, out: &mut K) -> Result<(), Unfinished>
-    ensures whole { (s : StudyOf) (number : ℕ) → AreDone s number jobs.now
-        → OnOk result (Appends (K.told out.old) (K.told out.new) (rows_between s number (length jobs.now))) }
+    ensures text { (s : StudyOf) (number : ℕ) → AreDone s number jobs.now
+        → WritesText K.Sink out.old out.new result (rows_between s number (length jobs.now)) }
     ensures stops { (s : StudyOf) (number : ℕ) (before : List Stop) → AreDone s number jobs.now → worst.old ≡ gravest before
         → OnOk result (worst.new ≡ gravest (before ++ stops_between s number (length jobs.now))) }
-    ensures prefix { (s : StudyOf) (number : ℕ) → AreDone s number jobs.now
-        → OnErr result (AppendsPrefix (K.told out.old) (K.told out.new) (rows_between s number (length jobs.now))) }
-    ensures fault { IsErrOf result WriteFault → Rose (K.faults out.old) (K.faults out.new) }
-    ensures later { K.faults out.old ≤ K.faults out.new }
-    ensures quiet { OnOk result (K.faults out.new ≡ K.faults out.old) }
-    ensures no_memory { IsErrOf result NoMemory → K.faults out.new ≡ K.faults out.old }
+    ensures faults { TellsFaults K.Sink out.old out.new result }
 {
     for job in jobs {
         let Some(stop) = job.stop else {
@@ -67,30 +75,26 @@ fn write_rows<K: Sink>(jobs: &[Job], worst: &mut Stop, out: &mut K) -> Result<()
 
 /// Writes the rows of all replications, a batch at a time.
 fn write_batches<R: Threads + Sync, M: SimulationModel, S: Seeds<M>, K: Sink>(
-    rt: &R,
-    alloc: Global,
-    study: &Study<S>,
-    count: u64,
-    workers: u32,
+    table: &Table<R, S>,
     out: &mut K,
 ) -> Result<Stop, Unfinished>
-    requires first { study.now.first_seed < 2 ^ 63 }
-    requires count { count < 2 ^ 32 }
-    requires workers { (1 ≤ workers) × (workers ≤ MOST_WORKERS) }
-    ensures whole { OnOk result (Appends (K.told out.old) (K.told out.new) (rows_between (study_of S.seeded study.now) 0 count)) }
-    ensures stops { IfOk result (λ worst. worst ≡ gravest (stops_between (study_of S.seeded study.now) 0 count)) }
-    ensures prefix { OnErr result (AppendsPrefix (K.told out.old) (K.told out.new) (rows_between (study_of S.seeded study.now) 0 count)) }
-    ensures fault { IsErrOf result WriteFault → Rose (K.faults out.old) (K.faults out.new) }
-    ensures later { K.faults out.old ≤ K.faults out.new }
-    ensures quiet { OnOk result (K.faults out.new ≡ K.faults out.old) }
-    ensures no_memory { IsErrOf result NoMemory → K.faults out.new ≡ K.faults out.old }
+    ensures text { WritesText K.Sink out.old out.new result (rows_between (study_of S.seeded table.now.study.now) 0 table.now.count) }
+    ensures faults { TellsFaults K.Sink out.old out.new result }
+    ensures stops { IfOk result (λ worst. worst ≡ gravest (stops_between (study_of S.seeded table.now.study.now) 0 table.now.count)) }
 {
-    let size = batch_size(study.models.objects(), workers);
+    let size = batch_size(table.study.models.objects(), table.workers);
     let mut worst = Stop::End;
     let mut done = 0u64;
-    'batches: while done < count {
-        let until = count.min(done + size);
-        let jobs = run_batch(rt, alloc, study, workers, done, until)?;
+    'batches: while done < table.count {
+        let until = table.count.min(done + size);
+        let jobs = run_batch(
+            table.rt,
+            table.alloc,
+            table.study,
+            table.workers,
+            done,
+            until,
+        )?;
         write_rows(jobs.as_slice(), &mut worst, out)?;
         done = until;
     }
@@ -100,26 +104,15 @@ fn write_batches<R: Threads + Sync, M: SimulationModel, S: Seeds<M>, K: Sink>(
 /// Writes the head line, and then all rows.
 #[tactic(auto, unfolding(crate::specs::Studies::table_text))]
 fn write_lines<R: Threads + Sync, M: SimulationModel, S: Seeds<M>, K: Sink>(
-    rt: &R,
-    alloc: Global,
-    study: &Study<S>,
-    count: u64,
-    workers: u32,
+    table: &Table<R, S>,
     out: &mut K,
 ) -> Result<Stop, Unfinished>
-    requires first { study.now.first_seed < 2 ^ 63 }
-    requires count { count < 2 ^ 32 }
-    requires workers { (1 ≤ workers) × (workers ≤ MOST_WORKERS) }
-    ensures whole { OnOk result (Appends (K.told out.old) (K.told out.new) (table_text (study_of S.seeded study.now) count)) }
-    ensures stops { IfOk result (λ worst. worst ≡ gravest (stops_between (study_of S.seeded study.now) 0 count)) }
-    ensures prefix { OnErr result (AppendsPrefix (K.told out.old) (K.told out.new) (table_text (study_of S.seeded study.now) count)) }
-    ensures fault { IsErrOf result WriteFault → Rose (K.faults out.old) (K.faults out.new) }
-    ensures later { K.faults out.old ≤ K.faults out.new }
-    ensures quiet { OnOk result (K.faults out.new ≡ K.faults out.old) }
-    ensures no_memory { IsErrOf result NoMemory → K.faults out.new ≡ K.faults out.old }
+    ensures text { WritesText K.Sink out.old out.new result (table_text (study_of S.seeded table.now.study.now) table.now.count) }
+    ensures faults { TellsFaults K.Sink out.old out.new result }
+    ensures stops { IfOk result (λ worst. worst ≡ gravest (stops_between (study_of S.seeded table.now.study.now) 0 table.now.count)) }
 {
     write_all(out, HEAD.as_bytes())?;
-    let worst = write_batches(rt, alloc, study, count, workers, out)?;
+    let worst = write_batches(table, out)?;
     Ok(worst)
 }
 
@@ -138,17 +131,20 @@ pub fn write_table<R: Threads + Sync, M: SimulationModel, S: Seeds<M>, K: Sink>(
     requires first { study.now.first_seed < 2 ^ 63 }
     requires count { count < 2 ^ 32 }
     requires workers { (1 ≤ workers) × (workers ≤ MOST_WORKERS) }
-    ensures whole { OnOk result (Appends (K.told out.old) (K.told out.new) (table_text (study_of S.seeded study.now) count)) }
+    ensures text { WritesText K.Sink out.old out.new result (table_text (study_of S.seeded study.now) count) }
+    ensures faults { TellsFaults K.Sink out.old out.new result }
     ensures handed { OnOk result (Keeps (K.told out.new) (K.handed out.new)) }
     ensures handed_so_far { IsErrOf result NoMemory → Keeps (K.told out.new) (K.handed out.new) }
     ensures stops { IfOk result (λ worst. worst ≡ gravest (stops_between (study_of S.seeded study.now) 0 count)) }
-    ensures prefix { OnErr result (AppendsPrefix (K.told out.old) (K.told out.new) (table_text (study_of S.seeded study.now) count)) }
-    ensures fault { IsErrOf result WriteFault → Rose (K.faults out.old) (K.faults out.new) }
-    ensures later { K.faults out.old ≤ K.faults out.new }
-    ensures quiet { OnOk result (K.faults out.new ≡ K.faults out.old) }
-    ensures no_memory { IsErrOf result NoMemory → K.faults out.new ≡ K.faults out.old }
 {
-    let outcome = write_lines(rt, alloc, study, count, workers, out);
+    let table = Table {
+        rt,
+        alloc,
+        study,
+        count,
+        workers,
+    };
+    let outcome = write_lines(&table, out);
     out.flush()?;
     outcome
 }

@@ -22,7 +22,8 @@ pub returns-clause-ends : goal.returns-clause-ends
 returns-clause-ends g c =
     let told = c.write_table.ensures in
     tabulated _ _ _ _ _ c.args.asked c.args.read (arc_value c.in-Ok.model) _ c.write_table.result c.ending_of.result c.in-Ok.ensures.ok c.unwrap_or.ensures refl refl
-    (table_ends _ _ _ _ _ c.write_table.result told.whole told.handed told.handed_so_far told.stops told.prefix told.fault told.quiet told.no_memory) c.ending_of.ensures
+    (table_ends _ _ _ _ _ c.write_table.result told.text.whole told.handed told.handed_so_far told.stops told.text.prefix told.faults.fault told.faults.quiet
+    told.faults.no_memory) c.ending_of.ensures
 
 pub returns-clause-known : goal.returns-clause-known
 returns-clause-known g c = subst (λ (e : Ending). status_of_ending e ≤ EVENT_LIMIT) (sym c.ending_of.ensures) (known_outcome c.write_table.result)

@@ -1,18 +1,18 @@
 use Rattle.std.proofs.Common.{◌≡◌, ℕ, [], ◌++◌, length, refl, sym, ap, ◌∙◌, subst, arith}
 use Rattle.std.proofs.KnownBytes.{Appends-nil, Appends-trans}
 use Rattle.std.specs.Io.KnownBytes.{Appends}
-use Rattle.model_core.proofs.Results.{on_err}
 use Rattle.sim_io.specs.Transfers.{AppendsPrefix}
 use Rattle.sim_spec.specs.declared.stop.Stop.TheVariants.{End}
 use Rattle.replications.specs.Families.{study_of}
 use Rattle.replications.specs.Studies.{AreDone, rows_between, stops_between, gravest}
+use Rattle.replications.proofs.PrefixLemmas.{cut_short}
 use Rattle.replications.proofs.TextLemmas.{rows_between-none, stops_between-none, so_far-prefix, batch-prefix, rows-batch, stops-batch}
 use Rattle.replications.proofs.table.write_batches.Goals as goal
 
 pub batches-init : goal.batches-init
 unfolding gravest
 batches-init g c =
-    let s = study_of g.S.Seeds.seeded c.args.study.now in
+    let s = study_of g.S.Seeds.seeded c.args.table.now.study.now in
     let ends : End ≡ gravest [] = refl in
     let told = g.K.Sink.told c.args.out.now in
     record {
@@ -23,23 +23,23 @@ batches-init g c =
       quiet = refl;
     }
 
-pub returns-in_err-jobs-clause-prefix : goal.returns-in_err-jobs-clause-prefix
-returns-in_err-jobs-clause-prefix g c =
-    let s = study_of g.S.Seeds.seeded c.args.study.now in
-    on_err _ (so_far-prefix s 0 c.batches.done c.args.count c.batches.invariant.within _ _ c.batches.invariant.written)
+pub returns-in_err-jobs-clause-text : goal.returns-in_err-jobs-clause-text
+returns-in_err-jobs-clause-text g c =
+    let s = study_of g.S.Seeds.seeded c.args.table.now.study.now in
+    cut_short _ _ _ _ _ _ c.from_residual.ensures.1 (so_far-prefix s 0 c.batches.done c.args.table.now.count c.batches.invariant.within _ _ c.batches.invariant.written)
 
-pub returns-in_err-write_rows-clause-prefix : goal.returns-in_err-write_rows-clause-prefix
-returns-in_err-write_rows-clause-prefix g c =
-    let s = study_of g.S.Seeds.seeded c.args.study.now in
+pub returns-in_err-write_rows-clause-text : goal.returns-in_err-write_rows-clause-text
+returns-in_err-write_rows-clause-text g c =
+    let s = study_of g.S.Seeds.seeded c.args.table.now.study.now in
     let jobs = c.in_ok-jobs.jobs.items in
     let all : AreDone s c.batches.done c.as_slice.result.now = subst (AreDone s c.batches.done) (sym c.as_slice.ensures.value) c.in_ok-jobs.ensures.done in
     let P : ℕ → Type 0 = λ n. AppendsPrefix (g.K.Sink.told c.batches.out) (g.K.Sink.told c.write_rows.new.out) (rows_between s c.batches.done n) in
-    on_err _ (batch-prefix s c.batches.done (length jobs) c.args.count (omega (arith, c.in_ok-jobs.ensures.many, c.min-until.ensures)) _ _ _ c.batches.invariant.written
-    (subst P (ap length c.as_slice.ensures.value) (c.in_err-write_rows.ensures.prefix s c.batches.done all)))
+    cut_short _ _ _ _ _ _ c.from_residual-in_err-write_rows.ensures.1 (batch-prefix s c.batches.done (length jobs) c.args.table.now.count (omega (arith, c.in_ok-jobs.ensures.many, c.min-until.ensures)) _ _ _ c.batches.invariant.written
+    (subst P (ap length c.as_slice.ensures.value) ((c.in_err-write_rows.ensures.text s c.batches.done all).prefix)))
 
 pub batches-preserved : goal.batches-preserved
 batches-preserved g c =
-    let s = study_of g.S.Seeds.seeded c.args.study.now in
+    let s = study_of g.S.Seeds.seeded c.args.table.now.study.now in
     let i = c.batches.invariant in
     let jobs = c.in_ok-jobs.jobs.items in
     let mid = g.K.Sink.told c.batches.out in
@@ -50,10 +50,10 @@ batches-preserved g c =
       within = omega (arith, c.min-until.ensures);
       written = subst (Appends (g.K.Sink.told c.args.out.now) new) (rows-batch s c.batches.done (length jobs) c.min-until.result c.in_ok-jobs.ensures.many)
           (Appends-trans _ mid new (rows_between s 0 c.batches.done) (rows_between s c.batches.done (length jobs)) i.written
-          (subst P (ap length c.as_slice.ensures.value) (c.in_ok-write_rows.ensures.whole s c.batches.done all)));
+          (subst P (ap length c.as_slice.ensures.value) ((c.in_ok-write_rows.ensures.text s c.batches.done all).whole)));
       stops = c.in_ok-write_rows.ensures.stops s c.batches.done (stops_between s 0 c.batches.done) all i.stops
           ∙ ap gravest (ap (λ n. stops_between s 0 c.batches.done ++ stops_between s c.batches.done n) (ap length c.as_slice.ensures.value)
           ∙ stops-batch s c.batches.done (length jobs) c.min-until.result c.in_ok-jobs.ensures.many);
-      later = omega (arith, i.later, c.in_ok-write_rows.ensures.later);
-      quiet = c.in_ok-write_rows.ensures.quiet ∙ i.quiet;
+      later = omega (arith, i.later, c.in_ok-write_rows.ensures.faults.later);
+      quiet = c.in_ok-write_rows.ensures.faults.quiet ∙ i.quiet;
     }

@@ -6,9 +6,9 @@ use Rattle.replications.proofs.table.write_batches.Given as goal
 
 abbrev pub invariant-batches : goal.invariant-batches
 invariant-batches g l =
-    let s = study_of g.S.Seeds.seeded l.study in
+    let s = study_of g.S.Seeds.seeded l.table.study.now in
     record {
-      within : l.done ≤ l.count;
+      within : l.done ≤ l.table.count;
       written : Appends (g.K.Sink.told l.fn.out) (g.K.Sink.told l.out) (rows_between s 0 l.done);
       stops : l.worst ≡ gravest (stops_between s 0 l.done);
       later : g.K.Sink.faults l.fn.out ≤ g.K.Sink.faults l.out;
@@ -16,4 +16,4 @@ invariant-batches g l =
     }
 
 abbrev pub decreases-batches : goal.decreases-batches
-decreases-batches g l = l.count - l.done
+decreases-batches g l = l.table.count - l.done

@@ -1,33 +1,36 @@
 use Rattle.std.proofs.Common.{subst}
 use Rattle.std.proofs.KnownBytes.{Appends-trans}
 use Rattle.std.specs.Io.KnownBytes.{Appends}
-use Rattle.model_core.proofs.Results.{on_err}
 use Rattle.sim_io.specs.Transfers.{AppendsPrefix}
 use Rattle.replications.specs.Families.{study_of}
 use Rattle.replications.specs.Studies.{rows_between, table_text}
 use Rattle.sim_io.proofs.TransferLemmas.{prefix_longer}
+use Rattle.replications.proofs.PrefixLemmas.{cut_short}
 use Rattle.replications.proofs.TextLemmas.{prefix_next}
 use Rattle.replications.proofs.table.write_lines.Goals as goal
 
-pub returns-in_err-write_all-clause-prefix : goal.returns-in_err-write_all-clause-prefix
+pub returns-in_err-write_all-clause-text : goal.returns-in_err-write_all-clause-text
 unfolding table_text
-returns-in_err-write_all-clause-prefix g c =
-    let s = study_of g.S.Seeds.seeded c.args.study.now in
-    on_err _ (prefix_longer _ _ _ (rows_between s 0 c.args.count)
+returns-in_err-write_all-clause-text g c =
+    let s = study_of g.S.Seeds.seeded c.args.table.now.study.now in
+    cut_short _ _ _ _ _ _ c.from_residual.ensures.1 (prefix_longer _ _ _ (rows_between s 0 c.args.table.now.count)
     (subst (AppendsPrefix (g.K.Sink.told c.args.out.now) (g.K.Sink.told c.write_all.new.sink)) c.as_bytes.ensures.value c.in_err-write_all.ensures.prefix))
 
-pub returns-in_err-worst-clause-prefix : goal.returns-in_err-worst-clause-prefix
+pub returns-in_err-worst-clause-text : goal.returns-in_err-worst-clause-text
 unfolding table_text
-returns-in_err-worst-clause-prefix g c =
-    let s = study_of g.S.Seeds.seeded c.args.study.now in
-    on_err _ (prefix_next _ _ _ _ (rows_between s 0 c.args.count)
+returns-in_err-worst-clause-text g c =
+    let s = study_of g.S.Seeds.seeded c.args.table.now.study.now in
+    cut_short _ _ _ _ _ _ c.from_residual-in_err-worst.ensures.1 (prefix_next _ _ _ _ (rows_between s 0 c.args.table.now.count)
     (subst (Appends (g.K.Sink.told c.args.out.now) (g.K.Sink.told c.write_all.new.sink)) c.as_bytes.ensures.value c.in_ok-write_all.ensures.all)
-    c.in_err-worst.ensures.prefix)
+    c.in_err-worst.ensures.text.prefix)
 
-pub returns-clause-whole : goal.returns-clause-whole
+pub returns-clause-text : goal.returns-clause-text
 unfolding table_text
-returns-clause-whole g c =
-    let s = study_of g.S.Seeds.seeded c.args.study.now in
-    Appends-trans _ _ _ _ (rows_between s 0 c.args.count)
-    (subst (Appends (g.K.Sink.told c.args.out.now) (g.K.Sink.told c.write_all.new.sink)) c.as_bytes.ensures.value c.in_ok-write_all.ensures.all)
-    c.in_ok-worst.ensures.whole
+returns-clause-text g c =
+    let s = study_of g.S.Seeds.seeded c.args.table.now.study.now in
+    record {
+      whole = Appends-trans _ _ _ _ (rows_between s 0 c.args.table.now.count)
+          (subst (Appends (g.K.Sink.told c.args.out.now) (g.K.Sink.told c.write_all.new.sink)) c.as_bytes.ensures.value c.in_ok-write_all.ensures.all)
+          c.in_ok-worst.ensures.text.whole;
+      prefix = tt;
+    }

@@ -1,12 +1,12 @@
 use Rattle.std.proofs.Common.{◌+◌, ◌∷◌, [], ◌++◌, List, length, refl, sym, ap, ◌∙◌, subst, arith, append-nil, append_assoc}
 use Rattle.std.proofs.KnownBytes.{Appends-nil, Appends-trans}
 use Rattle.std.specs.Io.KnownBytes.{Appends}
-use Rattle.model_core.proofs.Results.{on_err}
 use Rattle.sim_io.specs.Transfers.{AppendsPrefix}
 use Rattle.sim_spec.specs.declared.stop.Stop.{Stop}
 use Rattle.replications.specs.Studies.{rows_at, rows_between, stops_between, graver, gravest}
 use Rattle.replications.proofs.GravestLemmas.{gravest-more}
 use Rattle.replications.proofs.JobLemmas.{done_rows}
+use Rattle.replications.proofs.PrefixLemmas.{cut_short}
 use Rattle.replications.proofs.TextLemmas.{rows_between-none, rows_between-more, stops_between-none, stops_between-more, so_far-prefix, next-prefix, one_row}
 use Rattle.replications.proofs.table.write_rows.Goals as goal
 
@@ -20,16 +20,19 @@ loop-job-init g c =
       quiet = refl;
     }
 
-pub returns-in_default-clause-prefix : goal.returns-in_default-clause-prefix
-returns-in_default-clause-prefix g c = λ s number all.
-    so_far-prefix s number c.loop-job.job-index (length c.args.jobs.now) (omega (arith, c.loop-job-test.true)) _ _ (c.loop-job.invariant.written s number all)
+pub returns-in_default-clause-text : goal.returns-in_default-clause-text
+returns-in_default-clause-text g c = λ s number all. record {
+  whole = tt;
+  prefix = so_far-prefix s number c.loop-job.job-index (length c.args.jobs.now) (omega (arith, c.loop-job-test.true)) _ _ (c.loop-job.invariant.written s number all);
+}
 
-pub returns-in_err-write_all-clause-prefix : goal.returns-in_err-write_all-clause-prefix
-returns-in_err-write_all-clause-prefix g c = λ s number all.
+pub returns-in_err-write_all-clause-text : goal.returns-in_err-write_all-clause-text
+returns-in_err-write_all-clause-text g c = λ s number all.
     let i = c.loop-job.job-index in
     let done = done_rows s number c.args.jobs.now i c.job-item.result c.in-Some.stop all c.loop-job-test.true c.job-item.is c.in-Some.is in
     let P : List _ → Type 0 = AppendsPrefix (g.K.Sink.told c.loop-job.out) (g.K.Sink.told c.write_all.new.sink) in
-    on_err _ (next-prefix s number i 1 (length c.args.jobs.now) (omega (arith, c.loop-job-test.true)) _ _ _ (c.loop-job.invariant.written s number all)
+    cut_short _ _ _ _ _ _ c.from_residual.ensures.1
+    (next-prefix s number i 1 (length c.args.jobs.now) (omega (arith, c.loop-job-test.true)) _ _ _ (c.loop-job.invariant.written s number all)
     (subst P (c.as_slice.ensures.value ∙ done.0 ∙ one_row s (number + i)) c.in_err-write_all.ensures.prefix))
 
 pub loop-job-preserved : goal.loop-job-preserved
