@@ -5,9 +5,9 @@ ghost use Rattle.model_core.specs.Effects.{blank, outcome_by};
 ghost use Rattle.queue_models.specs.Sites.{is_plain_cells};
 ghost use Rattle.queue_models.specs.Delays.{delay_effect};
 
-use crate::site::{Site, told};
-use model_core::{Cells, Effect, Ending, Event, HELD_WORD, keep_place};
-use random_streams::{Law, Stream, draw_by};
+use crate::site::{ObjectEvent, told};
+use model_core::{Effect, Ending, HELD_WORD};
+use random_streams::{Law, Stream};
 
 /// What holds each job for a while.
 #[derive(Debug, Drop)]
@@ -33,26 +33,16 @@ impl<L: Drop> Delay<L> {
 impl Delay<u32> {
     /// Holds a job.
     #[tactic(auto, unfolding(crate::specs::Delays::delay_effect))]
-    pub(crate) fn react(
-        &self,
-        words: &mut Stream,
-        site: Site,
-        cells: &Cells,
-        event: &Event,
-        sheet: &mut Effect,
-    ) -> Ending
+    pub(crate) fn react(&self, words: &mut Stream, at: &ObjectEvent, sheet: &mut Effect) -> Ending
         requires delay { IsTrue (is_drawable self.now.delay) }
-        requires cells { IsTrue (is_plain_cells cells.now.contents) }
+        requires cells { IsTrue (is_plain_cells at.now.cells.now.contents) }
         requires blank { sheet.old ≡ blank }
-        ensures { outcome_by result sheet.new ≡ delay_effect site self.now cells.now.contents event.now }
+        ensures { outcome_by result sheet.new ≡ delay_effect at.now.site self.now at.now.cells.now.contents at.now.event.now }
     {
-        let place = cells.word(0);
-        let (delay, next_place) = draw_by(words, site.seed, site.object, place, &self.delay);
-        keep_place(&mut sheet.changes, place, next_place);
-        sheet
-            .sends
-            .push(site.job_to(self.next, delay, event.a, event.b));
-        sheet.note = told(HELD_WORD, event.a, delay);
+        let delay = at.draw(words, &self.delay, sheet);
+        let job = at.site.job_to(self.next, delay, at.event.a, at.event.b);
+        sheet.sends.push(job);
+        sheet.note = told(HELD_WORD, at.event.a, delay);
         Ending::Goes
     }
 }

@@ -6,10 +6,10 @@ ghost use Rattle.queue_models.specs.Kinds.{KindCanDraw, is_source, is_station, f
 use crate::delay::Delay;
 use crate::router::Router;
 use crate::sink::Sink;
-use crate::site::{self, Site};
+use crate::site::{self, ObjectEvent};
 use crate::source::Source;
 use crate::station::Station;
-use model_core::{Cells, Effect, Ending, Event, Name, OutOfMemory};
+use model_core::{Cells, Effect, Ending, Name, OutOfMemory};
 use random_streams::Stream;
 use std::alloc::Global;
 
@@ -92,25 +92,18 @@ impl Kind {
     }
 
     /// What an event does, written into a blank sheet.
-    pub(crate) fn react(
-        &self,
-        words: &mut Stream,
-        site: Site,
-        cells: &Cells,
-        event: &Event,
-        sheet: &mut Effect,
-    ) -> Ending
+    pub(crate) fn react(&self, words: &mut Stream, at: &ObjectEvent, sheet: &mut Effect) -> Ending
         requires draws { KindCanDraw self.now }
-        requires lawful { IsTrue (is_lawful self.now cells.now.contents) }
+        requires lawful { IsTrue (is_lawful self.now at.now.cells.now.contents) }
         requires blank { sheet.old ≡ blank }
-        ensures { outcome_by result sheet.new ≡ effect_at site self.now cells.now.contents event.now }
+        ensures { outcome_by result sheet.new ≡ effect_at at.now.site self.now at.now.cells.now.contents at.now.event.now }
     {
         match self {
-            Kind::Source(source) => source.react(words, site, cells, event, sheet),
-            Kind::Station(station) => station.react(words, site, cells, event, sheet),
-            Kind::Delay(delay) => delay.react(words, site, cells, event, sheet),
-            Kind::Router(router) => router.react(words, site, cells, event, sheet),
-            Kind::Sink(sink) => sink.react(event, sheet),
+            Kind::Source(source) => source.react(words, at, sheet),
+            Kind::Station(station) => station.react(words, at, sheet),
+            Kind::Delay(delay) => delay.react(words, at, sheet),
+            Kind::Router(router) => router.react(words, at, sheet),
+            Kind::Sink(sink) => sink.react(at.event, sheet),
         }
     }
 }

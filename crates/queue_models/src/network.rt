@@ -7,7 +7,7 @@ ghost use Rattle.queue_models.specs.PartsProps.{IsNetwork-prop};
 ghost use Rattle.queue_models.specs.Meaning.{network_meaning};
 
 use crate::kind::Item;
-use crate::site::{ARRIVE, MAKE, Site};
+use crate::site::{ARRIVE, MAKE, ObjectEvent, Site};
 use model_core::model::Model as SimulationModel;
 use model_core::{
     Cells, Digits, Effect, Ending, Entry, Event, OutOfMemory, Start, fault_word, record_word,
@@ -113,7 +113,8 @@ impl Network {
         let site = self.site(seed, object);
         let item = self.item(object);
         sheet.clear();
-        match item.kind.react(words, site, cells, event, sheet) {
+        let at = ObjectEvent { site, cells, event };
+        match item.kind.react(words, &at, sheet) {
             Ending::Goes => {
                 item.tell(cells, sheet);
                 Ok(Ending::Goes)

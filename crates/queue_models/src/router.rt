@@ -5,8 +5,8 @@ ghost use Rattle.model_core.specs.Effects.{blank, outcome_by};
 ghost use Rattle.queue_models.specs.Sites.{is_plain_cells};
 ghost use Rattle.queue_models.specs.Routers.{router_effect};
 
-use crate::site::{Site, told};
-use model_core::{Cells, Effect, Ending, Event, ROUTED_WORD, Sequence, keep_place};
+use crate::site::{ObjectEvent, Site, told};
+use model_core::{Effect, Ending, ROUTED_WORD, Sequence, keep_place};
 use random_streams::{Stream, Weights, choose_by};
 
 /// What sends each job at once one of several ways.
@@ -33,26 +33,22 @@ impl<L: Drop> Router<L> {
 impl Router<u32> {
     /// Routes a job. A word is drawn also where there is no choice.
     #[tactic(auto, unfolding(crate::specs::Routers::router_effect))]
-    pub(crate) fn react(
-        &self,
-        words: &mut Stream,
-        site: Site,
-        cells: &Cells,
-        event: &Event,
-        sheet: &mut Effect,
-    ) -> Ending
+    pub(crate) fn react(&self, words: &mut Stream, at: &ObjectEvent, sheet: &mut Effect) -> Ending
         requires weights { length self.now.weights ≡ length self.now.next }
         requires choice { IsTrue (is_choice self.now.weights) }
-        requires cells { IsTrue (is_plain_cells cells.now.contents) }
+        requires cells { IsTrue (is_plain_cells at.now.cells.now.contents) }
         requires blank { sheet.old ≡ blank }
-        ensures { outcome_by result sheet.new ≡ router_effect site self.now cells.now.contents event.now }
+        ensures { outcome_by result sheet.new ≡ router_effect at.now.site self.now at.now.cells.now.contents at.now.event.now }
     {
-        let place = cells.word(0);
-        let (way, next_place) = choose_by(words, site.seed, site.object, place, &self.weights);
+        let place = at.cells.word(0);
+        let Site { seed, object, .. } = at.site;
+        let (way, next_place) = choose_by(words, seed, object, place, &self.weights);
         let dest = self.chosen(way);
         keep_place(&mut sheet.changes, place, next_place);
-        sheet.sends.push(site.job_to(dest, 0, event.a, event.b));
-        sheet.note = told(ROUTED_WORD, event.a, u64::from(dest));
+        sheet
+            .sends
+            .push(at.site.job_to(dest, 0, at.event.a, at.event.b));
+        sheet.note = told(ROUTED_WORD, at.event.a, u64::from(dest));
         Ending::Goes
     }
 

@@ -1,8 +1,12 @@
 //! Where an event happens, and what objects of several kinds do there.
-ghost use Rattle.std.specs.Prelude.{◌≡◌, IfOk};
-ghost use Rattle.queue_models.specs.Sites.{job_to, told, is_plain_cells, plain_cells};
+ghost use Rattle.std.specs.Prelude.{◌≡◌, ◌<◌, ◌≤◌, ◌^◌, IfOk, IsTrue, length};
+ghost use Rattle.model_core.specs.Effects.{blank};
+ghost use Rattle.model_core.specs.Places.{place_changes};
+ghost use Rattle.random_streams.specs.Laws.{is_drawable};
+ghost use Rattle.queue_models.specs.Sites.{job_to, told, is_plain_cells, plain_cells, place_of, drawn_at};
 
-use model_core::{Cells, Note, OutOfMemory, Part, Send};
+use model_core::{Cells, Effect, Event, Note, OutOfMemory, Part, Send, keep_place};
+use random_streams::{Law, Stream, draw_by};
 use std::alloc::Global;
 
 /// The kind of an event at which a source makes a job.
@@ -20,6 +24,14 @@ pub struct Site {
     pub seed: u64,
     pub object: u32,
     pub rank: u32,
+}
+
+/// An event, where it happens, and the cells that it finds there.
+#[derive(Clone, Copy)]
+pub struct ObjectEvent<'a> {
+    pub site: Site,
+    pub cells: &'a Cells,
+    pub event: &'a Event,
 }
 
 /// The cells at the start of an object that keeps nothing but its random place.
@@ -50,6 +62,26 @@ impl Site {
             b: birth,
             rank: self.rank,
         }
+    }
+}
+
+impl ObjectEvent<'_> {
+    /// Draws by a law, before anything else is changed.
+    pub fn draw(&self, words: &mut Stream, law: &Law, sheet: &mut Effect) -> u64
+        requires law { IsTrue (is_drawable law.now) }
+        requires cells { 0 < length self.now.cells.now.contents.words }
+        requires blank { sheet.old ≡ blank }
+        ensures value { result ≡ (drawn_at self.now.site self.now.cells.now.contents law.now).0 }
+        ensures bounded { result ≤ 2 ^ 40 }
+        ensures few { length sheet.new.changes ≤ 1 }
+        ensures sheet { let at = self.now in sheet.new ≡ record blank {
+          changes = place_changes (place_of at.cells.now.contents) (drawn_at at.site at.cells.now.contents law.now).1;
+        } }
+    {
+        let place = self.cells.word(0);
+        let (value, next_place) = draw_by(words, self.site.seed, self.site.object, place, law);
+        keep_place(&mut sheet.changes, place, next_place);
+        value
     }
 }
 

@@ -4,10 +4,10 @@ ghost use Rattle.random_streams.specs.Laws.{is_drawable};
 ghost use Rattle.model_core.specs.Effects.{blank, outcome_by};
 ghost use Rattle.queue_models.specs.Sources.{is_source_cells, first_source_cells, idle_effect, last_effect, make_effect, source_effect, left_of};
 
-use crate::site::{MAKE, Site, told};
+use crate::site::{MAKE, ObjectEvent, Site, told};
 use event_key::time_of;
-use model_core::{Cells, Change, Effect, Ending, Event, MADE_WORD, OutOfMemory, Send, keep_place};
-use random_streams::{Law, Stream, draw_by};
+use model_core::{Cells, Change, Effect, Ending, MADE_WORD, OutOfMemory, Send};
+use random_streams::{Law, Stream};
 use std::alloc::Global;
 
 /// How many jobs a source makes at most.
@@ -65,24 +65,17 @@ impl Source<u32> {
 
     /// Makes the next job, where one is left.
     #[tactic(auto, unfolding(crate::specs::Sources::source_effect))]
-    pub(crate) fn react(
-        &self,
-        words: &mut Stream,
-        site: Site,
-        cells: &Cells,
-        event: &Event,
-        sheet: &mut Effect,
-    ) -> Ending
+    pub(crate) fn react(&self, words: &mut Stream, at: &ObjectEvent, sheet: &mut Effect) -> Ending
         requires every { IsTrue (is_drawable self.now.every) }
-        requires cells { IsTrue (is_source_cells self.now.count cells.now.contents) }
+        requires cells { IsTrue (is_source_cells self.now.count at.now.cells.now.contents) }
         requires blank { sheet.old ≡ blank }
-        ensures { outcome_by result sheet.new ≡ source_effect site self.now cells.now.contents event.now }
+        ensures { outcome_by result sheet.new ≡ source_effect at.now.site self.now at.now.cells.now.contents at.now.event.now }
     {
-        let time = time_of(event.key.stamp);
-        match cells.word(2) {
-            0 => self.idle(cells, sheet),
-            1 => self.make_last(site, cells, time, sheet),
-            _ => self.make(words, site, cells, time, sheet),
+        let time = time_of(at.event.key.stamp);
+        match at.cells.word(2) {
+            0 => self.idle(at.cells, sheet),
+            1 => self.make_last(at.site, at.cells, time, sheet),
+            _ => self.make(words, at, time, sheet),
         }
         Ending::Goes
     }
@@ -116,18 +109,16 @@ impl Source<u32> {
 
     /// Makes a job, and will make another after a drawn delay.
     #[tactic(auto, unfolding(crate::specs::Sources::make_effect))]
-    fn make(&self, words: &mut Stream, site: Site, cells: &Cells, time: u64, sheet: &mut Effect)
+    fn make(&self, words: &mut Stream, at: &ObjectEvent, time: u64, sheet: &mut Effect)
         requires every { IsTrue (is_drawable self.now.every) }
-        requires cells { IsTrue (is_source_cells self.now.count cells.now.contents) }
-        requires left { 1 ≤ left_of cells.now.contents }
+        requires cells { IsTrue (is_source_cells self.now.count at.now.cells.now.contents) }
+        requires left { 1 ≤ left_of at.now.cells.now.contents }
         requires blank { sheet.old ≡ blank }
-        ensures { sheet.new ≡ make_effect site self.now cells.now.contents time }
+        ensures { sheet.new ≡ make_effect at.now.site self.now at.now.cells.now.contents time }
     {
-        let place = cells.word(0);
-        let job = cells.word(1) + 1;
-        let left = cells.word(2) - 1;
-        let (delay, next_place) = draw_by(words, site.seed, site.object, place, &self.every);
-        keep_place(&mut sheet.changes, place, next_place);
+        let job = at.cells.word(1) + 1;
+        let left = at.cells.word(2) - 1;
+        let delay = at.draw(words, &self.every, sheet);
         sheet.changes.push(Change::Set {
             word: 1,
             value: job,
@@ -136,14 +127,14 @@ impl Source<u32> {
             word: 2,
             value: left,
         });
-        sheet.sends.push(site.job_to(self.next, 0, job, time));
+        sheet.sends.push(at.site.job_to(self.next, 0, job, time));
         sheet.sends.push(Send {
-            dest: site.object,
+            dest: at.site.object,
             delay,
             kind: MAKE,
             a: 0,
             b: 0,
-            rank: site.rank,
+            rank: at.site.rank,
         });
         sheet.note = told(MADE_WORD, job, left);
     }

@@ -4,12 +4,12 @@ ghost use Rattle.random_streams.specs.Laws.{is_drawable};
 ghost use Rattle.model_core.specs.Effects.{blank, outcome_by};
 ghost use Rattle.queue_models.specs.Stations.{is_station_cells, first_station_cells, waiting_jobs, done_after, take_effect, wait_effect, lose_effect, arrival_outcome, serve_effect, free_effect, done_effect, station_effect};
 
-use crate::site::{DONE, Site, told};
+use crate::site::{DONE, ObjectEvent, Site, told};
 use model_core::{
     Cells, Change, DONE_WORD, Effect, Ending, Event, LINE_FULL, LOST_WORD, OutOfMemory, Send,
-    TAKEN_WORD, WAITING_WORD, keep_place,
+    TAKEN_WORD, WAITING_WORD,
 };
-use random_streams::{Law, Stream, draw_by};
+use random_streams::{Law, Stream};
 use std::alloc::Global;
 
 /// The word that counts the busy servers.
@@ -95,74 +95,59 @@ impl Station<u32> {
 
     /// A service is done, or a job arrives, whatever else the kind of the event.
     #[tactic(auto, unfolding(crate::specs::Stations::station_effect))]
-    pub(crate) fn react(
-        &self,
-        words: &mut Stream,
-        site: Site,
-        cells: &Cells,
-        event: &Event,
-        sheet: &mut Effect,
-    ) -> Ending
+    pub(crate) fn react(&self, words: &mut Stream, at: &ObjectEvent, sheet: &mut Effect) -> Ending
         requires service { IsTrue (is_drawable self.now.service) }
-        requires cells { IsTrue (is_station_cells self.now.servers self.now.line cells.now.contents) }
+        requires cells { IsTrue (is_station_cells self.now.servers self.now.line at.now.cells.now.contents) }
         requires blank { sheet.old ≡ blank }
-        ensures { outcome_by result sheet.new ≡ station_effect site self.now cells.now.contents event.now }
+        ensures { outcome_by result sheet.new ≡ station_effect at.now.site self.now at.now.cells.now.contents at.now.event.now }
     {
-        match event.kind {
+        match at.event.kind {
             DONE => {
-                self.done(words, site, cells, event, sheet);
+                self.done(words, at, sheet);
                 Ending::Goes
             }
-            _ => self.arrival(words, site, cells, event, sheet),
+            _ => self.arrival(words, at, sheet),
         }
     }
 
     /// A job arrives: it is taken, waits, or finds the line full.
     #[tactic(auto, unfolding(crate::specs::Stations::arrival_outcome))]
-    fn arrival(
-        &self,
-        words: &mut Stream,
-        site: Site,
-        cells: &Cells,
-        event: &Event,
-        sheet: &mut Effect,
-    ) -> Ending
+    fn arrival(&self, words: &mut Stream, at: &ObjectEvent, sheet: &mut Effect) -> Ending
         requires service { IsTrue (is_drawable self.now.service) }
-        requires cells { IsTrue (is_station_cells self.now.servers self.now.line cells.now.contents) }
+        requires cells { IsTrue (is_station_cells self.now.servers self.now.line at.now.cells.now.contents) }
         requires blank { sheet.old ≡ blank }
-        ensures { outcome_by result sheet.new ≡ arrival_outcome site self.now cells.now.contents event.now }
+        ensures { outcome_by result sheet.new ≡ arrival_outcome at.now.site self.now at.now.cells.now.contents at.now.event.now }
     {
-        if cells.word(BUSY) < u64::from(self.servers) {
-            self.take(words, site, cells, event, sheet);
-        } else if cells.line_len(JOBS) < self.line as usize {
-            self.wait(cells, event, sheet);
+        if at.cells.word(BUSY) < u64::from(self.servers) {
+            self.take(words, at, sheet);
+        } else if at.cells.line_len(JOBS) < self.line as usize {
+            self.wait(at.cells, at.event, sheet);
         } else if self.strict {
             return Ending::Fails(LINE_FULL);
         } else {
-            self.lose(cells, event, sheet);
+            self.lose(at.cells, at.event, sheet);
         }
         Ending::Goes
     }
 
     /// A free server takes the job.
     #[tactic(auto, unfolding(crate::specs::Stations::take_effect))]
-    fn take(&self, words: &mut Stream, site: Site, cells: &Cells, event: &Event, sheet: &mut Effect)
+    fn take(&self, words: &mut Stream, at: &ObjectEvent, sheet: &mut Effect)
         requires service { IsTrue (is_drawable self.now.service) }
-        requires cells { IsTrue (is_station_cells self.now.servers self.now.line cells.now.contents) }
+        requires cells { IsTrue (is_station_cells self.now.servers self.now.line at.now.cells.now.contents) }
         requires blank { sheet.old ≡ blank }
-        ensures { sheet.new ≡ take_effect site self.now cells.now.contents event.now }
+        ensures { sheet.new ≡ take_effect at.now.site self.now at.now.cells.now.contents at.now.event.now }
     {
-        let place = cells.word(0);
-        let (service, next_place) = draw_by(words, site.seed, site.object, place, &self.service);
-        keep_place(&mut sheet.changes, place, next_place);
+        let job = at.event;
+        let service = at.draw(words, &self.service, sheet);
         sheet.changes.push(Change::Set {
             word: BUSY,
-            value: cells.word(BUSY) + 1,
+            value: at.cells.word(BUSY) + 1,
         });
         sheet
             .sends
-            .push(done_after(&site, service, event.a, event.b));
-        sheet.note = told(TAKEN_WORD, event.a, cells.line_len(JOBS) as u64);
+            .push(done_after(&at.site, service, job.a, job.b));
+        sheet.note = told(TAKEN_WORD, job.a, at.cells.line_len(JOBS) as u64);
     }
 
     /// The job goes to the end of the line.
@@ -196,57 +181,49 @@ impl Station<u32> {
 
     /// A job is done: the next one is served, or the server is free.
     #[tactic(auto, unfolding(crate::specs::Stations::done_effect))]
-    fn done(&self, words: &mut Stream, site: Site, cells: &Cells, event: &Event, sheet: &mut Effect)
+    fn done(&self, words: &mut Stream, at: &ObjectEvent, sheet: &mut Effect)
         requires service { IsTrue (is_drawable self.now.service) }
-        requires cells { IsTrue (is_station_cells self.now.servers self.now.line cells.now.contents) }
+        requires cells { IsTrue (is_station_cells self.now.servers self.now.line at.now.cells.now.contents) }
         requires blank { sheet.old ≡ blank }
-        ensures { sheet.new ≡ done_effect site self.now cells.now.contents event.now }
+        ensures { sheet.new ≡ done_effect at.now.site self.now at.now.cells.now.contents at.now.event.now }
     {
-        if cells.line_len(JOBS) > 0 {
-            self.serve(words, site, cells, event, sheet);
+        if at.cells.line_len(JOBS) > 0 {
+            self.serve(words, at, sheet);
         } else {
-            self.free(site, cells, event, sheet);
+            self.free(at, sheet);
         }
     }
 
     /// The server goes on with the job that has waited longest.
     #[tactic(auto, unfolding(crate::specs::Stations::serve_effect))]
-    fn serve(
-        &self,
-        words: &mut Stream,
-        site: Site,
-        cells: &Cells,
-        event: &Event,
-        sheet: &mut Effect,
-    )
+    fn serve(&self, words: &mut Stream, at: &ObjectEvent, sheet: &mut Effect)
         requires service { IsTrue (is_drawable self.now.service) }
-        requires cells { IsTrue (is_station_cells self.now.servers self.now.line cells.now.contents) }
-        requires waiting { 0 < waiting_jobs cells.now.contents }
+        requires cells { IsTrue (is_station_cells self.now.servers self.now.line at.now.cells.now.contents) }
+        requires waiting { 0 < waiting_jobs at.now.cells.now.contents }
         requires blank { sheet.old ≡ blank }
-        ensures { sheet.new ≡ serve_effect site self.now cells.now.contents event.now }
+        ensures { sheet.new ≡ serve_effect at.now.site self.now at.now.cells.now.contents at.now.event.now }
     {
+        let (cells, event) = (at.cells, at.event);
         let job = cells.line_at(JOBS, 0);
         let birth = cells.line_at(BIRTHS, 0);
-        let place = cells.word(0);
-        let (service, next_place) = draw_by(words, site.seed, site.object, place, &self.service);
-        keep_place(&mut sheet.changes, place, next_place);
+        let service = at.draw(words, &self.service, sheet);
         sheet.changes.push(Change::Pop { line: JOBS });
         sheet.changes.push(Change::Pop { line: BIRTHS });
         sheet
             .sends
-            .push(site.job_to(self.next, 0, event.a, event.b));
-        sheet.sends.push(done_after(&site, service, job, birth));
+            .push(at.site.job_to(self.next, 0, event.a, event.b));
+        sheet.sends.push(done_after(&at.site, service, job, birth));
         sheet.note = told(DONE_WORD, event.a, cells.line_len(JOBS) as u64 - 1);
     }
 
     /// Nobody waits: the server is free.
     #[tactic(auto, unfolding(crate::specs::Stations::free_effect))]
-    fn free(&self, site: Site, cells: &Cells, event: &Event, sheet: &mut Effect)
-        requires cells { IsTrue (is_station_cells self.now.servers self.now.line cells.now.contents) }
+    fn free(&self, at: &ObjectEvent, sheet: &mut Effect)
+        requires cells { IsTrue (is_station_cells self.now.servers self.now.line at.now.cells.now.contents) }
         requires blank { sheet.old ≡ blank }
-        ensures { sheet.new ≡ free_effect site self.now cells.now.contents event.now }
+        ensures { sheet.new ≡ free_effect at.now.site self.now at.now.cells.now.contents at.now.event.now }
     {
-        let busy = cells.word(BUSY);
+        let busy = at.cells.word(BUSY);
         if busy > 0 {
             sheet.changes.push(Change::Set {
                 word: BUSY,
@@ -255,7 +232,7 @@ impl Station<u32> {
         }
         sheet
             .sends
-            .push(site.job_to(self.next, 0, event.a, event.b));
-        sheet.note = told(DONE_WORD, event.a, 0);
+            .push(at.site.job_to(self.next, 0, at.event.a, at.event.b));
+        sheet.note = told(DONE_WORD, at.event.a, 0);
     }
 }
