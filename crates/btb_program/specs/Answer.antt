@@ -2,6 +2,7 @@
 use Rattle.std.specs.Prelude.{ℕ, Bool, true, List, String}
 use Rattle.std.specs.declared.alloc.Global.{Global}
 use Rattle.model_reader.specs.Readings.{ModelOf}
+use Rattle.model_text.specs.ModelTexts.{model_with}
 use Rattle.model_text.specs.Readers.{model_texts}
 use Rattle.queue_models.specs.Meaning.{network_meaning}
 use Rattle.queue_models.specs.Rings.{ring_parts, ring_terms}
@@ -12,7 +13,7 @@ use Rattle.model_program.specs.Answer as models
 
 -- a demo makes its model from its number
 abbrev pub demo_model : ℕ → ModelOf
-demo_model n = record { meaning = network_meaning (ring_parts n); terms = ring_terms }
+demo_model n = model_with (network_meaning (ring_parts n)) ring_terms
 
 abbrev pub demo_answer : ℕ → Answer
 demo_answer n = models.answer_of_run (Settings.Demo n) (demo_model n)

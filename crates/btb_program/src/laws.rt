@@ -1,6 +1,7 @@
 //! Laws of saved runs and of numbers. Each function does nothing: its contract is the law.
 ghost use Rattle.btb_program.specs.Numbers.{Numbers};
 ghost use Rattle.btb_program.specs.SavedRuns.{SavedRuns};
+ghost use Rattle.run_tally.specs.Tallies.{TotalsOf};
 
 use model_core::model::Model;
 pub use model_program::laws::law_record_lines;
@@ -10,7 +11,7 @@ use sim_spec::Terms;
 /// What is told of the first cycles, and then of the simulation from the text of the state after them, is what is told of
 /// the whole run, and ends as it does.
 pub fn law_saved_runs<M: Model>(model: &M, terms: &Terms)
-    ensures { SavedRuns (record { meaning = M.meaning model.now; terms = terms.now }) }
+    ensures { (totals : TotalsOf) → SavedRuns (record { meaning = M.meaning model.now; terms = terms.now; totals = totals }) }
 {
     model_program::laws::law_saved_runs::<ModelTexts, M>(model, terms);
 }

@@ -15,6 +15,7 @@ use node_team::Gate;
 use program_answers::{Ending, ending_of};
 use queue_models::ring;
 use sim_io::{Settings, Sink, Source, read_words};
+use sim_stats::Totals;
 use std::alloc::Global;
 use std::thread::Threads;
 
@@ -32,7 +33,7 @@ fn run_demo<R: Threads + Sync, G: Gate, K: Sink>(stage: Stage<R, G>, n: u32, out
                 machine: machine_of(Settings::Demo { n }),
                 telling: telling_of(Settings::Demo { n }),
             };
-            ending_of(run_model(stage, job, out))
+            ending_of(run_model::<R, G, AnyModel, Totals, K>(stage, job, out))
         }
         Err(_) => Ending::OutOfMemory,
     }

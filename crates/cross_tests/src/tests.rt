@@ -5,6 +5,7 @@ mod formats;
 mod logs;
 mod moves;
 mod nodes;
+mod own_totals;
 mod programs;
 mod stingy;
 mod strict;

@@ -6,12 +6,14 @@ ghost use Rattle.std.specs.Prelude.{◌≡◌, false, IfOk, IfSome};
 ghost use Rattle.model_text.specs.Meanings.{meaning_of};
 ghost use Rattle.model_text.specs.ModelTexts.{model_of};
 ghost use Rattle.model_runs.specs.Machines.{IsMachine};
+ghost use Rattle.run_tally.specs.Tallies.{no_totals};
 ghost use Rattle.sim_text.specs.WholeTexts.{text_from_start};
 ghost use Rattle.sim_text.specs.declared.telling.Telling.TheVariants.{Lines};
 
 use model_runs::{DEFAULT_SPREAD, Job, Machine, Stage, run_model};
 use model_text::{AnyModel, read_model};
 use node_team::Open;
+use run_tally::NoTally;
 use sim_io::MemSink;
 use sim_spec::Terms;
 use sim_text::{Telling, Unfinished};
@@ -52,7 +54,7 @@ fn text_of<R: Threads + Sync>(
     machine: Machine,
 ) -> Result<MemSink, Unfinished>
     requires { IsMachine machine }
-    ensures { IfOk result (λ sink. sink.taken ≡ text_from_start (meaning_of model) terms (Lines false)) }
+    ensures { IfOk result (λ sink. sink.taken ≡ text_from_start (meaning_of model) terms no_totals (Lines false)) }
 {
     let stage = Stage {
         rt,
@@ -66,7 +68,7 @@ fn text_of<R: Threads + Sync>(
         telling: RECORDS,
     };
     let mut sink = MemSink::new(alloc, ROOM, Vec::new(alloc), Vec::new(alloc), ROOM)?;
-    run_model(stage, job, &mut sink)?;
+    run_model::<R, Open, AnyModel, NoTally, MemSink>(stage, job, &mut sink)?;
     Ok(sink)
 }
 
@@ -78,7 +80,7 @@ fn told_of<R: Threads + Sync>(
     machine: Machine,
 ) -> Option<MemSink>
     requires { IsMachine machine }
-    ensures { IfSome result (λ sink. IfOk (model_of bytes.now) (λ read. sink.taken ≡ text_from_start read.meaning read.terms (Lines false))) }
+    ensures { IfSome result (λ sink. IfOk (model_of bytes.now) (λ read. sink.taken ≡ text_from_start read.meaning read.terms no_totals (Lines false))) }
 {
     let (model, terms) = read_model(alloc, bytes).ok()?;
     text_of(rt, alloc, model, terms, machine).ok()

@@ -6,6 +6,7 @@ use Rattle.std.proofs.KnownBytes.{Appends-trans}
 use Rattle.model_core.specs.Meaning.{Meaning}
 use Rattle.sim_spec.specs.declared.terms.Terms.{Terms}
 use Rattle.sim_spec.specs.State.{State, initial_state}
+use Rattle.run_tally.specs.Tallies.{TotalsOf}
 use Rattle.sim_io.specs.declared.streams.sink.Sink.{Ghosts as Sink}
 use Rattle.sim_io.specs.Causes.{Rose}
 use Rattle.sim_io.specs.Transfers.{AppendsPrefix}
@@ -46,10 +47,10 @@ unfinished_status Unfinished.OutOfMemory ending same is = let clash : ⊥ = let 
 pub put_first : (before after text : List ℕ) → before ≡ [] → after ≡ before ++ text → after ≡ text
 put_first before after text empty put = put ∙ ap (λ xs. xs ++ text) empty
 
-module _ {K : Type 0} (sink : Sink K) (m : Meaning) (t : Terms) (cycles : ℕ) (bytes : List ℕ) where
+module _ {K : Type 0} (sink : Sink K) (m : Meaning) (t : Terms) (totals : TotalsOf) (cycles : ℕ) (bytes : List ℕ) where
   -- the records were written, and then what is written of the state
   pub saved_ends : (old mid new : K) (state : State) (ending : Ending) → HasSaved sink old mid (Ok state) m t cycles → HandsOn {T = State} sink mid (Ok state) → EndsModel sink mid new ending (answer_of_state state bytes)
-      → EndsModel sink old new ending (answer_of_save cycles bytes (record { meaning = m; terms = t }))
+      → EndsModel sink old new ending (answer_of_save cycles bytes (record { meaning = m; terms = t; totals = totals }))
   unfolding answer_of_save
   saved_ends old mid new state ending saved handed then =
       let ends = subst (λ (s : State). EndsModel sink mid new ending (answer_of_state s bytes)) saved.state then in
@@ -76,7 +77,7 @@ module _ {K : Type 0} (sink : Sink K) (m : Meaning) (t : Terms) (cycles : ℕ) (
 
   -- they weren't all written
   pub unsaved_ends : (old new : K) (cause : Unfinished) → HasSaved sink old new (Err cause) m t cycles → HandsOn {T = State} sink new (Err cause)
-      → EndsModel sink old new (ending_of_cause cause) (answer_of_save cycles bytes (record { meaning = m; terms = t }))
+      → EndsModel sink old new (ending_of_cause cause) (answer_of_save cycles bytes (record { meaning = m; terms = t; totals = totals }))
   unfolding answer_of_save
   unsaved_ends old new Unfinished.WriteFault saved handed = write_fault_ends sink old new _ (prefix_longer _ _ _ _ saved.written.text.prefix) (saved.written.faults.fault refl)
   unsaved_ends old new Unfinished.OutOfMemory saved handed =

@@ -1,10 +1,8 @@
 -- What a program over a reader of models writes, what it notes, and the status with which it ends.
 use Rattle.std.specs.Prelude.{ℕ, ◌+◌, nat_le, Bool, true, false, List, [], ◌++◌, length, is_err, is_ok, Result, Ok, Err, String, codes, decimal}
 use Rattle.std.specs.declared.alloc.Global.{Global}
-use Rattle.model_core.specs.Meaning.{Meaning}
 use Rattle.model_reader.specs.Checks.{Checked}
 use Rattle.model_reader.specs.Readings.{ModelOf, Reading}
-use Rattle.sim_spec.specs.declared.terms.Terms.{Terms}
 use Rattle.sim_spec.specs.State.{State, initial_state}
 use Rattle.sim_spec.specs.Run.{run}
 use Rattle.sim_spec.specs.Cycles.{cycles_for}
@@ -36,14 +34,10 @@ telling_of (Settings.Demo n) = Telling.Demo n
 telling_of (Settings.Save c) = Telling.Lines false
 telling_of Settings.Resume = Telling.Lines false
 
--- a model that was read, with its terms: what is answered to is what it means
-abbrev pub as_read : {M : Type 0} → (M → Meaning) → M → Terms → ModelOf
-as_read meaning_of model terms = record { meaning = meaning_of model; terms = terms }
-
 -- the answer where a simulation runs from a state until it stops: what is to be told of it, whatever runs it
 abbrev pub answer_from : Telling → ModelOf → State → Answer
 answer_from telling model s = record {
-  output = text_from model.meaning model.terms telling s;
+  output = text_from model.meaning model.terms model.totals telling s;
   notes = [];
   status = status_of_stop (run model.meaning model.terms s).stop;
 }
@@ -74,7 +68,7 @@ answer_of_model chosen bytes model = answer_of_run chosen model
 -- the answer to a saved state that was read, or refused: its simulation goes on
 unfoldable pub answer_to_state : states.Checked SavedState → Answer
 answer_to_state (Err refused) = record { output = []; notes = state_line refused.code refused.line; status = STATE }
-answer_to_state (Ok saved) = answer_from (Telling.Lines false) (record { meaning = saved.meaning; terms = saved.terms }) saved.state
+answer_to_state (Ok saved) = answer_from (Telling.Lines false) saved.model saved.state
 
 -- how many bytes of the input a command takes at most: one more than a model or a saved state may have, and none for a demo
 abbrev pub most_taken : Settings → ℕ

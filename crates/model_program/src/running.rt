@@ -5,7 +5,8 @@ ghost use Rattle.sim_io.specs.declared.streams.reading.TheConstants.{ENOUGH_BYTE
 ghost use Rattle.sim_io.specs.declared.words.Settings.TheVariants.{Demo};
 ghost use Rattle.program_answers.specs.Answered.{EndsAsked, EndsInput, EndsModel};
 ghost use Rattle.program_answers.specs.Endings.{status_of_ending};
-ghost use Rattle.model_program.specs.Answer.{as_read, answer_of_command, answer_of_model, answer_to_model, asked_by, most_taken};
+ghost use Rattle.model_reader.specs.Readings.{as_read};
+ghost use Rattle.model_program.specs.Answer.{answer_of_command, answer_of_model, answer_to_model, asked_by, most_taken};
 ghost use Rattle.model_program.specs.SavedRuns.{IsSavedSo};
 
 use crate::saving::{resume_command, save_to_the_end};
@@ -29,8 +30,8 @@ fn answer_model<T: ModelReader, R: Threads + Sync, G: Gate, K: Sink>(
     out: &mut K,
 ) -> Ending
     requires bounds { AreInBounds settings }
-    requires read { T.reading.read bytes.now ≡ Ok (as_read T.Model.meaning model terms) }
-    ensures answer { EndsModel K.Sink out.old out.new result (answer_of_model settings bytes.now (as_read T.Model.meaning model terms)) }
+    requires read { T.reading.read bytes.now ≡ Ok (as_read T.Model.meaning T.Tally.lines model terms) }
+    ensures answer { EndsModel K.Sink out.old out.new result (answer_of_model settings bytes.now (as_read T.Model.meaning T.Tally.lines model terms)) }
     ensures saved { IsSavedSo T.reading.read (Ok settings) (status_of_ending result) bytes.now }
 {
     match settings {
@@ -42,7 +43,7 @@ fn answer_model<T: ModelReader, R: Threads + Sync, G: Gate, K: Sink>(
                 machine: machine_of(settings),
                 telling: telling_of(settings),
             };
-            ending_of(run_model(stage, job, out))
+            ending_of(run_model::<R, G, T::Model, T::Tally, K>(stage, job, out))
         }
     }
 }

@@ -11,7 +11,8 @@ ghost use Rattle.run_save.specs.declared.reading.TheConstants.{MOST_STATE_BYTES}
 ghost use Rattle.program_answers.specs.Answered.{EndsInput, EndsModel};
 ghost use Rattle.program_answers.specs.declared.status.TheConstants.{END};
 ghost use Rattle.program_answers.specs.Endings.{status_of_ending};
-ghost use Rattle.model_program.specs.Answer.{as_read, answer_of_save, answer_of_state, answer_to_state};
+ghost use Rattle.model_reader.specs.Readings.{as_read};
+ghost use Rattle.model_program.specs.Answer.{answer_of_save, answer_of_state, answer_to_state};
 ghost use Rattle.model_program.specs.SavedRuns.{IsSaved};
 
 use crate::laws::law_saved_runs;
@@ -69,8 +70,8 @@ pub fn save_to_the_end<T: ModelReader, R: Threads + Sync, G: Gate, K: Sink>(
     out: &mut K,
 ) -> Ending
     requires few { cycles ≤ MOST_SAVED_CYCLES }
-    requires read { T.reading.read bytes.now ≡ Ok (as_read T.Model.meaning model terms) }
-    ensures answer { EndsModel K.Sink out.old out.new result (answer_of_save cycles bytes.now (as_read T.Model.meaning model terms)) }
+    requires read { T.reading.read bytes.now ≡ Ok (as_read T.Model.meaning T.Tally.lines model terms) }
+    ensures answer { EndsModel K.Sink out.old out.new result (answer_of_save cycles bytes.now (as_read T.Model.meaning T.Tally.lines model terms)) }
     ensures saved { status_of_ending result ≡ END → IsSaved T.reading.read cycles bytes.now }
 {
     law_saved_runs::<T, T::Model>(&model, &terms);

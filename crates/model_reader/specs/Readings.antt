@@ -6,12 +6,18 @@ use Rattle.std.proofs.lemmas.List.{take_all, length-take}
 use Rattle.model_core.specs.Meaning.{Meaning}
 use Rattle.model_core.specs.declared.limits.TheConstants.{MOST_TEXT_BYTES}
 use Rattle.sim_spec.specs.declared.terms.Terms.{Terms}
+use Rattle.run_tally.specs.Tallies.{TotalsOf}
 use Rattle.model_reader.specs.Checks.{Checked, Refused}
 
--- a model, and how far its simulation goes
+-- a model, how far its simulation goes, and how its totals are told
 pub record ModelOf : Type 0 where
   pub meaning : Meaning
   pub terms : Terms
+  pub totals : TotalsOf
+
+-- a model that was read with these terms, by what it means and how its totals are told
+abbrev pub as_read : {M : Type 0} → (M → Meaning) → (M → Terms → TotalsOf) → M → Terms → ModelOf
+as_read meaning_of lines_of model terms = record { meaning = meaning_of model; terms = terms; totals = lines_of model terms }
 
 -- which bytes are which model, or which refusal, and what the codes of refusals are called
 pub record Reading : Type 0 where

@@ -12,6 +12,7 @@ use Rattle.sim_spec.specs.State.{State, initial_state}
 use Rattle.sim_io.specs.declared.streams.sink.Sink.{Ghosts as Sink}
 use Rattle.sim_io.specs.Causes.{Rose}
 use Rattle.sim_io.specs.Transfers.{AppendsPrefix}
+use Rattle.run_tally.specs.Tallies.{TotalsOf}
 use Rattle.sim_text.specs.declared.telling.Telling.{Telling}
 use Rattle.sim_text.specs.declared.unfinished.Unfinished.{Unfinished}
 use Rattle.sim_text.specs.declared.unfinished.Unfinished.TheVariants.{WriteFault, OutOfMemory}
@@ -67,9 +68,9 @@ module _ {K : Type 0} (sink : Sink K) (before old new : K) where
         (omega (arith, written.faults.later, later)) (rose_since _ _ _ written.faults.later rose)
 
   -- so it is with a simulation
-  pub simulated_on : (m : Meaning) (t : Terms) (telling : Telling) (from : State) (r outcome : Result Stop Unfinished) → HasSimulated sink before old outcome m t telling from
-      → ((bytes : List ℕ) → HasWritten sink before old outcome bytes → HasWritten sink before new r bytes) → OnOk r (r ≡ outcome) → HasSimulated sink before new r m t telling from
-  simulated_on m t telling from r outcome ran handed same =
+  pub simulated_on : (m : Meaning) (t : Terms) (totals : TotalsOf) (telling : Telling) (from : State) (r outcome : Result Stop Unfinished) → HasSimulated sink before old outcome m t totals telling from
+      → ((bytes : List ℕ) → HasWritten sink before old outcome bytes → HasWritten sink before new r bytes) → OnOk r (r ≡ outcome) → HasSimulated sink before new r m t totals telling from
+  simulated_on m t totals telling from r outcome ran handed same =
       record { written = handed _ ran.written; stop = ok_same (λ stop. stop ≡ (run m t from).stop) r outcome same ran.stop }
 
 -- a simulation wasn't saved

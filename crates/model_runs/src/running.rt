@@ -21,6 +21,7 @@ use crate::team_run::TeamRun;
 use model_core::OutOfMemory;
 use model_core::model::Model;
 use node_team::Gate;
+use run_tally::Tally;
 use sim_io::Sink;
 use sim_spec::laws::law_initial;
 use sim_spec::{Bucket, Stop, Terms};
@@ -66,14 +67,14 @@ pub(crate) fn on_nodes<M: Model>(
 }
 
 /// Runs a model on one thread, and writes what is to be told of its simulation.
-fn run_one_thread<M: Model, K: Sink>(
+fn run_one_thread<M: Model, L: Tally<M>, K: Sink>(
     alloc: Global,
     model: M,
     terms: Terms,
     telling: Telling,
     out: &mut K,
 ) -> Result<Stop, Unfinished>
-    ensures { HasSimulated K.Sink out.old out.new result (M.meaning model) terms telling (initial_state (M.meaning model)) }
+    ensures { HasSimulated K.Sink out.old out.new result (M.meaning model) terms (L.lines model terms) telling (initial_state (M.meaning model)) }
 {
     let (model, mut run) = one_thread(alloc, model, terms)?;
     law_initial(&*model, &terms);
@@ -82,11 +83,11 @@ fn run_one_thread<M: Model, K: Sink>(
             × (ended (M.meaning run.old.engine.model) run.old.engine.terms run.old.engine.standing ≡ None) }
         ensures { OneCycles M.meaning run.old result run.new }
     { run.cycle(alloc) };
-    simulate(alloc, &*model, &terms, &mut run, &cycle, telling, out)
+    simulate::<M, L, _, _, K>(alloc, &*model, &terms, &mut run, &cycle, telling, out)
 }
 
 /// Runs a model on nodes that advance in threads, and writes what is to be told of its simulation.
-fn run_on_nodes<R: Threads + Sync, G: Gate, M: Model, K: Sink>(
+fn run_on_nodes<R: Threads + Sync, G: Gate, M: Model, L: Tally<M>, K: Sink>(
     stage: Stage<R, G>,
     model: M,
     terms: Terms,
@@ -95,7 +96,7 @@ fn run_on_nodes<R: Threads + Sync, G: Gate, M: Model, K: Sink>(
     out: &mut K,
 ) -> Result<Stop, Unfinished>
     requires { IsSpread spread }
-    ensures { HasSimulated K.Sink out.old out.new result (M.meaning model) terms telling (initial_state (M.meaning model)) }
+    ensures { HasSimulated K.Sink out.old out.new result (M.meaning model) terms (L.lines model terms) telling (initial_state (M.meaning model)) }
 {
     let Stage { rt, alloc, gate } = stage;
     let (model, mut run) = on_nodes(alloc, model, terms, spread)?;
@@ -105,19 +106,20 @@ fn run_on_nodes<R: Threads + Sync, G: Gate, M: Model, K: Sink>(
         requires { IsSync R.row × IsSync G.row × IsSend M.row × IsSync M.row × AreWorkers workers × GoesOn M.meaning run.old.team.world }
         ensures { TeamCycles M.meaning run.old result run.new }
     { run.cycle(rt, alloc, workers, gate) };
-    simulate(alloc, &*model, &terms, &mut run, &cycle, telling, out)
+    simulate::<M, L, _, _, K>(alloc, &*model, &terms, &mut run, &cycle, telling, out)
 }
 
 /// Runs a model from its start, writes what is to be told of its simulation, and hands it on. The text is the same whatever
 /// the machine, the nodes, their placement, how far they work ahead, the workers, who steals what, which objects move, and
-/// the schedule of threads.
-pub fn run_model<R: Threads + Sync, G: Gate, M: Model, K: Sink>(
+/// the schedule of threads. Its totals are what the tally `L` says.
+pub fn run_model<R: Threads + Sync, G: Gate, M: Model, L: Tally<M>, K: Sink>(
     stage: Stage<R, G>,
     job: Job<M>,
     out: &mut K,
 ) -> Result<Stop, Unfinished>
     requires { IsMachine job.machine }
-    ensures simulated { HasSimulated K.Sink out.old out.new result (M.meaning job.model) job.terms job.telling (initial_state (M.meaning job.model)) }
+    ensures simulated { HasSimulated K.Sink out.old out.new result (M.meaning job.model) job.terms (L.lines job.model job.terms) job.telling
+        (initial_state (M.meaning job.model)) }
     ensures handed { HandsOn K.Sink out.new result }
 {
     let Job {
@@ -128,11 +130,12 @@ pub fn run_model<R: Threads + Sync, G: Gate, M: Model, K: Sink>(
     } = job;
     match machine {
         Machine::OneThread => {
-            let outcome = run_one_thread(stage.alloc, model, terms, telling, out);
+            let outcome = run_one_thread::<M, L, K>(stage.alloc, model, terms, telling, out);
             hand_on(outcome, out)
         }
         Machine::Nodes(spread) => {
-            let outcome = run_on_nodes(stage, model, terms, spread, telling, out);
+            let outcome =
+                run_on_nodes::<R, G, M, L, K>(stage, model, terms, spread, telling, out);
             hand_on(outcome, out)
         }
     }

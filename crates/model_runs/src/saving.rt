@@ -5,6 +5,7 @@ ghost use Rattle.std.specs.Thread.{IsSend, IsSync};
 ghost use Rattle.model_core.specs.declared.limits.TheConstants.{MOST_NODES};
 ghost use Rattle.sim_spec.specs.Standing.{stands};
 ghost use Rattle.sim_spec.specs.State.{Lawful};
+ghost use Rattle.run_tally.specs.Tallies.{no_totals};
 ghost use Rattle.sim_text.specs.Written.{HasSimulated};
 ghost use Rattle.sim_text.specs.declared.telling.Telling.TheVariants.{Lines};
 ghost use Rattle.cycle_core.specs.Standings.{GoesOn};
@@ -23,6 +24,7 @@ use cycle_core::State;
 use model_core::OutOfMemory;
 use model_core::model::Model;
 use node_team::Gate;
+use run_tally::NoTally;
 use sim_io::Sink;
 use sim_spec::laws::law_initial;
 use sim_spec::{Bucket, Stop, Terms};
@@ -106,7 +108,7 @@ fn resume_at<R: Threads + Sync, G: Gate, M: Model, K: Sink>(
 ) -> Result<Stop, Unfinished>
     requires spread { IsSpread spread }
     requires lawful { Lawful (M.meaning model) terms state }
-    ensures { HasSimulated K.Sink out.old out.new result (M.meaning model) terms (Lines false) state }
+    ensures { HasSimulated K.Sink out.old out.new result (M.meaning model) terms no_totals (Lines false) state }
 {
     let Stage { rt, alloc, gate } = stage;
     let (model, mut run) = at_state(alloc, model, terms, spread, state)?;
@@ -116,7 +118,7 @@ fn resume_at<R: Threads + Sync, G: Gate, M: Model, K: Sink>(
         ensures { TeamCycles M.meaning run.old result run.new }
     { run.cycle(rt, alloc, workers, gate) };
     let telling = Telling::Lines { cycles: false };
-    simulate(alloc, &*model, &terms, &mut run, &cycle, telling, out)
+    simulate::<M, NoTally, _, _, K>(alloc, &*model, &terms, &mut run, &cycle, telling, out)
 }
 
 /// Runs a model from a state that a simulation of it can meet until it stops, on nodes, writes its records and why, and
@@ -131,7 +133,7 @@ pub fn resume_model<R: Threads + Sync, G: Gate, M: Model, K: Sink>(
 ) -> Result<Stop, Unfinished>
     requires spread { IsSpread spread }
     requires lawful { Lawful (M.meaning model) terms state }
-    ensures simulated { HasSimulated K.Sink out.old out.new result (M.meaning model) terms (Lines false) state }
+    ensures simulated { HasSimulated K.Sink out.old out.new result (M.meaning model) terms no_totals (Lines false) state }
     ensures handed { HandsOn K.Sink out.new result }
 {
     let outcome = resume_at(stage, model, terms, spread, state, out);

@@ -8,6 +8,7 @@ use Rattle.sim_spec.specs.declared.terms.Terms.{Terms}
 use Rattle.event_key.specs.declared.stamp.TheConstants.{LAST_TICK}
 use Rattle.model_core.specs.declared.limits.TheConstants.{MOST_EVENTS, MOST_TEXT_BYTES}
 use Rattle.model_reader.specs.Readings.{ModelOf}
+use Rattle.sim_stats.specs.Totals.{told_by_objects}
 use Rattle.model_text.specs.declared.formats.Format.{Format}
 use Rattle.model_text.specs.declared.top.ModelKind.{ModelKind}
 use Rattle.model_text.specs.declared.top.ModelKind.TheVariants.{Phold, Network, Circuit}
@@ -80,9 +81,13 @@ family_of bytes = do
   ms ← tree bytes
   top ms
 
+-- a model with these terms, of which totals are told object by object
+abbrev pub model_with : Meaning → Terms → ModelOf
+model_with m t = record { meaning = m; terms = t; totals = told_by_objects m }
+
 -- the model under the seed that the text gives
 abbrev pub own_model : FamilyOf → ModelOf
-own_model family = record { meaning = family.under family.seed; terms = family.terms }
+own_model family = model_with (family.under family.seed) family.terms
 
 abbrev pub own_models : Checked FamilyOf → Checked ModelOf
 own_models read = read >>= (λ family. Ok (own_model family))

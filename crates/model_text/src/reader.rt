@@ -4,6 +4,7 @@ use crate::refusal::{Refusal, code_name};
 use crate::top::read_model;
 use model_reader::ModelReader;
 use sim_spec::Terms;
+use sim_stats::Totals;
 use std::alloc::Global;
 
 /// The reader of these texts.
@@ -14,6 +15,8 @@ impl ModelReader for ModelTexts {
     ghost use Rattle.model_text.specs.Readers.{model_texts, model_texts_laws};
 
     type Model = AnyModel;
+
+    type Tally = Totals;
 
     ghost reading = { model_texts };
 

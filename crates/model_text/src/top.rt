@@ -5,7 +5,7 @@ ghost use Rattle.toml.specs.View.{table_view};
 ghost use Rattle.model_text.specs.Checks.{Gives, Fails};
 ghost use Rattle.model_text.specs.Fields.{only};
 ghost use Rattle.model_text.specs.Meanings.{family_read, meaning_of, meaning_under};
-ghost use Rattle.model_text.specs.ModelTexts.{kind_of, top_keys, body, top, tree, family_of, model_of};
+ghost use Rattle.model_text.specs.ModelTexts.{kind_of, top_keys, body, top, tree, family_of, model_of, model_with};
 ghost use Rattle.model_text.specs.TermsOf.{terms_of};
 
 use crate::circuits::circuit;
@@ -158,7 +158,7 @@ pub fn read_family(alloc: Global, bytes: &[u8]) -> Result<ReadModel, Refusal>
 /// The model and the terms of a text, or the first check that it fails, as `read_family` tells it.
 #[tactic(auto, unfolding(crate::specs::ModelTexts::model_of))]
 pub fn read_model(alloc: Global, bytes: &[u8]) -> Result<(AnyModel, Terms), Refusal>
-    ensures read { IfOk result (λ read. model_of bytes.now ≡ Ok (record { meaning = meaning_of read.0; terms = read.1 })) }
+    ensures read { IfOk result (λ read. model_of bytes.now ≡ Ok (model_with (meaning_of read.0) read.1)) }
     ensures refused { IfErr result (λ refusal. Fails refusal (model_of bytes.now)) }
 {
     let read = read_family(alloc, bytes)?;

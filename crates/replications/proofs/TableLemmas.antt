@@ -11,8 +11,9 @@ use Rattle.std.proofs.lemmas.List.FromFn.{length-map-range_with_len, get_or-map-
 use Rattle.event_key.specs.declared.key.Key.{Key}
 use Rattle.event_key.specs.Stamps.{time_part}
 use Rattle.model_core.specs.declared.note.Note.{Note}
-use Rattle.sim_stats.specs.Totals.{last_time}
-use Rattle.sim_stats.proofs.TotalsLemmas.{last_time-more, map-range-set}
+use Rattle.run_tally.specs.Tallies.{last_time}
+use Rattle.run_tally.proofs.InTime.{last_time-more}
+use Rattle.sim_stats.proofs.TotalsLemmas.{map-range-set}
 use Rattle.replications.specs.declared.window.Window.{Window}
 use Rattle.replications.specs.Parts.{TimedPart, timed_parts, parts_told}
 use Rattle.replications.specs.Stays.{lefts_after, last_left, stays, spent}

@@ -10,7 +10,7 @@ use Rattle.sim_spec.specs.declared.stop.Stop.TheVariants.{End, Limit, Fault}
 use Rattle.sim_spec.specs.declared.terms.Terms.{Terms}
 use Rattle.sim_spec.specs.State.{initial_state}
 use Rattle.sim_spec.specs.Run.{Run, run}
-use Rattle.sim_stats.specs.Totals.{last_time}
+use Rattle.run_tally.specs.Tallies.{last_time}
 use Rattle.replications.specs.declared.rows.RunEnd.{RunEnd}
 use Rattle.replications.specs.declared.window.Columns.{Columns}
 use Rattle.replications.specs.Parts.{parts_told}

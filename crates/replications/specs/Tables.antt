@@ -3,7 +3,7 @@ use Rattle.std.specs.Prelude.{ℕ, List, length, map}
 use Rattle.std.specs.List.{range_with_len}
 use Rattle.event_key.specs.declared.key.Key.{Key}
 use Rattle.model_core.specs.declared.note.Note.{Note}
-use Rattle.sim_stats.specs.Totals.{last_time}
+use Rattle.run_tally.specs.Tallies.{last_time}
 use Rattle.replications.specs.declared.window.Window.{Window}
 use Rattle.replications.specs.Parts.{parts_told}
 use Rattle.replications.specs.Windows.{window_of}

@@ -9,6 +9,8 @@ use Rattle.model_core.specs.declared.event.Event.{Event}
 use Rattle.model_core.specs.Meaning.{Meaning}
 use Rattle.model_reader.specs.Checks as models
 use Rattle.model_reader.specs.Readings.{ModelOf}
+use Rattle.run_tally.specs.Tallies.{TotalsOf}
+use Rattle.sim_spec.specs.declared.terms.Terms.{Terms}
 use Rattle.sim_spec.specs.State.{State, Lawful}
 use Rattle.run_save.specs.declared.refusal.StateRefusal.{StateRefusal}
 use Rattle.run_save.specs.declared.saved.Saved.{Saved}
@@ -20,19 +22,19 @@ use Rattle.run_save.specs.Views.{saved_of}
 use Rattle.run_save.proofs.ReadLaw.{read_is_written}
 use Rattle.run_save.proofs.WrittenLaw.{written_is_read}
 
-module _ {M : Type 0} (meaning_of : M → Meaning) (model_of : List ℕ → models.Checked ModelOf) where
-  pub is_text : (bytes : List ℕ) (r : Result (Saved M) StateRefusal) → Gives (saved_of meaning_of) r (state_of model_of bytes) → IfOk r (λ saved. IsTextOf model_of bytes (saved_of meaning_of saved))
-  is_text bytes (Ok saved) gives = read_is_written model_of bytes (saved_of meaning_of saved) gives
+module _ {M : Type 0} (meaning_of : M → Meaning) (lines_of : M → Terms → TotalsOf) (model_of : List ℕ → models.Checked ModelOf) where
+  pub is_text : (bytes : List ℕ) (r : Result (Saved M) StateRefusal) → Gives (saved_of meaning_of lines_of) r (state_of model_of bytes) → IfOk r (λ saved. IsTextOf model_of bytes (saved_of meaning_of lines_of saved))
+  is_text bytes (Ok saved) gives = read_is_written model_of bytes (saved_of meaning_of lines_of saved) gives
   is_text bytes (Err refusal) gives = tt
 
-  pub is_lawful : (bytes : List ℕ) (r : Result (Saved M) StateRefusal) → Gives (saved_of meaning_of) r (state_of model_of bytes) → IfOk r (λ saved. Lawful (meaning_of saved.model) saved.terms saved.state)
-  is_lawful bytes (Ok saved) gives = (read_is_written model_of bytes (saved_of meaning_of saved) gives).savable.lawful
+  pub is_lawful : (bytes : List ℕ) (r : Result (Saved M) StateRefusal) → Gives (saved_of meaning_of lines_of) r (state_of model_of bytes) → IfOk r (λ saved. Lawful (meaning_of saved.model) saved.terms saved.state)
+  is_lawful bytes (Ok saved) gives = (read_is_written model_of bytes (saved_of meaning_of lines_of saved) gives).savable.lawful
   is_lawful bytes (Err refusal) gives = tt
 
   pub is_again : (bytes : List ℕ) (r : Result (Saved M) StateRefusal) (s : State) (model : List ℕ) (read : ModelOf) → IsSavable model_of s model read → bytes ≡ state_text s model
-      → Gives (saved_of meaning_of) r (state_of model_of bytes) → Gives (saved_of meaning_of) r (Ok (saved_with read s))
+      → Gives (saved_of meaning_of lines_of) r (state_of model_of bytes) → Gives (saved_of meaning_of lines_of) r (Ok (saved_with read s))
   is_again bytes r s model read savable text gives =
-      subst (λ (check : Checked SavedState). Gives (saved_of meaning_of) r check) (ap (state_of model_of) text ∙ written_is_read model_of s model read savable) gives
+      subst (λ (check : Checked SavedState). Gives (saved_of meaning_of lines_of) r check) (ap (state_of model_of) text ∙ written_is_read model_of s model read savable) gives
 
 -- cells fit where their words and their lines do
 pub both_fit : (r : Result (Unit {0}) OutOfMemory) (cells : CellData) → IsLine cells.words → OnOk r (length cells.lines < 2 ^ 64) → OnOk r (AllByRecursion IsLine cells.lines) → OnOk r (FitsCells cells)

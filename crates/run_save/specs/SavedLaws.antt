@@ -48,7 +48,7 @@ pub record FitsTypes (s : State) : Type 0 where
 
 -- what a state comes to with a model
 abbrev pub saved_with : ModelOf → State → SavedState
-saved_with read s = record { meaning = read.meaning; terms = read.terms; state = s }
+saved_with read s = record { model = read; state = s }
 
 -- over the models that a reader reads
 module _ (model_of : List ℕ → models.Checked ModelOf) where
@@ -70,7 +70,7 @@ module _ (model_of : List ℕ → models.Checked ModelOf) where
   pub record IsTextOf (bytes : List ℕ) (saved : SavedState) : Type 0 where
     pub model : List ℕ
     pub text : bytes ≡ state_text saved.state model
-    pub savable : IsSavable saved.state model (record { meaning = saved.meaning; terms = saved.terms })
+    pub savable : IsSavable saved.state model saved.model
 
   -- what is read was written so
   abbrev pub ReadIsWritten : Type 0

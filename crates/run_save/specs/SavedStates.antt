@@ -1,7 +1,5 @@
 -- The saved state of a text: the checks in the order in which the first refusal counts.
 use Rattle.std.specs.Prelude.{ℕ, nat_le, List, length, Ok, Err}
-use Rattle.model_core.specs.Meaning.{Meaning}
-use Rattle.sim_spec.specs.declared.terms.Terms.{Terms}
 use Rattle.sim_spec.specs.State.{State}
 use Rattle.model_reader.specs.Checks as models
 use Rattle.model_reader.specs.Readings.{ModelOf}
@@ -11,10 +9,9 @@ use Rattle.run_save.specs.Checks.{Checked, refusal, wanted, ◌>>=◌}
 use Rattle.run_save.specs.Lines.{Draft, whole_text}
 use Rattle.run_save.specs.LawfulChecks.{lawful_check}
 
--- a model, how far its simulation goes, and a state of it
+-- a model that was read, and a state of it
 pub record SavedState : Type 0 where
-  pub meaning : Meaning
-  pub terms : Terms
+  pub model : ModelOf
   pub state : State
 
 -- a model that is refused is refused at its line
@@ -29,7 +26,7 @@ module _ (model_of : List ℕ → models.Checked ModelOf) where
   judged draft = do
     read ← read_at draft.line (model_of draft.model)
     lawful ← lawful_check read.meaning read.terms draft.state
-    Ok (record { meaning = read.meaning; terms = read.terms; state = draft.state })
+    Ok (record { model = read; state = draft.state })
 
   -- the saved state of a text, or the code and line of the first check that fails
   unfoldable pub state_of : List ℕ → Checked SavedState

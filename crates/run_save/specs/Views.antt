@@ -2,6 +2,9 @@
 use Rattle.std.specs.Prelude.{ℕ, List, map}
 use Rattle.std.specs.Global.{Vec}
 use Rattle.model_core.specs.Meaning.{Meaning}
+use Rattle.model_reader.specs.Readings.{as_read}
+use Rattle.run_tally.specs.Tallies.{TotalsOf}
+use Rattle.sim_spec.specs.declared.terms.Terms.{Terms}
 use Rattle.run_save.specs.declared.cursor.Cursor.{Cursor}
 use Rattle.run_save.specs.declared.draft.Draft.{Draft as OwnDraft}
 use Rattle.run_save.specs.declared.saved.Saved.{Saved}
@@ -22,5 +25,5 @@ draft_of draft = record {
   line = draft.line;
 }
 
-abbrev pub saved_of : {M : Type 0} → (M → Meaning) → Saved M → SavedState
-saved_of meaning_of saved = record { meaning = meaning_of saved.model; terms = saved.terms; state = saved.state }
+abbrev pub saved_of : {M : Type 0} → (M → Meaning) → (M → Terms → TotalsOf) → Saved M → SavedState
+saved_of meaning_of lines_of saved = record { model = as_read meaning_of lines_of saved.model saved.terms; state = saved.state }

@@ -1,6 +1,6 @@
 //! Reading a state text.
 ghost use Rattle.std.specs.Prelude.{◌≡◌, ℕ, List, IfOk};
-ghost use Rattle.model_reader.specs.Readings.{ModelOf};
+ghost use Rattle.model_reader.specs.Readings.{ModelOf, as_read};
 ghost use Rattle.sim_spec.specs.State.{State, Lawful};
 ghost use Rattle.run_save.specs.Checks.{Gives};
 ghost use Rattle.run_save.specs.Lines.{model_bytes, whole_text};
@@ -64,7 +64,7 @@ fn read_at<T: ModelReader>(
     line: u64,
     bytes: &[u8],
 ) -> Result<(T::Model, Terms), StateRefusal>
-    ensures { Gives (λ read. record { meaning = T.Model.meaning read.0; terms = read.1 }) result (read_at line (T.reading.read bytes.now)) }
+    ensures { Gives (λ read. as_read T.Model.meaning T.Tally.lines read.0 read.1) result (read_at line (T.reading.read bytes.now)) }
 {
     match reader.read(alloc, bytes) {
         Ok(read) => Ok(read),
@@ -80,7 +80,7 @@ fn saved_state<T: ModelReader>(
     alloc: Global,
     bytes: &[u8],
 ) -> Result<Saved<T::Model>, StateRefusal>
-    ensures { Gives (saved_of T.Model.meaning) result (state_of T.reading.read bytes.now) }
+    ensures { Gives (saved_of T.Model.meaning T.Tally.lines) result (state_of T.reading.read bytes.now) }
 {
     if bytes.len() > MOST_STATE_BYTES {
         return Err(StateCause::TooLong.at(0));
@@ -108,13 +108,13 @@ pub fn read_state<T: ModelReader>(
     bytes: &[u8],
 ) -> Result<Saved<T::Model>, StateRefusal>
     // Which check it is.
-    ensures exact { Gives (saved_of T.Model.meaning) result (state_of T.reading.read bytes.now) }
+    ensures exact { Gives (saved_of T.Model.meaning T.Tally.lines) result (state_of T.reading.read bytes.now) }
     // What is read was written so.
-    ensures read { IfOk result (λ saved. IsTextOf T.reading.read bytes.now (saved_of T.Model.meaning saved)) }
+    ensures read { IfOk result (λ saved. IsTextOf T.reading.read bytes.now (saved_of T.Model.meaning T.Tally.lines saved)) }
     ensures lawful { IfOk result (λ saved. Lawful (T.Model.meaning saved.model) saved.terms saved.state) }
     // What was written so is read, unless memory runs out.
     ensures written { (s : State) (model : List ℕ) (read : ModelOf) → IsSavable T.reading.read s model read → bytes.now ≡ state_text s model
-        → Gives (saved_of T.Model.meaning) result (Ok (saved_with read s)) }
+        → Gives (saved_of T.Model.meaning T.Tally.lines) result (Ok (saved_with read s)) }
 {
     saved_state(reader, alloc, bytes)
 }

@@ -1,3 +1,2 @@
-pub mod InTime
 pub mod SumsLemmas
 pub mod TotalsLemmas

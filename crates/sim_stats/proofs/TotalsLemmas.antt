@@ -1,22 +1,24 @@
 -- The totals with one record more, and their lines with one object more.
-use Rattle.std.proofs.Common.{◌≡◌, ◌≢◌, ℕ, ◌+◌, ◌<◌, ◌≤◌, Bool, true, false, List, [], ◌∷◌, ◌++◌, length, map, take, drop, drop-cons, add-one, refl, sym, ap, ◌∙◌, arith, length-append, eqb-true, eq-eqb, ne_eqb, get_or, cond, eqb, subst, append-nil, append_assoc, length-take, replicate}
+use Rattle.std.proofs.Common.{◌≡◌, ◌≢◌, ℕ, ◌+◌, ◌<◌, ◌≤◌, Bool, true, false, List, [], ◌∷◌, ◌++◌, length, map, take, refl, sym, ap, ◌∙◌, arith, length-append, eqb-true, eq-eqb, ne_eqb, get_or, cond, eqb, subst, append-nil, append_assoc, length-take, replicate}
 use Rattle.std.specs.Prelude.{◌==◌, All}
 use Rattle.std.specs.List.{filter, flat_map, range_with_len}
 use Rattle.std.proofs.Math.ListN.{set}
 use Rattle.std.proofs.lemmas.List.{length-set, get_or-set_other, get_or-replicate, length-replicate}
 use Rattle.std.proofs.lemmas.Grind.{get_or-set_at}
 use Rattle.std.proofs.lemmas.Grind.{flat_map-append}
-use Rattle.std.proofs.lemmas.List.{ext_get_or, take_more}
+use Rattle.std.proofs.lemmas.List.{ext_get_or, take_more, take_all}
 use Rattle.std.proofs.lemmas.List.Elements.{filter-append}
 use Rattle.std.proofs.lemmas.List.FromFn.{length-map-range_with_len, get_or-map-range_with_len}
 use Rattle.event_key.specs.declared.key.Key.{Key}
 use Rattle.event_key.specs.Stamps.{time_part}
 use Rattle.model_core.specs.declared.note.Note.{Note}
 use Rattle.model_core.specs.Meaning.{Meaning}
+use Rattle.run_tally.specs.Tallies.{last_time}
+use Rattle.run_tally.proofs.InTime.{last_time-more}
 use Rattle.sim_stats.specs.declared.sums.Sums.{Sums}
 use Rattle.sim_stats.specs.Occupancies.{after_words, intervals}
 use Rattle.sim_stats.specs.Sums.{last_told, sums_of, sums_text, IsWithin}
-use Rattle.sim_stats.specs.Totals.{IsInTime, last_time, totals_of, lines_of_sums}
+use Rattle.sim_stats.specs.Totals.{Summed, totals_of, lines_of_sums}
 use Rattle.sim_stats.specs.Words.{TimedWord, timed_words, words_told}
 
 words_told-more : (object : ℕ) (records : List (Key × Note)) (told : Key × Note)
@@ -40,11 +42,6 @@ words_told-elsewhere object records told apart =
     let none : words_told object (told ∷ []) ≡ [] =
     ap (λ b. flat_map timed_words (cond b (told ∷ []) [])) (ne_eqb told.0.dest object (λ same. apart (sym same))) in
     words_told-more object records told ∙ ap (λ (words : List TimedWord). words_told object records ++ words) none ∙ append-nil (words_told object records)
-
-pub last_time-more : (time : ℕ) (records : List (Key × Note)) (told : Key × Note) → last_time time (records ++ told ∷ []) ≡ time_part told.0.stamp
-unfolding last_time
-last_time-more time [] told = refl
-last_time-more time (first ∷ rest) told = last_time-more (time_part first.0.stamp) rest told
 
 -- a list of what is so at each place, where that changes at one place
 pub map-range-set : {X : Type 0} (f g : ℕ → X) (n place : ℕ) (new : X) → new ≡ g place → ((i : ℕ) → i ≢ place → g i ≡ f i) → set (map f (range_with_len 0 n)) place new ≡ map g (range_with_len 0 n)
@@ -130,21 +127,28 @@ lines_of_sums-more m from (first ∷ rest) one =
     (lines_of_sums-more m (from + 1) rest one ∙ ap (λ n. lines_of_sums m (from + 1) rest ++ (m.label n ++ sums_text one)) (omega arith))
     ∙ sym (append_assoc (m.label from ++ sums_text first) (lines_of_sums m (from + 1) rest) (m.label (from + length (first ∷ rest)) ++ sums_text one))
 
--- the line of the next object
-pub lines_of_sums-next : (m : Meaning) (sums : List Sums) (i : ℕ) (one : Sums) (named lines : List ℕ) → i < length sums → one ≡ get_or sums i one
-    → named ≡ lines_of_sums m 0 (take i sums) ++ m.label i → lines ≡ named ++ sums_text one → lines ≡ lines_of_sums m 0 (take (i + 1) sums)
-lines_of_sums-next m sums i one named lines within is name line =
+-- the line of the next object, behind what was there
+pub lines_of_sums-next : (m : Meaning) (sums : List Sums) (i : ℕ) (one : Sums) (old named lines : List ℕ) → i < length sums → one ≡ get_or sums i one
+    → named ≡ (old ++ lines_of_sums m 0 (take i sums)) ++ m.label i → lines ≡ named ++ sums_text one → lines ≡ old ++ lines_of_sums m 0 (take (i + 1) sums)
+lines_of_sums-next m sums i one old named lines within is name line =
     line ∙ ap (λ (before : List ℕ). before ++ sums_text one) name
-    ∙ append_assoc (lines_of_sums m 0 (take i sums)) (m.label i) (sums_text one)
-    ∙ ap (λ n. lines_of_sums m 0 (take i sums) ++ (m.label n ++ sums_text one)) (omega (arith, length-take i sums))
+    ∙ append_assoc (old ++ lines_of_sums m 0 (take i sums)) (m.label i) (sums_text one)
+    ∙ append_assoc old (lines_of_sums m 0 (take i sums)) (m.label i ++ sums_text one)
+    ∙ ap (λ (more : List ℕ). old ++ more)
+    (ap (λ n. lines_of_sums m 0 (take i sums) ++ (m.label n ++ sums_text one)) (omega (arith, length-take i sums))
     ∙ sym (lines_of_sums-more m 0 (take i sums) one)
-    ∙ ap (λ (sums : List Sums). lines_of_sums m 0 sums) (ap (λ (last : Sums). take i sums ++ last ∷ []) is ∙ sym (take_more sums i one within))
+    ∙ ap (λ (sums : List Sums). lines_of_sums m 0 sums) (ap (λ (last : Sums). take i sums ++ last ∷ []) is ∙ sym (take_more sums i one within)))
 
--- records that are left, in time: the next one comes in time, and those behind it come in time after it
-pub in_time-next : (time : ℕ) (records : List (Key × Note)) (i : ℕ) (told : Key × Note) → i < length records → told ≡ get_or records i told → IsInTime time (drop i records)
-    → (time ≤ time_part told.0.stamp) × IsInTime (time_part told.0.stamp) (drop (i + 1) records)
-unfolding IsInTime
-in_time-next time records i told within is in_time =
-    let left : drop i records ≡ told ∷ drop (i + 1) records =
-    drop-cons records i told within ∙ ap (λ n. get_or records i told ∷ drop n records) (sym (add-one i)) ∙ ap (λ (first : Key × Note). first ∷ drop (i + 1) records) (sym is) in
-    subst (IsInTime time) left in_time
+-- all lines, once each object has one
+pub lines_of_sums-all : (m : Meaning) (sums : List Sums) (i : ℕ) → length sums ≤ i → lines_of_sums m 0 (take i sums) ≡ lines_of_sums m 0 sums
+lines_of_sums-all m sums i all = ap (λ (sums : List Sums). lines_of_sums m 0 sums) (take_all i sums all)
+
+-- what totals of records have
+pub totals_of-parts : (totals : Summed) (objects : ℕ) (records : List (Key × Note)) → totals ≡ totals_of objects records
+    → (length totals.objects ≡ objects) × (totals.records ≡ length records) × (totals.last ≡ last_time 0 records)
+unfolding totals_of
+totals_of-parts totals objects records summed = (
+  ap (λ (s : Summed). length s.objects) summed ∙ totals_of-length objects records,
+  ap (λ (s : Summed). s.records) summed,
+  ap (λ (s : Summed). s.last) summed,
+)

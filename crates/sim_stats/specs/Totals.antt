@@ -1,10 +1,10 @@
 -- The totals of a simulation: the sums of each object, in order.
-use Rattle.std.specs.Prelude.{ℕ, ◌+◌, ◌≤◌, List, [], ◌∷◌, ◌++◌, length, map}
+use Rattle.std.specs.Prelude.{ℕ, ◌+◌, List, [], ◌∷◌, ◌++◌, length, map}
 use Rattle.std.specs.List.{range_with_len}
 use Rattle.event_key.specs.declared.key.Key.{Key}
-use Rattle.event_key.specs.Stamps.{time_part}
 use Rattle.model_core.specs.declared.note.Note.{Note}
 use Rattle.model_core.specs.Meaning.{Meaning}
+use Rattle.run_tally.specs.Tallies.{TotalsOf, last_time}
 use Rattle.sim_stats.specs.declared.sums.Sums.{Sums}
 use Rattle.sim_stats.specs.Sums.{sums_of, sums_text}
 use Rattle.sim_stats.specs.Words.{words_told}
@@ -14,16 +14,6 @@ pub record Summed : Type 0 where
   pub objects : List Sums
   pub records : ℕ
   pub last : ℕ
-
--- the time of the last record, and this time where there is none
-unfoldable pub last_time : ℕ → List (Key × Note) → ℕ
-last_time time [] = time
-last_time time (told ∷ rest) = last_time (time_part told.0.stamp) rest
-
--- no record comes before the one before it, nor the first one before this time
-unfoldable pub IsInTime : ℕ → List (Key × Note) → Type 0
-IsInTime time [] = Unit {0}
-IsInTime time (told ∷ rest) = (time ≤ time_part told.0.stamp) × IsInTime (time_part told.0.stamp) rest
 
 -- the totals of records, of a model with so many objects
 unfoldable pub totals_of : ℕ → List (Key × Note) → Summed
@@ -40,3 +30,7 @@ lines_of_sums m object (sums ∷ rest) = (m.label object ++ sums_text sums) ++ l
 
 unfoldable pub totals_lines : Meaning → List (Key × Note) → List ℕ
 totals_lines m records = lines_of_sums m 0 (totals_of m.objects records).objects
+
+-- how these totals are told of a model: why it stopped plays no part
+abbrev pub told_by_objects : Meaning → TotalsOf
+told_by_objects m records stop = totals_lines m records

@@ -4,8 +4,9 @@
 
 mod occupancy;
 mod sums;
+mod tally;
 mod totals;
 
 pub use occupancy::Occupancy;
-pub use sums::{is_arrival, is_service};
+pub use sums::{Sums, is_arrival, is_service};
 pub use totals::Totals;

@@ -1,13 +1,12 @@
 //! The totals of a simulation.
-ghost use Rattle.std.specs.Prelude.{◌≡◌, ◌<◌, ◌≤◌, ◌+◌, ◌++◌, ◌∷◌, [], ℕ, List, length, All, IfOk, OnOk, OnErr};
+ghost use Rattle.std.specs.Prelude.{◌≡◌, ◌<◌, ◌≤◌, ◌+◌, ◌++◌, ◌∷◌, [], ℕ, List, get_or, length, IfOk};
 ghost use Rattle.event_key.specs.declared.key.Key.{Key};
 ghost use Rattle.event_key.specs.Stamps.{time_part};
 ghost use Rattle.model_core.specs.declared.note.Note.{Note};
 
 use crate::sums::Sums;
 use event_key::{Key, time_of};
-use model_core::model::Model as SimulationModel;
-use model_core::{OutOfMemory, Part, RecordBuffer};
+use model_core::{OutOfMemory, Part};
 use std::alloc::Global;
 use std::marker::Model;
 
@@ -33,7 +32,7 @@ impl Model for Totals {
 }
 
 impl Totals {
-    ghost use Rattle.sim_stats.specs.Totals.{IsInTime, totals_of, lines_of_sums};
+    ghost use Rattle.sim_stats.specs.Totals.{totals_of};
     ghost use Rattle.model_core.specs.declared.limits.TheConstants.{MOST_EVENTS};
 
     /// The totals of no record, for a model with so many objects.
@@ -70,37 +69,11 @@ impl Totals {
         self.last = time;
     }
 
-    /// All these records, in order, as `add` takes each.
-    pub fn add_all(&mut self, records: &RecordBuffer)
-        requires objects { All (λ (told : Key × Note). told.0.dest < length self.old.objects) records.now.items }
-        requires time { IsInTime self.old.last records.now.items }
-        requires room { self.old.records + length records.now.items ≤ MOST_EVENTS }
-        ensures { (objects : ℕ) (before : List (Key × Note)) → self.old ≡ totals_of objects before
-            → self.new ≡ totals_of objects (before ++ records.now.items) }
+    /// What is summed up of an object.
+    pub fn of_object(&self, object: u32) -> &Sums
+        requires { object < length self.now.objects }
+        ensures { result.now ≡ get_or self.now.objects object result.now }
     {
-        for i in 0..records.len() {
-            let (key, parts) = records.at(i);
-            self.add(key, parts);
-        }
-    }
-
-    /// Appends a line for each object, in order. A refusal leaves what was there.
-    pub fn text<M: SimulationModel>(
-        &self,
-        alloc: Global,
-        model: &M,
-        into: &mut Vec<u8>,
-    ) -> Result<(), OutOfMemory>
-        requires { length self.now.objects ≡ (M.meaning model.now).objects }
-        ensures ok { OnOk result (into.new.items ≡ into.old.items ++ lines_of_sums (M.meaning model.now) 0 self.now.objects) }
-        ensures err { OnErr result (into.new.items ≡ into.old.items) }
-    {
-        let mut lines = Vec::new(alloc);
-        for object in 0..model.objects() {
-            model.put_name(alloc, object, &mut lines)?;
-            self.objects[object as usize].put(alloc, &mut lines)?;
-        }
-        into.extend_from_slice(lines.as_slice())?;
-        Ok(())
+        &self.objects[object as usize]
     }
 }

@@ -1,38 +1,48 @@
--- What is kept of the buckets so far, with one more.
-use Rattle.std.proofs.Common.{◌≡◌, ℕ, Bool, List, [], ◌∷◌, ◌++◌, sym, ap, ◌∙◌}
+-- What is kept of the buckets so far, and of one more.
+use Rattle.std.proofs.Common.{◌≡◌, ℕ, ◌^◌, ◌<◌, List, [], ◌∷◌, ◌++◌, length, sym, ap, ◌∙◌, subst, arith}
+use Rattle.std.proofs.lemmas.List.Sums.{count_by-le-length}
 use Rattle.event_key.specs.declared.key.Key.{Key}
 use Rattle.model_core.specs.declared.note.Note.{Note}
+use Rattle.model_core.specs.Meaning.{Meaning}
 use Rattle.sim_spec.specs.declared.bucket.Bucket.{Bucket}
+use Rattle.sim_spec.specs.declared.stop.Stop.{Stop}
 use Rattle.sim_spec.specs.Cycles.{records_of_buckets}
-use Rattle.sim_stats.specs.Totals.{Summed, totals_of}
+use Rattle.run_tally.specs.Tallies.{TotalsOf, CanAllCome}
+use Rattle.sim_io.specs.CycleTexts.{demo_line}
 use Rattle.sim_text.specs.declared.telling.Telling.{Telling}
-use Rattle.sim_text.specs.declared.report.Report.TheVariants.{Lines, Sums, Counts}
+use Rattle.sim_text.specs.declared.report.Report.{Report}
+use Rattle.sim_text.specs.declared.report.Report.TheVariants.{Sums, Counts}
 use Rattle.sim_text.specs.declared.summary.Summary.{Summary}
-use Rattle.sim_text.specs.Reports.{summary_of, report_of}
+use Rattle.sim_text.specs.Reports.{summary_of, IsReportOf, CanGoOn, told_in_the_end}
+use Rattle.sim_text.specs.WholeTexts.{is_whole}
 use Rattle.sim_text.proofs.SummaryLemmas.{records_of_buckets-more}
 
-pub lines-kept : (cycles : Bool) (objects : ℕ) (telling : Telling) (bs : List Bucket) (b : Bucket) → Lines cycles ≡ report_of objects telling bs → Lines cycles ≡ report_of objects telling (bs ++ b ∷ [])
-unfolding report_of
-lines-kept cycles objects (Telling.Lines told) bs b kept = kept
-lines-kept cycles objects Telling.Totals bs b kept = cc
-lines-kept cycles objects (Telling.Demo n) bs b kept = cc
+module _ {L : Type 0} (SumsUp : L → List (Key × Note) → Type 0) (telling : Telling) (bs : List Bucket) where
+  -- a report, as it is known to be
+  pub known : (report found : Report L) → report ≡ found → IsReportOf SumsUp telling bs report → IsReportOf SumsUp telling bs found
+  known report found is kept = subst (IsReportOf SumsUp telling bs) is kept
 
-pub sums-kept : (old new : Summed) (objects : ℕ) (telling : Telling) (bs : List Bucket) (b : Bucket)
-    → ((objects : ℕ) (before : List (Key × Note)) → old ≡ totals_of objects before → new ≡ totals_of objects (before ++ b.done))
-    → Sums old ≡ report_of objects telling bs → Sums new ≡ report_of objects telling (bs ++ b ∷ [])
-unfolding report_of
-sums-kept old new objects (Telling.Lines told) bs b added kept = cc
-sums-kept old new objects Telling.Totals bs b added kept =
-    let summed : old ≡ totals_of objects (records_of_buckets bs) = cc in
-    ap (λ (s : Summed). Sums s) (added objects (records_of_buckets bs) summed ∙ ap (totals_of objects) (sym (records_of_buckets-more bs b)))
-sums-kept old new objects (Telling.Demo n) bs b added kept = cc
+  -- the records of the next bucket can come, and the tally has summed them up too
+  pub sums-go_on : (m : Meaning) (b : Bucket) (records : List (Key × Note)) → records ≡ b.done → telling ≡ Telling.Totals → CanGoOn m telling bs b → CanAllCome m (records_of_buckets bs) records
+  sums-go_on m b records are is can =
+      let all : CanAllCome m (records_of_buckets bs) b.done = record { objects = can.objects; in_time = can.in_time is; room = can.room } in
+      subst (CanAllCome m (records_of_buckets bs)) (sym are) all
 
-pub counts-kept : (old new : Summary) (objects : ℕ) (telling : Telling) (bs : List Bucket) (b : Bucket)
-    → ((n : ℕ) (bs : List Bucket) → old ≡ summary_of n bs → new ≡ summary_of n (bs ++ b ∷ []))
-    → Counts old ≡ report_of objects telling bs → Counts new ≡ report_of objects telling (bs ++ b ∷ [])
-unfolding report_of
-counts-kept old new objects (Telling.Lines told) bs b added kept = cc
-counts-kept old new objects Telling.Totals bs b added kept = cc
-counts-kept old new objects (Telling.Demo n) bs b added kept =
-    let counted : old ≡ summary_of n bs = cc in
-    ap (λ (s : Summary). Counts s) (added n bs counted)
+  pub sums-kept : (b : Bucket) (records : List (Key × Note)) (tally : L) → records ≡ b.done → telling ≡ Telling.Totals → SumsUp tally (records_of_buckets bs ++ records)
+      → IsReportOf SumsUp telling (bs ++ b ∷ []) (Sums tally)
+  sums-kept b records tally are is summed =
+      (is, subst (SumsUp tally) (ap (λ (more : List (Key × Note)). records_of_buckets bs ++ more) are ∙ sym (records_of_buckets-more bs b)) summed)
+
+  -- a count of cycles stays small
+  pub counts-go_on : (n : ℕ) (summary : Summary) → summary ≡ summary_of n bs → length bs < 2 ^ 63 → summary.cycles < 2 ^ 63
+  unfolding summary_of
+  counts-go_on n summary is few = omega (arith, ap (λ (s : Summary). s.cycles) is, count_by-le-length is_whole bs)
+
+  -- what is told of the counts in the end
+  pub counts-end : (totals : TotalsOf) (summary : Summary) (count : ℕ) (stop : Stop) (before after : List ℕ) → IsReportOf SumsUp telling bs (Counts summary)
+      → after ≡ before ++ demo_line summary.n count summary.cycles summary.last → after ≡ before ++ told_in_the_end totals telling bs count stop
+  unfolding summary_of
+  counts-end totals summary count stop before after kept put =
+      put
+      ∙ ap (λ (s : Summary). before ++ demo_line s.n count s.cycles s.last) kept.2
+      ∙ ap (λ (t : Telling). before ++ told_in_the_end totals t bs count stop) (sym kept.1)

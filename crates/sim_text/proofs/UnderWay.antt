@@ -25,10 +25,11 @@ use Rattle.sim_spec.specs.Standing.{Standing, stands, ended, end_or_limit, IsCyc
 use Rattle.sim_spec.proofs.CyclesLaw.{after-count}
 use Rattle.sim_spec.proofs.LawfulLemmas.{next-placed, IsPlaced}
 use Rattle.sim_spec.proofs.RunLemmas.{run-stops}
-use Rattle.sim_stats.specs.Totals.{IsInTime, last_time}
-use Rattle.sim_stats.proofs.InTime.{in_time-ascending, in_time-behind, in_time-front}
+use Rattle.run_tally.specs.Tallies.{IsInTime, last_time, AreOfRun}
+use Rattle.run_tally.proofs.InTime.{in_time-ascending, in_time-behind, in_time-front}
 use Rattle.sim_io.specs.Texts.{IsAtObject}
 use Rattle.sim_text.specs.declared.telling.Telling.{Telling}
+use Rattle.sim_text.specs.Reports.{CanGoOn}
 use Rattle.sim_text.specs.Rest.{AllAtObjects}
 use Rattle.sim_text.specs.SoFar.{HasToldSoFar, lines_so_far}
 use Rattle.sim_text.proofs.Told.{EndsSo}
@@ -130,6 +131,15 @@ module _ (m : Meaning) (t : Terms) (from : State) (laws : SimulationLaws m t fro
     counted = ap (λ (s : State). s.count) (last-of_run stop is_stop) ∙ sym counted;
     stops_at = stop-of_run stop is_stop;
   }
+
+  -- from the start, these are all records of the run, which stops so
+  pub all-of_run : (stop : Stop) → ended m t standing ≡ Some stop → from ≡ initial_state m → AreOfRun m t (records_of_buckets so_far) stop
+  all-of_run stop is_stop is_start =
+      let ends = ends_so stop way.state.count is_stop refl in
+      record {
+        are_all = sym ends.records ∙ ap (λ (s : State). (run m t s).records) is_start;
+        stops_so = sym ends.stops_at ∙ ap (λ (s : State). (run m t s).stop) is_start;
+      }
 
   -- a cycle begins where the engine stands, and leaves what the bucket of its state leaves
   record IsCycleHere (bucket : Bucket) (new : Standing) : Type 0 where
@@ -234,6 +244,16 @@ module _ (m : Meaning) (t : Terms) (from : State) (laws : SimulationLaws m t fro
   -- each cycle but the last two has an event, so that the limit bounds their number
   pub few_cycles : length so_far < t.limit + 2
   few_cycles = let many = way.lawful.count in let few = way.few in omega (arith, many, few)
+
+  -- so what is kept can go on with it
+  pub can_go_on : (telling : Telling) (bucket : Bucket) (new : Standing) → ended m t standing ≡ None → IsCycle m t standing bucket new → (telling ≡ Telling.Totals → from ≡ initial_state m)
+      → CanGoOn m telling so_far bucket
+  can_go_on telling bucket new not_ended cycle can = record {
+    objects = bucket-at_objects bucket new not_ended cycle;
+    in_time = λ totals. bucket-in_time bucket new not_ended cycle (can totals);
+    room = bucket-has_room bucket new not_ended cycle;
+    few = omega (arith, few_cycles, t.limit_in_range);
+  }
 
 -- what an engine says by its own meaning and terms, where these are the model's
 pub ended-same : (m m' : Meaning) (t t' : Terms) (standing : Standing) (r : Option Stop) → m' ≡ m → t' ≡ t → r ≡ ended m' t' standing → ended m t standing ≡ r

@@ -7,6 +7,7 @@ use Rattle.model_core.specs.Meaning.{Meaning}
 use Rattle.sim_spec.specs.declared.stop.Stop.{Stop}
 use Rattle.sim_spec.specs.declared.terms.Terms.{Terms}
 use Rattle.sim_spec.specs.State.{State}
+use Rattle.run_tally.specs.Tallies.{TotalsOf}
 use Rattle.sim_io.specs.declared.streams.sink.Sink.{Ghosts as Sink}
 use Rattle.sim_io.specs.Causes.{Rose}
 use Rattle.sim_io.specs.Transfers.{AppendsPrefix}
@@ -51,14 +52,14 @@ module _ {K : Type 0} (sink : Sink K) (old new : K) where
       faults = record { fault = λ _. rose; later = later; quiet = tt; no_memory = λ is. absurd (let clash : ⊥ = cc in clash) };
     }
 
-  module _ (m : Meaning) (t : Terms) (telling : Telling) (from : State) where
+  module _ (m : Meaning) (t : Terms) (totals : TotalsOf) (telling : Telling) (from : State) where
     -- so it is with the text of a simulation
-    pub simulated_before : (r : Result Stop Unfinished) → IsErrAnd r (λ e. e ≡ OutOfMemory) → AppendsPrefix (sink.told old) (sink.told new) (text_from m t telling from)
-        → sink.faults new ≡ sink.faults old → HasSimulated sink old new r m t telling from
+    pub simulated_before : (r : Result Stop Unfinished) → IsErrAnd r (λ e. e ≡ OutOfMemory) → AppendsPrefix (sink.told old) (sink.told new) (text_from m t totals telling from)
+        → sink.faults new ≡ sink.faults old → HasSimulated sink old new r m t totals telling from
     simulated_before (Ok stop) lacks part same = absurd lacks
     simulated_before (Err e) lacks part same = record { written = written_before _ (Err e) lacks part same; stop = tt }
 
-    pub simulated_failed : (r : Result Stop Unfinished) → IsErrAnd r (λ e. e ≡ WriteFault) → AppendsPrefix (sink.told old) (sink.told new) (text_from m t telling from)
-        → sink.faults old ≤ sink.faults new → Rose (sink.faults old) (sink.faults new) → HasSimulated sink old new r m t telling from
+    pub simulated_failed : (r : Result Stop Unfinished) → IsErrAnd r (λ e. e ≡ WriteFault) → AppendsPrefix (sink.told old) (sink.told new) (text_from m t totals telling from)
+        → sink.faults old ≤ sink.faults new → Rose (sink.faults old) (sink.faults new) → HasSimulated sink old new r m t totals telling from
     simulated_failed (Ok stop) failed part later rose = absurd failed
     simulated_failed (Err e) failed part later rose = record { written = failed_before _ (Err e) failed part later rose; stop = tt }

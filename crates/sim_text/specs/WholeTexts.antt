@@ -8,7 +8,7 @@ use Rattle.sim_spec.specs.declared.terms.Terms.{Terms}
 use Rattle.sim_spec.specs.State.{State, Lawful, initial_state}
 use Rattle.sim_spec.specs.Run.{run}
 use Rattle.sim_spec.specs.Cycles.{cycles, cycles_for, records_of_buckets}
-use Rattle.sim_stats.specs.Totals.{totals_lines}
+use Rattle.run_tally.specs.Tallies.{TotalsOf}
 use Rattle.sim_io.specs.Texts.{record_lines, stop_line}
 use Rattle.sim_io.specs.CycleTexts.{demo_line, text}
 use Rattle.sim_text.specs.declared.telling.Telling.{Telling}
@@ -25,9 +25,9 @@ unfoldable pub last_stamp : ℕ → List (Key × Note) → ℕ
 last_stamp stamp [] = stamp
 last_stamp stamp (told ∷ rest) = last_stamp told.0.stamp rest
 
--- the totals of the run, and why it stopped
-abbrev pub totals_text : Meaning → Terms → State → List ℕ
-totals_text m t s = totals_lines m (run m t s).records ++ stop_line m t (run m t s).last.count (run m t s).stop
+-- the totals of the run, as these are told, and why it stopped
+abbrev pub totals_text : Meaning → Terms → TotalsOf → State → List ℕ
+totals_text m t totals s = totals (run m t s).records (run m t s).stop ++ stop_line m t (run m t s).last.count (run m t s).stop
 
 -- a summary of the run and its cycles, and why it stopped
 abbrev pub demo_text : Meaning → Terms → ℕ → State → List ℕ
@@ -36,14 +36,14 @@ demo_text m t n s =
     ++ stop_line m t (run m t s).last.count (run m t s).stop
 
 -- the text of a simulation from a state
-unfoldable pub text_from : Meaning → Terms → Telling → State → List ℕ
-text_from m t (Telling.Lines cycles) s = text m t cycles s
-text_from m t Telling.Totals s = totals_text m t s
-text_from m t (Telling.Demo n) s = demo_text m t n s
+unfoldable pub text_from : Meaning → Terms → TotalsOf → Telling → State → List ℕ
+text_from m t totals (Telling.Lines cycles) s = text m t cycles s
+text_from m t totals Telling.Totals s = totals_text m t totals s
+text_from m t totals (Telling.Demo n) s = demo_text m t n s
 
 -- the text of a simulation from its start
-abbrev pub text_from_start : Meaning → Terms → Telling → List ℕ
-text_from_start m t telling = text_from m t telling (initial_state m)
+abbrev pub text_from_start : Meaning → Terms → TotalsOf → Telling → List ℕ
+text_from_start m t totals telling = text_from m t totals telling (initial_state m)
 
 -- the records of the first cycles from a state, so many at most
 unfoldable pub first_lines : Meaning → Terms → ℕ → State → List ℕ

@@ -6,6 +6,7 @@ use Rattle.sim_spec.specs.declared.stop.Stop.{Stop}
 use Rattle.sim_spec.specs.declared.terms.Terms.{Terms}
 use Rattle.sim_spec.specs.Run.{run}
 use Rattle.sim_spec.specs.State.{State}
+use Rattle.run_tally.specs.Tallies.{TotalsOf}
 use Rattle.sim_io.specs.declared.streams.sink.Sink.{Ghosts as Sink}
 use Rattle.sim_io.specs.Causes.{Rose}
 use Rattle.sim_io.specs.Transfers.{AppendsPrefix}
@@ -34,6 +35,6 @@ module _ {K : Type 0} (sink : Sink K) (old new : K) where
       pub faults : TellsFaults
 
   -- the text of the simulation from a state was to be written, and the result is why it stopped
-  pub record HasSimulated (result : Result Stop Unfinished) (m : Meaning) (t : Terms) (telling : Telling) (from : State) : Type 0 where
-    pub written : HasWritten result (text_from m t telling from)
+  pub record HasSimulated (result : Result Stop Unfinished) (m : Meaning) (t : Terms) (totals : TotalsOf) (telling : Telling) (from : State) : Type 0 where
+    pub written : HasWritten result (text_from m t totals telling from)
     pub stop : IfOk result (λ stop. stop ≡ (run m t from).stop)

@@ -12,6 +12,7 @@ use crate::unfinished::Unfinished;
 use model_core::OutOfMemory;
 use model_core::model::Model;
 use run_laws::laws::{law_order, law_reached};
+use run_tally::Tally;
 use sim_io::{LineWriter, Sink, put_stop, write_all};
 use sim_spec::laws::{law_bucket, law_moves, law_next};
 use sim_spec::{Bucket, Engine, Stop, Terms};
@@ -20,9 +21,10 @@ use std::alloc::Global;
 /// Runs an engine from a state of its model until it has ended, and writes the text of the simulation: after each cycle
 /// what is told of its bucket at once, and in the end what was kept of all, and why it stopped. A cycle begins only where
 /// all that is told at once of those before it was written, so it is given the sink to read. No bucket is kept, and the memory
-/// for the text of one serves the next one too.
+/// for the text of one serves the next one too. Totals are what a tally says.
 pub fn simulate<
     M: Model,
+    L: Tally<M>,
     E: Engine,
     F: Fn(&mut E, Global, &K) -> Result<Bucket, OutOfMemory>,
     K: Sink,
@@ -44,14 +46,14 @@ pub fn simulate<
         → F.pre cycle.now e alloc k }
     requires does { (e : _) (k : _) (r : _) (f : _) → F.post cycle.now e alloc k r f → DoesCycles E.meaning E.terms E.stands_at e.now r f.now }
     ensures { (from : State) → BeginsAt (M.meaning model.now) terms.now E.stands_at engine.old from → CanBeTold (M.meaning model.now) telling from
-        → HasSimulated K.Sink sink.old sink.new result (M.meaning model.now) terms.now telling from }
+        → HasSimulated K.Sink sink.old sink.new result (M.meaning model.now) terms.now (L.lines model.now terms.now) telling from }
 {
     law_next(model, terms);
     law_bucket(model, terms);
     law_moves(model, terms);
     law_reached(model, terms);
     law_order(model, terms);
-    let mut report = Report::new(alloc, model.objects(), telling)?;
+    let mut report: Report<L> = Report::new(alloc, model, telling)?;
     let mut lines = LineWriter::new(alloc)?;
     let mut text = Vec::new(alloc);
     let mut number = 1;
@@ -59,7 +61,7 @@ pub fn simulate<
         text.clear();
         if let Some(stop) = engine.ended() {
             let count = engine.count();
-            report.put(alloc, model, count, &mut text)?;
+            report.put(alloc, model, terms, count, &stop, &mut text)?;
             put_stop(alloc, model, terms, count, &stop, &mut text)?;
             write_all(sink, text.as_slice())?;
             return Ok(stop);

@@ -2,8 +2,9 @@
 ghost use Rattle.model_runs.specs.Machines.{IsMachine};
 
 use model_runs::{DEFAULT_SPREAD, Job, Machine, Spread, Stage, run_model};
-use model_text::read_model;
+use model_text::{AnyModel, read_model};
 use node_team::Open;
+use run_tally::NoTally;
 use sim_io::{MemSink, Moves};
 use sim_spec::Placement;
 use sim_text::Telling;
@@ -200,7 +201,8 @@ fn assert_case<R: Abort + Threads + Sync>(
             machine,
             telling: Telling::Lines { cycles },
         };
-        let Ok(_) = run_model(stage, job, &mut out) else {
+        let ran = run_model::<R, Open, AnyModel, NoTally, MemSink>(stage, job, &mut out);
+        let Ok(_) = ran else {
             return Err(Fail::from("the text isn't whole"));
         };
         assert_eq!(rt;

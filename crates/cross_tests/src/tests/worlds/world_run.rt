@@ -12,6 +12,7 @@ use model_core::model::Model as SimulationModel;
 use model_core::{OutOfMemory, Records};
 use model_text::AnyModel;
 use node_core::{Node, Tallies};
+use run_tally::NoTally;
 use sim_io::MemSink;
 use sim_spec::laws::law_initial;
 use sim_spec::{Bucket, Engine, Placement, Stop, Terms};
@@ -198,7 +199,7 @@ pub fn run_world(
         requires { GoesOn meaning_of any.old.run }
         ensures { HasCycled meaning_of any.old.run result any.new.run }
     { any.run.cycle(alloc) };
-    simulate(
+    simulate::<AnyModel, NoTally, _, _, MemSink>(
         alloc,
         &*model,
         &terms,

@@ -1,7 +1,7 @@
 -- A command other than one that saves tells of a run.
 use Rattle.std.proofs.Common.{Ok, sym, subst}
 use Rattle.program_answers.specs.Answer.{Answer}
-use Rattle.model_program.specs.Answer.{as_read}
+use Rattle.model_reader.specs.Readings.{as_read}
 use Rattle.program_answers.specs.Answered.{EndsModel}
 use Rattle.program_answers.specs.Endings.{status_of_ending}
 use Rattle.model_program.specs.SavedRuns.{IsSavedSo}
@@ -12,9 +12,9 @@ use Rattle.model_program.proofs.running.answer_model.Goals as goal
 
 pub returns-in_default-clause-answer : goal.returns-in_default-clause-answer
 returns-in_default-clause-answer g c =
-    let ends = run_ends _ _ _ _ _ _ _ _ _ _ c.run_model.ensures.simulated c.run_model.ensures.handed c.ending_of.ensures c.telling_of.ensures in
+    let ends = run_ends _ _ _ _ _ _ _ _ _ _ _ c.run_model.ensures.simulated c.run_model.ensures.handed c.ending_of.ensures c.telling_of.ensures in
     subst (λ (a : Answer). EndsModel g.K.Sink c.args.out.now c.run_model.new.out c.ending_of.result a)
-    (sym (tells_run c.args.settings c.args.bytes.now (as_read g.T.Model.Model.meaning c.args.model c.args.terms) c.in_default.not-Save)) ends
+    (sym (tells_run c.args.settings c.args.bytes.now (as_read g.T.Model.Model.meaning g.T.Tally.Tally.lines c.args.model c.args.terms) c.in_default.not-Save)) ends
 
 pub returns-in_default-clause-saved : goal.returns-in_default-clause-saved
 returns-in_default-clause-saved g c = saves_none g.T.ModelReader.reading.read c.args.settings _ _ c.in_default.not-Save

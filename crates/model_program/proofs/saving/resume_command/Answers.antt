@@ -9,7 +9,7 @@ use Rattle.program_answers.specs.declared.status.TheConstants.{STATE}
 use Rattle.model_program.specs.Answer.{answer_to_state, state_line}
 use Rattle.program_answers.specs.Endings.{IsRefusal}
 use Rattle.program_answers.proofs.EndingLemmas.{refusal_ends, state_status}
-use Rattle.model_program.proofs.EndingLemmas.{run_ends}
+use Rattle.model_program.proofs.EndingLemmas.{lines_simulated, run_ends}
 use Rattle.program_answers.proofs.InputLemmas.{leaves_rest, model_input, no_memory_input, read_fault_input}
 use Rattle.model_program.proofs.ReadingLemmas.{slice_state_answers, state_answers}
 use Rattle.model_program.proofs.saving.resume_command.Goals as goal
@@ -27,7 +27,7 @@ returns-in-Err-OutOfMemory g c = no_memory_input _ _ _ _ _ _ _ (c.in-Err-OutOfMe
 pub returns-in-Ok-read_state : goal.returns-in-Ok-read_state
 unfolding answer_to_state
 returns-in-Ok-read_state g c =
-    model_input _ _ _ _ _ _ _ _ _ _ (run_ends _ _ _ _ _ _ _ _ _ _ c.resume_model.ensures.simulated c.resume_model.ensures.handed c.ending_of.ensures refl)
+    model_input _ _ _ _ _ _ _ _ _ _ (run_ends _ _ _ _ _ _ _ _ _ _ _ (lines_simulated _ _ _ _ _ _ (g.T.Tally.Tally.lines _ _) _ _ _ c.resume_model.ensures.simulated) c.resume_model.ensures.handed c.ending_of.ensures refl)
     (state_answers g.T.ModelReader.reading g.met.T.ModelReader.laws _ _ _ _ _ c.in-Ok.ensures.all c.as_slice.ensures.value c.in-Ok-read_state.ensures.exact)
     c.in-Ok.ensures.quiet (leaves_rest (MOST_STATE_BYTES + 1) _ _ _ c.in-Ok.ensures.all) _ (record { gave = c.in-Ok.ensures.gave; enough = c.in-Ok.ensures.enough })
     (slice_state_answers g.T.ModelReader.reading g.met.T.ModelReader.laws _ _ _ c.as_slice.ensures.value c.in-Ok-read_state.ensures.exact)

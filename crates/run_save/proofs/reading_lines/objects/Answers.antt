@@ -1,5 +1,5 @@
 -- What was read, and what is still read.
-use Rattle.std.proofs.Common.{◌≡◌, None}
+use Rattle.std.proofs.Common.{None}
 use Rattle.std.proofs.lemmas.Result.{err_from_is_err_and}
 use Rattle.run_save.specs.Lines.{object}
 use Rattle.run_save.specs.Rests.{in_turn}

@@ -1,5 +1,5 @@
 -- Each object is one of the type.
-use Rattle.std.proofs.Common.{sym, subst, below_more, arith}
+use Rattle.std.proofs.Common.{subst, below_more, arith}
 use Rattle.std.proofs.Transfers.{starts_with_trans}
 use Rattle.std.proofs.lemmas.List.{get_or_read}
 use Rattle.std.proofs.lemmas.Grind.{common_steps}

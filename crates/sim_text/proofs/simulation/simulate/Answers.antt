@@ -9,9 +9,8 @@ use Rattle.event_key.specs.Keys.{key_lt}
 use Rattle.model_core.specs.declared.note.Note.{Note}
 use Rattle.sim_spec.specs.Standing.{stands}
 use Rattle.sim_io.specs.Transfers.{AppendsPrefix}
-use Rattle.sim_text.specs.Reports.{report_of}
-use Rattle.sim_text.proofs.Told.{none_so_far, can_go_on, has_objects, told-prefix, bucket-prefix, bucket-told, end-prefix, end-told}
-use Rattle.sim_text.proofs.UnderWay.{told_so_far, begins, counted-here, held, held_both, none_of, ended-same, has_done, stop-at_object, stop-of_run, ends_so, bucket-at_objects, bucket-in_time, bucket-has_room, all-with_bucket, goes_on, few_cycles}
+use Rattle.sim_text.proofs.Told.{none_so_far, told-prefix, bucket-prefix, bucket-told, end-prefix, end-told}
+use Rattle.sim_text.proofs.UnderWay.{told_so_far, begins, counted-here, held, held_both, none_of, ended-same, has_done, stop-at_object, stop-of_run, all-of_run, ends_so, can_go_on, all-with_bucket, goes_on, few_cycles}
 use Rattle.sim_text.proofs.WrittenLemmas.{no_prefix, rose_after, all_written, simulated_before, simulated_failed}
 use Rattle.sim_text.proofs.simulation.simulate.Goals as goal
 
@@ -40,28 +39,30 @@ loop-stop-init g c =
         way = begins m t from starts.lawful;
       };
       numbered = refl;
-      kept = c.in_ok-report.ensures ∙ ap (λ n. report_of n c.args.telling []) c.objects.ensures;
+      kept = c.in_ok-report.ensures;
       told = subst (Appends (g.K.Sink.told c.args.sink.now) (g.K.Sink.told c.args.sink.now)) (sym (none_so_far m c.args.telling)) (Appends-nil (g.K.Sink.told c.args.sink.now));
       later = omega arith;
       quiet = refl;
     }
 
 pub returns-in_err-report : goal.returns-in_err-report
-returns-in_err-report g c = λ from starts can. simulated_before _ _ _ _ _ _ _ _ c.from_residual.ensures.1 (no_prefix _ _) refl
+returns-in_err-report g c = λ from starts can. simulated_before _ _ _ _ _ _ _ _ _ c.from_residual.ensures.1 (no_prefix _ _) refl
 
 pub returns-in_err-lines : goal.returns-in_err-lines
-returns-in_err-lines g c = λ from starts can. simulated_before _ _ _ _ _ _ _ _ c.from_residual-in_err-lines.ensures.1 (no_prefix _ _) refl
+returns-in_err-lines g c = λ from starts can. simulated_before _ _ _ _ _ _ _ _ _ c.from_residual-in_err-lines.ensures.1 (no_prefix _ _) refl
 
 pub put-requires-after_bounds : goal.put-requires-after_bounds
 put-requires-after_bounds g c κs within =
     let i = c.loop-stop.invariant in
-    has_objects _ c.args.telling _ i.so_far i.kept
+    let r = i.runs c.requires.begins.0 c.requires.begins.1 c.requires.begins.2 in
+    let ended = ended-same _ _ _ _ _ _ i.meaning i.terms (sym c.in-Some.is ∙ c.ended.ensures r.at r.stands) in
+    (c.args.telling, i.so_far, i.kept, λ totals. all-of_run _ _ _ r.laws _ i.so_far r.way c.in-Some.stop ended (c.requires.begins.2 totals))
 
 pub returns-in_err-put : goal.returns-in_err-put
 returns-in_err-put g c = λ from starts can.
     let i = c.loop-stop.invariant in
     let r = i.runs from starts can in
-    simulated_before _ _ _ _ _ _ _ _ c.from_residual-in_err-put.ensures.1 (told-prefix _ _ _ c.args.telling _ _ i.so_far i.told _ r.way.buckets) i.quiet
+    simulated_before _ _ _ _ _ _ _ _ _ c.from_residual-in_err-put.ensures.1 (told-prefix _ _ _ _ c.args.telling _ _ i.so_far i.told _ r.way.buckets) i.quiet
 
 pub put_stop-requires-after_bounds : goal.put_stop-requires-after_bounds
 put_stop-requires-after_bounds g c κs within =
@@ -74,7 +75,7 @@ pub returns-in_err-put_stop : goal.returns-in_err-put_stop
 returns-in_err-put_stop g c = λ from starts can.
     let i = c.loop-stop.invariant in
     let r = i.runs from starts can in
-    simulated_before _ _ _ _ _ _ _ _ c.from_residual-in_err-put_stop.ensures.1 (told-prefix _ _ _ c.args.telling _ _ i.so_far i.told _ r.way.buckets) i.quiet
+    simulated_before _ _ _ _ _ _ _ _ _ c.from_residual-in_err-put_stop.ensures.1 (told-prefix _ _ _ _ c.args.telling _ _ i.so_far i.told _ r.way.buckets) i.quiet
 
 pub returns-in_err-write_all : goal.returns-in_err-write_all
 returns-in_err-write_all g c = λ from starts can.
@@ -83,10 +84,11 @@ returns-in_err-write_all g c = λ from starts can.
     let ended = ended-same _ _ _ _ _ _ i.meaning i.terms (sym c.in-Some.is ∙ c.ended.ensures r.at r.stands) in
     let counted = counted-here _ _ _ _ i.so_far r.way _ (c.count-count.ensures r.at r.stands) in
     let ends = ends_so _ _ _ r.laws _ i.so_far r.way c.in-Some.stop c.count-count.result ended counted in
+    let put = c.in_ok-put.ensures c.args.telling i.so_far i.kept (λ totals. all-of_run _ _ _ r.laws _ i.so_far r.way c.in-Some.stop ended (can totals)) in
     let P : List ℕ → Type 0 = AppendsPrefix (g.K.Sink.told c.loop-stop.sink) (g.K.Sink.told c.write_all.new.sink) in
-    let lines = held_both _ _ _ _ _ _ c.clear.ensures.items c.in_ok-put.ensures c.in_ok-put_stop.ensures.ok c.as_slice.ensures.value in
-    simulated_failed _ _ _ _ _ _ _ _ c.from_residual-in_err-write_all.ensures.1
-    (end-prefix _ _ _ c.args.telling _ _ i.so_far i.told c.loop-stop.report i.kept c.count-count.result c.in-Some.stop ends _ (subst P lines c.in_err-write_all.ensures.prefix))
+    let lines = held_both _ _ _ _ _ _ c.clear.ensures.items put c.in_ok-put_stop.ensures.ok c.as_slice.ensures.value in
+    simulated_failed _ _ _ _ _ _ _ _ _ c.from_residual-in_err-write_all.ensures.1
+    (end-prefix _ _ _ _ c.args.telling _ _ i.so_far i.told c.count-count.result c.in-Some.stop ends _ (subst P lines c.in_err-write_all.ensures.prefix))
     (omega (arith, i.later, c.in_err-write_all.ensures.cause.later)) (rose_after _ _ _ i.quiet c.in_err-write_all.ensures.cause.failed)
 
 pub returns-in-Some : goal.returns-in-Some
@@ -96,11 +98,12 @@ returns-in-Some g c = λ from starts can.
     let ended = ended-same _ _ _ _ _ _ i.meaning i.terms (sym c.in-Some.is ∙ c.ended.ensures r.at r.stands) in
     let counted = counted-here _ _ _ _ i.so_far r.way _ (c.count-count.ensures r.at r.stands) in
     let ends = ends_so _ _ _ r.laws _ i.so_far r.way c.in-Some.stop c.count-count.result ended counted in
+    let put = c.in_ok-put.ensures c.args.telling i.so_far i.kept (λ totals. all-of_run _ _ _ r.laws _ i.so_far r.way c.in-Some.stop ended (can totals)) in
     let P : List ℕ → Type 0 = Appends (g.K.Sink.told c.loop-stop.sink) (g.K.Sink.told c.write_all.new.sink) in
-    let lines = held_both _ _ _ _ _ _ c.clear.ensures.items c.in_ok-put.ensures c.in_ok-put_stop.ensures.ok c.as_slice.ensures.value in
+    let lines = held_both _ _ _ _ _ _ c.clear.ensures.items put c.in_ok-put_stop.ensures.ok c.as_slice.ensures.value in
     record {
       written = all_written _ _ _ _ c.in-Some.stop
-          (end-told _ _ _ c.args.telling _ _ i.so_far i.told c.loop-stop.report i.kept c.count-count.result c.in-Some.stop ends _ (subst P lines c.in_ok-write_all.ensures.all))
+          (end-told _ _ _ _ c.args.telling _ _ i.so_far i.told c.count-count.result c.in-Some.stop ends _ (subst P lines c.in_ok-write_all.ensures.all))
           (c.in_ok-write_all.ensures.quiet ∙ i.quiet);
       stop = sym (stop-of_run _ _ _ r.laws _ i.so_far r.way c.in-Some.stop ended);
     }
@@ -116,42 +119,23 @@ pub returns-in_err-bucket : goal.returns-in_err-bucket
 returns-in_err-bucket g c = λ from starts can.
     let i = c.loop-stop.invariant in
     let r = i.runs from starts can in
-    simulated_before _ _ _ _ _ _ _ _ c.from_residual-in_err-bucket.ensures.1 (told-prefix _ _ _ c.args.telling _ _ i.so_far i.told _ r.way.buckets) i.quiet
+    simulated_before _ _ _ _ _ _ _ _ _ c.from_residual-in_err-bucket.ensures.1 (told-prefix _ _ _ _ c.args.telling _ _ i.so_far i.told _ r.way.buckets) i.quiet
 
-pub add-requires-clause-objects : goal.add-requires-clause-objects
-add-requires-clause-objects g c κs within =
+pub add-requires-after_bounds : goal.add-requires-after_bounds
+add-requires-after_bounds g c κs within =
     let i = c.loop-stop.invariant in
     let r = i.runs c.requires.begins.0 c.requires.begins.1 c.requires.begins.2 in
     let own_none = sym (c.ended.ensures r.at r.stands) ∙ none_of _ c.in_default.not-Some in
     let not_ended = ended-same _ _ _ _ _ _ i.meaning i.terms (sym own_none) in
     let done = has_done (g.M.Model.meaning c.args.model.now) c.args.terms.now g.E.Engine.meaning g.E.Engine.terms g.E.Engine.stands_at c.loop-stop.engine r.at c.cycle.result c.in_ok-bucket.bucket c.cycle.new.arg2 i.meaning i.terms c.in_ok-bucket.was
     (c.requires.does _ _ c.cycle.result _ c.cycle.ensures r.at r.stands own_none) in
-    bucket-at_objects _ _ _ r.laws _ i.so_far r.way _ _ not_ended done.cycle
-
-pub add-requires-clause-sums : goal.add-requires-clause-sums
-add-requires-clause-sums g c κs within =
-    let i = c.loop-stop.invariant in
-    has_objects _ c.args.telling _ i.so_far i.kept
-
-pub add-requires-clause-goes_on : goal.add-requires-clause-goes_on
-add-requires-clause-goes_on g c κs within =
-    let i = c.loop-stop.invariant in
-    let r = i.runs c.requires.begins.0 c.requires.begins.1 c.requires.begins.2 in
-    let own_none = sym (c.ended.ensures r.at r.stands) ∙ none_of _ c.in_default.not-Some in
-    let not_ended = ended-same _ _ _ _ _ _ i.meaning i.terms (sym own_none) in
-    let done = has_done (g.M.Model.meaning c.args.model.now) c.args.terms.now g.E.Engine.meaning g.E.Engine.terms g.E.Engine.stands_at c.loop-stop.engine r.at c.cycle.result c.in_ok-bucket.bucket c.cycle.new.arg2 i.meaning i.terms c.in_ok-bucket.was
-    (c.requires.does _ _ c.cycle.result _ c.cycle.ensures r.at r.stands own_none) in
-    let few = few_cycles _ _ _ r.laws _ i.so_far r.way in
-    can_go_on _ c.args.telling c.loop-stop.report i.so_far c.in_ok-bucket.bucket.done i.kept
-    (λ totals. bucket-in_time _ _ _ r.laws _ i.so_far r.way _ _ not_ended done.cycle (c.requires.begins.2 totals))
-    (bucket-has_room _ _ _ r.laws _ i.so_far r.way _ _ not_ended done.cycle)
-    (omega (arith, few, c.args.terms.now.limit_in_range))
+    (c.args.telling, i.so_far, i.kept, can_go_on _ _ _ r.laws _ i.so_far r.way c.args.telling c.in_ok-bucket.bucket _ not_ended done.cycle c.requires.begins.2)
 
 pub returns-in_err-add : goal.returns-in_err-add
 returns-in_err-add g c = λ from starts can.
     let i = c.loop-stop.invariant in
     let r = i.runs from starts can in
-    simulated_before _ _ _ _ _ _ _ _ c.from_residual-in_err-add.ensures.1 (told-prefix _ _ _ c.args.telling _ _ i.so_far i.told _ r.way.buckets) i.quiet
+    simulated_before _ _ _ _ _ _ _ _ _ c.from_residual-in_err-add.ensures.1 (told-prefix _ _ _ _ c.args.telling _ _ i.so_far i.told _ r.way.buckets) i.quiet
 
 pub returns-in_err-write_all-2 : goal.returns-in_err-write_all-2
 returns-in_err-write_all-2 g c = λ from starts can.
@@ -163,9 +147,9 @@ returns-in_err-write_all-2 g c = λ from starts can.
     (c.requires.does _ _ c.cycle.result _ c.cycle.ensures r.at r.stands own_none) in
     let all = all-with_bucket _ _ _ r.laws _ i.so_far r.way _ _ not_ended done.cycle in
     let P : List ℕ → Type 0 = AppendsPrefix (g.K.Sink.told c.loop-stop.sink) (g.K.Sink.told c.write_all-in-loop-stop.new.sink) in
-    let lines = held _ _ _ _ c.clear.ensures.items c.in_ok-add.ensures.told c.as_slice-in-loop-stop.ensures.value in
-    simulated_failed _ _ _ _ _ _ _ _ c.from_residual-in_err-write_all-2.ensures.1
-    (bucket-prefix _ _ _ c.args.telling _ _ i.so_far i.told c.loop-stop.report i.kept c.in_ok-bucket.bucket c.loop-stop.number all.0 _ i.numbered all.1 (subst P lines c.in_err-write_all-2.ensures.prefix))
+    let lines = held _ _ _ _ c.clear.ensures.items (c.in_ok-add.ensures.told c.args.telling i.so_far i.kept) c.as_slice-in-loop-stop.ensures.value in
+    simulated_failed _ _ _ _ _ _ _ _ _ c.from_residual-in_err-write_all-2.ensures.1
+    (bucket-prefix _ _ _ _ c.args.telling _ _ i.so_far i.told c.in_ok-bucket.bucket c.loop-stop.number all.0 _ i.numbered all.1 (subst P lines c.in_err-write_all-2.ensures.prefix))
     (omega (arith, i.later, c.in_err-write_all-2.ensures.cause.later)) (rose_after _ _ _ i.quiet c.in_err-write_all-2.ensures.cause.failed)
 
 pub loop-stop-smaller : goal.loop-stop-smaller
@@ -183,10 +167,11 @@ loop-stop-preserved g c =
     let b = c.in_ok-bucket.bucket in
     let some = i.runs c.requires.begins.0 c.requires.begins.1 c.requires.begins.2 in
     let some_none = sym (c.ended.ensures some.at some.stands) ∙ none_of _ c.in_default.not-Some in
+    let some_not_ended = ended-same _ _ _ _ _ _ i.meaning i.terms (sym some_none) in
     let some_done = has_done m t g.E.Engine.meaning g.E.Engine.terms g.E.Engine.stands_at c.loop-stop.engine some.at c.cycle.result b c.cycle.new.arg2 i.meaning i.terms c.in_ok-bucket.was
     (c.requires.does _ _ c.cycle.result _ c.cycle.ensures some.at some.stands some_none) in
     let P : List ℕ → Type 0 = Appends (g.K.Sink.told c.loop-stop.sink) (g.K.Sink.told c.write_all-in-loop-stop.new.sink) in
-    let lines = held _ _ _ _ c.clear.ensures.items c.in_ok-add.ensures.told c.as_slice-in-loop-stop.ensures.value in
+    let lines = held _ _ _ _ c.clear.ensures.items (c.in_ok-add.ensures.told c.args.telling i.so_far i.kept) c.as_slice-in-loop-stop.ensures.value in
     record {
       meaning = c.give_back.ensures.meaning ∙ some_done.meaning_is;
       terms = c.give_back.ensures.terms ∙ some_done.terms_is;
@@ -199,8 +184,8 @@ loop-stop-preserved g c =
           (c.requires.does _ _ c.cycle.result _ c.cycle.ensures r.at r.stands own_none) in
           record { laws = r.laws; at = done.left; stands = c.give_back.ensures.stands done.left done.stands; way = goes_on _ _ _ r.laws _ i.so_far r.way b _ not_ended done.cycle };
       numbered = ap (λ n. n + 1) (i.numbered ∙ sym (length-append i.so_far (b ∷ [])));
-      kept = c.add.ensures.kept _ c.args.telling i.so_far i.kept;
-      told = bucket-told _ t c.requires.begins.0 c.args.telling _ _ i.so_far i.told c.loop-stop.report i.kept b c.loop-stop.number _ i.numbered (subst P lines c.in_ok-write_all-2.ensures.all);
+      kept = c.add.ensures.kept c.args.telling i.so_far i.kept (can_go_on _ _ _ some.laws _ i.so_far some.way c.args.telling b _ some_not_ended some_done.cycle c.requires.begins.2);
+      told = bucket-told _ t (g.L.Tally.lines c.args.model.now t) c.requires.begins.0 c.args.telling _ _ i.so_far i.told b c.loop-stop.number _ i.numbered (subst P lines c.in_ok-write_all-2.ensures.all);
       later = omega (arith, i.later, c.in_ok-write_all-2.ensures.cause.later);
       quiet = c.in_ok-write_all-2.ensures.quiet ∙ i.quiet;
     }

@@ -3,7 +3,7 @@ use Rattle.std.specs.Io.KnownBytes.{Appends}
 use Rattle.sim_spec.specs.declared.bucket.Bucket.{Bucket}
 use Rattle.sim_spec.specs.State.{State}
 use Rattle.sim_text.specs.Rest.{BeginsAt, CanBeTold}
-use Rattle.sim_text.specs.Reports.{report_of}
+use Rattle.sim_text.specs.Reports.{IsReportOf}
 use Rattle.sim_text.specs.SoFar.{lines_so_far}
 use Rattle.sim_text.proofs.UnderWay.{RunsOn}
 use Rattle.sim_text.proofs.simulation.simulate.Given as goal
@@ -17,7 +17,7 @@ invariant-loop-stop g l =
       so_far : List Bucket;
       runs : (from : State) → BeginsAt m l.terms g.E.Engine.stands_at l.fn.engine from → CanBeTold m l.fn.telling from → RunsOn m l.terms g.E.Engine.stands_at l.engine so_far from;
       numbered : l.number ≡ length so_far + 1;
-      kept : l.report ≡ report_of m.objects l.fn.telling so_far;
+      kept : IsReportOf (g.L.Tally.sums_up l.model) l.fn.telling so_far l.report;
       told : Appends (g.K.Sink.told l.fn.sink) (g.K.Sink.told l.sink) (lines_so_far m l.fn.telling so_far);
       later : g.K.Sink.faults l.fn.sink ≤ g.K.Sink.faults l.sink;
       quiet : g.K.Sink.faults l.sink ≡ g.K.Sink.faults l.fn.sink;

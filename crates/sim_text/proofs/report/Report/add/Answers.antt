@@ -1,18 +1,18 @@
-use Rattle.std.proofs.Common.{List, ◌++◌, sym, ap, ◌∙◌}
-use Rattle.event_key.specs.declared.key.Key.{Key}
-use Rattle.model_core.specs.declared.note.Note.{Note}
-use Rattle.sim_stats.specs.Totals.{totals_of}
-use Rattle.sim_text.proofs.ReportLemmas.{lines-kept, sums-kept, counts-kept}
+use Rattle.sim_spec.specs.Cycles.{records_of_buckets}
+use Rattle.sim_text.proofs.ReportLemmas.{known, sums-go_on, sums-kept, counts-go_on}
 use Rattle.sim_text.proofs.report.Report.add.Goals as goal
 
-pub returns-in-Lines-clause-kept : goal.returns-in-Lines-clause-kept
-returns-in-Lines-clause-kept g c objects chosen bs kept = lines-kept c.in-Lines.cycles objects chosen bs c.args.bucket.now (sym c.in-Lines.is ∙ kept)
+pub add-requires : goal.add-requires
+add-requires g c =
+    let sums_up = g.L.Tally.sums_up c.args.model.now in
+    let telling = c.requires.0 in
+    let bs = c.requires.1 in
+    let counted = known sums_up telling bs c.args.self.now _ c.in-Counts.is c.requires.2 in
+    counts-go_on sums_up telling bs counted.0 c.in-Counts.summary counted.2 c.requires.3.few
 
 pub returns-in-Sums-clause-kept : goal.returns-in-Sums-clause-kept
-returns-in-Sums-clause-kept g c objects chosen bs kept =
-    sums-kept c.in-Sums.totals c.add_all.new.self objects chosen bs c.args.bucket.now
-    (λ objects before summed. c.add_all.ensures objects before summed ∙ ap (λ (done : List (Key × Note)). totals_of objects (before ++ done)) c.as_buffer.ensures)
-    (sym c.in-Sums.is ∙ kept)
-
-pub returns-in-Counts-clause-kept : goal.returns-in-Counts-clause-kept
-returns-in-Counts-clause-kept g c objects chosen bs kept = counts-kept c.in-Counts.summary c.add.new.self objects chosen bs c.args.bucket.now c.add.ensures (sym c.in-Counts.is ∙ kept)
+returns-in-Sums-clause-kept g c telling bs kept can =
+    let sums_up = g.L.Tally.sums_up c.args.model.now in
+    let summed = known sums_up telling bs c.args.self.now _ c.in-Sums.is kept in
+    let added = c.add_all.ensures (records_of_buckets bs) summed.1 (sums-go_on sums_up telling bs (g.M.Model.meaning c.args.model.now) c.args.bucket.now c.as_buffer.result.now.items c.as_buffer.ensures summed.0 can) in
+    sums-kept sums_up telling bs c.args.bucket.now c.as_buffer.result.now.items c.add_all.new.tally c.as_buffer.ensures summed.0 added

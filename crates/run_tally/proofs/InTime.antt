@@ -6,7 +6,13 @@ use Rattle.event_key.specs.Keys.{key_lt}
 use Rattle.event_key.specs.Stamps.{time_part}
 use Rattle.event_key.proofs.Order.{stamp-le}
 use Rattle.model_core.specs.declared.note.Note.{Note}
-use Rattle.sim_stats.specs.Totals.{IsInTime, last_time}
+use Rattle.run_tally.specs.Tallies.{IsInTime, last_time}
+
+-- of records with one more it is the last
+pub last_time-more : (time : ℕ) (records : List (Key × Note)) (told : Key × Note) → last_time time (records ++ told ∷ []) ≡ time_part told.0.stamp
+unfolding last_time
+last_time-more time [] told = refl
+last_time-more time (first ∷ rest) told = last_time-more (time_part first.0.stamp) rest told
 
 -- those behind others come after the last of these
 pub in_time-behind : (time : ℕ) (before records : List (Key × Note)) → IsInTime time (before ++ records) → IsInTime (last_time time before) records
