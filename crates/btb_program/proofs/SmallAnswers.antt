@@ -14,9 +14,9 @@ use Rattle.model_core.specs.Places.{place_changes}
 use Rattle.phold_model.specs.Meaning.{starts_of, hop_delay, hop_dest, hop_next, hop_effect, phold_meaning}
 use Rattle.model_text.specs.ModelTexts.{top, family_of, own_models, model_of}
 use Rattle.model_text.specs.Phold.{phold, destination}
-use Rattle.model_text.specs.LawTexts.{law, fixed_law}
+use Rattle.text_fields.specs.LawTexts.{fixed_law, law}
 use Rattle.model_text.specs.Starts.{start_entry}
-use Rattle.model_text.specs.TermsOf.{terms_of}
+use Rattle.text_fields.specs.TermsOf.{terms_of}
 use Rattle.key_order.specs.Pending.{enqueue, enqueue_all}
 use Rattle.sim_spec.specs.Firing.{has_endless_chain, emissions, fired_by, fire}
 use Rattle.sim_spec.specs.State.{initial_state}

@@ -12,21 +12,20 @@ use Rattle.circuit_model.specs.StartLists.{length-all_flips}
 use Rattle.circuit_model.specs.declared.gate.LogicGate.{LogicGate}
 use Rattle.circuit_model.specs.declared.gate.LogicKind.TheVariants.{Input}
 use Rattle.circuit_model.specs.declared.limits.TheConstants.{MOST_FED}
-use Rattle.model_text.specs.declared.directory.Place.{Place}
+use Rattle.text_fields.specs.declared.directory.Place.{Place}
 use Rattle.model_text.specs.declared.named.NamedGate.{NamedGate}
-use Rattle.model_text.specs.declared.refusal.Cause.TheVariants.{Limit}
+use Rattle.text_fields.specs.declared.refusal.Cause.TheVariants.{Limit}
 use Rattle.model_reader.specs.declared.refusal.Refusal.{Refusal}
 use Rattle.model_reader.specs.declared.refusal.Refusal.TheVariants.{At, OutOfMemory}
-use Rattle.model_text.specs.Checks.{Checked, Fails, refusal_where, ◌>>=◌}
+use Rattle.text_fields.specs.Checks.{Checked, Fails, refusal_where, ◌>>=◌}
 use Rattle.model_text.specs.Circuits.{linked_gate, linked_gates, is_overloaded, fan_out, linked_circuit}
-use Rattle.model_text.specs.Fields.{each_of}
-use Rattle.model_text.specs.Linked.{IsFound}
-use Rattle.model_text.specs.Links.{links}
+use Rattle.text_fields.specs.Fields.{each_of}
+use Rattle.text_fields.specs.Links.{IsFound, links}
 use Rattle.model_text.specs.NamedGates.{IsNamedGate, flip_count, gate_place, gate_place_in}
-use Rattle.model_text.specs.Names.{Finder}
-use Rattle.model_text.proofs.Each.{all_pass, all_stop}
-use Rattle.model_text.proofs.Lawful.{bound, seen, links-found}
-use Rattle.model_text.proofs.Places.{found_at}
+use Rattle.text_fields.specs.Names.{Finder}
+use Rattle.text_fields.proofs.Each.{all_pass, all_stop}
+use Rattle.text_fields.proofs.Found.{bound, seen, links-found}
+use Rattle.text_fields.proofs.Places.{found_at}
 
 linked-gate : (all : ℕ) (find : Finder) → ((n : ℕ) → IsFound find n → n < all) → (at : ℕ) (named : NamedGate) (gates : List LogicGate) (gate : LogicGate)
     → length gates ≡ all → IsNamedGate named → linked_gate find at named ≡ Ok gate → IsGate gates gate × (length gate.flips ≡ length named.flips)

@@ -11,51 +11,17 @@ use Rattle.queue_models.specs.declared.kind.KindOver.TheVariants.{Source, Statio
 use Rattle.queue_models.specs.Kinds.{is_source, is_station, IsKind}
 use Rattle.queue_models.specs.Objects.{Item, network_of, no_object}
 use Rattle.queue_models.specs.Parts.{IsName, IsLink, IsObject, IsJob, IsNetwork}
-use Rattle.model_text.specs.declared.directory.Place.{Place}
-use Rattle.model_text.specs.Checks.{Checked, ◌>>=◌}
-use Rattle.model_text.specs.Fields.{each_of}
-use Rattle.model_text.specs.Linked.{IsFound, IsLinkedJob}
+use Rattle.text_fields.specs.declared.directory.Place.{Place}
+use Rattle.text_fields.specs.Checks.{Checked, ◌>>=◌}
+use Rattle.text_fields.specs.Fields.{each_of}
+use Rattle.model_text.specs.Linked.{IsLinkedJob}
 use Rattle.model_text.specs.Kinds.{linked_kind}
 use Rattle.model_text.specs.Objects.{linked_item, linked_from}
-use Rattle.model_text.specs.Links.{found_link, link, links}
+use Rattle.text_fields.specs.Links.{link, links, IsFound}
+use Rattle.text_fields.proofs.Found.{bound, seen, placed, link-found, links-found}
 use Rattle.model_text.specs.NamedItems.{AnyName, IsNamedItem}
-use Rattle.model_text.specs.Names.{is_name, Finder, NamedItem, NamedKind, place_of, place_from, place_in}
-
--- where two checks in a row give something, each does
-pub bound : {A B : Type 0} (check : Checked A) (next : A → Checked B) (b : B) → check >>= next ≡ Ok b → (a : A) × (check ≡ Ok a) × (next a ≡ Ok b)
-bound (Ok a) next b gives = (a, refl, gives)
-bound (Err e) next b gives = cc
-
--- and where it is a check and a view of it
-pub seen : {A B : Type 0} (check : Checked A) (view : A → B) (b : B) → check >>= (λ a. Ok (view a)) ≡ Ok b → (a : A) × (check ≡ Ok a) × (view a ≡ b)
-seen (Ok a) view b gives = (a, refl, cc)
-seen (Err e) view b gives = cc
-
-abbrev placed : ℕ → Bool → Place
-placed number takes = record { number = number; takes_links = takes }
-
-by_place : (number : ℕ) (takes : Bool) (at n : ℕ) → found_link (Some (placed number takes)) at ≡ Ok n → Some (placed number takes) ≡ Some (placed n true)
-by_place number true at n gives = let same : number ≡ n = cc in ap (λ m. Some (placed m true)) same
-by_place number false at n gives = cc
-
-by_found : (place : Option Place) (at n : ℕ) → found_link place at ≡ Ok n → place ≡ Some (placed n true)
-by_found None at n gives = cc
-by_found (Some place) at n gives = by_place place.number place.takes_links at n gives
-
-link-found : (find : Finder) (at : ℕ) (name : List ℕ) (n : ℕ) → link find at name ≡ Ok n → IsFound find n
-link-found find at name n gives = (name, by_found (find name) at n gives)
-
-pub links-found : (find : Finder) (at k : ℕ) (names : List (List ℕ)) (ns : List ℕ) → each_of (λ i. link find at) k names ≡ Ok ns → All (IsFound find) ns × (length names ≡ length ns)
-links-found find at k [] ns gives =
-    let none : [] ≡ ns = cc in
-    (subst (All (IsFound find)) none (All-nil (IsFound find)), ap length none)
-links-found find at k (name ∷ names) ns gives =
-    let first = bound (link find at name) _ ns gives in
-    let others = seen (each_of (λ i. link find at) (k + 1) names) (λ ns. first.0 ∷ ns) ns first.2 in
-    let rest = links-found find at (k + 1) names others.0 others.1 in (
-      subst (All (IsFound find)) others.2 (All-cons (IsFound find) first.0 others.0 (link-found find at name first.0 first.1) rest.0),
-      ap suc rest.1 ∙ ap length others.2,
-    )
+use Rattle.text_fields.specs.Names.{is_name, Finder, place_from}
+use Rattle.model_text.specs.Names.{NamedItem, NamedKind, place_of, place_in}
 
 -- whether each object is a source
 sources : List Item → List Bool

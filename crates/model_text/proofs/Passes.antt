@@ -5,10 +5,11 @@ use Rattle.model_core.specs.declared.entry.Entry.{Entry}
 use Rattle.queue_models.specs.Meaning.{network_meaning}
 use Rattle.queue_models.specs.Objects.{Item, network_of}
 use Rattle.model_text.specs.declared.formats.Format.{Format}
-use Rattle.model_text.specs.Checks.{Checked, Fails, ◌>>=◌}
+use Rattle.text_fields.specs.Checks.{Checked, Fails, ◌>>=◌}
 use Rattle.model_text.specs.Jobs.{jobs_from}
 use Rattle.model_text.specs.Objects.{linked_from}
-use Rattle.model_text.specs.Names.{Finder, NamedItem, place_in}
+use Rattle.text_fields.specs.Names.{Finder}
+use Rattle.model_text.specs.Names.{NamedItem, place_in}
 use Rattle.model_text.specs.Networks.{linked_network}
 use Rattle.model_reader.specs.declared.refusal.Refusal.{Refusal}
 use Rattle.model_reader.specs.declared.refusal.Refusal.TheVariants.{At, OutOfMemory}

@@ -7,8 +7,9 @@ use Rattle.toml.proofs.Views.{items_view-drop}
 use Rattle.model_reader.specs.declared.refusal.Refusal.{Refusal}
 use Rattle.model_reader.specs.declared.refusal.Refusal.TheVariants.{At, OutOfMemory}
 use Rattle.model_text.specs.declared.formats.Format.{Format}
-use Rattle.model_text.specs.Checks.{Checked, Fails, ◌>>=◌}
-use Rattle.model_text.specs.Names.{Finder, NamedItem, place_in}
+use Rattle.text_fields.specs.Checks.{Checked, Fails, ◌>>=◌}
+use Rattle.text_fields.specs.Names.{Finder}
+use Rattle.model_text.specs.Names.{NamedItem, place_in}
 use Rattle.model_text.specs.Objects.{object, objects_after}
 
 next_object : (format : Format) (before : List NamedItem) (find : Finder) (k i : ℕ) (vs : List Value) (v : Value) → i < length vs → v ≡ get_or vs i v → find ≡ place_in before → k ≡ length before + 1

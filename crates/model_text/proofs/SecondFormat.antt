@@ -16,26 +16,27 @@ use Rattle.model_core.specs.declared.limits.TheConstants.{MOST_ENTRIES, MOST_EVE
 use Rattle.model_core.specs.Meaning.{Meaning}
 use Rattle.queue_models.specs.declared.kind.KindOver.TheVariants.{Station}
 use Rattle.model_text.specs.declared.formats.Format.TheVariants.{One, Two}
-use Rattle.model_text.specs.declared.refusal.Cause.{Cause}
-use Rattle.model_text.specs.declared.refusal.Cause.TheVariants.{Unknown, BadValue}
+use Rattle.text_fields.specs.declared.refusal.Cause.{Cause}
+use Rattle.text_fields.specs.declared.refusal.Cause.TheVariants.{Unknown, BadValue}
 use Rattle.model_text.specs.declared.top.ModelKind.{ModelKind}
 use Rattle.model_text.specs.declared.top.ModelKind.TheVariants.{Phold, Network, Circuit}
 use Rattle.model_text.specs.Additions.{rank, flag, trace, entry_keys}
-use Rattle.model_text.specs.Checks.{Checked, refusal, refusal_where, ◌>>=◌}
+use Rattle.text_fields.specs.Checks.{Checked, refusal, refusal_where, ◌>>=◌}
 use Rattle.model_text.specs.Circuits.{circuit, gates, linked_circuit}
-use Rattle.model_text.specs.Fields.{number, text, truth, table_of, array_of, present, required, or_default, optional, has_only, only, each_from}
+use Rattle.text_fields.specs.Fields.{number, text, truth, table_of, array_of, present, required, or_default, optional, has_only, only, each_from}
 use Rattle.model_text.specs.FormatLaws.{with_format, FirstIsSecond}
 use Rattle.model_text.specs.Formats.{format_of}
 use Rattle.model_text.specs.Jobs.{job, jobs_from}
-use Rattle.model_text.specs.LawTexts.{law}
+use Rattle.text_fields.specs.LawTexts.{law}
 use Rattle.model_text.specs.ModelTexts.{kind_of, top_keys, body, top}
-use Rattle.model_text.specs.Names.{Finder, NamedItem, NamedKind, place_in, new_name}
+use Rattle.text_fields.specs.Names.{Finder, new_name}
+use Rattle.model_text.specs.Names.{NamedItem, NamedKind, place_in}
 use Rattle.model_text.specs.Networks.{linked_network, network}
 use Rattle.model_text.specs.Kinds.{named_kind}
 use Rattle.model_text.specs.Objects.{known_keys, object, objects_after, objects, linked_from}
 use Rattle.model_text.specs.Phold.{destination, phold_keys, phold}
 use Rattle.model_text.specs.Starts.{start_entry, start_entries}
-use Rattle.model_text.proofs.Lawful.{bound}
+use Rattle.text_fields.proofs.Found.{bound}
 
 -- two checks in a row, each of which gives something
 joined : {A B : Type 0} (check : Checked A) (next : A → Checked B) (a : A) (b : B) → check ≡ Ok a → next a ≡ Ok b → check >>= next ≡ Ok b

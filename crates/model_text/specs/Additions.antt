@@ -5,8 +5,8 @@ use Rattle.toml.specs.Data.{integer, boolean, Members}
 use Rattle.queue_models.specs.Kinds.{is_station}
 use Rattle.model_text.specs.declared.formats.Format.{Format}
 use Rattle.model_text.specs.declared.formats.Format.TheVariants.{One, Two}
-use Rattle.model_text.specs.Checks.{Checked}
-use Rattle.model_text.specs.Fields.{number, truth, optional}
+use Rattle.text_fields.specs.Checks.{Checked}
+use Rattle.text_fields.specs.Fields.{number, truth, optional}
 use Rattle.model_text.specs.Names.{NamedKind}
 
 -- keys that came with the second format

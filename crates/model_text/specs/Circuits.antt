@@ -10,13 +10,13 @@ use Rattle.circuit_model.specs.declared.limits.TheConstants.{MOST_FED}
 use Rattle.model_core.specs.Meaning.{Meaning}
 use Rattle.model_core.specs.declared.limits.TheConstants.{MOST_OBJECTS}
 use Rattle.model_text.specs.declared.named.NamedGate.{NamedGate}
-use Rattle.model_text.specs.declared.refusal.Cause.TheVariants.{Limit}
-use Rattle.model_text.specs.Checks.{Checked, refusal_where, ◌>>=◌}
-use Rattle.model_text.specs.Fields.{text, table_of, array_of, required, optional, each_after, each_of, all_of}
+use Rattle.text_fields.specs.declared.refusal.Cause.TheVariants.{Limit}
+use Rattle.text_fields.specs.Checks.{Checked, refusal_where, ◌>>=◌}
+use Rattle.text_fields.specs.Fields.{text, table_of, array_of, required, optional, each_after, each_of, all_of}
 use Rattle.model_text.specs.GateFields.{logic_kind, input, fed_gate}
-use Rattle.model_text.specs.Links.{links}
+use Rattle.text_fields.specs.Links.{links}
 use Rattle.model_text.specs.NamedGates.{flip_count, gate_place_in}
-use Rattle.model_text.specs.Names.{Finder, new_name}
+use Rattle.text_fields.specs.Names.{Finder, new_name}
 
 abbrev pub gate_fields : LogicKind → ℕ → ℕ → List ℕ → Members → Checked NamedGate
 gate_fields kind before at name ms = if is_input kind then input before at name ms else fed_gate kind at name ms

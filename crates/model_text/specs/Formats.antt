@@ -3,8 +3,8 @@ use Rattle.std.specs.Prelude.{◌==◌, pos, Bool, true, false, Ok, if◌then◌
 use Rattle.toml.specs.Data.{Data, integer}
 use Rattle.model_text.specs.declared.formats.Format.{Format}
 use Rattle.model_text.specs.declared.formats.Format.TheVariants.{One, Two}
-use Rattle.model_text.specs.declared.refusal.Cause.TheVariants.{BadValue}
-use Rattle.model_text.specs.Checks.{Checked, refusal}
+use Rattle.text_fields.specs.declared.refusal.Cause.TheVariants.{BadValue}
+use Rattle.text_fields.specs.Checks.{Checked, refusal}
 
 -- circuits came with the second format
 abbrev pub has_circuits : Format → Bool

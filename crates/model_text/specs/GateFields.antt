@@ -7,9 +7,9 @@ use Rattle.circuit_model.specs.declared.gate.LogicKind.TheVariants.{Input, Buf, 
 use Rattle.circuit_model.specs.declared.limits.TheConstants.{MOST_DELAY, MOST_FLIPS, MOST_PINS}
 use Rattle.event_key.specs.declared.stamp.TheConstants.{LAST_TICK}
 use Rattle.model_text.specs.declared.named.NamedGate.{NamedGate}
-use Rattle.model_text.specs.declared.refusal.Cause.TheVariants.{BadValue}
-use Rattle.model_text.specs.Checks.{Checked, refusal, refusal_where, ◌>>=◌}
-use Rattle.model_text.specs.Fields.{number, text, truth, item_count, entries_of, array_of, required, optional, only, each}
+use Rattle.text_fields.specs.declared.refusal.Cause.TheVariants.{BadValue}
+use Rattle.text_fields.specs.Checks.{Checked, refusal, refusal_where, ◌>>=◌}
+use Rattle.text_fields.specs.Fields.{number, text, truth, item_count, entries_of, array_of, required, optional, only, each}
 
 abbrev pub logic_kind : ℕ → List ℕ → Checked LogicKind
 logic_kind at word =

@@ -5,10 +5,10 @@ use Rattle.event_key.specs.declared.stamp.TheConstants.{LAST_TICK}
 use Rattle.model_core.specs.declared.entry.Entry.{Entry}
 use Rattle.model_text.specs.declared.formats.Format.{Format}
 use Rattle.model_text.specs.Additions.{rank, entry_keys}
-use Rattle.model_text.specs.Checks.{Checked, ◌>>=◌}
-use Rattle.model_text.specs.Fields.{number, text, table_of, required, only, each_from}
-use Rattle.model_text.specs.Links.{link}
-use Rattle.model_text.specs.Names.{Finder}
+use Rattle.text_fields.specs.Checks.{Checked, ◌>>=◌}
+use Rattle.text_fields.specs.Fields.{number, text, table_of, required, only, each_from}
+use Rattle.text_fields.specs.Links.{link}
+use Rattle.text_fields.specs.Names.{Finder}
 
 unfoldable pub job : Format → Finder → ℕ → Data → Checked Entry
 job format find at d = do

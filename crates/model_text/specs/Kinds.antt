@@ -1,5 +1,5 @@
 -- The kinds of objects: the fields of each, its word and its keys, and what pass two makes of it.
-use Rattle.std.specs.Prelude.{ℕ, pos, false, List, [], ◌∷◌, length, Option, Some, None, Ok, codes, if◌then◌else◌}
+use Rattle.std.specs.Prelude.{ℕ, pos, false, List, [], ◌∷◌, length, Ok, codes, if◌then◌else◌}
 use Rattle.std.specs.Str.{bytes_eq}
 use Rattle.toml.specs.Data.{Data, integer, boolean, Members, get_member}
 use Rattle.event_key.specs.declared.stamp.TheConstants.{LAST_TICK}
@@ -7,13 +7,14 @@ use Rattle.queue_models.specs.declared.kind.KindOver.{KindOver}
 use Rattle.queue_models.specs.declared.kind.KindOver.TheVariants.{Source, Station, Delay, Router, Sink}
 use Rattle.queue_models.specs.declared.source.TheConstants.{MOST_JOBS}
 use Rattle.queue_models.specs.declared.station.TheConstants.{MOST_SERVERS, MOST_WAITING}
-use Rattle.model_text.specs.declared.refusal.Cause.TheVariants.{BadValue}
-use Rattle.model_text.specs.Checks.{Checked, refusal, ◌>>=◌}
-use Rattle.model_text.specs.Fields.{number, text, truth, required, optional}
-use Rattle.model_text.specs.LawTexts.{law}
-use Rattle.model_text.specs.Links.{link, links}
-use Rattle.model_text.specs.Names.{Finder, NamedKind}
-use Rattle.model_text.specs.Routers.{ways, weights_or_ones}
+use Rattle.text_fields.specs.declared.refusal.Cause.TheVariants.{BadValue}
+use Rattle.text_fields.specs.Checks.{Checked, refusal, ◌>>=◌}
+use Rattle.text_fields.specs.Fields.{number, text, truth, required, optional, optional_number}
+use Rattle.text_fields.specs.LawTexts.{law}
+use Rattle.text_fields.specs.Links.{link, links}
+use Rattle.text_fields.specs.Names.{Finder}
+use Rattle.model_text.specs.Names.{NamedKind}
+use Rattle.text_fields.specs.Weights.{ways, weights_or_ones}
 
 unfoldable pub source : ℕ → Members → Checked NamedKind
 source at ms = do
@@ -44,14 +45,9 @@ router at ms = do
   weights ← weights_or_ones at (length next) (get_member (codes "weights") ms)
   Ok (Router (record { next = next; weights = weights }))
 
--- no due where it is absent
-abbrev pub due_time : ℕ → Option Data → Checked (Option ℕ)
-due_time at None = Ok None
-due_time at (Some d) = number at 0 LAST_TICK d >>= (λ due. Ok (Some due))
-
 unfoldable pub sink : ℕ → Members → Checked NamedKind
 sink at ms = do
-  due ← due_time at (get_member (codes "due") ms)
+  due ← optional_number at 0 LAST_TICK (get_member (codes "due") ms)
   Ok (Sink (record { due = due }))
 
 abbrev pub named_kind : ℕ → Members → List ℕ → Checked NamedKind

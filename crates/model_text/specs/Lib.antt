@@ -1,17 +1,11 @@
 pub mod Additions
-pub mod Causes
-pub mod Checks
 pub mod Circuits
-pub mod Directories
-pub mod Fields
 pub mod FormatLaws
 pub mod Formats
 pub mod GateFields
 pub mod Jobs
 pub mod Kinds
-pub mod LawTexts
 pub mod Linked
-pub mod Links
 pub mod Meanings
 pub mod ModelTexts
 pub mod NamedGates
@@ -21,6 +15,4 @@ pub mod Networks
 pub mod Objects
 pub mod Phold
 pub mod Readers
-pub mod Routers
 pub mod Starts
-pub mod TermsOf

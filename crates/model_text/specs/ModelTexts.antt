@@ -1,8 +1,7 @@
 -- The model of a text: the checks in the order in which the first refusal counts.
-use Rattle.std.specs.Prelude.{ℕ, pos, List, [], ◌∷◌, length, Option, Some, None, Ok, codes, nat_lt, ◌&&◌, if◌then◌else◌}
-use Rattle.std.specs.Str.{bytes_eq, is_utf8}
+use Rattle.std.specs.Prelude.{ℕ, pos, List, [], ◌∷◌, length, Ok, codes, nat_lt, ◌&&◌, if◌then◌else◌}
+use Rattle.std.specs.Str.{bytes_eq}
 use Rattle.toml.specs.Data.{integer, Members}
-use Rattle.toml.specs.Parse.{parse_document}
 use Rattle.model_core.specs.Meaning.{Meaning}
 use Rattle.sim_spec.specs.declared.terms.Terms.{Terms}
 use Rattle.event_key.specs.declared.stamp.TheConstants.{LAST_TICK}
@@ -12,14 +11,15 @@ use Rattle.sim_stats.specs.Totals.{told_by_objects}
 use Rattle.model_text.specs.declared.formats.Format.{Format}
 use Rattle.model_text.specs.declared.top.ModelKind.{ModelKind}
 use Rattle.model_text.specs.declared.top.ModelKind.TheVariants.{Phold, Network, Circuit}
-use Rattle.model_text.specs.declared.refusal.Cause.TheVariants.{TooLong, NotToml, BadValue}
-use Rattle.model_text.specs.Checks.{Checked, refusal, refusal_where, ◌>>=◌}
+use Rattle.text_fields.specs.declared.refusal.Cause.TheVariants.{TooLong, BadValue}
+use Rattle.text_fields.specs.Checks.{Checked, refusal, refusal_where, ◌>>=◌}
 use Rattle.model_text.specs.Circuits.{circuit}
-use Rattle.model_text.specs.Fields.{number, text, required, optional, only}
+use Rattle.text_fields.specs.Fields.{number, text, required, optional, only}
 use Rattle.model_text.specs.Formats.{format_of, has_circuits}
 use Rattle.model_text.specs.Networks.{network}
 use Rattle.model_text.specs.Phold.{phold}
-use Rattle.model_text.specs.TermsOf.{terms_of}
+use Rattle.text_fields.specs.TermsOf.{terms_of}
+use Rattle.text_fields.specs.Documents.{tree}
 
 -- what a text describes: what its model means under each seed, the seed that it gives, and how far the simulation goes
 pub record FamilyOf : Type 0 where
@@ -62,17 +62,6 @@ top ms = do
   known ← only 0 (top_keys kind) ms
   under ← body format kind ms
   Ok (record { under = under; seed = seed; terms = terms_of end limit })
-
--- what TOML makes of the bytes, where they are a document
-abbrev pub tree_of : List ℕ → Option Members
-tree_of bytes = if is_utf8 bytes then parse_document bytes else None
-
-abbrev pub found_tree : Option Members → Checked Members
-found_tree (Some ms) = Ok ms
-found_tree None = refusal NotToml 0
-
-abbrev pub tree : List ℕ → Checked Members
-tree bytes = found_tree (tree_of bytes)
 
 -- what a text describes, or the code and the item of the first check that fails
 unfoldable pub family_of : List ℕ → Checked FamilyOf

@@ -2,9 +2,9 @@
 use Rattle.std.specs.Prelude.{ℕ, ◌^◌, ◌≤◌, true, List, length, sum_by}
 use Rattle.circuit_model.specs.Gates.{HasPins}
 use Rattle.circuit_model.specs.Parts.{HasFlips}
-use Rattle.model_text.specs.declared.directory.Place.{Place}
+use Rattle.text_fields.specs.declared.directory.Place.{Place}
 use Rattle.model_text.specs.declared.named.NamedGate.{NamedGate}
-use Rattle.model_text.specs.Names.{Finder, place_from}
+use Rattle.text_fields.specs.Names.{Finder, place_from}
 
 pub record IsNamedGate (gate : NamedGate) : Type 0 where
   pub delay : gate.delay ≤ 2 ^ 40

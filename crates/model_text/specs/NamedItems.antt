@@ -2,7 +2,8 @@
 use Rattle.std.specs.Prelude.{ℕ, ◌≤◌, ◌||◌, not, IsTrue, List}
 use Rattle.event_key.specs.declared.key.TheConstants.{MOST_RANK}
 use Rattle.queue_models.specs.Kinds.{is_station, IsKind}
-use Rattle.model_text.specs.Names.{NamedItem, is_name}
+use Rattle.text_fields.specs.Names.{is_name}
+use Rattle.model_text.specs.Names.{NamedItem}
 
 -- any name may stand for an object, until it is looked for
 abbrev pub AnyName : List ℕ → Type 0

@@ -8,8 +8,8 @@ use Rattle.queue_models.specs.Objects.{network_of, network_under}
 use Rattle.queue_models.specs.Meaning.{network_meaning}
 use Rattle.queue_models.specs.Views.{parts_of}
 use Rattle.model_text.specs.declared.formats.Format.{Format}
-use Rattle.model_text.specs.Checks.{Checked, ◌>>=◌}
-use Rattle.model_text.specs.Fields.{array_of, optional}
+use Rattle.text_fields.specs.Checks.{Checked, ◌>>=◌}
+use Rattle.text_fields.specs.Fields.{array_of, optional}
 use Rattle.model_text.specs.Jobs.{jobs_from}
 use Rattle.model_text.specs.Names.{NamedItem, place_in}
 use Rattle.model_text.specs.Objects.{objects, linked_from}

@@ -6,10 +6,11 @@ use Rattle.queue_models.specs.Kinds.{is_station}
 use Rattle.queue_models.specs.Objects.{Item}
 use Rattle.model_text.specs.declared.formats.Format.{Format}
 use Rattle.model_text.specs.Additions.{added, rank, flag, trace}
-use Rattle.model_text.specs.Checks.{Checked, ◌>>=◌}
-use Rattle.model_text.specs.Fields.{text, table_of, required, only, each_of}
+use Rattle.text_fields.specs.Checks.{Checked, ◌>>=◌}
+use Rattle.text_fields.specs.Fields.{text, table_of, required, only, each_of}
 use Rattle.model_text.specs.Kinds.{named_kind, kind_keys, linked_kind}
-use Rattle.model_text.specs.Names.{Finder, NamedItem, NamedKind, place_in, new_name}
+use Rattle.text_fields.specs.Names.{Finder, new_name}
+use Rattle.model_text.specs.Names.{NamedItem, NamedKind, place_in}
 
 -- the keys that the second format adds
 abbrev pub added_keys : NamedKind → List (List ℕ)

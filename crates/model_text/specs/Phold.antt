@@ -7,11 +7,11 @@ use Rattle.model_core.specs.Meaning.{Meaning}
 use Rattle.phold_model.specs.Parts.{phold_parts}
 use Rattle.phold_model.specs.Meaning.{phold_meaning}
 use Rattle.model_text.specs.declared.formats.Format.{Format}
-use Rattle.model_text.specs.declared.refusal.Cause.TheVariants.{BadValue}
+use Rattle.text_fields.specs.declared.refusal.Cause.TheVariants.{BadValue}
 use Rattle.model_text.specs.Additions.{added, rank}
-use Rattle.model_text.specs.Checks.{Checked, refusal, ◌>>=◌}
-use Rattle.model_text.specs.Fields.{number, text, table_of, array_of, required, optional, only}
-use Rattle.model_text.specs.LawTexts.{law}
+use Rattle.text_fields.specs.Checks.{Checked, refusal, ◌>>=◌}
+use Rattle.text_fields.specs.Fields.{number, text, table_of, array_of, required, optional, only}
+use Rattle.text_fields.specs.LawTexts.{law}
 use Rattle.model_text.specs.Starts.{start_entries}
 
 abbrev pub named_destination : ℕ → List ℕ → Checked Bool

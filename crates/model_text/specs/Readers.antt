@@ -8,8 +8,8 @@ use Rattle.toml.specs.Parse.{parse_document, lines, skip_bom}
 use Rattle.toml_parser.specs.Lexical.{skip_from, skip_ws}
 use Rattle.model_core.specs.declared.limits.TheConstants.{MOST_TEXT_BYTES}
 use Rattle.model_reader.specs.Readings.{ModelOf, Reading, ReadingLaws}
-use Rattle.model_text.specs.Causes.{code_name}
-use Rattle.model_text.specs.Checks.{Checked}
+use Rattle.text_fields.specs.Causes.{code_name}
+use Rattle.text_fields.specs.Checks.{Checked}
 use Rattle.model_text.specs.ModelTexts.{top, family_of, own_models, model_of}
 
 abbrev pub model_texts : Reading

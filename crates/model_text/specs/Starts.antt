@@ -5,10 +5,10 @@ use Rattle.event_key.specs.declared.stamp.TheConstants.{LAST_TICK}
 use Rattle.model_core.specs.declared.entry.Entry.{Entry}
 use Rattle.model_core.specs.declared.limits.TheConstants.{MOST_OBJECTS}
 use Rattle.model_text.specs.declared.formats.Format.{Format}
-use Rattle.model_text.specs.declared.refusal.Cause.TheVariants.{BadLink}
+use Rattle.text_fields.specs.declared.refusal.Cause.TheVariants.{BadLink}
 use Rattle.model_text.specs.Additions.{rank, entry_keys}
-use Rattle.model_text.specs.Checks.{Checked, refusal_where, ◌>>=◌}
-use Rattle.model_text.specs.Fields.{number, table_of, required, only, each_from}
+use Rattle.text_fields.specs.Checks.{Checked, refusal_where, ◌>>=◌}
+use Rattle.text_fields.specs.Fields.{number, table_of, required, only, each_from}
 
 -- an entry, in a model of so many objects
 unfoldable pub start_entry : Format → ℕ → ℕ → Data → Checked Entry

@@ -4,13 +4,12 @@ ghost use Rattle.event_key.specs.declared.key.TheConstants.{MOST_RANK};
 ghost use Rattle.queue_models.specs.Kinds.{is_station};
 ghost use Rattle.toml.specs.View.{table_view};
 ghost use Rattle.model_text.specs.Additions.{rank, flag, trace, entry_keys};
-ghost use Rattle.model_text.specs.Checks.{Gives};
+ghost use Rattle.text_fields.specs.Checks.{Gives};
 
-use crate::fields::{number, optional, truth};
 use crate::formats::Format;
 use crate::named::NamedKind;
-use crate::refusal::Refusal;
 use event_key::MOST_RANK;
+use text_fields::{Refusal, number, optional, truth};
 use toml::{Table, Value};
 
 /// The rank of an object, of a job, or of events that begin a model.

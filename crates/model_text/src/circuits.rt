@@ -6,20 +6,17 @@ ghost use Rattle.circuit_model.specs.Parts.{AreLinked, FeedsFew};
 ghost use Rattle.circuit_model.specs.Views.{gates_of};
 ghost use Rattle.circuit_model.specs.declared.limits.TheConstants.{MOST_FLIPS};
 ghost use Rattle.model_core.specs.declared.limits.TheConstants.{MOST_OBJECTS};
-ghost use Rattle.model_text.specs.Checks.{Gives};
+ghost use Rattle.text_fields.specs.Checks.{Gives};
 ghost use Rattle.model_text.specs.Circuits.{linked_gate, linked_gates, fan_out, linked_circuit, circuit};
-ghost use Rattle.model_text.specs.Directories.{finder};
+ghost use Rattle.text_fields.specs.Directories.{finder};
 ghost use Rattle.model_text.specs.NamedGates.{IsNamedGate, flip_count, gate_place_in};
 
-use crate::directory::Directory;
-use crate::fields::{array_of, optional};
 use crate::gates::gates;
-use crate::links::links;
 use crate::named::NamedGate;
-use crate::refusal::{Cause, Refusal};
 use circuit_model::{Circuit, LogicGate, first_overloaded};
 use model_core::MOST_OBJECTS;
 use std::alloc::Global;
+use text_fields::{Cause, Directory, Refusal, array_of, links, optional};
 use toml::{Table, Value};
 
 /// A gate, with numbers of gates in place of their names.

@@ -1,9 +1,9 @@
 //! The formats of a text.
 ghost use Rattle.toml.specs.View.{view};
-ghost use Rattle.model_text.specs.Checks.{Gives};
+ghost use Rattle.text_fields.specs.Checks.{Gives};
 ghost use Rattle.model_text.specs.Formats.{format_of};
 
-use crate::refusal::{Cause, Refusal};
+use text_fields::{Cause, Refusal};
 use toml::Value;
 
 /// The formats, oldest first: each has all that those before it have, and what it adds is unknown to them.

@@ -3,19 +3,19 @@ ghost use Rattle.std.specs.Prelude.{◌≡◌, ◌+◌, ◌<◌, ◌≤◌, ◌^
 ghost use Rattle.toml.specs.View.{view, items_view, table_view};
 ghost use Rattle.circuit_model.specs.Gates.{HasPins, is_input};
 ghost use Rattle.circuit_model.specs.declared.limits.TheConstants.{MOST_FLIPS};
-ghost use Rattle.model_text.specs.Checks.{Gives};
-ghost use Rattle.model_text.specs.Fields.{number, each};
+ghost use Rattle.text_fields.specs.Checks.{Gives};
 ghost use Rattle.model_text.specs.GateFields.{logic_kind, takes, flips, feeders, input, fed_gate};
 ghost use Rattle.model_text.specs.NamedGates.{IsNamedGate};
 
-use crate::fields::{array_of, entries_of, item_count, number, only, optional, required, truth};
 use crate::named::NamedGate;
-use crate::names::names_of;
-use crate::refusal::{Cause, Refusal};
 use circuit_model::{LogicKind, MOST_DELAY, MOST_FLIPS};
 use event_key::LAST_TICK;
 use model_core::{Name, Sequence};
 use std::alloc::Global;
+use text_fields::{
+    Cause, Refusal, array_of, entries_of, item_count, names_of, number, numbers_of, only, optional,
+    required, truth,
+};
 use toml::{Table, Value};
 
 /// The kind with this word.
@@ -36,19 +36,6 @@ pub(crate) fn logic_kind(word: &str, item: u32) -> Result<LogicKind, Refusal>
     }
 }
 
-/// The times of an array.
-fn times(alloc: Global, values: &[Value], item: u32) -> Result<Vec<u64>, Refusal>
-    ensures read { Gives (λ times. times.items) result (each (number item 0 LAST_TICK) (items_view values.now)) }
-    ensures count { IfOk result (λ times. length times.items ≡ length values.now) }
-    ensures in_time { IfOk result (λ times. All (λ time. time < 2 ^ 46) times.items) }
-{
-    let mut times = Vec::new(alloc);
-    for value in values {
-        times.push(number(value, item, 0, LAST_TICK)?)?;
-    }
-    Ok(times)
-}
-
 /// When an input turns, where those before it turn so often.
 #[tactic(auto, unfolding(crate::specs::GateFields::flips))]
 fn flips(alloc: Global, table: &Table, before: usize, item: u32) -> Result<Sequence<u64>, Refusal>
@@ -59,7 +46,7 @@ fn flips(alloc: Global, table: &Table, before: usize, item: u32) -> Result<Seque
 {
     let none = Value::Array(Vec::new(alloc));
     let values = array_of(optional(table, "flips", &none), item, MOST_FLIPS - before)?;
-    Ok(Sequence::new(times(alloc, values, item)?))
+    Ok(Sequence::new(numbers_of(alloc, values, item, LAST_TICK)?))
 }
 
 /// Whether a gate of this kind may have so many pins.

@@ -3,18 +3,15 @@ ghost use Rattle.std.specs.Prelude.{◌≡◌, ◌+◌, ◌≤◌, length, All, 
 ghost use Rattle.toml.specs.View.{view, items_view};
 ghost use Rattle.circuit_model.specs.declared.limits.TheConstants.{MOST_FLIPS};
 ghost use Rattle.model_core.specs.declared.limits.TheConstants.{MOST_OBJECTS};
-ghost use Rattle.model_text.specs.Checks.{Gives};
+ghost use Rattle.text_fields.specs.Checks.{Gives};
 ghost use Rattle.model_text.specs.Circuits.{gate, gates};
-ghost use Rattle.model_text.specs.Directories.{finder};
+ghost use Rattle.text_fields.specs.Directories.{finder};
 ghost use Rattle.model_text.specs.NamedGates.{IsNamedGate, flip_count, gate_place_in};
 
-use crate::directory::{Directory, Place};
-use crate::fields::{required, table_of, text};
 use crate::gate_fields::{fed_gate, input, logic_kind};
 use crate::named::NamedGate;
-use crate::names::new_name;
-use crate::refusal::Refusal;
 use std::alloc::Global;
+use text_fields::{Directory, Place, Refusal, new_name, required, table_of, text};
 use toml::Value;
 
 /// A gate, which may have none of the names in the directory, where the gates before it turn so often.

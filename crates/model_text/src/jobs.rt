@@ -2,20 +2,17 @@
 ghost use Rattle.std.specs.Prelude.{◌≡◌, ◌≤◌, ◌+◌, length, All, IfOk};
 ghost use Rattle.toml.specs.View.{view, items_view};
 ghost use Rattle.model_core.specs.declared.limits.TheConstants.{MOST_ENTRIES, MOST_OBJECTS};
-ghost use Rattle.model_text.specs.Checks.{Gives};
-ghost use Rattle.model_text.specs.Directories.{finder};
+ghost use Rattle.text_fields.specs.Checks.{Gives};
+ghost use Rattle.text_fields.specs.Directories.{finder};
 ghost use Rattle.model_text.specs.Jobs.{job, jobs_from};
 ghost use Rattle.model_text.specs.Linked.{IsLinkedJob};
 
 use crate::additions::{entry_keys, rank};
-use crate::directory::Directory;
-use crate::fields::{number, only, required, table_of, text};
 use crate::formats::Format;
-use crate::links::link;
-use crate::refusal::Refusal;
 use event_key::LAST_TICK;
 use model_core::Entry;
 use std::alloc::Global;
+use text_fields::{Directory, Refusal, link, number, only, required, table_of, text};
 use toml::Value;
 
 /// A job, which begins at an object that is named and is no source.

@@ -5,26 +5,23 @@ ghost use Rattle.toml.specs.Data.{get_member};
 ghost use Rattle.toml.specs.View.{view, table_view};
 ghost use Rattle.queue_models.specs.Kinds.{IsKind};
 ghost use Rattle.model_text.specs.declared.formats.Format.TheVariants.{One, Two};
-ghost use Rattle.model_text.specs.Checks.{Gives};
-ghost use Rattle.model_text.specs.Directories.{finder};
+ghost use Rattle.text_fields.specs.Checks.{Gives};
+ghost use Rattle.text_fields.specs.Directories.{finder};
 ghost use Rattle.model_text.specs.NamedItems.{AnyName};
-ghost use Rattle.model_text.specs.Kinds.{source, station, delay, router, due_time, sink, named_kind, linked_kind};
+ghost use Rattle.model_text.specs.Kinds.{source, station, delay, router, sink, named_kind, linked_kind};
 ghost use Rattle.model_text.specs.Objects.{known_keys};
 
-use crate::directory::Directory;
-use crate::fields::{field, number, optional, required, text, truth};
 use crate::formats::Format;
-use crate::laws::law;
-use crate::links::{link, links};
 use crate::named::NamedKind;
-use crate::names::name_of;
-use crate::refusal::{Cause, Refusal};
-use crate::routers::{optional_weights, ways};
 use event_key::LAST_TICK;
 use queue_models::{
     Delay, Kind, MOST_JOBS, MOST_SERVERS, MOST_WAITING, Router, Sink, Source, Station,
 };
 use std::alloc::Global;
+use text_fields::{
+    Cause, Directory, Refusal, law, link, links, name_of, number, optional, optional_number,
+    optional_weights, required, text, truth, ways,
+};
 use toml::{Table, Value};
 
 /// A source.
@@ -106,24 +103,13 @@ fn router(alloc: Global, table: &Table, item: u32) -> Result<NamedKind, Refusal>
     Ok(NamedKind::Router(Router { next, weights }))
 }
 
-/// The age that a job may have, where there is a greatest.
-fn optional_due(table: &Table, key: &str, item: u32) -> Result<Option<u64>, Refusal>
-    ensures read { Gives (λ due. due) result (due_time item (get_member key.now (table_view table.now))) }
-    ensures in_range { IfOk result (λ due. ForSome due (λ time. time < 2 ^ 46)) }
-{
-    match field(table, key) {
-        Some(value) => Ok(Some(number(value, item, 0, LAST_TICK)?)),
-        None => Ok(None),
-    }
-}
-
 /// A sink.
 #[tactic(auto, unfolding(crate::specs::Kinds::sink))]
 fn sink(table: &Table, item: u32) -> Result<NamedKind, Refusal>
     ensures read { Gives (λ kind. kind) result (sink item (table_view table.now)) }
     ensures in_range { IfOk result (IsKind AnyName) }
 {
-    let due = optional_due(table, "due", item)?;
+    let due = optional_number(table, "due", item, 0, LAST_TICK)?;
     Ok(NamedKind::Sink(Sink { due }))
 }
 

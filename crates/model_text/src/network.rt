@@ -3,23 +3,21 @@ ghost use Rattle.std.specs.Prelude.{◌≡◌, ◌≢◌, ◌+◌, ◌<◌, ◌�
 ghost use Rattle.toml.specs.View.{items_view, table_view};
 ghost use Rattle.model_core.specs.declared.limits.TheConstants.{MOST_ENTRIES, MOST_OBJECTS};
 ghost use Rattle.queue_models.specs.Views.{parts_of};
-ghost use Rattle.model_text.specs.Checks.{Gives};
-ghost use Rattle.model_text.specs.Directories.{finder};
+ghost use Rattle.text_fields.specs.Checks.{Gives};
+ghost use Rattle.text_fields.specs.Directories.{finder};
 ghost use Rattle.model_text.specs.NamedItems.{IsNamedItem};
 ghost use Rattle.model_text.specs.Names.{NamedItem, place_in};
 ghost use Rattle.model_text.specs.Networks.{linked_network, network, network_family};
 
-use crate::directory::Directory;
-use crate::fields::{array_of, optional};
 use crate::formats::Format;
 use crate::jobs::jobs;
 use crate::links::linked_items;
 use crate::named::NamedItem;
 use crate::objects::objects;
-use crate::refusal::Refusal;
 use model_core::{MOST_ENTRIES, MOST_OBJECTS};
 use queue_models::Network;
 use std::alloc::Global;
+use text_fields::{Directory, Refusal, array_of, optional};
 use toml::{Table, Value};
 
 /// The item of the first job, which follows those of the objects.

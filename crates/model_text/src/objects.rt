@@ -2,21 +2,19 @@
 ghost use Rattle.std.specs.Prelude.{◌≡◌, ◌≢◌, ◌+◌, ◌<◌, ◌≤◌, length, All, AllPairs, IfOk, None};
 ghost use Rattle.toml.specs.View.{view, items_view};
 ghost use Rattle.model_core.specs.declared.limits.TheConstants.{MOST_OBJECTS};
-ghost use Rattle.model_text.specs.Checks.{Gives};
-ghost use Rattle.model_text.specs.Directories.{finder};
+ghost use Rattle.text_fields.specs.Checks.{Gives};
+ghost use Rattle.text_fields.specs.Directories.{finder};
 ghost use Rattle.model_text.specs.NamedItems.{IsNamedItem};
-ghost use Rattle.model_text.specs.Names.{NamedItem, TakesIn, place_in, place_of};
+ghost use Rattle.text_fields.specs.Names.{TakesIn};
+ghost use Rattle.model_text.specs.Names.{NamedItem, place_in, place_of};
 ghost use Rattle.model_text.specs.Objects.{object, objects};
 
 use crate::additions::{flag, rank, trace};
-use crate::directory::{Directory, Place};
-use crate::fields::{only, required, table_of, text};
 use crate::formats::Format;
 use crate::kinds::{known_keys, named_kind};
 use crate::named::NamedItem;
-use crate::names::new_name;
-use crate::refusal::Refusal;
 use std::alloc::Global;
+use text_fields::{Directory, Place, Refusal, new_name, only, required, table_of, text};
 use toml::Value;
 
 /// The object with this number, counted from 0, which may have none of the names in the directory and is taken in there.

@@ -4,18 +4,18 @@ ghost use Rattle.toml.specs.View.{view};
 ghost use Rattle.phold_model.specs.Meaning.{phold_meaning};
 ghost use Rattle.phold_model.specs.Parts.{phold_under};
 ghost use Rattle.phold_model.specs.Views.{parts_of};
-ghost use Rattle.model_text.specs.Checks.{Gives};
+ghost use Rattle.text_fields.specs.Checks.{Gives};
 ghost use Rattle.model_text.specs.Phold.{destination, phold, phold_keys};
 
 use crate::additions::rank;
-use crate::fields::{array_of, number, only, optional, required, table_of, text};
 use crate::formats::Format;
-use crate::laws::law;
-use crate::refusal::{Cause, Refusal};
 use crate::starts::start_entries;
 use model_core::{MOST_ENTRIES, MOST_OBJECTS};
 use phold_model::Phold;
 use std::alloc::Global;
+use text_fields::{
+    Cause, Refusal, array_of, law, number, only, optional, required, table_of, text,
+};
 use toml::Value;
 
 /// Whether destinations are drawn evenly.

@@ -1,11 +1,11 @@
 //! The reader of these texts, for programs that take any reader.
 use crate::model::AnyModel;
-use crate::refusal::{Refusal, code_name};
 use crate::top::read_model;
 use model_reader::ModelReader;
 use sim_spec::Terms;
 use sim_stats::Totals;
 use std::alloc::Global;
+use text_fields::{Refusal, code_name};
 
 /// The reader of these texts.
 #[derive(Clone, Copy, Debug)]

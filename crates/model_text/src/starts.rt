@@ -3,16 +3,15 @@ ghost use Rattle.std.specs.Prelude.{◌≡◌, ◌≤◌, length, All, IfOk};
 ghost use Rattle.model_core.specs.declared.limits.TheConstants.{MOST_ENTRIES};
 ghost use Rattle.phold_model.specs.Parts.{IsEntry};
 ghost use Rattle.toml.specs.View.{view, items_view};
-ghost use Rattle.model_text.specs.Checks.{Gives};
+ghost use Rattle.text_fields.specs.Checks.{Gives};
 ghost use Rattle.model_text.specs.Starts.{start_entry, start_entries};
 
 use crate::additions::{entry_keys, rank};
-use crate::fields::{number, only, required, table_of};
 use crate::formats::Format;
-use crate::refusal::{Cause, Refusal};
 use event_key::LAST_TICK;
 use model_core::{Entry, MOST_OBJECTS};
 use std::alloc::Global;
+use text_fields::{Cause, Refusal, number, only, required, table_of};
 use toml::Value;
 
 /// An entry, in a model of so many objects.

@@ -1,37 +1,24 @@
 //! The top table, and the whole text.
-ghost use Rattle.std.specs.Prelude.{◌≡◌, ◌<◌, ◌≤◌, ◌^◌, IfOk, IfErr};
-ghost use Rattle.model_core.specs.declared.limits.TheConstants.{MOST_EVENTS};
+ghost use Rattle.std.specs.Prelude.{◌≡◌, ◌<◌, ◌^◌, IfOk, IfErr};
 ghost use Rattle.toml.specs.View.{table_view};
-ghost use Rattle.model_text.specs.Checks.{Gives, Fails};
-ghost use Rattle.model_text.specs.Fields.{only};
+ghost use Rattle.text_fields.specs.Checks.{Gives, Fails};
+ghost use Rattle.text_fields.specs.Fields.{only};
 ghost use Rattle.model_text.specs.Meanings.{family_read, meaning_of, meaning_under};
-ghost use Rattle.model_text.specs.ModelTexts.{kind_of, top_keys, body, top, tree, family_of, model_of, model_with};
-ghost use Rattle.model_text.specs.TermsOf.{terms_of};
+ghost use Rattle.model_text.specs.ModelTexts.{kind_of, top_keys, body, top, family_of, model_of, model_with};
 
 use crate::circuits::circuit;
 use crate::described::ReadModel;
-use crate::fields::{number, only, optional, required, text};
 use crate::formats::{Format, format_of};
 use crate::model::AnyModel;
 use crate::network::network;
 use crate::phold::phold;
-use crate::refusal::{Cause, Refusal};
 use event_key::LAST_TICK;
 use model_core::model::Model as SimulationModel;
 use model_core::{MOST_EVENTS, MOST_TEXT_BYTES};
 use sim_spec::Terms;
 use std::alloc::Global;
+use text_fields::{Cause, Refusal, number, only, optional, required, terms_of, text, tree};
 use toml::{Table, Value};
-
-/// The terms with this end and this limit.
-fn terms_of(end: u64, limit: u64) -> Terms
-    requires end { end < 2 ^ 46 }
-    requires some_event { 1 ≤ limit }
-    requires limit { limit ≤ MOST_EVENTS }
-    ensures { result ≡ terms_of end limit }
-{
-    Terms { end, limit }
-}
 
 /// The kinds of models.
 #[derive(Clone, Copy, Debug, PartialEq, Eq)]
@@ -116,26 +103,6 @@ fn top(alloc: Global, table: &Table) -> Result<ReadModel, Refusal>
     let model = body(alloc, table, format, kind, seed)?;
     let terms = terms_of(end, limit);
     Ok(ReadModel { model, terms, seed })
-}
-
-/// The TOML document of a text.
-fn tree(alloc: Global, bytes: &[u8]) -> Result<Table, Refusal>
-    ensures { Gives (λ table. table_view table) result (tree bytes.now) }
-{
-    let text = match std::str::from_utf8(bytes) {
-        Ok(text) => text,
-        Err(_) => return Err(Cause::NotToml.at(0)),
-    };
-    match toml::table_from_str(alloc, text) {
-        Ok(table) => Ok(table),
-        Err(error) => {
-            if error.is_memory() {
-                Err(Refusal::OutOfMemory)
-            } else {
-                Err(Cause::NotToml.at(0))
-            }
-        }
-    }
 }
 
 /// What a text describes, or the first check that it fails: a model that can be had under any seed without reading the

@@ -3,7 +3,7 @@ use Rattle.std.specs.Prelude.{ℕ, Bool, true, false, ◌&&◌, if◌then◌else
 use Rattle.std.specs.List.{list_any}
 use Rattle.std.specs.declared.alloc.Global.{Global}
 use Rattle.model_reader.specs.Checks.{Checked}
-use Rattle.model_text.specs.Causes.{code_name}
+use Rattle.text_fields.specs.Causes.{code_name}
 use Rattle.model_text.specs.ModelTexts.{FamilyOf, family_of}
 use Rattle.sim_io.specs.declared.streams.reading.TheConstants.{ENOUGH_BYTES}
 use Rattle.sim_io.specs.declared.words.WordFault.{WordFault}

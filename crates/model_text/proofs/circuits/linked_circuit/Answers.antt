@@ -1,6 +1,6 @@
 use Rattle.std.proofs.Common.{Ok, ap, sym, ◌∙◌}
 use Rattle.std.proofs.lemmas.Result.{err_from_is_err_and}
-use Rattle.model_text.specs.Directories.{finder}
+use Rattle.text_fields.specs.Directories.{finder}
 use Rattle.model_text.proofs.CircuitParts.{gates-linked, gates-make_circuit, links_stop, feeds_stop, circuit_made}
 use Rattle.model_text.proofs.circuits.linked_circuit.Goals as goal
 

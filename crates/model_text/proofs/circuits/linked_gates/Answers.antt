@@ -3,8 +3,8 @@ use Rattle.std.proofs.lemmas.List.{length_push}
 use Rattle.std.proofs.lemmas.Iterator.Adapters.{YieldsList-from_vec}
 use Rattle.std.proofs.lemmas.Iterator.Consumers.{YieldsList-turn}
 use Rattle.model_text.specs.Circuits.{linked_gate}
-use Rattle.model_text.specs.Directories.{finder}
-use Rattle.model_text.proofs.Each.{list_goes_on}
+use Rattle.text_fields.specs.Directories.{finder}
+use Rattle.text_fields.proofs.Each.{list_goes_on}
 use Rattle.model_text.proofs.circuits.linked_gates.Goals as goal
 
 pub loop-gate-preserved : goal.loop-gate-preserved

@@ -6,13 +6,13 @@ use Rattle.std.proofs.lemmas.List.Elements.{All-nil, All-push}
 use Rattle.toml.specs.Data.{Data}
 use Rattle.toml.specs.View.{view}
 use Rattle.model_text.specs.declared.named.NamedGate.{NamedGate}
-use Rattle.model_text.specs.Checks.{Fails}
+use Rattle.text_fields.specs.Checks.{Fails}
 use Rattle.model_text.specs.Circuits.{gate, next_gate}
-use Rattle.model_text.specs.Directories.{finder}
+use Rattle.text_fields.specs.Directories.{finder}
 use Rattle.model_text.specs.NamedGates.{IsNamedGate, flip_count, gate_place, gate_place_in}
-use Rattle.model_text.specs.Names.{Finder, TakesIn}
-use Rattle.model_text.proofs.Each.{after_goes_on, after_ends}
-use Rattle.model_text.proofs.Places.{finder-more}
+use Rattle.text_fields.specs.Names.{Finder, TakesIn}
+use Rattle.text_fields.proofs.Each.{after_goes_on, after_ends}
+use Rattle.text_fields.proofs.Places.{finder-more}
 use Rattle.model_text.proofs.gates.gates.Goals as goal
 
 pub loop-value-init : goal.loop-value-init
@@ -48,7 +48,7 @@ loop-value-preserved c =
     record {
       count = rw pushed (omega (arith, length_push before g));
       found = rw pushed (finder-more (λ (gate : NamedGate). gate.name) gate_place (finder directory) (finder c.add.new.self) before g c.loop-value.invariant.found c.in_ok-gate.ensures.new
-          (subst (λ n. TakesIn (finder directory) (finder c.add.new.self) g.name (gate_place n g)) number (rw c.bytes.ensures at c.in_ok-add.ensures)));
+          (subst (λ n. TakesIn (finder directory) (finder c.add.new.self) g.name (gate_place n g)) number (rw c.bytes.ensures at c.in_ok-add.ensures.others)));
       in_range = rw pushed (All-push IsNamedGate before g c.loop-value.invariant.in_range c.in_ok-gate.ensures.in_range);
       flips = rw pushed (omega (arith, turns, sum_by_push (λ (gate : NamedGate). length gate.flips) before g, c.loop-value.invariant.flips));
       few_flips = omega (arith, turns, c.in_ok-gate.ensures.few);

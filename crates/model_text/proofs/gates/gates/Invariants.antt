@@ -2,8 +2,8 @@ use Rattle.std.proofs.Common.{◌≡◌, ◌≤◌, drop, length}
 use Rattle.std.specs.Prelude.{All}
 use Rattle.toml.specs.View.{items_view}
 use Rattle.model_text.specs.Circuits.{next_gate, gates}
-use Rattle.model_text.specs.Directories.{finder}
-use Rattle.model_text.specs.Fields.{each_after}
+use Rattle.text_fields.specs.Directories.{finder}
+use Rattle.text_fields.specs.Fields.{each_after}
 use Rattle.model_text.specs.NamedGates.{IsNamedGate, flip_count, gate_place_in}
 use Rattle.model_text.proofs.gates.gates.Given as goal
 

@@ -1,11 +1,11 @@
 use Rattle.std.proofs.Common.{◌≡◌, ◌+◌, drop, length}
 use Rattle.std.specs.Prelude.{All}
 use Rattle.toml.specs.View.{items_view}
-use Rattle.model_text.specs.Directories.{finder}
-use Rattle.model_text.specs.Fields.{each_from}
+use Rattle.text_fields.specs.Directories.{finder}
+use Rattle.text_fields.specs.Fields.{each_from}
 use Rattle.model_text.specs.Jobs.{job, jobs_from}
 use Rattle.model_text.specs.Linked.{IsLinkedJob}
-use Rattle.model_text.proofs.Each.{with_front}
+use Rattle.text_fields.proofs.Each.{with_front}
 use Rattle.model_text.proofs.jobs.jobs.Given as goal
 
 abbrev pub invariant-loop-value : goal.invariant-loop-value

@@ -1,8 +1,8 @@
 use Rattle.std.proofs.Common.{◌≡◌, ◌+◌, drop, length}
-use Rattle.model_text.specs.Directories.{finder}
-use Rattle.model_text.specs.Fields.{each_of}
+use Rattle.text_fields.specs.Directories.{finder}
+use Rattle.text_fields.specs.Fields.{each_of}
 use Rattle.model_text.specs.Objects.{linked_item, linked_from}
-use Rattle.model_text.proofs.Each.{with_front}
+use Rattle.text_fields.proofs.Each.{with_front}
 use Rattle.model_text.proofs.links.linked_items.Given as goal
 
 abbrev pub invariant-loop-object : goal.invariant-loop-object

@@ -4,7 +4,7 @@ use Rattle.toml.specs.View.{items_view}
 use Rattle.queue_models.specs.Meaning.{network_meaning}
 use Rattle.queue_models.specs.Objects.{NetworkParts, network_under}
 use Rattle.model_text.specs.Names.{NamedItem}
-use Rattle.model_text.specs.Directories.{finder}
+use Rattle.text_fields.specs.Directories.{finder}
 use Rattle.model_text.proofs.Lawful.{network-lawful}
 use Rattle.model_text.proofs.Passes.{links_fail, jobs_fail, jobs_done}
 use Rattle.model_text.proofs.network.linked_network.Goals as goal

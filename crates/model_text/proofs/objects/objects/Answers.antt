@@ -3,10 +3,11 @@ use Rattle.std.proofs.lemmas.List.{length_push}
 use Rattle.std.proofs.lemmas.Result.{err_from_is_err_and}
 use Rattle.std.proofs.lemmas.List.Elements.{All-nil, All-push}
 use Rattle.std.proofs.lemmas.List.Quantifiers.{all_pairs_push}
-use Rattle.model_text.specs.Directories.{finder}
+use Rattle.text_fields.specs.Directories.{finder}
 use Rattle.model_text.specs.NamedItems.{IsNamedItem}
-use Rattle.model_text.specs.Names.{NamedItem, TakesIn, place_of}
-use Rattle.model_text.proofs.Places.{finder-more, names-new}
+use Rattle.text_fields.specs.Names.{TakesIn}
+use Rattle.model_text.specs.Names.{NamedItem, place_of}
+use Rattle.text_fields.proofs.Places.{finder-more, names-new}
 use Rattle.model_text.proofs.Reading.{objects_go_on, objects_end}
 use Rattle.model_text.proofs.objects.objects.Goals as goal
 

@@ -1,7 +1,7 @@
 use Rattle.std.proofs.Common.{◌≡◌, ◌≢◌, drop, length}
 use Rattle.std.specs.Prelude.{All, AllPairs}
 use Rattle.toml.specs.View.{items_view}
-use Rattle.model_text.specs.Directories.{finder}
+use Rattle.text_fields.specs.Directories.{finder}
 use Rattle.model_text.specs.NamedItems.{IsNamedItem}
 use Rattle.model_text.specs.Names.{NamedItem, place_in}
 use Rattle.model_text.specs.Objects.{objects_after, objects}

@@ -10,9 +10,9 @@ use Rattle.model_core.specs.Meaning.{Meaning}
 use Rattle.phold_model.specs.Meaning.{phold_meaning}
 use Rattle.phold_model.specs.Parts.{PholdParts, phold_parts, phold_under}
 use Rattle.model_text.specs.Additions.{rank}
-use Rattle.model_text.specs.Checks.{Checked, ◌>>=◌}
-use Rattle.model_text.specs.Fields.{number, table_of, array_of, required, optional, only}
-use Rattle.model_text.specs.LawTexts.{law}
+use Rattle.text_fields.specs.Checks.{Checked, ◌>>=◌}
+use Rattle.text_fields.specs.Fields.{number, table_of, array_of, required, optional, only}
+use Rattle.text_fields.specs.LawTexts.{law}
 use Rattle.model_text.specs.Phold.{destination, phold, phold_keys}
 use Rattle.model_text.specs.Starts.{start_entries}
 use Rattle.model_text.proofs.phold.phold.Goals as goal

@@ -2,9 +2,9 @@ use Rattle.std.proofs.Common.{◌≡◌, ◌+◌, drop, length}
 use Rattle.std.specs.Prelude.{All}
 use Rattle.toml.specs.View.{items_view}
 use Rattle.phold_model.specs.Parts.{IsEntry}
-use Rattle.model_text.specs.Fields.{each_from}
+use Rattle.text_fields.specs.Fields.{each_from}
 use Rattle.model_text.specs.Starts.{start_entry, start_entries}
-use Rattle.model_text.proofs.Each.{with_front}
+use Rattle.text_fields.proofs.Each.{with_front}
 use Rattle.model_text.proofs.starts.start_entries.Given as goal
 
 abbrev pub invariant-loop-value : goal.invariant-loop-value

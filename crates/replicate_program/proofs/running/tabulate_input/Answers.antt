@@ -3,7 +3,7 @@ use Rattle.std.proofs.Common.{◌≡◌, Err, ap, ◌∙◌, subst, arith}
 use Rattle.sim_io.specs.declared.streams.reading.TheConstants.{ENOUGH_BYTES}
 use Rattle.model_reader.specs.Checks.{Fails}
 use Rattle.model_reader.specs.declared.refusal.Refusal.{Refusal}
-use Rattle.model_text.specs.Causes.{code_name}
+use Rattle.text_fields.specs.Causes.{code_name}
 use Rattle.model_text.specs.ModelTexts.{family_of}
 use Rattle.program_answers.specs.declared.status.TheConstants.{MODEL}
 use Rattle.program_answers.proofs.EndingLemmas.{model_status, refusal_ends, same_refusal}

@@ -1,5 +1,0 @@
-use Rattle.model_text.proofs.Each.{item_count-items}
-use Rattle.model_text.proofs.fields.item_count.Goals as goal
-
-pub returns-clause-count : goal.returns-clause-count
-returns-clause-count c = item_count-items c.args.values.now

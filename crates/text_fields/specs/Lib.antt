@@ -1,0 +1,10 @@
+pub mod Causes
+pub mod Checks
+pub mod Directories
+pub mod Documents
+pub mod Fields
+pub mod LawTexts
+pub mod Links
+pub mod Names
+pub mod TermsOf
+pub mod Weights

@@ -1,0 +1,51 @@
+//! Finding objects and gates by their names.
+ghost use Rattle.std.specs.Prelude.{◌≡◌, OnOk};
+
+use std::alloc::{AllocError, Global};
+use std::collections::BTreeMap;
+
+/// What has a name: an object or a gate.
+#[derive(Clone, Copy, Debug)]
+pub struct Place {
+    /// Its number among those of the model, counted from 0.
+    pub number: u32,
+    /// Whether others may name it.
+    pub takes_links: bool,
+}
+
+/// What was read so far, by its names.
+#[derive(Drop)]
+pub struct Directory {
+    places: BTreeMap<Vec<u8>, Place>,
+}
+
+impl Directory {
+    ghost use Rattle.text_fields.specs.Directories.{finder};
+    ghost use Rattle.text_fields.specs.Names.{TakesIn, nothing, taken_in};
+
+    /// A directory of nothing.
+    pub fn new(alloc: Global) -> Directory
+        ensures { finder result ≡ nothing }
+    {
+        Directory {
+            places: BTreeMap::new(alloc),
+        }
+    }
+
+    /// What has this name.
+    pub fn find(&self, name: &[u8]) -> Option<Place>
+        ensures { result ≡ finder self.now name.now }
+    {
+        self.places.get(name).copied()
+    }
+
+    /// Takes in what has a name that it doesn't have yet.
+    pub fn add(&mut self, alloc: Global, name: &[u8], place: Place) -> Result<(), AllocError>
+        ensures others { OnOk result (TakesIn (finder self.old) (finder self.new) name.now place) }
+        ensures taken_in { OnOk result (finder self.new ≡ taken_in (finder self.old) name.now place) }
+    {
+        let key = Vec::from_slice(alloc, name)?;
+        self.places.insert(key, place)?;
+        Ok(())
+    }
+}
