@@ -1,0 +1,6 @@
+//! The reader of token rings: a TOML document becomes a ring with its terms, or is refused at the first check that fails.
+#![tactic(auto)]
+
+mod reader;
+
+pub use reader::RingTexts;

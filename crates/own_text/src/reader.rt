@@ -1,0 +1,62 @@
+//! The text of a token ring.
+ghost use Rattle.std.specs.Prelude.{◌≡◌};
+ghost use Rattle.toml.specs.View.{table_view};
+ghost use Rattle.model_reader.specs.Checks.{Gives};
+ghost use Rattle.run_tally.specs.Tallies.{no_totals};
+ghost use Rattle.own_text.specs.RingTexts.{ring_of, ring_texts, ring_texts_laws};
+
+use event_key::LAST_TICK;
+use model_core::model::Model as SimulationModel;
+use model_core::{MOST_EVENTS, MOST_OBJECTS};
+use model_reader::{ModelReader, Refusal};
+use own_model::Ring;
+use run_tally::NoTally;
+use sim_spec::Terms;
+use std::alloc::Global;
+use text_fields::{code_name, document, law, number, only, required, terms_of};
+use toml::Table;
+
+/// The reader of token rings.
+#[derive(Clone, Copy, Debug)]
+pub struct RingTexts;
+
+/// The ring of a table, and how far its simulation goes. A refusal is at item 0.
+#[tactic(auto, unfolding(crate::specs::RingTexts::ring_of))]
+fn ring_of(table: &Table) -> Result<(Ring, Terms), Refusal>
+    ensures { Gives (λ read. record { meaning = ⟦<Ring as SimulationModel>⟧.meaning read.0; terms = read.1; totals = no_totals }) result (ring_of (table_view table.now)) }
+{
+    let stations = required(table, "stations", 0)?;
+    let stations = number(stations, 0, 1, u64::from(MOST_OBJECTS))? as u32;
+    let hold = law(required(table, "hold", 0)?, 0)?;
+    let patience = number(required(table, "patience", 0)?, 0, 0, LAST_TICK)?;
+    let end = number(required(table, "end", 0)?, 0, 0, LAST_TICK)?;
+    let seed = number(required(table, "seed", 0)?, 0, 0, 9_223_372_036_854_775_807)?;
+    only(table, &["stations", "hold", "patience", "end", "seed"], 0)?;
+    let ring = Ring {
+        seed,
+        stations,
+        hold,
+        patience,
+    };
+    Ok((ring, terms_of(end, MOST_EVENTS)))
+}
+
+#[tactic(auto, unfolding(crate::specs::RingTexts::said))]
+impl ModelReader for RingTexts {
+    type Model = Ring;
+
+    type Tally = NoTally;
+
+    ghost reading = { ring_texts };
+
+    ghost laws = { ring_texts_laws };
+
+    fn read(&self, alloc: Global, bytes: &[u8]) -> Result<(Ring, Terms), Refusal> {
+        let table = document(alloc, bytes)?;
+        ring_of(&table)
+    }
+
+    fn code_name(&self, code: u8) -> &'static str {
+        code_name(code)
+    }
+}
