@@ -134,8 +134,7 @@ pub fn run_model<R: Threads + Sync, G: Gate, M: Model, L: Tally<M>, K: Sink>(
             hand_on(outcome, out)
         }
         Machine::Nodes(spread) => {
-            let outcome =
-                run_on_nodes::<R, G, M, L, K>(stage, model, terms, spread, telling, out);
+            let outcome = run_on_nodes::<R, G, M, L, K>(stage, model, terms, spread, telling, out);
             hand_on(outcome, out)
         }
     }
