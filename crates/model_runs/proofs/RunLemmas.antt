@@ -1,5 +1,5 @@
 -- What a run tells once it has asked its engine.
-use Rattle.std.proofs.Common.{◌≡◌, ℕ, Option, refl, ◌∙◌, ap}
+use Rattle.std.proofs.Common.{◌≡◌, ℕ, Option, ◌∙◌, ap}
 use Rattle.event_key.specs.declared.key.Key.{Key}
 use Rattle.model_core.specs.Meaning.{Meaning}
 use Rattle.sim_spec.specs.declared.stop.Stop.{Stop}

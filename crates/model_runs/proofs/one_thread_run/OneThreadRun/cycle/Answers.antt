@@ -1,6 +1,5 @@
 -- A cycle of the engine is one of the run, which tells where it stands then.
-use Rattle.std.proofs.Common.{◌≡◌, refl, sym, ap, ◌∙◌, subst}
-use Rattle.model_core.specs.Meaning.{Meaning}
+use Rattle.std.proofs.Common.{refl, ap, ◌∙◌, subst}
 use Rattle.one_thread.specs.Engines.{EngineView}
 use Rattle.sim_spec.specs.Standing.{CycleGives}
 use Rattle.model_runs.proofs.RunLemmas.{tells}

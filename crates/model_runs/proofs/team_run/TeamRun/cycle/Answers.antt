@@ -1,5 +1,5 @@
 -- A cycle of the nodes is one of the run, which tells where they stand then.
-use Rattle.std.proofs.Common.{◌≡◌, sym, ap, ◌∙◌, subst}
+use Rattle.std.proofs.Common.{sym, ◌∙◌, subst}
 use Rattle.node_team.specs.Teams.{TeamView}
 use Rattle.sim_spec.specs.Standing.{IsCountAt}
 use Rattle.cycle_core.specs.Standings.{GoesOn, HasCycled}
