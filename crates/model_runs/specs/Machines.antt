@@ -1,6 +1,7 @@
 -- What runs a simulation.
 use Rattle.std.specs.Prelude.{◌≡◌, ◌≤◌, None}
 use Rattle.model_core.specs.declared.limits.TheConstants.{MOST_NODES}
+use Rattle.cycle_core.specs.Starts.{ArePlacedBy}
 use Rattle.node_team.specs.Handings.{AreWorkers}
 use Rattle.node_team.specs.Teams.{TeamView}
 use Rattle.sim_io.specs.declared.words.TheConstants.{DEFAULT_AHEAD, DEFAULT_NODES}
@@ -22,8 +23,10 @@ IsMachine (Nodes spread) = IsSpread spread
 abbrev pub default_spread : Spread
 default_spread = record { nodes = DEFAULT_NODES; ahead = DEFAULT_AHEAD; placement = Placement.Round; workers = None; moves = None }
 
--- a team has as many nodes as are set, which work as far ahead, and what moves is what is set
+-- a team has as many nodes as are set, with the objects placed on them as is set, which work as far ahead, and what moves is
+-- what is set
 pub record IsSpreadAs {M : Type 0} (team : TeamView M) (moving : Moving) (spread : Spread) : Type 0 where
   pub nodes : team.world.homes.nodes ≡ spread.nodes
+  pub placed : ArePlacedBy spread.placement team.world.homes
   pub ahead : team.ahead ≡ spread.ahead
   pub moves : moving ≡ record { moves = spread.moves; cycles = 0 }

@@ -5,6 +5,7 @@ ghost use Rattle.model_core.specs.declared.limits.TheConstants.{MOST_NODES};
 ghost use Rattle.sim_spec.specs.State.{Lawful, initial_state};
 ghost use Rattle.sim_spec.specs.Standing.{Standing, stands};
 ghost use Rattle.cycle_core.specs.Standings.{GoesOn, HasCycled, WorldStandsAt};
+ghost use Rattle.cycle_core.specs.Starts.{ArePlacedBy};
 ghost use Rattle.node_team.specs.Handings.{AreWorkers};
 ghost use Rattle.model_runs.specs.Machines.{IsSpreadAs};
 ghost use Rattle.model_runs.specs.Plans.{HasMoved};
@@ -73,6 +74,7 @@ impl<M: Model> TeamRun<M> {
     /// The simulation of a world.
     fn of(alloc: Global, world: World<M>, spread: Spread) -> Result<TeamRun<M>, OutOfMemory>
         requires nodes { world.homes.nodes ≡ spread.nodes }
+        requires placed { ArePlacedBy spread.placement world.homes }
         requires low { 1 ≤ spread.nodes }
         requires high { spread.nodes ≤ MOST_NODES }
         ensures world { IfOk result (λ run. run.team.world ≡ world) }
