@@ -10,12 +10,11 @@ ghost use Rattle.btb_program.specs.SavedRuns.{IsSavedSo};
 use crate::stack::grow_stack;
 use model_program::{machine_of, run_command, telling_of};
 use model_runs::{Job, Stage, run_model};
-use model_text::{AnyModel, ModelTexts};
+use model_text::{AnyModel, ModelTexts, ModelTotals};
 use node_team::Gate;
 use program_answers::{Ending, ending_of};
 use queue_models::ring;
 use sim_io::{Settings, Sink, Source, read_words};
-use sim_stats::Totals;
 use std::alloc::Global;
 use std::thread::Threads;
 
@@ -33,7 +32,7 @@ fn run_demo<R: Threads + Sync, G: Gate, K: Sink>(stage: Stage<R, G>, n: u32, out
                 machine: machine_of(Settings::Demo { n }),
                 telling: telling_of(Settings::Demo { n }),
             };
-            ending_of(run_model::<R, G, AnyModel, Totals, K>(stage, job, out))
+            ending_of(run_model::<R, G, AnyModel, ModelTotals, K>(stage, job, out))
         }
         Err(_) => Ending::OutOfMemory,
     }

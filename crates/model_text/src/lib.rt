@@ -21,6 +21,7 @@ mod reader;
 mod seeded;
 mod starts;
 mod top;
+mod totals;
 
 pub use described::ReadModel;
 pub use format_laws::law_formats;
@@ -29,3 +30,4 @@ pub use reader::ModelTexts;
 pub use seeded::Seeded;
 pub use text_fields::{Refusal, code_name};
 pub use top::{read_family, read_model};
+pub use totals::ModelTotals;

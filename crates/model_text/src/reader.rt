@@ -1,9 +1,9 @@
 //! The reader of these texts, for programs that take any reader.
 use crate::model::AnyModel;
 use crate::top::read_model;
+use crate::totals::ModelTotals;
 use model_reader::ModelReader;
 use sim_spec::Terms;
-use sim_stats::Totals;
 use std::alloc::Global;
 use text_fields::{Refusal, code_name};
 
@@ -16,7 +16,7 @@ impl ModelReader for ModelTexts {
 
     type Model = AnyModel;
 
-    type Tally = Totals;
+    type Tally = ModelTotals;
 
     ghost reading = { model_texts };
 
