@@ -1,1 +1,2 @@
 pub mod RingTexts
+pub mod RingTotals

@@ -9,7 +9,7 @@ use Rattle.model_core.specs.declared.limits.TheConstants.{MOST_EVENTS, MOST_OBJE
 use Rattle.model_reader.specs.Checks.{Checked, ◌>>=◌}
 use Rattle.model_reader.specs.Readings.{ModelOf, Reading, ReadingLaws, if_short, if_short-laws}
 use Rattle.own_model.specs.Rings.{ring_meaning}
-use Rattle.run_tally.specs.Tallies.{no_totals}
+use Rattle.own_text.specs.RingTotals.{ring_totals}
 use Rattle.text_fields.specs.Causes.{code_name}
 use Rattle.text_fields.specs.Documents.{tree}
 use Rattle.text_fields.specs.Fields.{number, only, required}
@@ -25,7 +25,7 @@ ring_of ms = do
   end ← required 0 (codes "end") ms >>= number 0 0 LAST_TICK
   seed ← required 0 (codes "seed") ms >>= number 0 0 9223372036854775807
   known ← only 0 (codes "stations" ∷ codes "hold" ∷ codes "patience" ∷ codes "end" ∷ codes "seed" ∷ []) ms
-  Ok (record { meaning = ring_meaning seed stations hold patience; terms = terms_of end MOST_EVENTS; totals = no_totals })
+  Ok (record { meaning = ring_meaning seed stations hold patience; terms = terms_of end MOST_EVENTS; totals = ring_totals })
 
 -- what the bytes say, if they are not too many
 unfoldable pub said : List ℕ → Checked ModelOf

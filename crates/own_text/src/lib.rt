@@ -2,5 +2,7 @@
 #![tactic(auto)]
 
 mod reader;
+mod tally;
 
 pub use reader::RingTexts;
+pub use tally::RingTally;
