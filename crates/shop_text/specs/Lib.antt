@@ -1,0 +1,9 @@
+pub mod ClassTexts
+pub mod LawTexts
+pub mod LinkedRoutes
+pub mod ShopTexts
+pub mod StationTexts
+pub mod StepTexts
+pub mod Ranges
+pub mod Views
+pub mod Readers

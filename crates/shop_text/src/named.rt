@@ -1,0 +1,41 @@
+//! Classes as a text tells of them: stations are given by their names, and steps by their labels.
+use model_core::{Name, Sequence};
+use random_streams::{DelayLaw, Weights};
+use shop_model::Class;
+use text_fields::Directory;
+
+/// A visit of a station.
+#[derive(Drop)]
+pub(crate) struct NamedVisit {
+    pub(crate) station: Name,
+    pub(crate) service: Option<DelayLaw>,
+    pub(crate) patience: Option<DelayLaw>,
+    pub(crate) away: Name,
+    pub(crate) full: Name,
+}
+
+/// A step of a route.
+#[derive(Drop)]
+pub(crate) enum NamedStep {
+    Visit(NamedVisit),
+    Free {
+        station: Name,
+    },
+    Delay {
+        law: DelayLaw,
+    },
+    Go {
+        steps: Sequence<Name>,
+        weights: Weights,
+    },
+}
+
+/// A class.
+#[derive(Drop)]
+pub(crate) struct NamedClass {
+    /// What it is but for its route, which is empty until it is linked.
+    pub(crate) class: Class,
+    pub(crate) route: Vec<NamedStep>,
+    /// The labels of its steps.
+    pub(crate) labels: Directory,
+}

@@ -1,0 +1,118 @@
+//! The stations with their fields.
+ghost use Rattle.std.specs.Prelude.{◌≡◌, ◌≤◌, ◌-◌, All, IfOk, codes, length};
+ghost use Rattle.std.specs.Option.{ForSome};
+ghost use Rattle.toml.specs.Data.{get_member};
+ghost use Rattle.toml.specs.View.{view, items_view, table_view};
+ghost use Rattle.model_core.specs.declared.limits.TheConstants.{MOST_OBJECTS};
+ghost use Rattle.shop_model.specs.HasStation.{AreBreakdowns};
+ghost use Rattle.text_fields.specs.Checks.{Gives};
+ghost use Rattle.text_fields.specs.Directories.{finder};
+ghost use Rattle.shop_text.specs.Ranges.{IsStationText, LinksBelow};
+ghost use Rattle.shop_text.specs.StationTexts.{order, breakdowns, station, stations};
+
+use crate::laws::optional_law;
+use crate::shifts::{most_open, read_timetable};
+use shop_model::{Breakdowns, MOST_LINE, MOST_OPEN, Order, Station};
+use std::alloc::Global;
+use text_fields::{
+    Cause, Directory, Place, Refusal, field, new_name, number_or, only, required, table_of, text,
+};
+use toml::{Table, Value};
+
+/// Who is called first: who came first, where the key is absent.
+fn order(table: &Table, item: u32) -> Result<Order, Refusal>
+    ensures { Gives (λ order. order) result (order item (get_member (codes "order") (table_view table.now))) }
+{
+    let Some(value) = field(table, "order") else {
+        return Ok(Order::First);
+    };
+    match text(value, item)? {
+        "first" => Ok(Order::First),
+        "last" => Ok(Order::Last),
+        "priority" => Ok(Order::Priority),
+        _ => Err(Cause::BadValue.at(item)),
+    }
+}
+
+/// For how long a station works and stands still.
+#[tactic(auto, unfolding(crate::specs::StationTexts::breakdowns))]
+fn breakdowns(alloc: Global, table: &Table, item: u32) -> Result<Option<Breakdowns>, Refusal>
+    ensures read { Gives (λ laws. laws) result (breakdowns item (table_view table.now)) }
+    ensures in_range { IfOk result (λ laws. ForSome laws AreBreakdowns) }
+{
+    let up = optional_law(alloc, table, "up", item)?;
+    let down = optional_law(alloc, table, "down", item)?;
+    match (up, down) {
+        (Some(up), Some(down)) => Ok(Some(Breakdowns { up, down })),
+        (None, None) => Ok(None),
+        _ => Err(Cause::Missing.at(item)),
+    }
+}
+
+/// The station with this item, which may have none of the names in the directory and is taken in there. Its line has one
+/// level until all classes are known.
+#[tactic(auto, unfolding(crate::specs::StationTexts::station))]
+fn station(
+    alloc: Global,
+    value: &Value,
+    directory: &mut Directory,
+    item: u32,
+) -> Result<Station, Refusal>
+    requires { 1 ≤ item }
+    ensures read { Gives (λ station. (station, finder directory.new)) result (station item (finder directory.old) (view value.now)) }
+    ensures in_range { IfOk result IsStationText }
+    ensures links { LinksBelow (item - 1) (finder directory.old) → IfOk result (λ _. LinksBelow item (finder directory.new)) }
+{
+    let table = table_of(value, item)?;
+    let name = new_name(alloc, required(table, "name", item)?, directory, item)?;
+    let most = u64::from(MOST_OPEN);
+    let servers = number_or(table, "servers", item, 1, 0, most)? as u32;
+    let most = u64::from(MOST_LINE);
+    let line = number_or(table, "line", item, most, 0, most)? as u32;
+    let order = order(table, item)?;
+    let timetable = read_timetable(alloc, table, item)?;
+    let breakdowns = breakdowns(alloc, table, item)?;
+    only(
+        table,
+        &[
+            "name", "servers", "line", "order", "shifts", "period", "up", "down",
+        ],
+        item,
+    )?;
+    let place = Place {
+        number: item - 1,
+        takes_links: true,
+    };
+    directory.add(alloc, name.bytes(), place)?;
+    Ok(Station {
+        name,
+        servers,
+        most: most_open(servers, timetable.shifts.as_slice()),
+        line,
+        order,
+        levels: 1,
+        shifts: timetable.shifts,
+        period: timetable.period,
+        breakdowns,
+    })
+}
+
+/// The stations one after another, the first with item 1, and a directory of them.
+pub(crate) fn stations(
+    alloc: Global,
+    values: &[Value],
+) -> Result<(Vec<Station>, Directory), Refusal>
+    requires { length values.now ≤ MOST_OBJECTS }
+    ensures read { Gives (λ read. (read.0.items, finder read.1)) result (stations (items_view values.now)) }
+    ensures count { IfOk result (λ read. length read.0.items ≡ length values.now) }
+    ensures in_range { IfOk result (λ read. All IsStationText read.0.items) }
+    ensures links { IfOk result (λ read. LinksBelow (length values.now) (finder read.1)) }
+{
+    let mut stations = Vec::new(alloc);
+    let mut directory = Directory::new(alloc);
+    for value in values {
+        let item = stations.len() as u32 + 1;
+        stations.push(station(alloc, value, &mut directory, item)?)?;
+    }
+    Ok((stations, directory))
+}

@@ -1,0 +1,132 @@
+//! The steps of a route, each form with its fields.
+ghost use Rattle.std.specs.Prelude.{◌≡◌, IfOk, IsTrue};
+ghost use Rattle.std.specs.Option.{ForSome};
+ghost use Rattle.toml.specs.View.{view, table_view};
+ghost use Rattle.random_streams.specs.Delays.{is_delay_law};
+ghost use Rattle.text_fields.specs.Checks.{Gives};
+ghost use Rattle.shop_text.specs.Ranges.{IsNamedStep, IsNamedVisit};
+ghost use Rattle.shop_text.specs.StepTexts.{visit, service, hold, free, delay, go, step_form};
+
+use crate::laws::{delay_law, optional_law};
+use crate::named::{NamedStep, NamedVisit};
+use random_streams::DelayLaw;
+use std::alloc::Global;
+use text_fields::{
+    Cause, Refusal, field, name_of, only, optional_weights, required, text, text_or, ways,
+};
+use toml::Table;
+
+/// Where a job goes that isn't served, if its class doesn't say it: it is given up.
+const UNSERVED: &str = "drop";
+
+/// How long a job waits, and where it goes if it isn't served.
+#[tactic(auto, unfolding(crate::specs::StepTexts::visit))]
+fn visit(
+    alloc: Global,
+    station: &str,
+    service: Option<DelayLaw>,
+    table: &Table,
+    item: u32,
+) -> Result<NamedVisit, Refusal>
+    requires { ForSome service (λ law. IsTrue (is_delay_law law)) }
+    ensures read { Gives (λ visit. visit) result (visit item station.now service (table_view table.now)) }
+    ensures in_range { IfOk result IsNamedVisit }
+{
+    let patience = optional_law(alloc, table, "patience", item)?;
+    let away = text_or(table, "away", item, UNSERVED)?;
+    let full = text_or(table, "full", item, UNSERVED)?;
+    Ok(NamedVisit {
+        station: name_of(alloc, station)?,
+        service,
+        patience,
+        away: name_of(alloc, away)?,
+        full: name_of(alloc, full)?,
+    })
+}
+
+/// A server serves the job.
+#[tactic(auto, unfolding(crate::specs::StepTexts::service))]
+fn service(alloc: Global, table: &Table, item: u32) -> Result<NamedStep, Refusal>
+    ensures read { Gives (λ step. step) result (service item (table_view table.now)) }
+    ensures in_range { IfOk result IsNamedStep }
+{
+    let station = text(required(table, "at", item)?, item)?;
+    let law = delay_law(alloc, required(table, "service", item)?, item)?;
+    let visit = visit(alloc, station, Some(law), table, item)?;
+    only(
+        table,
+        &["label", "at", "service", "patience", "away", "full"],
+        item,
+    )?;
+    Ok(NamedStep::Visit(visit))
+}
+
+/// The job takes a server for itself.
+#[tactic(auto, unfolding(crate::specs::StepTexts::hold))]
+fn hold(alloc: Global, table: &Table, item: u32) -> Result<NamedStep, Refusal>
+    ensures read { Gives (λ step. step) result (hold item (table_view table.now)) }
+    ensures in_range { IfOk result IsNamedStep }
+{
+    let station = text(required(table, "hold", item)?, item)?;
+    let visit = visit(alloc, station, None, table, item)?;
+    only(table, &["label", "hold", "patience", "away", "full"], item)?;
+    Ok(NamedStep::Visit(visit))
+}
+
+/// The job gives a server back.
+#[tactic(auto, unfolding(crate::specs::StepTexts::free))]
+fn free(alloc: Global, table: &Table, item: u32) -> Result<NamedStep, Refusal>
+    ensures read { Gives (λ step. step) result (free item (table_view table.now)) }
+    ensures in_range { IfOk result IsNamedStep }
+{
+    let station = text(required(table, "free", item)?, item)?;
+    only(table, &["label", "free"], item)?;
+    let station = name_of(alloc, station)?;
+    Ok(NamedStep::Free { station })
+}
+
+/// The job stays with its class for a while.
+#[tactic(auto, unfolding(crate::specs::StepTexts::delay))]
+fn delay(alloc: Global, table: &Table, item: u32) -> Result<NamedStep, Refusal>
+    ensures read { Gives (λ step. step) result (delay item (table_view table.now)) }
+    ensures in_range { IfOk result IsNamedStep }
+{
+    let law = delay_law(alloc, required(table, "delay", item)?, item)?;
+    only(table, &["label", "delay"], item)?;
+    Ok(NamedStep::Delay { law })
+}
+
+/// The job goes to one of several steps.
+#[tactic(auto, unfolding(crate::specs::StepTexts::go))]
+fn go(alloc: Global, table: &Table, item: u32) -> Result<NamedStep, Refusal>
+    ensures read { Gives (λ step. step) result (go item (table_view table.now)) }
+    ensures in_range { IfOk result IsNamedStep }
+{
+    let steps = ways(alloc, required(table, "go", item)?, item)?;
+    let weights = optional_weights(alloc, table, "weights", item, steps.as_slice().len())?;
+    only(table, &["label", "go", "weights"], item)?;
+    Ok(NamedStep::Go { steps, weights })
+}
+
+/// What the job does, by the first key of a form that is there.
+pub(crate) fn step_form(alloc: Global, table: &Table, item: u32) -> Result<NamedStep, Refusal>
+    ensures read { Gives (λ step. step) result (step_form item (table_view table.now)) }
+    ensures in_range { IfOk result IsNamedStep }
+{
+    if field(table, "at").is_some() {
+        return service(alloc, table, item);
+    }
+    if field(table, "hold").is_some() {
+        return hold(alloc, table, item);
+    }
+    if field(table, "free").is_some() {
+        return free(alloc, table, item);
+    }
+    if field(table, "delay").is_some() {
+        return delay(alloc, table, item);
+    }
+    if field(table, "go").is_some() {
+        return go(alloc, table, item);
+    }
+    Err(Cause::Missing.at(item))
+}
