@@ -27,6 +27,7 @@ use std::alloc::Global;
 #[derive(Debug, Drop)]
 pub struct Shop {
     seed: u64,
+    counted_from: u64,
     stations: Vec<Station>,
     routes: Routes,
     starts: Vec<Start>,
@@ -36,9 +37,10 @@ pub struct Shop {
 }
 
 impl Shop {
-    ghost use Rattle.shop_model.specs.Views.{parts_of};
+    ghost use Rattle.shop_model.specs.Views.{parts_of, counted_from};
 
-    /// The shop with these parts: a seed, below 2^63, the stations and the classes, which are objects in this order.
+    /// The shop with these parts: a seed, below 2^63, the stations and the classes, which are objects in this order. Its
+    /// totals count from the start on.
     pub fn make(
         alloc: Global,
         seed: u64,
@@ -49,6 +51,7 @@ impl Shop {
         ensures meaning { IfOk result (λ shop. ⟦<Shop as SimulationModel>⟧.meaning shop
             ≡ shop_meaning (shop_of seed stations.items classes.items)) }
         ensures parts { IfOk result (λ shop. parts_of shop ≡ shop_of seed stations.items classes.items) }
+        ensures counted_from { IfOk result (λ shop. counted_from shop ≡ 0) }
     {
         let starts = starts_of(alloc, &stations, &classes)?;
         let routes = Routes {
@@ -57,10 +60,41 @@ impl Shop {
         };
         Ok(Shop {
             seed,
+            counted_from: 0,
             stations,
             routes,
             starts,
         })
+    }
+
+    /// The same shop, whose totals count from a tick on.
+    pub fn counting_from(mut self, tick: u64) -> Shop
+        ensures parts { parts_of result ≡ parts_of self }
+        ensures counted_from { counted_from result ≡ tick }
+    {
+        self.counted_from = tick;
+        self
+    }
+
+    /// The tick from which on its totals count.
+    pub fn counted_from(&self) -> u64
+        ensures { result ≡ counted_from self.now }
+    {
+        self.counted_from
+    }
+
+    /// The stations, in the order of their numbers.
+    pub fn stations(&self) -> &[Station]
+        ensures { result.now ≡ (parts_of self.now).stations }
+    {
+        self.stations.as_slice()
+    }
+
+    /// The classes of jobs, in the order of their numbers.
+    pub fn classes(&self) -> &[Class]
+        ensures { result.now ≡ (parts_of self.now).classes }
+    {
+        self.routes.classes.as_slice()
     }
 }
 

@@ -1,2 +1,12 @@
+pub mod BoundLemmas
+pub mod ClassLemmas
+pub mod ClockLemmas
 pub mod FlowLemmas
 pub mod KeptLemmas
+pub mod LineLemmas
+pub mod ObjectLemmas
+pub mod RecordLemmas
+pub mod ShopLemmas
+pub mod StationLemmas
+pub mod VisitLemmas
+pub mod VisitorLemmas

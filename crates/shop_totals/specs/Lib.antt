@@ -1,5 +1,9 @@
 pub mod Flows
 pub mod Kept
 pub mod Lines
+pub mod Records
+pub mod ShopLines
+pub mod Summed
 pub mod Sums
 pub mod Told
+pub mod Visits

@@ -1,5 +1,7 @@
 //! The sums of a class.
-ghost use Rattle.std.specs.Prelude.{◌≡◌, ◌<◌, ◌≤◌, ◌+◌, ◌^◌, ◌++◌, ◌∷◌, [], ℕ, List};
+ghost use Rattle.std.specs.Prelude.{◌≡◌, ◌<◌, ◌≤◌, ◌+◌, ◌^◌, ◌++◌, ◌∷◌, [], ℕ, List, length};
+ghost use Rattle.shop_totals.specs.Records.{parts_at};
+ghost use Rattle.shop_totals.specs.Summed.{SumsUpClass};
 ghost use Rattle.shop_totals.specs.Told.{TimedPart, AreBy};
 ghost use Rattle.shop_totals.specs.Sums.{after_inside, age_told, class_sums_of, IsClassWithin};
 
@@ -121,5 +123,22 @@ impl ClassSums {
             inside,
             ..self.counted(part)
         }
+    }
+
+    /// Parts are told, at a time. It takes time for these parts alone.
+    pub fn and_all(self, time: u64, parts: &[Part]) -> ClassSums
+        requires time { self.clock ≤ time }
+        requires soon { time < 2 ^ 48 }
+        requires few { length parts.now ≤ 4 }
+        requires room { IsClassWithin (2 ^ 61) self }
+        ensures sums { (first : ℕ) (told : List TimedPart) (most : ℕ) → SumsUpClass first told most self
+            → SumsUpClass first (told ++ parts_at time parts.now) (most + 4) result }
+        ensures clock { result.clock ≡ time }
+    {
+        let mut sums = self.pass(time);
+        for part in parts {
+            sums = sums.and(*part);
+        }
+        sums
     }
 }

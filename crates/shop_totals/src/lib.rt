@@ -6,13 +6,18 @@ mod class_sums;
 mod flow;
 mod kept;
 mod lines;
+mod shop_totals;
 mod station_sums;
+mod station_totals;
 #[cfg(test)]
 mod tests;
 mod visit_sums;
+mod visits;
 
 pub use class_sums::ClassSums;
 pub use flow::Flow;
 pub use kept::Kept;
+pub use shop_totals::ShopTotals;
 pub use station_sums::StationSums;
+pub use station_totals::StationTotals;
 pub use visit_sums::VisitSums;

@@ -1,0 +1,44 @@
+-- Lines that are appended one after another.
+use Rattle.std.proofs.Common.{◌≡◌, ◌∙◌, ℕ, ◌+◌, ◌<◌, List, [], ◌∷◌, ◌++◌, length, take, get_or, ap, sym, append-nil, append_assoc}
+use Rattle.std.specs.List.{flat_map}
+use Rattle.std.proofs.lemmas.Grind.{flat_map-append}
+use Rattle.std.proofs.lemmas.List.{take_more}
+use Rattle.shop_model.specs.Meaning.{name_at}
+use Rattle.shop_model.specs.ShopParts.{ShopParts}
+use Rattle.shop_totals.specs.declared.visit_sums.VisitSums.{VisitSums}
+use Rattle.shop_totals.specs.Lines.{visit_text}
+use Rattle.shop_totals.specs.ShopLines.{visit_line}
+use Rattle.shop_totals.specs.Summed.{visit_of}
+use Rattle.shop_totals.specs.Told.{TimedPart}
+
+pub visit_line-put : (p : ShopParts) (first : ℕ) (told : List TimedPart) (station class : ℕ) (before named parted both all : List ℕ) (sums : VisitSums)
+    → named ≡ before ++ name_at p station → parted ≡ named ++ 47 ∷ [] → both ≡ parted ++ name_at p (length p.stations + class) → all ≡ both ++ visit_text sums
+    → sums ≡ visit_of first told class → all ≡ before ++ visit_line p first told station class
+unfolding visit_line
+visit_line-put p first told station class before named parted both all sums names parts names_too ends is =
+    let name = name_at p station in
+    let other = name_at p (length p.stations + class) in
+    let text = visit_text (visit_of first told class) in
+    ends
+    ∙ ap (λ (xs : List ℕ). xs ++ visit_text sums) (names_too ∙ ap (λ (xs : List ℕ). xs ++ other) (parts ∙ ap (λ (xs : List ℕ). xs ++ 47 ∷ []) names))
+    ∙ ap (λ (s : VisitSums). (((before ++ name) ++ 47 ∷ []) ++ other) ++ visit_text s) is
+    ∙ append_assoc ((before ++ name) ++ 47 ∷ []) other text
+    ∙ append_assoc (before ++ name) (47 ∷ []) (other ++ text)
+    ∙ append_assoc before name (47 ∷ [] ++ (other ++ text))
+
+-- a name and a text behind it
+pub named-put : (before named all name text shown : List ℕ) → named ≡ before ++ name → all ≡ named ++ shown → shown ≡ text → all ≡ before ++ (name ++ text)
+named-put before named all name text shown names ends is =
+    ends ∙ ap (λ (xs : List ℕ). xs ++ shown) names ∙ ap (λ (shown : List ℕ). (before ++ name) ++ shown) is ∙ append_assoc before name text
+
+-- what is told of one more of a list, behind its head
+pub lines-next : (f : ℕ → List ℕ) (numbers : List ℕ) (place : ℕ) (before head into new : List ℕ) → place < length numbers
+    → into ≡ before ++ (head ++ flat_map f (take place numbers)) → new ≡ into ++ f (get_or numbers place 0) → new ≡ before ++ (head ++ flat_map f (take (place + 1) numbers))
+lines-next f numbers place before head into new within are more =
+    let so_far = flat_map f (take place numbers) in
+    let line = f (get_or numbers place 0) in
+    let lines : so_far ++ line ≡ flat_map f (take (place + 1) numbers) =
+    ap (λ (xs : List ℕ). so_far ++ xs) (sym (append-nil line)) ∙ sym (flat_map-append f (take place numbers) (get_or numbers place 0 ∷ []))
+    ∙ ap (λ (numbers : List ℕ). flat_map f numbers) (sym (take_more numbers place 0 within)) in
+    more ∙ ap (λ (xs : List ℕ). xs ++ line) are ∙ append_assoc before (head ++ so_far) line
+    ∙ ap (λ (xs : List ℕ). before ++ xs) (append_assoc head so_far line ∙ ap (λ (xs : List ℕ). head ++ xs) lines)

@@ -1,0 +1,15 @@
+use Rattle.std.proofs.Common.{◌≡◌, ◌+◌, ◌++◌, List, length}
+use Rattle.std.specs.List.{flat_map, range_with_len}
+use Rattle.event_key.specs.declared.key.Key.{Key}
+use Rattle.model_core.specs.declared.note.Note.{Note}
+use Rattle.shop_model.specs.Views.{parts_of, counted_from}
+use Rattle.shop_totals.specs.Records.{told_at}
+use Rattle.shop_totals.specs.ShopLines.{class_line}
+use Rattle.shop_totals.specs.Summed.{SumsUpShop}
+use Rattle.shop_totals.proofs.shop_totals.ShopTotals.put_classes.Given as goal
+
+abbrev pub invariant-loop-number : goal.invariant-loop-number
+invariant-loop-number l =
+    (records : List (Key × Note)) → SumsUpShop (parts_of l.shop) (counted_from l.shop) l.self records
+    → l.into.items ≡ l.fn.into.items
+    ++ flat_map (λ class. class_line (parts_of l.shop) (counted_from l.shop) l.clock (told_at (length (parts_of l.shop).stations + class) records) class) (range_with_len 0 l.number)
