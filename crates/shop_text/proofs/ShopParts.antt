@@ -12,14 +12,12 @@ use Rattle.shop_model.specs.declared.station.Shift.{Shift}
 use Rattle.shop_model.specs.declared.station.Station.{Station}
 use Rattle.shop_model.specs.HasStation.{IsStation, IsShift as IsShiftOf}
 use Rattle.shop_model.specs.Parts.{IsClass}
-use Rattle.shop_model.specs.ShopParts.{shop_of, most_open, calmest, levels_of, IsStationOf, IsShop}
+use Rattle.shop_model.specs.ShopParts.{ShopParts, shop_of, most_open, calmest, levels_of, IsStationOf, IsShop}
 use Rattle.text_fields.specs.Names.{Finder}
 use Rattle.shop_text.specs.declared.named.NamedClass.{NamedClass}
 use Rattle.shop_text.specs.ClassTexts.{ClassText}
-use Rattle.model_core.specs.Meaning.{Meaning}
 use Rattle.model_reader.specs.declared.refusal.Refusal.{Refusal}
 use Rattle.model_reader.specs.declared.refusal.Refusal.TheVariants.{At, OutOfMemory}
-use Rattle.shop_model.specs.Meaning.{shop_meaning}
 use Rattle.text_fields.specs.Checks.{Checked, Fails, ◌>>=◌}
 use Rattle.shop_text.specs.LinkedRoutes.{linked_class, linked_classes}
 use Rattle.shop_text.specs.Ranges.{IsShift, IsStationText, IsClassText, LinksBelow}
@@ -126,8 +124,8 @@ shop-lawful seed k stations named classes find low few fine_stations fine_classe
       few_times = omega (arith, linked.times, times_seen named, few_times);
     }
 
-abbrev then_shop : ℕ → List Station → Checked (List Class) → Checked Meaning
-then_shop seed stations check = check >>= (λ classes. Ok (shop_meaning (shop_of seed (map (with_levels classes) stations) classes)))
+abbrev then_shop : ℕ → List Station → Checked (List Class) → Checked ShopParts
+then_shop seed stations check = check >>= (λ classes. Ok (shop_of seed (map (with_levels classes) stations) classes))
 
 -- the first link that fails is the answer
 pub links_stop : (seed first : ℕ) (find : Finder) (stations : List Station) (named : List NamedClass) (e : Refusal) → first ≡ length stations + 1
@@ -140,7 +138,7 @@ links_stop seed first find stations named (At code item) at fails =
 
 pub links_done : (seed first : ℕ) (find : Finder) (stations : List Station) (named : List NamedClass) (classes : List Class) → first ≡ length stations + 1
     → linked_named find first named ≡ Ok classes
-    → linked_shop seed find stations (class_texts named) ≡ Ok (shop_meaning (shop_of seed (map (with_levels classes) stations) classes))
+    → linked_shop seed find stations (class_texts named) ≡ Ok (shop_of seed (map (with_levels classes) stations) classes)
 unfolding linked_shop
 links_done seed first find stations named classes at gives =
     ap (λ n. then_shop seed stations (linked_classes find n (class_texts named))) (sym at)

@@ -3,14 +3,15 @@ use Rattle.std.specs.Prelude.{ℕ, ◌+◌, ◌==◌, nat_lt, pos, not, List, []
 use Rattle.std.specs.Str.{bytes_eq}
 use Rattle.toml.specs.Data.{Data, integer, array, no_items, Members, get_member}
 use Rattle.event_key.specs.declared.stamp.TheConstants.{LAST_TICK}
-use Rattle.model_core.specs.Meaning.{Meaning}
 use Rattle.model_core.specs.declared.limits.TheConstants.{MOST_EVENTS, MOST_OBJECTS}
 use Rattle.model_reader.specs.Readings.{ModelOf, if_short}
 use Rattle.model_reader.specs.Checks.{Refused}
 use Rattle.shop_model.specs.declared.class.Class.{Class}
 use Rattle.shop_model.specs.declared.station.Station.{Station}
 use Rattle.shop_model.specs.Meaning.{shop_meaning}
-use Rattle.shop_model.specs.ShopParts.{shop_of, levels_of}
+use Rattle.shop_model.specs.ShopParts.{ShopParts, shop_of, levels_of}
+use Rattle.shop_totals.specs.ShopLines.{shop_lines}
+use Rattle.sim_spec.specs.declared.terms.Terms.{Terms}
 use Rattle.text_fields.specs.declared.refusal.Cause.TheVariants.{TooLong, BadValue, Limit}
 use Rattle.text_fields.specs.Causes.{cause_code}
 use Rattle.text_fields.specs.Checks.{Checked, refusal, refusal_where, ◌>>=◌}
@@ -27,13 +28,13 @@ abbrev pub with_levels : List Class → Station → Station
 with_levels classes station = record station { levels = levels_of station.order classes }
 
 -- pass two, after the entries: the links, whose items follow those of the stations, and then the levels
-unfoldable pub linked_shop : ℕ → Finder → List Station → List ClassText → Checked Meaning
+unfoldable pub linked_shop : ℕ → Finder → List Station → List ClassText → Checked ShopParts
 linked_shop seed find stations texts = do
   classes ← linked_classes find (length stations + 1) texts
-  Ok (shop_meaning (shop_of seed (map (with_levels classes) stations) classes))
+  Ok (shop_of seed (map (with_levels classes) stations) classes)
 
 -- the arrays `station` and `class`: first how long they are, then each entry, and last all links
-unfoldable pub body : ℕ → Members → Checked Meaning
+unfoldable pub body : ℕ → Members → Checked ShopParts
 body seed ms = do
   tables ← array_of 0 MOST_OBJECTS (optional (array no_items) (codes "station") ms)
   others ← array_of 0 MOST_OBJECTS (optional (array no_items) (codes "class") ms)
@@ -51,6 +52,10 @@ abbrev pub top_keys : List (List ℕ)
 top_keys =
     codes "format" ∷ codes "model" ∷ codes "end" ∷ codes "seed" ∷ codes "limit" ∷ codes "from" ∷ codes "station" ∷ codes "class" ∷ []
 
+-- a shop with these parts, whose totals count from this tick on
+abbrev pub shop_read : ShopParts → Terms → ℕ → ModelOf
+shop_read parts terms from = record { meaning = shop_meaning parts; terms = terms; totals = shop_lines parts from terms }
+
 -- the top table, and then the body
 unfoldable pub top : Members → Checked ModelOf
 top ms = do
@@ -62,8 +67,8 @@ top ms = do
   limit ← number_or 0 10000000 1 MOST_EVENTS (get_member (codes "limit") ms)
   from ← number_or 0 0 0 LAST_TICK (get_member (codes "from") ms)
   known ← only 0 top_keys ms
-  meaning ← body seed ms
-  Ok (record { meaning = meaning; terms = terms_of end limit })
+  parts ← body seed ms
+  Ok (shop_read parts (terms_of end limit) from)
 
 abbrev pub too_long : Refused
 too_long = record { code = cause_code TooLong; item = 0 }

@@ -2,7 +2,6 @@
 ghost use Rattle.std.specs.Prelude.{◌≡◌, ◌+◌, ◌<◌, ◌≤◌, ◌^◌, List, All, IfOk, length, map, sum_by};
 ghost use Rattle.toml.specs.View.{table_view};
 ghost use Rattle.shop_model.specs.declared.class.TheConstants.{MOST_PRIORITY, MOST_TIMES};
-ghost use Rattle.shop_model.specs.Meaning.{shop_meaning};
 ghost use Rattle.shop_model.specs.ShopParts.{calmest, levels_of};
 ghost use Rattle.shop_model.specs.Views.{parts_of};
 ghost use Rattle.model_core.specs.declared.limits.TheConstants.{MOST_OBJECTS};
@@ -77,7 +76,7 @@ fn linked_shop(
     requires classes { All (λ (class : NamedClass). IsClassText (class_text class)) named.items }
     requires few_times { sum_by (λ (class : NamedClass). length class.class.times) named.items ≤ MOST_TIMES }
     requires links { LinksBelow (length stations.items) (finder directory.now) }
-    ensures { Gives (λ shop. shop_meaning (parts_of shop)) result (linked_shop seed (finder directory.now) stations.items (class_texts named.items)) }
+    ensures { Gives parts_of result (linked_shop seed (finder directory.now) stations.items (class_texts named.items)) }
 {
     let first = stations.len() as u32 + 1;
     let classes = linked_classes(alloc, directory, named, first)?;
@@ -89,7 +88,7 @@ fn linked_shop(
 #[tactic(auto, unfolding(crate::specs::ShopTexts::body))]
 pub(crate) fn body(alloc: Global, table: &Table, seed: u64) -> Result<Shop, Refusal>
     requires { seed < 2 ^ 63 }
-    ensures { Gives (λ shop. shop_meaning (parts_of shop)) result (body seed (table_view table.now)) }
+    ensures { Gives parts_of result (body seed (table_view table.now)) }
 {
     let none = Value::Array(Vec::new(alloc));
     let most = MOST_OBJECTS as usize;

@@ -2,6 +2,7 @@
 use crate::top::read_shop;
 use model_reader::ModelReader;
 use shop_model::Shop;
+use shop_totals::ShopTotals;
 use sim_spec::Terms;
 use std::alloc::Global;
 use text_fields::{Refusal, code_name};
@@ -14,6 +15,8 @@ impl ModelReader for ShopTexts {
     ghost use Rattle.shop_text.specs.Readers.{shop_texts, shop_texts_laws};
 
     type Model = Shop;
+
+    type Tally = ShopTotals;
 
     ghost reading = { shop_texts };
 

@@ -1,10 +1,9 @@
 //! The top table, and the whole text.
 ghost use Rattle.std.specs.Prelude.{◌≡◌, Ok, IfOk, IfErr};
 ghost use Rattle.toml.specs.View.{view, table_view};
-ghost use Rattle.shop_model.specs.Meaning.{shop_meaning};
-ghost use Rattle.shop_model.specs.Views.{parts_of};
+ghost use Rattle.shop_model.specs.Views.{parts_of, counted_from};
 ghost use Rattle.text_fields.specs.Checks.{Gives, Fails};
-ghost use Rattle.shop_text.specs.ShopTexts.{is_first, top, shop_text};
+ghost use Rattle.shop_text.specs.ShopTexts.{is_first, shop_read, top, shop_text};
 
 use crate::body::body;
 use event_key::LAST_TICK;
@@ -31,7 +30,7 @@ fn is_first(value: &Value) -> Result<(), Refusal>
 /// The top table, and then its arrays.
 #[tactic(auto, unfolding(crate::specs::ShopTexts::top))]
 fn top(alloc: Global, table: &Table) -> Result<(Shop, Terms), Refusal>
-    ensures { Gives (λ read. record { meaning = shop_meaning (parts_of read.0); terms = read.1 }) result (top (table_view table.now)) }
+    ensures { Gives (λ read. shop_read (parts_of read.0) read.1 (counted_from read.0)) result (top (table_view table.now)) }
 {
     is_first(required(table, "format", 0)?)?;
     if text(required(table, "model", 0)?, 0)? != "shop" {
@@ -40,7 +39,7 @@ fn top(alloc: Global, table: &Table) -> Result<(Shop, Terms), Refusal>
     let end = number(required(table, "end", 0)?, 0, 0, LAST_TICK)?;
     let seed = number_or(table, "seed", 0, 0, 0, MOST_SEED)?;
     let limit = number_or(table, "limit", 0, 10_000_000, 1, MOST_EVENTS)?;
-    number_or(table, "from", 0, 0, 0, LAST_TICK)?;
+    let from = number_or(table, "from", 0, 0, 0, LAST_TICK)?;
     only(
         table,
         &[
@@ -49,14 +48,14 @@ fn top(alloc: Global, table: &Table) -> Result<(Shop, Terms), Refusal>
         0,
     )?;
     let shop = body(alloc, table, seed)?;
-    Ok((shop, terms_of(end, limit)))
+    Ok((shop.counting_from(from), terms_of(end, limit)))
 }
 
 /// The shop and the terms of a text, or the first check that it fails. A refusal has the code of that check, from 1 to 7,
 /// and the item that it speaks of. Item 0 is the top table. The stations and after them the classes are counted from 1.
 #[tactic(auto, unfolding(crate::specs::ShopTexts::shop_text))]
 pub fn read_shop(alloc: Global, bytes: &[u8]) -> Result<(Shop, Terms), Refusal>
-    ensures read { IfOk result (λ read. shop_text bytes.now ≡ Ok (record { meaning = shop_meaning (parts_of read.0); terms = read.1 })) }
+    ensures read { IfOk result (λ read. shop_text bytes.now ≡ Ok (shop_read (parts_of read.0) read.1 (counted_from read.0))) }
     ensures refused { IfErr result (λ refusal. Fails refusal (shop_text bytes.now)) }
 {
     if bytes.len() > MOST_TEXT_BYTES {

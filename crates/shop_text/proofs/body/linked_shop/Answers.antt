@@ -1,7 +1,6 @@
 use Rattle.std.proofs.Common.{◌≡◌, ◌+◌, List, Ok, length, arith, sym, ap, ◌∙◌}
 use Rattle.std.proofs.lemmas.Result.{err_from_is_err_and}
 use Rattle.shop_model.specs.declared.station.Station.{Station}
-use Rattle.shop_model.specs.Meaning.{shop_meaning}
 use Rattle.shop_model.specs.ShopParts.{ShopParts, shop_of}
 use Rattle.text_fields.specs.Directories.{finder}
 use Rattle.shop_text.proofs.ShopParts.{shop-calm, shop-lawful, links_stop, links_done}
@@ -30,4 +29,4 @@ pub returns : goal.returns
 returns c =
     let levelled = rw c.deref.ensures.value at c.in_ok-levelled.ensures in
     links_done c.args.seed (c.len.result + 1) (finder c.args.directory.now) c.args.stations.items c.args.named.items c.in_ok-classes.classes.items (omega arith) c.in_ok-classes.ensures
-    ∙ ap (λ (p : ShopParts). Ok (shop_meaning p)) (sym (c.in_ok-make.ensures.parts ∙ ap (λ (ss : List Station). shop_of c.args.seed ss c.in_ok-classes.classes.items) levelled))
+    ∙ ap (λ (p : ShopParts). Ok p) (sym (c.in_ok-make.ensures.parts ∙ ap (λ (ss : List Station). shop_of c.args.seed ss c.in_ok-classes.classes.items) levelled))
