@@ -137,6 +137,7 @@ fn a_line_has_a_level_for_each_priority(rt: HostRuntime) -> Result<(), Fail> {
         .ok_or("it is read")?;
     // Six words, one for each level, and one for each of the most servers.
     for (object, words, lines) in [(0, 6 + 2 + 3, 9), (1, 6 + 1 + 1, 5), (2, 3, 0)] {
+        assert!(rt; object < shop.objects());
         let cells = shop
             .first_cells(alloc, object)
             .ok()
