@@ -6,15 +6,21 @@ use Rattle.toml.specs.Parse.{parse_document, lines, skip_bom}
 use Rattle.toml_parser.specs.Lexical.{skip_from, skip_ws}
 use Rattle.event_key.specs.declared.stamp.TheConstants.{LAST_TICK}
 use Rattle.model_core.specs.declared.limits.TheConstants.{MOST_EVENTS, MOST_OBJECTS}
+use Rattle.model_core.specs.Meaning.{Meaning}
 use Rattle.model_reader.specs.Checks.{Checked, ◌>>=◌}
 use Rattle.model_reader.specs.Readings.{ModelOf, Reading, ReadingLaws, if_short, if_short-laws}
 use Rattle.own_model.specs.Rings.{ring_meaning}
+use Rattle.sim_spec.specs.declared.terms.Terms.{Terms}
 use Rattle.own_text.specs.RingTotals.{ring_totals}
 use Rattle.text_fields.specs.Causes.{code_name}
 use Rattle.text_fields.specs.Documents.{tree}
 use Rattle.text_fields.specs.Fields.{number, only, required}
 use Rattle.text_fields.specs.LawTexts.{law}
 use Rattle.text_fields.specs.TermsOf.{terms_of}
+
+-- a ring with its terms and its totals
+abbrev pub ring_read : Meaning → Terms → ModelOf
+ring_read meaning terms = record { meaning = meaning; terms = terms; totals = ring_totals }
 
 -- the fields in their order, and then unknown keys
 unfoldable pub ring_of : Members → Checked ModelOf
@@ -25,7 +31,7 @@ ring_of ms = do
   end ← required 0 (codes "end") ms >>= number 0 0 LAST_TICK
   seed ← required 0 (codes "seed") ms >>= number 0 0 9223372036854775807
   known ← only 0 (codes "stations" ∷ codes "hold" ∷ codes "patience" ∷ codes "end" ∷ codes "seed" ∷ []) ms
-  Ok (record { meaning = ring_meaning seed stations hold patience; terms = terms_of end MOST_EVENTS; totals = ring_totals })
+  Ok (ring_read (ring_meaning seed stations hold patience) (terms_of end MOST_EVENTS))
 
 -- what the bytes say, if they are not too many
 unfoldable pub said : List ℕ → Checked ModelOf

@@ -2,8 +2,7 @@
 ghost use Rattle.std.specs.Prelude.{◌≡◌};
 ghost use Rattle.toml.specs.View.{table_view};
 ghost use Rattle.model_reader.specs.Checks.{Gives};
-ghost use Rattle.own_text.specs.RingTotals.{ring_totals};
-ghost use Rattle.own_text.specs.RingTexts.{ring_of, ring_texts, ring_texts_laws};
+ghost use Rattle.own_text.specs.RingTexts.{ring_of, ring_read, ring_texts, ring_texts_laws};
 
 use crate::tally::RingTally;
 use event_key::LAST_TICK;
@@ -23,7 +22,7 @@ pub struct RingTexts;
 /// The ring of a table, and how far its simulation goes. A refusal is at item 0.
 #[tactic(auto, unfolding(crate::specs::RingTexts::ring_of))]
 fn ring_of(table: &Table) -> Result<(Ring, Terms), Refusal>
-    ensures { Gives (λ read. record { meaning = ⟦<Ring as SimulationModel>⟧.meaning read.0; terms = read.1; totals = ring_totals }) result (ring_of (table_view table.now)) }
+    ensures { Gives (λ read. ring_read (⟦<Ring as SimulationModel>⟧.meaning read.0) read.1) result (ring_of (table_view table.now)) }
 {
     let stations = required(table, "stations", 0)?;
     let stations = number(stations, 0, 1, u64::from(MOST_OBJECTS))? as u32;
