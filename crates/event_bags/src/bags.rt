@@ -152,7 +152,8 @@ impl<T: Copy> Bags<T> {
         let before = into.len();
         let mut last = front;
         loop {
-            into.push(self.items[last])?;
+            into.reserve(1)?;
+            into.push_reserved(self.items[last]);
             let next = self.links[last];
             if next == NONE {
                 break;

@@ -3,7 +3,7 @@ use Rattle.std.proofs.Common.{◌≡◌, ℕ, ◌+◌, ◌*◌, ◌/◌, ◌%◌
 use Rattle.std.proofs.Math.Nat.{div-eq_of_lt}
 use Rattle.std.proofs.lemmas.Bool.{cases_lt}
 use Rattle.std.proofs.lemmas.Nat.{pow_pos, div-mul-add}
-use Rattle.tick_queue.specs.Digits.{IsAt, InSlot}
+use Rattle.tick_queue.specs.Digits.{InSlot}
 use Rattle.tick_queue.proofs.DigitLemmas.{agree-up, less_from, up_six}
 
 -- the first tick of the slot in which another one stands

@@ -1,16 +1,16 @@
 -- The first slot that has events is opened: its tick is at hand.
-use Rattle.std.proofs.Common.{◌≡◌, ◌≢◌, ℕ, ◌+◌, ◌*◌, ◌/◌, ◌%◌, ◌^◌, ◌<◌, ◌≤◌, List, [], ◌∷◌, ◌++◌, length, append_assoc, sym, refl, ap, ◌∙◌, subst, inl, inr, arith}
+use Rattle.std.proofs.Common.{◌≡◌, ◌≢◌, ℕ, ◌*◌, ◌/◌, ◌^◌, ◌<◌, ◌≤◌, List, [], ◌∷◌, ◌++◌, length, append_assoc, sym, refl, ap, ◌∙◌, subst, inl, inr, arith}
 use Rattle.std.specs.Prelude.{IsPermutation, Result, Ok, Err, OnOk, slice_set, slice_index_or}
 use Rattle.std.specs.List.{AllByRecursion as Each}
 use Rattle.std.proofs.lemmas.Bool.{cases_lt, cases_eq}
 use Rattle.std.proofs.lemmas.List.{get_or-set_same, get_or-set_other, length-set}
-use Rattle.std.proofs.lemmas.List.Sorted.{IsPermutation-refl, IsPermutation-sym, IsPermutation-trans, IsPermutation-append_left, IsPermutation-append_right, length_permutation}
+use Rattle.std.proofs.lemmas.List.Sorted.{IsPermutation-sym, IsPermutation-trans, IsPermutation-append_left, IsPermutation-append_right, length_permutation}
 use Rattle.event_key.specs.Stamps.{time_part}
 use Rattle.model_core.specs.declared.event.Event.{Event}
 use Rattle.key_order.proofs.EachLemmas.{Each-map, Each-back}
 use Rattle.key_order.proofs.MemberLemmas.{Each-permutation}
 use Rattle.tick_queue.specs.Digits.{InSlot}
-use Rattle.tick_queue.specs.Levels.{LevelsView, joined, StandsIn, StandIn, AreLevels, PutsIn, Spreads, HasLeft, IsOfTick, IsLaterThan, Advances}
+use Rattle.tick_queue.specs.Levels.{LevelsView, joined, StandsIn, AreLevels, PutsIn, Spreads, HasLeft, IsOfTick, IsLaterThan, Advances}
 use Rattle.tick_queue.specs.Slots.{AllEmpty, IsFirst}
 use Rattle.tick_queue.proofs.DigitLemmas.{slots_less, slots_later, tick_small}
 use Rattle.tick_queue.proofs.FirstLemmas.{first_of, first_le, first_digits, first_lowest, first_stands, first_after}

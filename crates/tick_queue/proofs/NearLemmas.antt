@@ -1,11 +1,11 @@
 -- Events at hand, of which the first ones are done.
-use Rattle.std.proofs.Common.{◌≡◌, ◌≢◌, ℕ, zero, suc, ◌+◌, ◌-◌, ◌<◌, ◌≤◌, Bool, true, false, cond, List, [], ◌∷◌, ◌++◌, length, take, drop, get_or, sym, refl, ap, ◌∙◌, subst, inl, inr, arith}
+use Rattle.std.proofs.Common.{◌≡◌, ℕ, zero, suc, ◌+◌, ◌-◌, ◌<◌, ◌≤◌, Bool, true, false, List, [], ◌∷◌, ◌++◌, length, take, drop, get_or, sym, refl, ap, ◌∙◌, subst, arith}
 use Rattle.std.specs.Prelude.{◌↔◌, IsTrue, insert, nat_eq}
 use Rattle.std.specs.Bool.{OnTrue, OnFalse}
 use Rattle.std.proofs.lemmas.Bool.Decides.{nat_tests}
 use Rattle.std.specs.List.{AllByRecursion as Each}
-use Rattle.std.proofs.lemmas.Bool.{cases_lt, cases_eq}
-use Rattle.std.proofs.lemmas.List.{drop_all, drop_more, length-drop, get_or-drop, take-append-drop}
+use Rattle.std.proofs.lemmas.List.{drop_all, drop_more, length-drop, length-map, length_push, get_or-drop, get_or_append_left, get_or_default, get_or_push, take-append-drop}
+use Rattle.std.proofs.lemmas.List.Edits.{length-insert}
 use Rattle.event_key.specs.declared.key.Key.{Key}
 use Rattle.event_key.specs.Keys.{key_lt}
 use Rattle.event_key.proofs.Order.{key_lt-trans}
@@ -15,7 +15,9 @@ use Rattle.key_order.specs.Keys.{IsNewKey}
 use Rattle.key_order.specs.Pending.{enqueue}
 use Rattle.key_order.proofs.EnqueueLemmas.{enqueue-first, enqueue-behind}
 use Rattle.key_order.proofs.KeyLemmas.{key_lt-other, new-head, new-tail}
-use Rattle.tick_queue.specs.Near.{StartsWith, LosesFirst, AllBefore, HasLater}
+use Rattle.key_order.proofs.EachLemmas.{Each-map}
+use Rattle.tick_queue.specs.Near.{ArePlaced, StartsWith, LosesFirst, AllBefore, HasLater}
+use Rattle.tick_queue.specs.Order.{no_event, event_at, shown, AreInside}
 
 -- what is left begins at a place
 pub starts : (es : List Event) (i : ℕ) (e : Event) → i < length es → e ≡ get_or es i e → StartsWith (drop i es) e
@@ -166,6 +168,64 @@ last_later key es at last x false lt is read test =
     let there : at + k ≡ last = omega arith in
     let same : get_or (drop at es) k x ≡ x = get_or-drop at es k x ∙ ap (λ n. get_or es n x) there ∙ sym read in
     (x, (k, omega (arith, long), same), sym test)
+
+-- the events at places, of which there are as many
+pub length-shown : (es : List Event) (places : List ℕ) → length (shown es places) ≡ length places
+length-shown es places = length-map places (event_at es)
+
+-- one event more, and its place among the others
+shown_more : (es : List Event) (places : List ℕ) (e : Event) → AreInside es places → shown (es ++ e ∷ []) places ≡ shown es places
+shown_more es [] e inside = refl
+shown_more es (p ∷ ps) e inside = (λ i. get_or_append_left es (e ∷ []) no_event p inside.0 i ∷ shown_more es ps e inside.1 i)
+
+shown_insert : (es : List Event) (places : List ℕ) (i p : ℕ) → shown es (insert places i p) ≡ insert (shown es places) i (event_at es p)
+shown_insert es [] zero p = refl
+shown_insert es [] (suc i) p = refl
+shown_insert es (x ∷ xs) zero p = refl
+shown_insert es (x ∷ xs) (suc i) p = ap (λ w. event_at es x ∷ w) (shown_insert es xs i p)
+
+each_insert : (P : ℕ → Type 0) (ps : List ℕ) (i p : ℕ) → Each P ps → P p → Each P (insert ps i p)
+each_insert P [] zero p all here = (here, tt)
+each_insert P [] (suc i) p all here = (here, tt)
+each_insert P (x ∷ xs) zero p all here = (here, all)
+each_insert P (x ∷ xs) (suc i) p all here = (all.0, each_insert P xs i p all.1 here)
+
+inside_more : (es : List Event) (places : List ℕ) (e : Event) → AreInside es places → AreInside (es ++ e ∷ []) places
+inside_more es places e inside =
+    Each-map (λ (p : ℕ). p < length es) (λ (p : ℕ). p < length (es ++ e ∷ [])) places (λ p lt. let long = length_push es e in omega (arith, long)) inside
+
+pub placed_insert : (done stop i : ℕ) (es : List Event) (places : List ℕ) (e : Event) → ArePlaced done stop es places → i ≤ length places → ArePlaced done stop (es ++ e ∷ []) (insert places i (length es))
+placed_insert done stop i es places e h le =
+    let few = h.few in
+    let more = length-insert places i (length es) le in
+    let long = length_push es e in
+    record {
+      few = omega (arith, few, more);
+      upto = (let upto = h.upto in omega (arith, more, upto));
+      inside = each_insert (λ (p : ℕ). p < length (es ++ e ∷ [])) places i (length es) (inside_more es places e h.inside) (omega (arith, long));
+    }
+
+pub shown_inserted : (done stop i : ℕ) (es : List Event) (places : List ℕ) (e : Event) → ArePlaced done stop es places → shown (es ++ e ∷ []) (insert places i (length es)) ≡ insert (shown es places) i e
+shown_inserted done stop i es places e h =
+    shown_insert (es ++ e ∷ []) places i (length es) ∙ (λ j. insert (shown_more es places e h.inside j) i (get_or_push es e no_event (length es) refl j))
+
+pub placed_none : (es : List Event) (places : List ℕ) → places ≡ [] → ArePlaced 0 0 es places
+placed_none es places none =
+    let P : List ℕ → Type 0 = ArePlaced 0 0 es in
+    subst P (sym none) record { few = omega arith; upto = omega arith; inside = tt }
+
+pub shown_none : (es : List Event) (places : List ℕ) → places ≡ [] → shown es places ≡ []
+shown_none es places none = ap (shown es) none
+
+pub placed_next : (done stop : ℕ) (es : List Event) (places : List ℕ) → ArePlaced done stop es places → 0 < length (drop done (shown es places)) → ArePlaced (done + 1) stop es places
+placed_next done stop es places h some =
+    let lt = has_some (shown es places) done some in
+    let long = length-shown es places in
+    record { few = omega (arith, lt, long); upto = h.upto; inside = h.inside }
+
+-- what is read at a place, whatever stands where there is none
+pub read_as : (es : List Event) (i : ℕ) (e : Event) → i < length es → e ≡ event_at es i → e ≡ get_or es i e
+read_as es i e lt read = read ∙ get_or_default es i no_event e lt
 
 pub empty_test : (es : List Event) (at n : ℕ) → n ≡ length es → at ≤ length es → IsTrue (nat_eq at n) ↔ (drop at es ≡ [])
 empty_test es at n is le = (

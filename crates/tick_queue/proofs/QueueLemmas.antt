@@ -1,5 +1,5 @@
 -- Events at hand and later ones, in one list in the order of their keys.
-use Rattle.std.proofs.Common.{◌≡◌, ◌≢◌, ℕ, zero, suc, drop, ◌+◌, ◌^◌, ◌<◌, ◌≤◌, true, false, cond, List, [], ◌∷◌, ◌++◌, length, length-append, append-nil, append_assoc, sym, refl, ap, ◌∙◌, subst, inl, inr, arith}
+use Rattle.std.proofs.Common.{◌≡◌, ◌≢◌, ℕ, zero, suc, drop, ◌+◌, ◌^◌, ◌<◌, ◌≤◌, true, false, cond, List, [], ◌∷◌, ◌++◌, length, length-append, sym, refl, ap, ◌∙◌, subst, inl, inr, arith}
 use denote.Ref.{Bor}
 use Rattle.std.specs.Prelude.{Contains, IsPermutation, Option, Some, None, IfSome, OnSome, Result, Ok, Err, OnOk, OnErr, nat_lt}
 use Rattle.std.specs.Bool.{OnTrue}

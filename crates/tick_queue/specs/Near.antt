@@ -1,5 +1,5 @@
 -- Events at hand.
-use Rattle.std.specs.Prelude.{◌≡◌, ◌⊎◌, ℕ, ◌<◌, ◌≤◌, true, false, List, [], ◌∷◌, ◌++◌, Contains, IsPermutation}
+use Rattle.std.specs.Prelude.{◌≡◌, ◌⊎◌, ℕ, ◌<◌, ◌≤◌, true, false, List, [], ◌∷◌, ◌++◌, length, Contains, IsPermutation}
 use Rattle.std.specs.List.{AllByRecursion}
 use Rattle.event_key.specs.declared.key.Key.{Key}
 use Rattle.event_key.specs.Keys.{key_lt}
@@ -7,6 +7,13 @@ use Rattle.event_key.specs.Stamps.{time_part}
 use Rattle.model_core.specs.declared.event.Event.{Event}
 use Rattle.key_order.specs.Ascending.{IsAscending}
 use Rattle.tick_queue.specs.Levels.{LevelsView, IsOfTick, IsLaterThan}
+use Rattle.tick_queue.specs.Order.{AreInside}
+
+-- so many of the events at these places are done, and there are as many as come before a pause
+pub record ArePlaced (done stop : ℕ) (es : List Event) (places : List ℕ) : Type 0 where
+  pub few : done ≤ length places
+  pub upto : stop ≤ length places
+  pub inside : AreInside es places
 
 -- a list begins with this event
 abbrev pub StartsWith : List Event → Event → Type 0

@@ -10,30 +10,39 @@ ghost use Rattle.tick_queue.specs.Levels.{HasLeft};
 ghost use Rattle.tick_queue.specs.Near.{StartsWith, LosesFirst, AllBefore, HasLater, GoesLater, GoesNear, Refills};
 
 use crate::levels::Levels;
-use crate::order::Order;
+use crate::order::{event_of, sort};
 use delta_exchange::OutOfMemory;
 use event_key::{Key, time_of};
 use model_core::Event;
 use std::alloc::Global;
 use std::marker::Model;
 
-/// Events, of which those before a place are done. Contracts see the others.
+/// Events, of which the first ones are done. Contracts see the others, in order.
 #[derive(Drop)]
 pub struct Near {
+    // in no order
     events: Vec<Event>,
+    // where each of them lies, in order
+    places: Vec<u64>,
+    // how many are done
     at: usize,
-    order: Order,
+    // how many of them come before the next pause
+    stop: usize,
+    // how many events are done from one pause to the next
+    step: usize,
 }
 
 impl Model for Near {
-    ghost use Rattle.std.specs.Prelude.{◌≤◌, List, drop, vec_len};
+    ghost use Rattle.std.specs.Prelude.{List, drop};
     ghost use Rattle.model_core.specs.declared.event.Event.{Event};
+    ghost use Rattle.tick_queue.specs.Near.{ArePlaced};
+    ghost use Rattle.tick_queue.specs.Order.{shown};
 
     ghost Value = { List Event };
 
-    ghost view = { λ near. drop near.at near.events.items };
+    ghost view = { λ near. drop near.at (shown near.events.items near.places.items) };
 
-    ghost invariant = { λ near. near.at ≤ vec_len near.events };
+    ghost invariant = { λ near. ArePlaced near.at near.stop near.events.items near.places.items };
 }
 
 impl Near {
@@ -43,16 +52,40 @@ impl Near {
     {
         Near {
             events: Vec::new(alloc),
+            places: Vec::new(alloc),
             at: 0,
-            order: Order::new(alloc),
+            stop: 0,
+            step: usize::MAX,
         }
+    }
+
+    /// Pauses each time that so many events are done, and not only when none is left.
+    pub fn pause_after(&mut self, events: usize)
+        ensures { self.new ≡ self.old }
+    {
+        self.step = events;
+    }
+
+    /// Whether all events up to the next pause are done.
+    #[inline(always)]
+    pub fn pauses(&self) -> bool
+        ensures { OnFalse result (0 < length self.now) }
+    {
+        self.at >= self.stop
+    }
+
+    /// Goes on from a pause to the next one.
+    pub fn go_on(&mut self)
+        ensures { self.new ≡ self.old }
+    {
+        self.stop = self.places.len().min(self.at.saturating_add(self.step));
     }
 
     /// Whether no event is left.
     pub fn is_empty(&self) -> bool
         ensures { IsTrue result ↔ (self.now ≡ []) }
     {
-        self.at == self.events.len()
+        self.at == self.places.len()
     }
 
     /// The first event.
@@ -60,10 +93,10 @@ impl Near {
         ensures some { IfSome result (λ event. StartsWith self.now event.now) }
         ensures none { IfNone result (self.now ≡ []) }
     {
-        if self.at == self.events.len() {
+        if self.at == self.places.len() {
             return None;
         }
-        Some(&self.events[self.at])
+        Some(event_of(&self.events, &self.places, self.at))
     }
 
     /// The event that comes so many after the first one, if so many are left.
@@ -71,10 +104,10 @@ impl Near {
         ensures some { IfSome result (λ event. StartsWith (drop k self.now) event.now) }
         ensures none { IfNone result (length self.now ≤ k) }
     {
-        if k >= self.events.len() - self.at {
+        if k >= self.places.len() - self.at {
             return None;
         }
-        Some(&self.events[self.at + k])
+        Some(event_of(&self.events, &self.places, self.at + k))
     }
 
     /// Lets the first event go.
@@ -91,10 +124,11 @@ impl Near {
         ensures yes { OnTrue result (AllBefore key.now self.now) }
         ensures no { OnFalse result (HasLater key.now self.now) }
     {
-        if self.at == self.events.len() {
+        if self.at == self.places.len() {
             return true;
         }
-        self.events[self.events.len() - 1].key.is_before(key)
+        let last = event_of(&self.events, &self.places, self.places.len() - 1);
+        last.key.is_before(key)
     }
 
     /// Puts an event at its place among the others.
@@ -104,11 +138,17 @@ impl Near {
         ensures ok { OnOk result (self.new ≡ enqueue event self.old) }
         ensures err { OnErr result (self.new ≡ self.old) }
     {
-        let mut place = self.events.len();
-        while self.at < place && event.key.is_before(&self.events[place - 1].key) {
-            place -= 1;
+        let mut i = self.places.len();
+        while self.at < i
+            && event
+                .key
+                .is_before(&event_of(&self.events, &self.places, i - 1).key)
+        {
+            i -= 1;
         }
-        self.events.insert(place, event)?;
+        self.events.reserve(1)?;
+        self.places.insert(i, self.events.len() as u64)?;
+        self.events.push_reserved(event);
         Ok(())
     }
 
@@ -120,15 +160,17 @@ impl Near {
         ensures left { HasLeft levels.old.events levels.new.events }
     {
         self.at = 0;
+        self.stop = 0;
+        self.places.clear();
         self.events.clear();
-        let Ok(()) = levels.advance(&mut self.events) else {
-            self.events.clear();
-            return Err(OutOfMemory);
-        };
-        match self.order.sort(&mut self.events) {
-            Ok(()) => Ok(()),
+        levels.advance(&mut self.events)?;
+        match sort(&mut self.events, &mut self.places) {
+            Ok(()) => {
+                self.stop = self.places.len().min(self.step);
+                Ok(())
+            }
             Err(refused) => {
-                self.events.clear();
+                self.places.clear();
                 Err(refused)
             }
         }

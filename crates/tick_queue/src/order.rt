@@ -1,28 +1,20 @@
 //! Events of one tick are put in order by words that stand for them, since a word is moved and compared in one instruction.
+//! The events themselves stay where they are: in the end each word is the place of its event.
 ghost use Rattle.std.specs.Prelude.{◌≡◌, ◌<◌, ◌≤◌, ◌%◌, length, map, OnOk};
 ghost use Rattle.std.specs.Bool.{OnTrue};
-ghost use Rattle.std.specs.List.{AllByRecursion};
+ghost use Rattle.std.specs.List.{AllByRecursion, range_with_len};
 ghost use Rattle.key_order.specs.Keys.{KeysDiffer};
 ghost use Rattle.key_order.specs.Pending.{in_order};
-ghost use Rattle.tick_queue.specs.Order.{HaveWords, event_at, AreUnturned};
+ghost use Rattle.tick_queue.specs.Order.{HaveWords, place_at, event_at, shown, AreInside, AreUnturned, Shows};
 
 use delta_exchange::OutOfMemory;
 use model_core::Event;
-use std::alloc::Global;
-use std::mem;
 
-/// So few events are sorted as they are.
-const FEW: usize = 12;
+/// So few events are sorted themselves.
+const FEW: usize = 4;
 
-/// So many events have words at most, which bounds the room: a tick that has more is rare. A place has 14 bits.
+/// So many events have words at most: a tick that has more is rare. A place has 14 bits.
 const MOST: usize = 16_384;
-
-/// Room in which events are put in order.
-#[derive(Drop)]
-pub struct Order {
-    words: Vec<u64>,
-    sorted: Vec<Event>,
-}
 
 /// A word for an event, with its place in the lowest 14 bits. The others are a rank, a destination, a source and the last bits
 /// of a serial, as far as these fit, so most words are in the order of their events. Without the serial those that one object
@@ -38,13 +30,6 @@ fn word_of(event: &Event, place: u64) -> u64
     (((rank * 65_536 + dest) * 65_536 + src) * 1_024 + serial) * 16_384 + place
 }
 
-/// The place of a word.
-fn place_of(word: u64) -> usize
-    ensures { result ≡ word % 16384 }
-{
-    (word % 16_384) as usize
-}
-
 /// Makes the words of events.
 fn put_words(words: &mut Vec<u64>, events: &Vec<Event>) -> Result<(), OutOfMemory>
     requires { length events.now.items ≤ 16384 }
@@ -58,73 +43,87 @@ fn put_words(words: &mut Vec<u64>, events: &Vec<Event>) -> Result<(), OutOfMemor
     Ok(())
 }
 
-/// Copies the events at the places of words, one after another.
-fn gather(sorted: &mut Vec<Event>, events: &Vec<Event>, words: &Vec<u64>) -> Result<(), OutOfMemory>
-    requires { AllByRecursion (λ w. w % 16384 < length events.now.items) words.now.items }
-    ensures { OnOk result (sorted.new.items ≡ map (event_at events.now.items) words.now.items) }
+/// Leaves of each word its place.
+fn keep_places(words: &mut Vec<u64>)
+    ensures { words.new.items ≡ map place_at words.old.items }
 {
-    sorted.clear();
-    sorted.reserve(words.len())?;
-    for i in 0..words.len() {
-        sorted.push_reserved(events[place_of(words[i])]);
+    for word in words.iter_mut() {
+        *word %= 16_384;
+    }
+}
+
+/// The places of so many events, from the first one on.
+#[inline(always)]
+fn number(places: &mut Vec<u64>, events: usize) -> Result<(), OutOfMemory>
+    ensures { OnOk result (places.new.items ≡ map (λ k. k) (range_with_len 0 events)) }
+{
+    places.clear();
+    places.reserve(events)?;
+    for i in 0..events {
+        places.push_reserved(i as u64);
     }
     Ok(())
 }
 
-/// Whether no event comes before the one ahead of it.
-fn is_in_order(events: &Vec<Event>) -> bool
-    ensures { OnTrue result (AreUnturned events.now.items) }
+/// The event at one of the places.
+#[inline(always)]
+pub fn event_of<'a>(events: &'a Vec<Event>, places: &Vec<u64>, i: usize) -> &'a Event
+    requires inside { AreInside events.now.items places.now.items }
+    requires exists { i < length places.now.items }
+    ensures { result.now ≡ event_at (shown events.now.items places.now.items) i }
 {
-    for i in 1..events.len() {
-        if events[i].key.is_before(&events[i - 1].key) {
+    &events[places[i] as usize]
+}
+
+/// Whether no event comes before the one ahead of it.
+fn is_in_order(events: &Vec<Event>, places: &Vec<u64>) -> bool
+    requires { AreInside events.now.items places.now.items }
+    ensures { OnTrue result (AreUnturned (shown events.now.items places.now.items)) }
+{
+    for i in 1..places.len() {
+        let before = event_of(events, places, i - 1);
+        if event_of(events, places, i).key.is_before(&before.key) {
             return false;
         }
     }
     true
 }
 
-/// Sorts events by their keys.
-fn sort_events(events: &mut Vec<Event>)
+/// Sorts the events themselves by their keys.
+fn sort_events(events: &mut Vec<Event>, places: &mut Vec<u64>) -> Result<(), OutOfMemory>
     requires { KeysDiffer events.old.items }
-    ensures { events.new.items ≡ in_order events.old.items }
+    ensures { OnOk result (Shows events.new.items places.new.items (in_order events.old.items)) }
 {
     events.sort_unstable_by_key(|event| event.key);
+    number(places, events.len())
 }
 
-/// Sorts events that most likely are in order.
-fn mend(events: &mut Vec<Event>)
+/// Puts the places of events into the order of their keys.
+pub fn sort(events: &mut Vec<Event>, places: &mut Vec<u64>) -> Result<(), OutOfMemory>
     requires { KeysDiffer events.old.items }
-    ensures { events.new.items ≡ in_order events.old.items }
+    ensures { OnOk result (Shows events.new.items places.new.items (in_order events.old.items)) }
 {
-    if is_in_order(events) {
-        return;
+    if events.len() == 1 {
+        return number(places, 1);
     }
-    sort_events(events);
+    sort_many(events, places)
 }
 
-impl Order {
-    /// No room yet.
-    pub fn new(alloc: Global) -> Order {
-        Order {
-            words: Vec::new(alloc),
-            sorted: Vec::new(alloc),
-        }
+/// Puts the places of events into the order of their keys, however many they are.
+#[inline(never)]
+fn sort_many(events: &mut Vec<Event>, places: &mut Vec<u64>) -> Result<(), OutOfMemory>
+    requires { KeysDiffer events.old.items }
+    ensures { OnOk result (Shows events.new.items places.new.items (in_order events.old.items)) }
+{
+    if events.len() <= FEW || events.len() > MOST {
+        return sort_events(events, places);
     }
-
-    /// Puts events in order.
-    pub fn sort(&mut self, events: &mut Vec<Event>) -> Result<(), OutOfMemory>
-        requires { KeysDiffer events.old.items }
-        ensures { OnOk result (events.new.items ≡ in_order events.old.items) }
-    {
-        if events.len() <= FEW || events.len() > MOST {
-            sort_events(events);
-            return Ok(());
-        }
-        put_words(&mut self.words, events)?;
-        self.words.sort_unstable();
-        gather(&mut self.sorted, events, &self.words)?;
-        mend(&mut self.sorted);
-        mem::swap(events, &mut self.sorted);
-        Ok(())
+    put_words(places, events)?;
+    places.sort_unstable();
+    keep_places(places);
+    // words that leave out what doesn't fit may be in another order
+    if is_in_order(events, places) {
+        return Ok(());
     }
+    sort_events(events, places)
 }

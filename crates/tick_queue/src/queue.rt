@@ -1,5 +1,6 @@
 //! The queue by ticks.
 ghost use Rattle.std.specs.Prelude.{◌≡◌, ◌+◌, ◌<◌, ◌≤◌, ◌^◌, [], ◌∷◌, ◌++◌, length, drop, min, IfOk, OnOk, OnErr, OnSome, IfSome, IfNone};
+ghost use Rattle.std.specs.Bool.{OnFalse};
 ghost use Rattle.event_key.specs.declared.stamp.TheConstants.{NO_STAMP};
 ghost use Rattle.key_order.specs.Keys.{IsNewKey};
 ghost use Rattle.key_order.specs.Pending.{enqueue};
@@ -90,7 +91,22 @@ impl TickQueue {
         self.fresh_least = NO_STAMP;
     }
 
-    /// Brings the first events to hand, if none are there. After a refusal events may be lost.
+    /// Pauses each time that so many events at hand have gone, and not only when none is left.
+    pub fn pause_after(&mut self, events: usize)
+        ensures { self.new ≡ self.old }
+    {
+        self.near.pause_after(events);
+    }
+
+    /// Whether it pauses until it is settled anew.
+    #[inline(always)]
+    pub fn pauses(&self) -> bool
+        ensures { OnFalse result (0 < self.now.at_hand) }
+    {
+        self.near.pauses()
+    }
+
+    /// Brings the first events to hand, if none are there, and goes on from a pause. After a refusal events may be lost.
     pub fn settle(&mut self) -> Result<(), OutOfMemory>
         ensures pending { OnOk result (self.new.pending ≡ self.old.pending) }
         ensures fresh_least { self.new.fresh_least ≡ self.old.fresh_least }
@@ -100,6 +116,7 @@ impl TickQueue {
         if self.near.is_empty() {
             return self.near.refill(&mut self.levels);
         }
+        self.near.go_on();
         Ok(())
     }
 

@@ -1,4 +1,4 @@
-use Rattle.std.proofs.Common.{◌≡◌, ◌∷◌, [], ◌++◌, ap, ◌∙◌, map, arith}
+use Rattle.std.proofs.Common.{ap, ◌∙◌, map, arith}
 use Rattle.tick_queue.specs.Order.{place_at}
 use Rattle.tick_queue.proofs.OrderLemmas.{words_more}
 use Rattle.tick_queue.proofs.order.put_words.Goals as goal

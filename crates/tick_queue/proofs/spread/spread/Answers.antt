@@ -1,4 +1,3 @@
-use Rattle.std.specs.Prelude.{IsPermutation}
 use Rattle.std.proofs.Common.{arith}
 use Rattle.std.proofs.lemmas.List.Sorted.{IsPermutation-trans}
 use Rattle.tick_queue.specs.Levels.{joined}

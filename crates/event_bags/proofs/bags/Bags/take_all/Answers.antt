@@ -33,74 +33,74 @@ returns-then-front-clause-spare g c =
     let zero : length (slice_index_or c.args.self.now.bags c.args.bag []) ≡ 0 = ap length empty in
     omega arith
 
-pub loop-self-init : goal.loop-self-init
-loop-self-init g c =
+pub loop-into-init : goal.loop-into-init
+loop-into-init g c =
     let within = there _ _ _ _ _ c.args.bag c.self.view_is c.requires in
     walk_starts c.self.invariant.1 c.args.bag c.args.into.now.items c.index-front.result.now within c.index-front.ensures c.if-front.false
 
 pub index-requires : goal.index-requires
 index-requires g c =
-    let inside = walk_within c.loop-self.invariant in
+    let inside = walk_within c.loop-into.invariant in
     search rules
 
 pub index-next-requires : goal.index-next-requires
 index-next-requires g c =
-    let inside = walk_within c.loop-self.invariant in
+    let inside = walk_within c.loop-into.invariant in
     search rules
 
-pub loop-self-smaller : goal.loop-self-smaller
-loop-self-smaller g c =
+pub loop-into-smaller : goal.loop-into-smaller
+loop-into-smaller g c =
     let within = there _ _ _ _ _ c.args.bag c.self.view_is c.requires in
-    let short = walk_short c.loop-self.invariant within in
-    let grown = ap length c.in_ok-push.ensures.items in
-    let long = length-append c.loop-self.into.items (c.index.result.now ∷ []) in
+    let short = walk_short c.loop-into.invariant within in
+    let grown = ap length (c.push_reserved.ensures.items ∙ ap (λ w. w ++ c.index.result.now ∷ []) c.in_ok-reserve.ensures.items) in
+    let long = length-append c.loop-into.into.items (c.index.result.now ∷ []) in
     omega (arith, short, grown, long)
 
-pub loop-self-preserved : goal.loop-self-preserved
-loop-self-preserved g c =
-    walk_steps c.loop-self.invariant c.index.result.now c.index-next.result.now c.push.new.self.items c.index.ensures c.index-next.ensures c.in_ok-push.ensures.items c.if-next.false
+pub loop-into-preserved : goal.loop-into-preserved
+loop-into-preserved g c =
+    walk_steps c.loop-into.invariant c.index.result.now c.index-next.result.now c.push_reserved.new.self.items c.index.ensures c.index-next.ensures (c.push_reserved.ensures.items ∙ ap (λ w. w ++ c.index.result.now ∷ []) c.in_ok-reserve.ensures.items) c.if-next.false
 
 pub index_mut-requires : goal.index_mut-requires
 index_mut-requires g c =
-    let inside = walk_within c.loop-self.invariant in
+    let inside = walk_within c.loop-into.invariant in
     search rules
 
 pub overflow_sub-self : goal.overflow_sub-self
 overflow_sub-self g c =
-    let ended = walk_ends c.loop-self.invariant c.index.result.now c.index-next.result.now c.push.new.self.items c.index.ensures c.index-next.ensures c.in_ok-push.ensures.items c.if-next.true in
+    let ended = walk_ends c.loop-into.invariant c.index.result.now c.index-next.result.now c.push_reserved.new.self.items c.index.ensures c.index-next.ensures (c.push_reserved.ensures.items ∙ ap (λ w. w ++ c.index.result.now ∷ []) c.in_ok-reserve.ensures.items) c.if-next.true in
     let before : c.len-before.result ≡ length c.args.into.now.items = search rules in
-    let after : c.len.result ≡ length c.push.new.self.items = search rules in
+    let after : c.len.result ≡ length c.push_reserved.new.self.items = search rules in
     (walk_count ended c.len-before.result c.len.result before after).0
 
 pub invariant_of-self : goal.invariant_of-self
 invariant_of-self g c =
     let within = there _ _ _ _ _ c.args.bag c.self.view_is c.requires in
-    let ended = walk_ends c.loop-self.invariant c.index.result.now c.index-next.result.now c.push.new.self.items c.index.ensures c.index-next.ensures c.in_ok-push.ensures.items c.if-next.true in
+    let ended = walk_ends c.loop-into.invariant c.index.result.now c.index-next.result.now c.push_reserved.new.self.items c.index.ensures c.index-next.ensures (c.push_reserved.ensures.items ∙ ap (λ w. w ++ c.index.result.now ∷ []) c.in_ok-reserve.ensures.items) c.if-next.true in
     let before : c.len-before.result ≡ length c.args.into.now.items = search rules in
-    let after : c.len.result ≡ length c.push.new.self.items = search rules in
+    let after : c.len.result ≡ length c.push_reserved.new.self.items = search rules in
     let count = walk_count ended c.len-before.result c.len.result before after in
     (set ended.bags c.args.bag [], spliced ended (c.len.result - c.len-before.result) within c.index-front.ensures c.if-front.false count.1)
 
 pub returns-clause-taken : goal.returns-clause-taken
 returns-clause-taken g c =
-    let ended = walk_ends c.loop-self.invariant c.index.result.now c.index-next.result.now c.push.new.self.items c.index.ensures c.index-next.ensures c.in_ok-push.ensures.items c.if-next.true in
+    let ended = walk_ends c.loop-into.invariant c.index.result.now c.index-next.result.now c.push_reserved.new.self.items c.index.ensures c.index-next.ensures (c.push_reserved.ensures.items ∙ ap (λ w. w ++ c.index.result.now ∷ []) c.in_ok-reserve.ensures.items) c.if-next.true in
     rw (sees ended.held c.self.view_is) ended.got
 
 pub returns-clause-bags : goal.returns-clause-bags
 returns-clause-bags g c =
     let within = there _ _ _ _ _ c.args.bag c.self.view_is c.requires in
-    let ended = walk_ends c.loop-self.invariant c.index.result.now c.index-next.result.now c.push.new.self.items c.index.ensures c.index-next.ensures c.in_ok-push.ensures.items c.if-next.true in
+    let ended = walk_ends c.loop-into.invariant c.index.result.now c.index-next.result.now c.push_reserved.new.self.items c.index.ensures c.index-next.ensures (c.push_reserved.ensures.items ∙ ap (λ w. w ++ c.index.result.now ∷ []) c.in_ok-reserve.ensures.items) c.if-next.true in
     let before : c.len-before.result ≡ length c.args.into.now.items = search rules in
-    let after : c.len.result ≡ length c.push.new.self.items = search rules in
+    let after : c.len.result ≡ length c.push_reserved.new.self.items = search rules in
     let count = walk_count ended c.len-before.result c.len.result before after in
     rw (sees ended.held c.self.view_is) (shows (spliced ended (c.len.result - c.len-before.result) within c.index-front.ensures c.if-front.false count.1))
 
 pub returns-clause-spare : goal.returns-clause-spare
 returns-clause-spare g c =
-    let ended = walk_ends c.loop-self.invariant c.index.result.now c.index-next.result.now c.push.new.self.items c.index.ensures c.index-next.ensures c.in_ok-push.ensures.items c.if-next.true in
+    let ended = walk_ends c.loop-into.invariant c.index.result.now c.index-next.result.now c.push_reserved.new.self.items c.index.ensures c.index-next.ensures (c.push_reserved.ensures.items ∙ ap (λ w. w ++ c.index.result.now ∷ []) c.in_ok-reserve.ensures.items) c.if-next.true in
     let before : c.len-before.result ≡ length c.args.into.now.items = search rules in
-    let after : c.len.result ≡ length c.push.new.self.items = search rules in
+    let after : c.len.result ≡ length c.push_reserved.new.self.items = search rules in
     let count = walk_count ended c.len-before.result c.len.result before after in
     let seen : c.len.result - c.len-before.result ≡ length (slice_index_or c.args.self.now.bags c.args.bag []) = rw (sees ended.held c.self.view_is) count.1 in
-    spare_grows _ _ _ _ _ (length (set c.self.inside.links.items c.loop-self.last c.self.inside.free)) (c.len.result - c.len-before.result) _ _ c.self.view_is
-    (length-set c.self.inside.links.items c.loop-self.last c.self.inside.free) seen
+    spare_grows _ _ _ _ _ (length (set c.self.inside.links.items c.loop-into.last c.self.inside.free)) (c.len.result - c.len-before.result) _ _ c.self.view_is
+    (length-set c.self.inside.links.items c.loop-into.last c.self.inside.free) seen

@@ -1,4 +1,4 @@
-use Rattle.std.proofs.Common.{◌<◌, drop, length, subst}
+use Rattle.std.proofs.Common.{◌<◌, drop, subst}
 use Rattle.std.specs.Prelude.{IfSome, OnSome}
 use Rattle.tick_queue.specs.Near.{StartsWith}
 use Rattle.tick_queue.specs.Queues.{QueueView}

@@ -1,5 +1,4 @@
-use Rattle.std.proofs.Common.{List, subst}
-use Rattle.model_core.specs.declared.event.Event.{Event}
+use Rattle.std.proofs.Common.{subst}
 use Rattle.tick_queue.specs.Near.{LosesFirst}
 use Rattle.tick_queue.specs.Queues.{QueueView}
 use Rattle.tick_queue.proofs.QueueLemmas.{first_gone, first_gone_pending, pending_of}

@@ -1,9 +1,10 @@
-use Rattle.std.proofs.Common.{◌≡◌, ◌^◌, ◌<◌, length, refl, subst, arith}
+use Rattle.std.proofs.Common.{◌≡◌, ◌^◌, ◌<◌, List, length, sym, ap, ◌∙◌, subst, arith}
 use Rattle.std.specs.Prelude.{OnOk}
+use Rattle.model_core.specs.declared.event.Event.{Event}
 use Rattle.key_order.specs.Ascending.{key_of}
 use Rattle.key_order.proofs.KeyLemmas.{Differ-back}
 use Rattle.tick_queue.specs.Levels.{HasLeft}
-use Rattle.tick_queue.specs.Queues.{QueueView}
+use Rattle.tick_queue.specs.Queues.{QueueView, AreInOrder}
 use Rattle.tick_queue.proofs.QueueLemmas.{pending_of, settled_order, settled_pending, settled_hand, settled_left, all_left}
 use Rattle.tick_queue.proofs.queue.TickQueue.settle.Goals as goal
 
@@ -33,5 +34,12 @@ returns-then-is_empty-clause-left c =
     subst P c.self.view_is
     (settled_left c.self.inside.levels c.refill.new.levels c.self.inside.near c.refill.new.self c.refill.result (c.is_empty.ensures.0 c.if-is_empty.true) c.refill.ensures.ok c.refill.ensures.err c.refill.ensures.left)
 
+pub invariant_of-self-2 : goal.invariant_of-self-2
+invariant_of-self-2 c =
+    let P : List Event → Type 0 = λ es. AreInOrder es c.self.inside.levels.tick c.self.inside.levels.events in
+    subst P (sym c.go_on.ensures) c.self.invariant
+
 pub returns-clause-left : goal.returns-clause-left
-returns-clause-left c = all_left c.args.self.now.pending c.args.self.now.pending refl
+returns-clause-left c =
+    all_left c.args.self.now.pending (pending_of c.go_on.new.self c.self.inside.levels.events)
+    (ap (λ es. pending_of es c.self.inside.levels.events) c.go_on.ensures ∙ ap (λ (v : QueueView). v.pending) c.self.view_is)
