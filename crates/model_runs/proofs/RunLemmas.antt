@@ -1,11 +1,16 @@
 -- What a run tells once it has asked its engine.
-use Rattle.std.proofs.Common.{◌≡◌, ℕ, Option, ◌∙◌, ap}
+use Rattle.std.proofs.Common.{◌≡◌, ℕ, List, [], ◌∷◌, ◌++◌, Option, Result, Ok, Err, refl, ◌∙◌, ap}
+use Rattle.std.specs.Prelude.{OnOk}
+use Rattle.delta_exchange.specs.declared.memory.OutOfMemory.{OutOfMemory}
 use Rattle.event_key.specs.declared.key.Key.{Key}
+use Rattle.model_core.specs.declared.note.Note.{Note}
 use Rattle.model_core.specs.Meaning.{Meaning}
 use Rattle.sim_spec.specs.declared.stop.Stop.{Stop}
 use Rattle.sim_spec.specs.declared.terms.Terms.{Terms}
 use Rattle.sim_spec.specs.State.{State}
 use Rattle.sim_spec.specs.Standing.{Standing, stands, spent, ended, IsCountAt}
+use Rattle.sim_io.specs.Texts.{event_lines, record_lines}
+use Rattle.sim_text.proofs.RecordLemmas.{record_lines-more}
 use Rattle.model_runs.specs.declared.told.Told.{Told}
 use Rattle.model_runs.specs.RunStandings.{TellsOf}
 
@@ -18,3 +23,14 @@ tells m t standing at told stop count is ended_told ended_is count_told counted 
     by : (at : Standing) → standing ≡ at → IsCountAt at told.count
     by (stands s fault) is = count_told ∙ counted s fault is
     by spent is = tt
+
+-- no line tells of no record
+pub no_lines : (m : Meaning) (lines : List ℕ) → lines ≡ [] → lines ≡ record_lines m []
+unfolding record_lines
+no_lines m lines empty = empty
+
+-- lines hold what is told of one record more, unless that was refused
+pub lines_more : (answer : Result (Unit {0}) OutOfMemory) (m read : Meaning) (records : List (Key × Note)) (key : Key) (note : Note) (before after : List ℕ) → read ≡ m → before ≡ record_lines m records
+    → OnOk answer (after ≡ before ++ event_lines read key note) → OnOk answer (after ≡ record_lines m (records ++ (key, note) ∷ []))
+lines_more (Ok x) m read records key note before after same is put = record_lines-more m records key note before after is (put ∙ ap (λ m. before ++ event_lines m key note) same)
+lines_more (Err e) m read records key note before after same is put = tt

@@ -1,10 +1,11 @@
 -- Where a run stands in a simulation, and what it tells of that.
-use Rattle.std.specs.Prelude.{◌≡◌, Result}
+use Rattle.std.specs.Prelude.{◌≡◌, ℕ, List, Result}
 use Rattle.delta_exchange.specs.declared.memory.OutOfMemory.{OutOfMemory}
 use Rattle.model_core.specs.Meaning.{Meaning}
 use Rattle.sim_spec.specs.declared.bucket.Bucket.{Bucket}
 use Rattle.sim_spec.specs.declared.terms.Terms.{Terms}
 use Rattle.sim_spec.specs.Standing.{Standing, ended, IsCountAt, DoesCycles}
+use Rattle.sim_text.specs.LineCycles.{WritesCycle}
 use Rattle.cycle_core.specs.Standings.{WorldStandsAt}
 use Rattle.model_runs.specs.declared.one_thread_run.OneThreadRun.{OneThreadRun}
 use Rattle.model_runs.specs.declared.team_run.TeamRun.{TeamRun}
@@ -22,6 +23,10 @@ module _ {M : Type 0} (meaning_of : M → Meaning) where
 
   abbrev pub OneCycles : OneThreadRun M → Result Bucket OutOfMemory → OneThreadRun M → Type 0
   OneCycles = DoesCycles (λ (run : OneThreadRun M). meaning_of run.engine.model) (λ (run : OneThreadRun M). run.engine.terms) OneStandsAt
+
+  -- a cycle that writes the lines of its own events
+  abbrev pub OneWrites : OneThreadRun M → Result (Unit {0}) OutOfMemory → OneThreadRun M → List ℕ → Type 0
+  OneWrites = WritesCycle (λ (run : OneThreadRun M). meaning_of run.engine.model) (λ (run : OneThreadRun M). run.engine.terms) OneStandsAt
 
   -- so it is with the nodes of a team
   abbrev pub TeamStandsAt : TeamRun M → Standing → Type 0

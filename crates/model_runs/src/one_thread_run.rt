@@ -1,15 +1,18 @@
 //! The engine for one thread, on any model.
-ghost use Rattle.std.specs.Prelude.{◌≡◌, IfOk, None};
+ghost use Rattle.std.specs.Prelude.{◌≡◌, ◌<◌, ◌++◌, [], IfOk, OnOk, None};
 ghost use Rattle.std.specs.Arc.{arc_value};
 ghost use Rattle.sim_spec.specs.State.{initial_state};
+ghost use Rattle.sim_io.specs.Texts.{event_lines};
 ghost use Rattle.sim_spec.specs.Standing.{ended, stands};
-ghost use Rattle.model_runs.specs.RunStandings.{OneCycles, OneStandsAt};
+ghost use Rattle.model_runs.specs.RunStandings.{OneCycles, OneStandsAt, OneWrites};
 
 use crate::told::Told;
+use event_key::Key;
 use model_core::model::Model;
-use model_core::{OutOfMemory, Records};
+use model_core::{Note, OutOfMemory, Records};
 use one_thread::OneThread;
 use sim_spec::{Bucket, Engine, Stop, Terms};
+use sim_text::LineBuffer;
 use std::alloc::Global;
 use std::sync::Arc;
 
@@ -50,6 +53,23 @@ impl<M: Model> OneThreadRun<M> {
         let bucket = self.engine.bucket(alloc);
         self.told = Told::new(self.engine.ended(), self.engine.count());
         bucket
+    }
+}
+
+impl<M: Model> OneThreadRun<M> {
+    /// One cycle, which appends the lines of its own events. After a refusal the run has no cycle more.
+    pub fn write_cycle(&mut self, alloc: Global, lines: &mut LineBuffer) -> Result<(), OutOfMemory>
+        requires goes_on { ended (M.meaning self.old.engine.model) self.old.engine.terms self.old.engine.standing ≡ None }
+        requires empty { lines.old ≡ [] }
+        ensures { OneWrites M.meaning self.old result self.new lines.new }
+    {
+        let put = |lines: &mut LineBuffer, model: &M, key: &Key, note: &Note|
+            requires { key.now.dest < (M.meaning model.now).objects }
+            ensures { OnOk result (lines.new ≡ lines.old ++ event_lines (M.meaning model.now) key.now note.now) }
+        { lines.put(alloc, model, key, note) };
+        self.engine.tell_bucket(lines, &put)?;
+        self.told = Told::new(self.engine.ended(), self.engine.count());
+        Ok(())
     }
 }
 

@@ -1,16 +1,18 @@
 //! A whole simulation of a model.
-ghost use Rattle.std.specs.Prelude.{◌≡◌, ◌≤◌, IfOk, None};
+ghost use Rattle.std.specs.Prelude.{◌≡◌, ◌≤◌, [], IfOk, None, false};
 ghost use Rattle.std.specs.Arc.{arc_value};
 ghost use Rattle.std.specs.Thread.{IsSend, IsSync};
 ghost use Rattle.model_core.specs.declared.limits.TheConstants.{MOST_NODES};
 ghost use Rattle.sim_spec.specs.Standing.{ended, stands};
 ghost use Rattle.sim_spec.specs.State.{initial_state};
+ghost use Rattle.run_tally.specs.Tallies.{TotalsOf};
+ghost use Rattle.sim_text.specs.declared.telling.Telling.TheVariants.{Lines};
 ghost use Rattle.sim_text.specs.Written.{HasSimulated};
 ghost use Rattle.cycle_core.specs.Standings.{GoesOn};
 ghost use Rattle.node_team.specs.Handings.{AreWorkers};
 ghost use Rattle.model_runs.specs.Handed.{HandsOn};
 ghost use Rattle.model_runs.specs.Machines.{IsMachine, IsSpread, IsSpreadAs};
-ghost use Rattle.model_runs.specs.RunStandings.{OneCycles, OneStandsAt, TeamCycles, TeamStandsAt};
+ghost use Rattle.model_runs.specs.RunStandings.{OneCycles, OneStandsAt, OneWrites, TeamCycles, TeamStandsAt};
 
 use crate::handing::hand_on;
 use crate::job::Job;
@@ -25,7 +27,7 @@ use run_tally::Tally;
 use sim_io::Sink;
 use sim_spec::laws::law_initial;
 use sim_spec::{Bucket, Stop, Terms};
-use sim_text::{Telling, Unfinished, simulate};
+use sim_text::{LineBuffer, Telling, Unfinished, simulate, simulate_lines};
 use std::alloc::Global;
 use std::sync::Arc;
 use std::thread::Threads;
@@ -66,6 +68,25 @@ pub(crate) fn on_nodes<M: Model>(
     Ok((model, run))
 }
 
+/// Runs a model on one thread, and writes the lines of its events, each bucket's as its events are fired.
+fn run_lines<M: Model, K: Sink>(
+    alloc: Global,
+    model: M,
+    terms: Terms,
+    out: &mut K,
+) -> Result<Stop, Unfinished>
+    ensures { (totals : TotalsOf) → HasSimulated K.Sink out.old out.new result (M.meaning model) terms totals (Lines false) (initial_state (M.meaning model)) }
+{
+    let (model, mut run) = one_thread(alloc, model, terms)?;
+    law_initial(&*model, &terms);
+    let cycle = |run: &mut OneThreadRun<M>, alloc: Global, _out: &K, lines: &mut LineBuffer|
+        requires { IsSend M.row × IsSync M.row
+            × (ended (M.meaning run.old.engine.model) run.old.engine.terms run.old.engine.standing ≡ None) × (lines.old ≡ []) }
+        ensures { OneWrites M.meaning run.old result run.new lines.new }
+    { run.write_cycle(alloc, lines) };
+    simulate_lines(alloc, &*model, &terms, &mut run, &cycle, out)
+}
+
 /// Runs a model on one thread, and writes what is to be told of its simulation.
 fn run_one_thread<M: Model, L: Tally<M>, K: Sink>(
     alloc: Global,
@@ -76,6 +97,9 @@ fn run_one_thread<M: Model, L: Tally<M>, K: Sink>(
 ) -> Result<Stop, Unfinished>
     ensures { HasSimulated K.Sink out.old out.new result (M.meaning model) terms (L.lines model terms) telling (initial_state (M.meaning model)) }
 {
+    if let Telling::Lines { cycles: false } = telling {
+        return run_lines(alloc, model, terms, out);
+    }
     let (model, mut run) = one_thread(alloc, model, terms)?;
     law_initial(&*model, &terms);
     let cycle = |run: &mut OneThreadRun<M>, alloc: Global, _out: &K| -> Result<Bucket, OutOfMemory>

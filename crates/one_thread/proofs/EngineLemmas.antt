@@ -1,9 +1,11 @@
 -- Where the engine stands.
-use Rattle.std.proofs.Common.{◌≡◌, ℕ, sym, refl, ap, ◌∙◌, subst}
-use Rattle.std.specs.Prelude.{Option, Some, None, Ok, Err}
+use Rattle.std.proofs.Common.{◌≡◌, ℕ, List, [], ◌++◌, sym, refl, ap, ◌∙◌, subst}
+use Rattle.std.specs.Prelude.{Option, Some, None, Result, Ok, Err, IsErrAnd}
 use Rattle.event_key.specs.declared.key.Key.{Key}
 use Rattle.delta_exchange.specs.declared.memory.OutOfMemory.{OutOfMemory}
+use Rattle.model_core.specs.declared.note.Note.{Note}
 use Rattle.model_core.specs.Meaning.{Meaning}
+use Rattle.model_core.specs.Records.{RecordsView}
 use Rattle.sim_spec.specs.declared.bucket.Bucket.{Bucket}
 use Rattle.sim_spec.specs.declared.stop.Stop.{Stop}
 use Rattle.sim_spec.specs.declared.stop.Stop.TheVariants.{Fault}
@@ -12,6 +14,8 @@ use Rattle.sim_spec.specs.State.{State, Lawful, initial_state}
 use Rattle.sim_spec.specs.Run.{next}
 use Rattle.sim_spec.specs.Cut.{cut, after}
 use Rattle.sim_spec.specs.Standing.{Standing, stands, spent, end_or_limit, ended, IsLawfulStanding, CycleGives}
+use Rattle.one_thread.specs.declared.bucket_end.BucketEnd.{BucketEnd}
+use Rattle.one_thread.specs.Ends.{end_of, HasTold}
 use Rattle.one_thread.specs.Engines.{Course, EngineView, state_of, standing_of}
 
 -- the engine with these parts
@@ -69,6 +73,42 @@ cycle_given {M} meaning value model read terms place fault c new bucket is is_pl
       bucket_is = is_bucket ∙ ap (λ m. cut (meaning m) terms (state_of c)) is_read;
       ends = ap (λ s. stands s bucket.fault) (is_after ∙ ap (λ m. after (meaning m) terms (state_of c)) is_read);
     })
+
+-- a bucket was told, and ended so
+pub told_given : {M T : Type 0} (meaning : M → Meaning) (Holds : Meaning → T → List (Key × Note) → Type 0) (value : EngineView M) (model read : M) (terms : Terms) (place : Option Course) (fault : Option (Key × ℕ))
+    (c new : Course) (before told : T) (end : BucketEnd)
+    → engine_of model terms place fault ≡ value → place ≡ Some c → read ≡ model → ended (meaning value.model) value.terms value.standing ≡ None
+    → end ≡ end_of (cut (meaning read) terms (state_of c))
+    → ((records : List (Key × Note)) → Holds (meaning read) before records → Holds (meaning read) told (records ++ (cut (meaning read) terms (state_of c)).done))
+    → state_of new ≡ after (meaning read) terms (state_of c)
+    → HasTold (Holds (meaning value.model)) (meaning value.model) value.terms value.standing before end told (stands (state_of new) end.fault)
+told_given {M} {T} meaning Holds value model read terms place fault c new before told end is is_place is_read begins is_end all is_after =
+    let bucket : Bucket = cut (meaning read) terms (state_of c) in
+    let same : read ≡ value.model = is_read ∙ ap (λ (v : EngineView M). v.model) is in
+    let P : M → Type 0 = λ x. (records : List (Key × Note)) → Holds (meaning x) before records → Holds (meaning x) told (records ++ bucket.done) in
+    let Q : Option (Key × ℕ) → Type 0 = λ f. CycleGives (meaning value.model) value.terms value.standing (Ok bucket) (stands (state_of new) f) in
+    record {
+      bucket = bucket;
+      end_is = is_end;
+      told = subst P same all;
+      gives = subst Q (ap (λ (e : BucketEnd). e.fault) (sym is_end)) (cycle_given meaning value model read terms place fault c new bucket is is_place is_read begins refl is_after);
+    }
+
+-- and its records are all
+pub bucket_given : (m : Meaning) (t : Terms) (old new : Standing) (before after : RecordsView) (end : BucketEnd) (bucket : Bucket) → before.items ≡ []
+    → HasTold (λ (buffer : RecordsView) (records : List (Key × Note)). buffer.items ≡ records) m t old before end after new
+    → bucket ≡ record { done = after.items; horizon = end.horizon; fault = end.fault; limited = end.limited } → CycleGives m t old (Ok bucket) new
+bucket_given m t old new before after end bucket empty has is =
+    let all : after.items ≡ has.bucket.done = has.told [] empty in
+    let same : bucket ≡ has.bucket = is ∙ (λ i. record { done = all i; horizon = (has.end_is i).horizon; fault = (has.end_is i).fault; limited = (has.end_is i).limited }) in
+    let P : Bucket → Type 0 = λ b. CycleGives m t old (Ok b) new in
+    subst P (sym same) has.gives
+
+-- a refused bucket leaves a spent engine
+pub cycle_refused : (m : Meaning) (t : Terms) (old new : Standing) (P : OutOfMemory → Type 0) (answer : Result Bucket OutOfMemory) → IsErrAnd answer P → new ≡ spent → CycleGives m t old answer new
+unfolding CycleGives
+cycle_refused m t old new P (Ok bucket) is refused = absurd is
+cycle_refused m t old new P (Err e) is refused = refused
 
 -- after a refusal the engine is spent
 pub refusal_given : (m : Meaning) (t : Terms) (old : Standing) (place : Option Course) (fault : Option (Key × ℕ)) (refused : OutOfMemory) → place ≡ None → CycleGives m t old (Err refused) (standing_of place fault)

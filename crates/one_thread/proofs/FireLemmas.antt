@@ -2,9 +2,11 @@
 use Rattle.std.proofs.Common.{◌≡◌, ℕ, zero, suc, ◌+◌, ◌^◌, ◌<◌, ◌≤◌, List, [], ◌∷◌, ◌++◌, length, get_or, sym, refl, ap, ◌∙◌, subst, arith}
 use Rattle.std.specs.Prelude.{IsTrue, slice_set}
 use Rattle.std.proofs.lemmas.List.{set-get_or}
+use Rattle.event_key.specs.declared.key.Key.{Key}
 use Rattle.event_key.specs.Stamps.{time_part}
 use Rattle.model_core.specs.declared.event.Event.{Event}
 use Rattle.model_core.specs.declared.event.Send.{Send}
+use Rattle.model_core.specs.declared.note.Note.{Note}
 use Rattle.model_core.specs.Meaning.{Meaning, MeaningLaws, SendsInRange}
 use Rattle.sim_spec.specs.declared.terms.Terms.{Terms}
 use Rattle.sim_spec.specs.Firing.{ObjectState, fails, fire, emissions}
@@ -59,6 +61,12 @@ taken_by m t old e rest laws lawful due =
       serials = serials_sound m old.objects e.key.dest rest laws.objects below (subst S due.first lawful.sound).1;
       room = omega arith;
     }
+
+-- an event that goes is one of an object of the model
+pub done_below : (m : Meaning) (t : Terms) (old : Course) (key : Key) (note : Note) (new : Course) → MeaningLaws m → Lawful m t (state_of old) → IsDone m t old key note new → key.dest < m.objects
+done_below m t old key note new laws lawful one =
+    let P : Key → Type 0 = λ k. k.dest < m.objects in
+    subst P (sym one.key_is) (taken_by m t old one.event one.rest laws lawful one.due).below
 
 heads : (a b : Event) (xs ys : List Event) → a ∷ xs ≡ b ∷ ys → a ≡ b
 heads a b xs ys is = cc

@@ -3,6 +3,8 @@
 //! Where objects are many, most of them lie in no cache when their events come, and each event would wait for its own. So
 //! the next ones are read a few events ahead, by reads that don't wait for one another. That stands for a prefetch
 //! (Callahan, Kennedy and Porterfield, "Software Prefetching", 1991), and changes nothing that a simulation tells.
+ghost use Rattle.std.specs.Prelude.{◌≡◌};
+
 use event_firing::Object;
 use tick_queue::TickQueue;
 
@@ -10,7 +12,7 @@ use tick_queue::TickQueue;
 const FEW: usize = 8_192;
 
 /// How many events are fired from one look ahead to the next.
-pub const STEP: usize = 8;
+const STEP: usize = 8;
 
 /// A sum of all that was read ahead. Nobody asks for it, but what isn't used isn't read.
 #[derive(Drop)]
@@ -24,12 +26,26 @@ impl ReadAhead {
         ReadAhead { sum: 0 }
     }
 
+    /// Lets a queue pause where a look ahead is due.
+    pub fn pace(objects: &[Object], queue: &mut TickQueue)
+        ensures { queue.new ≡ queue.old }
+    {
+        if objects.len() > FEW {
+            queue.pause_after(STEP);
+        }
+    }
+
+    /// Looks ahead at a pause of the queue, where objects are many.
+    #[inline(always)]
+    pub fn look(&mut self, objects: &[Object], queue: &TickQueue) {
+        if objects.len() > FEW {
+            self.read_next(objects, queue);
+        }
+    }
+
     /// Reads the objects of the events that are fired after the next look ahead, as far as these events are at hand.
     #[inline(never)]
-    pub fn look(&mut self, objects: &[Object], queue: &TickQueue) {
-        if objects.len() <= FEW {
-            return;
-        }
+    fn read_next(&mut self, objects: &[Object], queue: &TickQueue) {
         for k in STEP..2 * STEP {
             let Some(event) = queue.after_first(k) else {
                 return;

@@ -1,67 +1,56 @@
 //! A bucket: the events below one event horizon.
-ghost use Rattle.std.specs.Prelude.{◌≡◌, IfOk, OnOk, is_none, false};
+ghost use Rattle.std.specs.Prelude.{◌≡◌, ◌<◌, ◌++◌, ◌∷◌, [], List, IfOk, OnOk};
+ghost use Rattle.event_key.specs.declared.key.Key.{Key};
+ghost use Rattle.model_core.specs.declared.note.Note.{Note};
 ghost use Rattle.sim_spec.specs.Cut.{cut, after};
 ghost use Rattle.sim_spec.specs.State.{Lawful};
 ghost use Rattle.tick_queue.specs.Queues.{IsSettled};
 ghost use Rattle.one_thread.specs.Engines.{state_of};
+ghost use Rattle.one_thread.specs.Ends.{end_of};
 
+use crate::bucket_end::BucketEnd;
 use crate::course::Course;
 use crate::turn::Turn;
 use event_key::Key;
 use model_core::model::{Model, keeps_laws};
-use model_core::{Effect, OutOfMemory, RecordBuffer, Records};
-use sim_spec::{Bucket, Terms};
+use model_core::{Effect, Note, OutOfMemory};
+use run_recorder::Recorder;
+use sim_spec::Terms;
 
-/// A whole bucket, up to its horizon.
-fn whole(done: RecordBuffer, horizon: u64) -> Bucket
-    ensures { result ≡ record { done = done.items; horizon = horizon; fault = None; limited = false } }
-{
-    Bucket {
-        done: Records::new(done),
-        horizon,
-        fault: None,
-        limited: false,
-    }
-}
-
-/// A bucket that ended at a fault, or at the limit.
-fn partial(done: RecordBuffer, fault: Option<(Key, u32)>) -> Bucket
-    ensures { result ≡ record { done = done.items; horizon = 0; fault = fault; limited = is_none fault } }
-{
-    Bucket {
-        done: Records::new(done),
-        horizon: 0,
-        limited: fault.is_none(),
-        fault,
-    }
-}
-
-/// Fires the events of one bucket in their order, each over the same sheet. The records are put into this buffer, whatever
-/// it holds.
-pub fn fire_bucket<M: Model>(
+/// Fires the events of one bucket in their order, each over the same sheet, and tells of each as it is done.
+pub fn fire_bucket<
+    M: Model,
+    T: Recorder,
+    F: Fn(&mut T, &M, &Key, &Note) -> Result<(), OutOfMemory>,
+>(
     course: &mut Course,
     model: &M,
     terms: &Terms,
     sheet: &mut Effect,
-    buffer: RecordBuffer,
-) -> Result<Bucket, OutOfMemory>
-    requires { Lawful (M.meaning model.now) terms.now (state_of course.old) }
-    ensures bucket { IfOk result (λ bucket. bucket ≡ cut (M.meaning model.now) terms.now (state_of course.old)) }
+    into: &mut T,
+    tell: &F,
+) -> Result<BucketEnd, OutOfMemory>
+    requires lawful { Lawful (M.meaning model.now) terms.now (state_of course.old) }
+    requires may { (t : _) (key : _) (note : _) → key.now.dest < (M.meaning model.now).objects → F.pre tell.now t model key note }
+    requires does { (t : _) (key : _) (note : _) (r : _) (f : _) → F.post tell.now t model key note r f
+        → (before : List (Key × Note)) → T.holds (M.meaning model.now) t.now before
+        → OnOk r (T.holds (M.meaning model.now) f.now (before ++ (key.now, note.now) ∷ [])) }
+    ensures end { IfOk result (λ end. end ≡ end_of (cut (M.meaning model.now) terms.now (state_of course.old))) }
+    ensures told { OnOk result ((before : List (Key × Note)) → T.holds (M.meaning model.now) into.old before
+        → T.holds (M.meaning model.now) into.new (before ++ (cut (M.meaning model.now) terms.now (state_of course.old)).done)) }
     ensures lawful { OnOk result (Lawful (M.meaning model.now) terms.now (state_of course.new)) }
     ensures settled { OnOk result (IsSettled course.new.queue) }
     ensures after { OnOk result (state_of course.new ≡ after (M.meaning model.now) terms.now (state_of course.old)) }
 {
     keeps_laws(model);
     course.merge();
-    let mut done = buffer;
-    done.clear();
     loop {
         course.settle()?;
         match course.turn(model, terms, sheet)? {
-            Turn::Does(key) => done.push(&key, &sheet.note)?,
-            Turn::Ends(horizon) => return Ok(whole(done, horizon)),
-            Turn::Limit => return Ok(partial(done, None)),
-            Turn::Fault(key, code) => return Ok(partial(done, Some((key, code)))),
+            Turn::Does(key) => tell(into, model, &key, &sheet.note)?,
+            Turn::Ends(horizon) => return Ok(BucketEnd::whole(horizon)),
+            Turn::Limit => return Ok(BucketEnd::limit()),
+            Turn::Fault(key, code) => return Ok(BucketEnd::fault(key, code)),
         }
     }
 }

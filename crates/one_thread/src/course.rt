@@ -8,7 +8,7 @@ ghost use Rattle.tick_queue.specs.Queues.{IsSettled};
 ghost use Rattle.one_thread.specs.Engines.{state_of};
 ghost use Rattle.one_thread.specs.Turns.{IsTurn, HasDue};
 
-use crate::ahead::{ReadAhead, STEP};
+use crate::ahead::ReadAhead;
 use crate::beginning::first_events;
 use crate::sending::send_all;
 use crate::turn::Turn;
@@ -46,9 +46,12 @@ impl Course {
         ensures settled { IfOk result (λ course. IsSettled course.queue) }
     {
         keeps_laws(model);
+        let objects = first_objects(alloc, model)?;
+        let mut queue = first_events(alloc, model)?;
+        ReadAhead::pace(&objects, &mut queue);
         Ok(Course {
-            objects: first_objects(alloc, model)?,
-            queue: first_events(alloc, model)?,
+            objects,
+            queue,
             count: 0,
             ahead: ReadAhead::new(),
         })
@@ -87,19 +90,22 @@ impl Course {
     }
 
     /// Brings the first event to hand.
+    #[inline(always)]
     pub fn settle(&mut self) -> Result<(), OutOfMemory>
         ensures state { OnOk result (state_of self.new ≡ state_of self.old) }
         ensures fresh { self.new.queue.fresh_least ≡ self.old.queue.fresh_least }
         ensures settled { OnOk result (IsSettled self.new.queue) }
     {
-        self.queue.settle()?;
-        if self.count % STEP as u64 == 0 {
-            self.ahead.look(&self.objects, &self.queue);
+        if !self.queue.pauses() {
+            return Ok(());
         }
+        self.queue.settle()?;
+        self.ahead.look(&self.objects, &self.queue);
         Ok(())
     }
 
     /// Fires the next event of the bucket, where there is one, and tells of it in the sheet.
+    #[inline(always)]
     pub fn turn<M: SimulationModel>(
         &mut self,
         model: &M,
@@ -124,6 +130,7 @@ impl Course {
     }
 
     /// Fires the first event, and tells of it in the sheet.
+    #[inline(always)]
     fn fire<M: SimulationModel>(
         &mut self,
         model: &M,

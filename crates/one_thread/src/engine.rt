@@ -1,15 +1,19 @@
 //! The engine, as its callers see it.
-ghost use Rattle.std.specs.Prelude.{◌≡◌, ℕ, Option, IfOk};
+ghost use Rattle.std.specs.Prelude.{◌≡◌, ◌<◌, ◌++◌, ◌∷◌, [], ℕ, List, Option, None, IfOk, OnOk, OnErr};
 ghost use Rattle.std.specs.Arc.{arc_value};
 ghost use Rattle.event_key.specs.declared.key.Key.{Key};
+ghost use Rattle.model_core.specs.declared.note.Note.{Note};
 ghost use Rattle.sim_spec.specs.State.{State, initial_state};
 ghost use Rattle.sim_spec.specs.Standing.{stands, spent, ended, CycleGives};
+ghost use Rattle.one_thread.specs.Ends.{HasTold};
 
 use crate::bucket::fire_bucket;
+use crate::bucket_end::BucketEnd;
 use crate::course::Course;
 use event_key::Key;
 use model_core::model::Model as SimulationModel;
-use model_core::{Effect, OutOfMemory, RecordBuffer, Records};
+use model_core::{Effect, Note, OutOfMemory, RecordBuffer, Records};
+use run_recorder::Recorder;
 use sim_spec::laws::law_initial;
 use sim_spec::{Bucket, Stop, Terms};
 use std::alloc::Global;
@@ -108,6 +112,57 @@ impl<M: SimulationModel> OneThread<M> {
         }
     }
 
+    /// Fires the events of one bucket, and tells of each as it is done: `tell` puts it into what takes records. After a
+    /// refusal the engine is spent: each later call is refused too.
+    pub fn tell_bucket<T: Recorder, F: Fn(&mut T, &M, &Key, &Note) -> Result<(), OutOfMemory>>(
+        &mut self,
+        into: &mut T,
+        tell: &F,
+    ) -> Result<BucketEnd, OutOfMemory>
+        requires goes_on { ended (M.meaning self.old.model) self.old.terms self.old.standing ≡ None }
+        requires may { (t : _) (model : _) (key : _) (note : _) → model.now ≡ self.old.model → key.now.dest < (M.meaning self.old.model).objects
+            → F.pre tell.now t model key note }
+        requires does { (t : _) (model : _) (key : _) (note : _) (r : _) (f : _) → model.now ≡ self.old.model → F.post tell.now t model key note r f
+            → (before : List (Key × Note)) → T.holds (M.meaning self.old.model) t.now before
+            → OnOk r (T.holds (M.meaning self.old.model) f.now (before ++ (key.now, note.now) ∷ [])) }
+        ensures told { IfOk result (λ end. HasTold (T.holds (M.meaning self.old.model)) (M.meaning self.old.model) self.old.terms
+            self.old.standing into.old end into.new self.new.standing) }
+        ensures refused { OnErr result (self.new.standing ≡ spent) }
+        ensures model { self.new.model ≡ self.old.model }
+        ensures terms { self.new.terms ≡ self.old.terms }
+    {
+        let Some(course) = &mut self.course else {
+            return Err(OutOfMemory);
+        };
+        match fire_bucket(
+            course,
+            &*self.model,
+            &self.terms,
+            &mut self.sheet,
+            into,
+            tell,
+        ) {
+            Ok(end) => {
+                self.fault = end.fault;
+                Ok(end)
+            }
+            Err(refused) => {
+                spend(&mut self.course);
+                Err(refused)
+            }
+        }
+    }
+
+    /// Takes the room for the records of the next bucket.
+    fn take_spare(&mut self, alloc: Global) -> RecordBuffer
+        ensures same { self.new ≡ self.old }
+        ensures empty { result.items ≡ [] }
+    {
+        let mut spare = mem::replace(&mut self.spare, RecordBuffer::new(alloc));
+        spare.clear();
+        spare
+    }
+
     /// Fires the events of one bucket. After a refusal the engine is spent: each later call is refused too.
     pub fn bucket(&mut self, alloc: Global) -> Result<Bucket, OutOfMemory>
         requires { ended (M.meaning self.old.model) self.old.terms self.old.standing ≡ None }
@@ -115,20 +170,12 @@ impl<M: SimulationModel> OneThread<M> {
         ensures model { self.new.model ≡ self.old.model }
         ensures terms { self.new.terms ≡ self.old.terms }
     {
-        let Some(course) = &mut self.course else {
-            return Err(OutOfMemory);
-        };
-        let buffer = mem::replace(&mut self.spare, RecordBuffer::new(alloc));
-        match fire_bucket(course, &*self.model, &self.terms, &mut self.sheet, buffer) {
-            Ok(bucket) => {
-                self.fault = bucket.fault;
-                Ok(bucket)
-            }
-            Err(refused) => {
-                spend(&mut self.course);
-                Err(refused)
-            }
-        }
+        let mut done = self.take_spare(alloc);
+        let put = |done: &mut RecordBuffer, _model: &M, key: &Key, note: &Note|
+            ensures { OnOk result (done.new.items ≡ done.old.items ++ (key.now, note.now) ∷ []) }
+        { done.push(key, note) };
+        let end = self.tell_bucket(&mut done, &put)?;
+        Ok(end.of(Records::new(done)))
     }
 
     /// Takes back the records of a bucket that nobody reads any more: those of the next one are put where they stood.

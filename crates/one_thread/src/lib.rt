@@ -8,9 +8,11 @@
 mod ahead;
 mod beginning;
 mod bucket;
+mod bucket_end;
 mod course;
 mod engine;
 mod sending;
 mod turn;
 
+pub use bucket_end::BucketEnd;
 pub use engine::OneThread;

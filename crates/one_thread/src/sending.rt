@@ -13,6 +13,7 @@ use model_core::{OutOfMemory, Send};
 use tick_queue::TickQueue;
 
 /// Puts what an event sends among the pending events, with serials from this one on.
+#[inline(always)]
 pub fn send_all(
     queue: &mut TickQueue,
     cause: &Key,

@@ -1,3 +1,4 @@
+pub mod LineCycles
 pub mod Reports
 pub mod Rest
 pub mod SoFar

@@ -1,36 +1,66 @@
 -- The bucket grows event by event, and ends as the definition ends it.
-use Rattle.std.proofs.Common.{◌∙◌, ap, subst, sym, arith}
+use Rattle.std.proofs.Common.{◌≡◌, ◌<◌, ◌++◌, ◌∷◌, [], List, Option, Some, None, true, false, ◌∙◌, refl, ap, subst, sym, arith, append-nil, append_assoc}
+use Rattle.std.specs.Prelude.{Result, OnOk}
+use Rattle.event_key.specs.declared.key.Key.{Key}
+use Rattle.delta_exchange.specs.declared.memory.OutOfMemory.{OutOfMemory}
+use Rattle.model_core.specs.declared.note.Note.{Note}
+use Rattle.sim_spec.specs.declared.bucket.Bucket.{Bucket}
 use Rattle.sim_spec.specs.State.{State, Lawful}
 use Rattle.tick_queue.specs.Queues.{IsSettled}
+use Rattle.one_thread.specs.Ends.{end_of}
 use Rattle.one_thread.specs.Engines.{Course, state_of}
 use Rattle.one_thread.specs.Turns.{IsTurn}
 use Rattle.one_thread.specs.declared.turn.Turn.{Turn}
 use Rattle.one_thread.specs.declared.turn.Turn.TheVariants.{Does, Ends, Limit, Fault}
+use Rattle.one_thread.proofs.FireLemmas.{done_below}
 use Rattle.one_thread.proofs.UnderWay.{begins, stays, lawful_in, goes, leaves_whole, leaves_limited, leaves_faulted}
 use Rattle.one_thread.proofs.bucket.fire_bucket.Goals as goal
 
-pub loop-done-init : goal.loop-done-init
-loop-done-init g c =
-    begins (g.M.Model.meaning c.args.model.now) c.args.terms.now (state_of c.args.course.now) c.clear.new.self.items c.merge.new.self
-    c.clear.ensures c.merge.ensures.state c.merge.ensures.fresh c.requires
+pub loop-course-init : goal.loop-course-init
+loop-course-init g c =
+    let m = g.M.Model.meaning c.args.model.now in
+    record {
+      so_far = [];
+      way = begins m c.args.terms.now (state_of c.args.course.now) [] c.merge.new.self refl c.merge.ensures.state c.merge.ensures.fresh c.requires.lawful;
+      told = λ before holds. subst (g.T.Recorder.holds m c.args.into.now) (sym (append-nil before)) holds;
+    }
 
 pub turn-requires-clause-lawful : goal.turn-requires-clause-lawful
 turn-requires-clause-lawful g c lives lasts =
     let m = g.M.Model.meaning c.args.model.now in
-    lawful_in m c.args.terms.now (state_of c.args.course.now) c.loop-done.done.items c.settle.new.self
-    (stays m c.args.terms.now (state_of c.args.course.now) c.loop-done.done.items c.loop-done.course c.settle.new.self c.loop-done.invariant c.in_ok-settle.ensures.state c.in_ok-settle.ensures.fresh)
+    let i = c.loop-course.invariant in
+    let here = stays m c.args.terms.now (state_of c.args.course.now) i.so_far c.loop-course.course c.settle.new.self i.way c.in_ok-settle.ensures.state c.in_ok-settle.ensures.fresh in
+    lawful_in m c.args.terms.now (state_of c.args.course.now) i.so_far c.settle.new.self here
 
-pub loop-done-preserved : goal.loop-done-preserved
-loop-done-preserved g c =
+pub tell-requires : goal.tell-requires
+tell-requires g c =
     let m = g.M.Model.meaning c.args.model.now in
+    let i = c.loop-course.invariant in
+    let here = stays m c.args.terms.now (state_of c.args.course.now) i.so_far c.loop-course.course c.settle.new.self i.way c.in_ok-settle.ensures.state c.in_ok-settle.ensures.fresh in
     let P : Turn → Type 0 = λ turn. IsTurn m c.args.terms.now c.settle.new.self turn c.turn.new.sheet.note c.turn.new.self in
     let done : P (Does c.in-Does.key) = subst P c.in-Does.is c.in_ok-key.ensures in
-    goes m c.args.terms.now (state_of c.args.course.now) c.loop-done.done.items c.push.new.self.items c.settle.new.self c.turn.new.self
-    c.in-Does.key c.turn.new.sheet.note c.keeps_laws.ensures
-    (stays m c.args.terms.now (state_of c.args.course.now) c.loop-done.done.items c.loop-done.course c.settle.new.self c.loop-done.invariant c.in_ok-settle.ensures.state c.in_ok-settle.ensures.fresh) done c.in_ok-push-in-Does.ensures.ok
+    let lawful = lawful_in m c.args.terms.now (state_of c.args.course.now) i.so_far c.settle.new.self here in
+    c.requires.may _ _ _ (done_below m c.args.terms.now c.settle.new.self c.in-Does.key c.turn.new.sheet.note c.turn.new.self c.keeps_laws.ensures lawful done)
 
-pub loop-done-smaller : goal.loop-done-smaller
-loop-done-smaller g c =
+pub loop-course-preserved : goal.loop-course-preserved
+loop-course-preserved g c =
+    let m = g.M.Model.meaning c.args.model.now in
+    let i = c.loop-course.invariant in
+    let here = stays m c.args.terms.now (state_of c.args.course.now) i.so_far c.loop-course.course c.settle.new.self i.way c.in_ok-settle.ensures.state c.in_ok-settle.ensures.fresh in
+    let P : Turn → Type 0 = λ turn. IsTurn m c.args.terms.now c.settle.new.self turn c.turn.new.sheet.note c.turn.new.self in
+    let done : P (Does c.in-Does.key) = subst P c.in-Does.is c.in_ok-key.ensures in
+    let told : Key × Note = (c.in-Does.key, c.turn.new.sheet.note) in
+    record {
+      so_far = i.so_far ++ told ∷ [];
+      way = goes m c.args.terms.now (state_of c.args.course.now) i.so_far (i.so_far ++ told ∷ []) c.settle.new.self c.turn.new.self c.in-Does.key c.turn.new.sheet.note c.keeps_laws.ensures here done refl;
+      told = λ before holds.
+          let Q : Result (Unit {0}) OutOfMemory → Type 0 = λ r. OnOk r (g.T.Recorder.holds m c.tell.new.arg2 ((before ++ i.so_far) ++ told ∷ [])) in
+          let one : Q c.tell.result = c.requires.does _ _ _ _ _ c.tell.ensures (before ++ i.so_far) (i.told before holds) in
+          subst (g.T.Recorder.holds m c.tell.new.arg2) (append_assoc before i.so_far (told ∷ [])) (subst Q c.in_ok-tell-in-Does.was one);
+    }
+
+pub loop-course-smaller : goal.loop-course-smaller
+loop-course-smaller g c =
     let m = g.M.Model.meaning c.args.model.now in
     let P : Turn → Type 0 = λ turn. IsTurn m c.args.terms.now c.settle.new.self turn c.turn.new.sheet.note c.turn.new.self in
     let done : P (Does c.in-Does.key) = subst P c.in-Does.is c.in_ok-key.ensures in
@@ -39,31 +69,48 @@ loop-done-smaller g c =
     let free = done.free in
     omega (arith, same, count, free)
 
-pub returns-in-Ends-clause-bucket : goal.returns-in-Ends-clause-bucket
-returns-in-Ends-clause-bucket g c =
+pub returns-in-Ends-clause-end : goal.returns-in-Ends-clause-end
+returns-in-Ends-clause-end g c =
     let m = g.M.Model.meaning c.args.model.now in
+    let i = c.loop-course.invariant in
+    let here = stays m c.args.terms.now (state_of c.args.course.now) i.so_far c.loop-course.course c.settle.new.self i.way c.in_ok-settle.ensures.state c.in_ok-settle.ensures.fresh in
     let P : Turn → Type 0 = λ turn. IsTurn m c.args.terms.now c.settle.new.self turn c.turn.new.sheet.note c.turn.new.self in
     let turn : P (Ends c.in-Ends.horizon) = subst P c.in-Ends.is c.in_ok-key.ensures in
-    let ends = leaves_whole m c.args.terms.now (state_of c.args.course.now) c.loop-done.done.items c.settle.new.self c.in-Ends.horizon c.whole.result
-    (stays m c.args.terms.now (state_of c.args.course.now) c.loop-done.done.items c.loop-done.course c.settle.new.self c.loop-done.invariant c.in_ok-settle.ensures.state c.in_ok-settle.ensures.fresh) turn.0 turn.1 c.whole.ensures in
-    ends.is_cut
+    let bucket : Bucket = record { done = i.so_far; horizon = c.in-Ends.horizon; fault = None; limited = false } in
+    let ends = leaves_whole m c.args.terms.now (state_of c.args.course.now) i.so_far c.settle.new.self c.in-Ends.horizon bucket here turn.0 turn.1 refl in
+    c.whole.ensures ∙ ap end_of ends.is_cut
+
+pub returns-in-Ends-clause-told : goal.returns-in-Ends-clause-told
+returns-in-Ends-clause-told g c =
+    let m = g.M.Model.meaning c.args.model.now in
+    let i = c.loop-course.invariant in
+    let here = stays m c.args.terms.now (state_of c.args.course.now) i.so_far c.loop-course.course c.settle.new.self i.way c.in_ok-settle.ensures.state c.in_ok-settle.ensures.fresh in
+    let P : Turn → Type 0 = λ turn. IsTurn m c.args.terms.now c.settle.new.self turn c.turn.new.sheet.note c.turn.new.self in
+    let turn : P (Ends c.in-Ends.horizon) = subst P c.in-Ends.is c.in_ok-key.ensures in
+    let bucket : Bucket = record { done = i.so_far; horizon = c.in-Ends.horizon; fault = None; limited = false } in
+    let ends = leaves_whole m c.args.terms.now (state_of c.args.course.now) i.so_far c.settle.new.self c.in-Ends.horizon bucket here turn.0 turn.1 refl in
+    λ before holds. subst (λ (b : Bucket). g.T.Recorder.holds m c.loop-course.into (before ++ b.done)) ends.is_cut (i.told before holds)
 
 pub returns-in-Ends-clause-after : goal.returns-in-Ends-clause-after
 returns-in-Ends-clause-after g c =
     let m = g.M.Model.meaning c.args.model.now in
+    let i = c.loop-course.invariant in
+    let here = stays m c.args.terms.now (state_of c.args.course.now) i.so_far c.loop-course.course c.settle.new.self i.way c.in_ok-settle.ensures.state c.in_ok-settle.ensures.fresh in
     let P : Turn → Type 0 = λ turn. IsTurn m c.args.terms.now c.settle.new.self turn c.turn.new.sheet.note c.turn.new.self in
     let turn : P (Ends c.in-Ends.horizon) = subst P c.in-Ends.is c.in_ok-key.ensures in
-    let ends = leaves_whole m c.args.terms.now (state_of c.args.course.now) c.loop-done.done.items c.settle.new.self c.in-Ends.horizon c.whole.result
-    (stays m c.args.terms.now (state_of c.args.course.now) c.loop-done.done.items c.loop-done.course c.settle.new.self c.loop-done.invariant c.in_ok-settle.ensures.state c.in_ok-settle.ensures.fresh) turn.0 turn.1 c.whole.ensures in
+    let bucket : Bucket = record { done = i.so_far; horizon = c.in-Ends.horizon; fault = None; limited = false } in
+    let ends = leaves_whole m c.args.terms.now (state_of c.args.course.now) i.so_far c.settle.new.self c.in-Ends.horizon bucket here turn.0 turn.1 refl in
     ap state_of turn.2 ∙ ends.is_after
 
 pub returns-in-Ends-clause-lawful : goal.returns-in-Ends-clause-lawful
 returns-in-Ends-clause-lawful g c =
     let m = g.M.Model.meaning c.args.model.now in
+    let i = c.loop-course.invariant in
+    let here = stays m c.args.terms.now (state_of c.args.course.now) i.so_far c.loop-course.course c.settle.new.self i.way c.in_ok-settle.ensures.state c.in_ok-settle.ensures.fresh in
     let P : Turn → Type 0 = λ turn. IsTurn m c.args.terms.now c.settle.new.self turn c.turn.new.sheet.note c.turn.new.self in
     let turn : P (Ends c.in-Ends.horizon) = subst P c.in-Ends.is c.in_ok-key.ensures in
-    let ends = leaves_whole m c.args.terms.now (state_of c.args.course.now) c.loop-done.done.items c.settle.new.self c.in-Ends.horizon c.whole.result
-    (stays m c.args.terms.now (state_of c.args.course.now) c.loop-done.done.items c.loop-done.course c.settle.new.self c.loop-done.invariant c.in_ok-settle.ensures.state c.in_ok-settle.ensures.fresh) turn.0 turn.1 c.whole.ensures in
+    let bucket : Bucket = record { done = i.so_far; horizon = c.in-Ends.horizon; fault = None; limited = false } in
+    let ends = leaves_whole m c.args.terms.now (state_of c.args.course.now) i.so_far c.settle.new.self c.in-Ends.horizon bucket here turn.0 turn.1 refl in
     let Q : Course → Type 0 = λ after. Lawful m c.args.terms.now (state_of after) in
     subst Q (sym turn.2) ends.lawful
 
@@ -75,31 +122,48 @@ returns-in-Ends-clause-settled g c =
     let Q : Course → Type 0 = λ after. IsSettled after.queue in
     subst Q (sym turn.2) c.in_ok-settle.ensures.settled
 
-pub returns-in-Limit-clause-bucket : goal.returns-in-Limit-clause-bucket
-returns-in-Limit-clause-bucket g c =
+pub returns-in-Limit-clause-end : goal.returns-in-Limit-clause-end
+returns-in-Limit-clause-end g c =
     let m = g.M.Model.meaning c.args.model.now in
+    let i = c.loop-course.invariant in
+    let here = stays m c.args.terms.now (state_of c.args.course.now) i.so_far c.loop-course.course c.settle.new.self i.way c.in_ok-settle.ensures.state c.in_ok-settle.ensures.fresh in
     let P : Turn → Type 0 = λ turn. IsTurn m c.args.terms.now c.settle.new.self turn c.turn.new.sheet.note c.turn.new.self in
     let turn : P (Limit) = subst P c.in-Limit.is c.in_ok-key.ensures in
-    let ends = leaves_limited m c.args.terms.now (state_of c.args.course.now) c.loop-done.done.items c.settle.new.self c.partial.result
-    (stays m c.args.terms.now (state_of c.args.course.now) c.loop-done.done.items c.loop-done.course c.settle.new.self c.loop-done.invariant c.in_ok-settle.ensures.state c.in_ok-settle.ensures.fresh) turn.0 c.partial.ensures in
-    ends.is_cut
+    let bucket : Bucket = record { done = i.so_far; horizon = 0; fault = None; limited = true } in
+    let ends = leaves_limited m c.args.terms.now (state_of c.args.course.now) i.so_far c.settle.new.self bucket here turn.0 refl in
+    c.limit.ensures ∙ ap end_of ends.is_cut
+
+pub returns-in-Limit-clause-told : goal.returns-in-Limit-clause-told
+returns-in-Limit-clause-told g c =
+    let m = g.M.Model.meaning c.args.model.now in
+    let i = c.loop-course.invariant in
+    let here = stays m c.args.terms.now (state_of c.args.course.now) i.so_far c.loop-course.course c.settle.new.self i.way c.in_ok-settle.ensures.state c.in_ok-settle.ensures.fresh in
+    let P : Turn → Type 0 = λ turn. IsTurn m c.args.terms.now c.settle.new.self turn c.turn.new.sheet.note c.turn.new.self in
+    let turn : P (Limit) = subst P c.in-Limit.is c.in_ok-key.ensures in
+    let bucket : Bucket = record { done = i.so_far; horizon = 0; fault = None; limited = true } in
+    let ends = leaves_limited m c.args.terms.now (state_of c.args.course.now) i.so_far c.settle.new.self bucket here turn.0 refl in
+    λ before holds. subst (λ (b : Bucket). g.T.Recorder.holds m c.loop-course.into (before ++ b.done)) ends.is_cut (i.told before holds)
 
 pub returns-in-Limit-clause-after : goal.returns-in-Limit-clause-after
 returns-in-Limit-clause-after g c =
     let m = g.M.Model.meaning c.args.model.now in
+    let i = c.loop-course.invariant in
+    let here = stays m c.args.terms.now (state_of c.args.course.now) i.so_far c.loop-course.course c.settle.new.self i.way c.in_ok-settle.ensures.state c.in_ok-settle.ensures.fresh in
     let P : Turn → Type 0 = λ turn. IsTurn m c.args.terms.now c.settle.new.self turn c.turn.new.sheet.note c.turn.new.self in
     let turn : P (Limit) = subst P c.in-Limit.is c.in_ok-key.ensures in
-    let ends = leaves_limited m c.args.terms.now (state_of c.args.course.now) c.loop-done.done.items c.settle.new.self c.partial.result
-    (stays m c.args.terms.now (state_of c.args.course.now) c.loop-done.done.items c.loop-done.course c.settle.new.self c.loop-done.invariant c.in_ok-settle.ensures.state c.in_ok-settle.ensures.fresh) turn.0 c.partial.ensures in
+    let bucket : Bucket = record { done = i.so_far; horizon = 0; fault = None; limited = true } in
+    let ends = leaves_limited m c.args.terms.now (state_of c.args.course.now) i.so_far c.settle.new.self bucket here turn.0 refl in
     ap state_of turn.1 ∙ ends.is_after
 
 pub returns-in-Limit-clause-lawful : goal.returns-in-Limit-clause-lawful
 returns-in-Limit-clause-lawful g c =
     let m = g.M.Model.meaning c.args.model.now in
+    let i = c.loop-course.invariant in
+    let here = stays m c.args.terms.now (state_of c.args.course.now) i.so_far c.loop-course.course c.settle.new.self i.way c.in_ok-settle.ensures.state c.in_ok-settle.ensures.fresh in
     let P : Turn → Type 0 = λ turn. IsTurn m c.args.terms.now c.settle.new.self turn c.turn.new.sheet.note c.turn.new.self in
     let turn : P (Limit) = subst P c.in-Limit.is c.in_ok-key.ensures in
-    let ends = leaves_limited m c.args.terms.now (state_of c.args.course.now) c.loop-done.done.items c.settle.new.self c.partial.result
-    (stays m c.args.terms.now (state_of c.args.course.now) c.loop-done.done.items c.loop-done.course c.settle.new.self c.loop-done.invariant c.in_ok-settle.ensures.state c.in_ok-settle.ensures.fresh) turn.0 c.partial.ensures in
+    let bucket : Bucket = record { done = i.so_far; horizon = 0; fault = None; limited = true } in
+    let ends = leaves_limited m c.args.terms.now (state_of c.args.course.now) i.so_far c.settle.new.self bucket here turn.0 refl in
     let Q : Course → Type 0 = λ after. Lawful m c.args.terms.now (state_of after) in
     subst Q (sym turn.1) ends.lawful
 
@@ -111,31 +175,48 @@ returns-in-Limit-clause-settled g c =
     let Q : Course → Type 0 = λ after. IsSettled after.queue in
     subst Q (sym turn.1) c.in_ok-settle.ensures.settled
 
-pub returns-in-Fault-clause-bucket : goal.returns-in-Fault-clause-bucket
-returns-in-Fault-clause-bucket g c =
+pub returns-in-Fault-clause-end : goal.returns-in-Fault-clause-end
+returns-in-Fault-clause-end g c =
     let m = g.M.Model.meaning c.args.model.now in
+    let i = c.loop-course.invariant in
+    let here = stays m c.args.terms.now (state_of c.args.course.now) i.so_far c.loop-course.course c.settle.new.self i.way c.in_ok-settle.ensures.state c.in_ok-settle.ensures.fresh in
     let P : Turn → Type 0 = λ turn. IsTurn m c.args.terms.now c.settle.new.self turn c.turn.new.sheet.note c.turn.new.self in
     let turn : P (Fault c.in-Fault.key c.in-Fault.code) = subst P c.in-Fault.is c.in_ok-key.ensures in
-    let ends = leaves_faulted m c.args.terms.now (state_of c.args.course.now) c.loop-done.done.items c.settle.new.self c.in-Fault.key c.in-Fault.code c.partial-in-Fault.result
-    (stays m c.args.terms.now (state_of c.args.course.now) c.loop-done.done.items c.loop-done.course c.settle.new.self c.loop-done.invariant c.in_ok-settle.ensures.state c.in_ok-settle.ensures.fresh) turn.0 c.partial-in-Fault.ensures in
-    ends.is_cut
+    let bucket : Bucket = record { done = i.so_far; horizon = 0; fault = Some (c.in-Fault.key, c.in-Fault.code); limited = false } in
+    let ends = leaves_faulted m c.args.terms.now (state_of c.args.course.now) i.so_far c.settle.new.self c.in-Fault.key c.in-Fault.code bucket here turn.0 refl in
+    c.fault.ensures ∙ ap end_of ends.is_cut
+
+pub returns-in-Fault-clause-told : goal.returns-in-Fault-clause-told
+returns-in-Fault-clause-told g c =
+    let m = g.M.Model.meaning c.args.model.now in
+    let i = c.loop-course.invariant in
+    let here = stays m c.args.terms.now (state_of c.args.course.now) i.so_far c.loop-course.course c.settle.new.self i.way c.in_ok-settle.ensures.state c.in_ok-settle.ensures.fresh in
+    let P : Turn → Type 0 = λ turn. IsTurn m c.args.terms.now c.settle.new.self turn c.turn.new.sheet.note c.turn.new.self in
+    let turn : P (Fault c.in-Fault.key c.in-Fault.code) = subst P c.in-Fault.is c.in_ok-key.ensures in
+    let bucket : Bucket = record { done = i.so_far; horizon = 0; fault = Some (c.in-Fault.key, c.in-Fault.code); limited = false } in
+    let ends = leaves_faulted m c.args.terms.now (state_of c.args.course.now) i.so_far c.settle.new.self c.in-Fault.key c.in-Fault.code bucket here turn.0 refl in
+    λ before holds. subst (λ (b : Bucket). g.T.Recorder.holds m c.loop-course.into (before ++ b.done)) ends.is_cut (i.told before holds)
 
 pub returns-in-Fault-clause-after : goal.returns-in-Fault-clause-after
 returns-in-Fault-clause-after g c =
     let m = g.M.Model.meaning c.args.model.now in
+    let i = c.loop-course.invariant in
+    let here = stays m c.args.terms.now (state_of c.args.course.now) i.so_far c.loop-course.course c.settle.new.self i.way c.in_ok-settle.ensures.state c.in_ok-settle.ensures.fresh in
     let P : Turn → Type 0 = λ turn. IsTurn m c.args.terms.now c.settle.new.self turn c.turn.new.sheet.note c.turn.new.self in
     let turn : P (Fault c.in-Fault.key c.in-Fault.code) = subst P c.in-Fault.is c.in_ok-key.ensures in
-    let ends = leaves_faulted m c.args.terms.now (state_of c.args.course.now) c.loop-done.done.items c.settle.new.self c.in-Fault.key c.in-Fault.code c.partial-in-Fault.result
-    (stays m c.args.terms.now (state_of c.args.course.now) c.loop-done.done.items c.loop-done.course c.settle.new.self c.loop-done.invariant c.in_ok-settle.ensures.state c.in_ok-settle.ensures.fresh) turn.0 c.partial-in-Fault.ensures in
+    let bucket : Bucket = record { done = i.so_far; horizon = 0; fault = Some (c.in-Fault.key, c.in-Fault.code); limited = false } in
+    let ends = leaves_faulted m c.args.terms.now (state_of c.args.course.now) i.so_far c.settle.new.self c.in-Fault.key c.in-Fault.code bucket here turn.0 refl in
     ap state_of turn.1 ∙ ends.is_after
 
 pub returns-in-Fault-clause-lawful : goal.returns-in-Fault-clause-lawful
 returns-in-Fault-clause-lawful g c =
     let m = g.M.Model.meaning c.args.model.now in
+    let i = c.loop-course.invariant in
+    let here = stays m c.args.terms.now (state_of c.args.course.now) i.so_far c.loop-course.course c.settle.new.self i.way c.in_ok-settle.ensures.state c.in_ok-settle.ensures.fresh in
     let P : Turn → Type 0 = λ turn. IsTurn m c.args.terms.now c.settle.new.self turn c.turn.new.sheet.note c.turn.new.self in
     let turn : P (Fault c.in-Fault.key c.in-Fault.code) = subst P c.in-Fault.is c.in_ok-key.ensures in
-    let ends = leaves_faulted m c.args.terms.now (state_of c.args.course.now) c.loop-done.done.items c.settle.new.self c.in-Fault.key c.in-Fault.code c.partial-in-Fault.result
-    (stays m c.args.terms.now (state_of c.args.course.now) c.loop-done.done.items c.loop-done.course c.settle.new.self c.loop-done.invariant c.in_ok-settle.ensures.state c.in_ok-settle.ensures.fresh) turn.0 c.partial-in-Fault.ensures in
+    let bucket : Bucket = record { done = i.so_far; horizon = 0; fault = Some (c.in-Fault.key, c.in-Fault.code); limited = false } in
+    let ends = leaves_faulted m c.args.terms.now (state_of c.args.course.now) i.so_far c.settle.new.self c.in-Fault.key c.in-Fault.code bucket here turn.0 refl in
     let Q : Course → Type 0 = λ after. Lawful m c.args.terms.now (state_of after) in
     subst Q (sym turn.1) ends.lawful
 

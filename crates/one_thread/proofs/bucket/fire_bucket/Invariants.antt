@@ -1,10 +1,18 @@
-use Rattle.std.proofs.Common.{◌-◌}
+use Rattle.std.proofs.Common.{◌++◌, ◌-◌, List}
+use Rattle.event_key.specs.declared.key.Key.{Key}
+use Rattle.model_core.specs.declared.note.Note.{Note}
 use Rattle.one_thread.specs.Engines.{state_of}
 use Rattle.one_thread.proofs.UnderWay.{UnderWay}
 use Rattle.one_thread.proofs.bucket.fire_bucket.Given as goal
 
-abbrev pub invariant-loop-done : goal.invariant-loop-done
-invariant-loop-done g l = UnderWay (g.M.Model.meaning l.model) l.terms (state_of l.fn.course) l.done.items l.course
+abbrev pub invariant-loop-course : goal.invariant-loop-course
+invariant-loop-course g l =
+    let m = g.M.Model.meaning l.model in
+    record {
+      so_far : List (Key × Note);
+      way : UnderWay m l.terms (state_of l.fn.course) so_far l.course;
+      told : (before : List (Key × Note)) → g.T.Recorder.holds m l.fn.into before → g.T.Recorder.holds m l.into (before ++ so_far);
+    }
 
-abbrev pub decreases-loop-done : goal.decreases-loop-done
-decreases-loop-done g l = l.terms.limit - l.course.count
+abbrev pub decreases-loop-course : goal.decreases-loop-course
+decreases-loop-course g l = l.terms.limit - l.course.count
