@@ -26,12 +26,14 @@ use Rattle.key_order.proofs.MemberLemmas.{each-contains, filter-contains, contai
 use Rattle.key_order.proofs.OrderLemmas.{by-members, differ-by-parts}
 use Rattle.object_log.specs.Dones.{Done}
 use Rattle.object_log.specs.Logs.{keys_of}
+use Rattle.object_log.specs.Replays.{replay_of}
 use Rattle.world_spec.specs.Answer.{CutData, cut_of, first_of}
 use Rattle.world_spec.specs.Closed.{fault_key as key_of_fault}
 use Rattle.world_spec.specs.Share.{IsHome}
 use Rattle.node_core.specs.Calls.{IsLeastFaultOf}
 use Rattle.node_core.specs.Homes.{HomesView, home_of}
 use Rattle.node_core.specs.Nodes.{NodeView, data_of, home, log_at}
+use Rattle.node_core.specs.Shares.{AreProcessedKeys}
 use Rattle.cycle_core.specs.Cuts.{AreKeysIn, HomeOf, IsLeastFaultIn}
 use Rattle.cycle_core.specs.Gathered.{IsFaultBelow, MayFaultBelow, fault_key, itself, keys_in, processed_in}
 use Rattle.cycle_core.specs.Known.{AreKnown, IsKnown}
@@ -193,6 +195,26 @@ module _ {M : Type 0} (meaning_of : M → Meaning) (bound : ℕ) (nodes : List (
         let H : M → Type 0 = λ v. IsHome (meaning_of v) (home x) x.number object in
         none j x at (subst H (sym is.model_is) (home-there m x model terms homes j is object there))));
   }
+
+none-kept : (ds : List Done) → keys_of ds ≡ [] → ds ≡ []
+none-kept [] none = refl
+none-kept (d ∷ ds) none = absurd (cc)
+
+no-fault : (fault : Option (Key × ℕ)) (x : Key × ℕ) → fault ≡ None → fault ≡ Some x → ⊥
+no-fault fault x none some = cc
+
+-- where nothing is processed nothing has failed
+pub fault-none : {M : Type 0} (meaning_of : M → Meaning) (bound : ℕ) (n : NodeView M) → AreProcessedKeys (meaning_of n.model) n → n.processed ≡ [] → (x : Key × ℕ) → MayFaultBelow meaning_of bound n x → ⊥
+unfolding replay_of
+fault-none meaning_of bound n keys none x may =
+    let object = may.0.0 in
+    let done = none-kept (log_at n.logs object).done (sym (keys.parts object) ∙ ap (filter (λ (k : Key). k.dest == object)) none) in
+    no-fault ((data_of n).log object).fault x (ap (λ ds. (replay_of (log_at n.logs object).state ds).fault) done) may.0.2
+
+-- beside none the least stays
+pub lesser-none : {X : Type 0} (key : X → Key) (found : Option X) → lesser_by key found None ≡ found
+lesser-none key None = refl
+lesser-none key (Some x) = refl
 
 -- the lesser of two keys is the one whose key is the lesser
 pub lesser-itself : (found next : Option Key) → lesser found next ≡ lesser_by itself found next

@@ -6,6 +6,7 @@ ghost use Rattle.key_order.specs.Keys.{Differ};
 ghost use Rattle.world_spec.specs.Answer.{cut_of};
 ghost use Rattle.cycle_core.specs.Cuts.{AreOneWorld, IsCutAt, cut_data};
 ghost use Rattle.cycle_core.specs.Gathered.{IsFaultBelow, MayFaultBelow, fault_key, itself, keys_in, processed_in};
+ghost use Rattle.cycle_core.specs.Known.{AreKnown};
 ghost use Rattle.cycle_core.specs.Leasts.{IsLeastAt, IsLeastUpto, lesser_by};
 
 use crate::cut::Cut;
@@ -39,10 +40,14 @@ fn fault_below<M: SimulationModel>(node: &Node<M>, bound: u64) -> Option<(Key, u
 
 /// The least fault of these nodes that is below the bound.
 fn least_fault<M: SimulationModel>(nodes: &[Node<M>], bound: u64) -> Option<(Key, u32)>
+    requires { AreKnown M.meaning nodes.now }
     ensures { IsLeastUpto fault_key (IsFaultBelow M.meaning bound) (MayFaultBelow M.meaning bound) (length nodes.now) nodes.now result }
 {
     let mut least = None;
     for node in nodes {
+        if node.pending() == 0 {
+            continue;
+        }
         least = lesser_fault(least, fault_below(node, bound));
     }
     least

@@ -15,6 +15,9 @@ pub fn least_key<M: SimulationModel>(nodes: &[Node<M>]) -> Option<Key>
     let mut least = None;
     for node in nodes {
         node.tells_keys();
+        if node.pending() == 0 {
+            continue;
+        }
         least = lesser(least, node.least());
     }
     least

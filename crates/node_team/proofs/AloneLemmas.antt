@@ -1,9 +1,12 @@
 -- A node that advances on its own, below a plain bound.
-use Rattle.std.proofs.Common.{◌≡◌, ℕ, ◌≤◌, min, sym, subst, arith}
+use Rattle.std.proofs.Common.{◌≡◌, ◌⊎◌, ℕ, ◌≤◌, List, [], min, sym, subst, arith}
+use Rattle.std.specs.List.{AllByRecursion as Each}
 use Rattle.event_key.specs.declared.key.Key.{Key}
 use Rattle.event_key.specs.Stamps.{end_stamp}
 use Rattle.model_core.specs.Meaning.{Meaning}
-use Rattle.node_core.specs.Nodes.{NodeView}
+use Rattle.model_core.specs.declared.event.Event.{Event}
+use Rattle.world_spec.specs.Moves.{IsPastFaultOf}
+use Rattle.node_core.specs.Nodes.{NodeView, data_of, home}
 use Rattle.node_core.specs.Steps.{HasProcessed, IsLeftIdle}
 use Rattle.cycle_core.specs.Known.{IsKnown}
 use Rattle.cycle_core.specs.Works.{IsSettled}
@@ -15,6 +18,12 @@ use Rattle.node_team.proofs.AdvanceLemmas.{idle-after}
 pub record IsPast {M : Type 0} (m : Meaning) (first : NodeView M) (bound fallen : ℕ) (n : NodeView M) : Type 0 where
   pub settling : IsSettling m first bound fallen n
   pub idle : IsIdleBelow m fallen n
+
+-- where nothing waits, nothing does below a bound
+pub idle-none : {M : Type 0} (m : Meaning) (n : NodeView M) (bound : ℕ) → n.waiting ≡ [] → IsIdleBelow m bound n
+idle-none m n bound none =
+    let P : List Event → Type 0 = Each (λ (e : Event). (bound ≤ e.key.stamp) ⊎ IsPastFaultOf m (home n) n.number (data_of n) e.key) in
+    subst P (sym none) tt
 
 module _ {M : Type 0} (meaning_of : M → Meaning) (first : NodeView M) (bound fallen : ℕ) (n : NodeView M) where
   abbrev m : Meaning

@@ -44,7 +44,8 @@ fn step_told<M: SimulationModel, G: Gate>(
 }
 
 /// Advances a node on its own: processes its events below a bound, which falls to what they send, until none is left, and
-/// goes on in the order of their keys until `ahead` events were processed in all, or it has none left. Answers the bound.
+/// goes on in the order of their keys until `ahead` events were processed in all, or it has none left. Answers the bound. A
+/// node without events is passed over at once.
 pub fn advance_alone<M: SimulationModel, G: Gate>(
     alloc: Global,
     node: &mut Node<M>,
@@ -62,6 +63,9 @@ pub fn advance_alone<M: SimulationModel, G: Gate>(
     ensures told { HasTold (G.was_told gate.now node.old.number) node.old node.new }
 {
     gate.enter(node.number());
+    if node.pending() == 0 {
+        return Ok(bound);
+    }
     let end = end_bound(node.terms().end);
     let mut fallen = bound;
     let mut left = ahead;
