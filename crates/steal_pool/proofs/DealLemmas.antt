@@ -1,14 +1,16 @@
 -- Turns that are dealt out one after another.
-use Rattle.std.proofs.Common.{◌≡◌, ◌+◌, ◌<◌, ℕ, List, [], ◌∷◌, ◌++◌, length, get_or, set, sym, ap, ◌∙◌, subst, arith, cond, eqb}
+use Rattle.std.proofs.Common.{◌≡◌, ◌+◌, ◌%◌, ◌<◌, inl, inr, ℕ, List, [], ◌∷◌, ◌++◌, length, get_or, set, sym, ap, ◌∙◌, subst, arith, cond, eqb}
 use Rattle.std.specs.Prelude.{All, slice_get, Some, nat_lt, if◌then◌else◌}
+use Rattle.std.proofs.lemmas.Bool.{cases_eq}
 use Rattle.std.proofs.lemmas.Bool.Decides.{nat_tests}
+use Rattle.std.proofs.lemmas.List.{get_or-set_other, get_or-set_same, length-set}
 use Rattle.std.proofs.lemmas.List.Elements.{All-get_or, All-nil, All-push, All-set}
 use Rattle.std.proofs.lemmas.List.Sums.{sum_by-set, sum_by_push}
 use Rattle.steal_pool.specs.declared.task.Task.{Task}
 use Rattle.steal_pool.specs.Tallies.{WHOLE, tally}
 use Rattle.steal_pool.specs.Ends.{End, IsFresh}
 use Rattle.steal_pool.specs.Turns.{IsOf, times}
-use Rattle.steal_pool.specs.Workers.{put_at, AreDealt}
+use Rattle.steal_pool.specs.Workers.{put_at, AreDealt, AreInRound, ComesTo}
 use Rattle.steal_pool.proofs.RuleLemmas.{no-sum}
 
 below-none : (number : ℕ) → ◌≡◌ {A = ℕ} (if nat_lt number 0 then 1 else 0) 0
@@ -51,3 +53,22 @@ module _ {T : Type 0} where
             let before = dealing.once number in
             omega (arith, below-more number i);
       }
+
+  pub round-none : (places : ℕ) (deques : List (End T)) → All (λ deque. deque.knows ≡ tally WHOLE [] []) deques → AreInRound places deques
+  round-none places deques empty place end inside = subst (λ knows. All (ComesTo places place) knows.put) (sym (empty place end inside)) (All-nil (ComesTo places place))
+
+  -- one more turn is put in the deque to which it comes
+  pub round-more : (places i : ℕ) (deques : List (End T)) (k : ℕ) (deque new : End T) (task : Task T) → AreInRound places deques → k < length deques → deque ≡ get_or deques k deque
+      → task.number ≡ i → i % places ≡ k → new ≡ record deque { knows = tally WHOLE (deque.knows.put ++ task ∷ []) deque.knows.taken }
+      → AreInRound places (set deques k new)
+  round-more places i deques k deque new task round inside is number_is at new_is place end within =
+      elim (cases_eq place k) [
+        | inl here ↦
+            let old = subst (λ (d : End T). All (ComesTo places k) d.knows.put) (sym is) (round k deque inside) in
+            let more = All-push (ComesTo places k) deque.knows.put task old (ap (λ n. n % places) number_is ∙ at) in
+            let put = subst (λ (d : End T). All (ComesTo places k) d.knows.put) (sym new_is) more in
+            subst (λ (p : ℕ). All (ComesTo places p) (get_or (set deques k new) p end).knows.put) (sym here)
+            (subst (λ (d : End T). All (ComesTo places k) d.knows.put) (sym (get_or-set_same deques k new end inside)) put)
+        | inr other ↦ subst (λ (d : End T). All (ComesTo places place) d.knows.put) (sym (get_or-set_other deques k place new end other))
+            (round place end (omega (arith, within, length-set deques k new)))
+      ]

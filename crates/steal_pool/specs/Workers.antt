@@ -1,5 +1,5 @@
 -- Workers: what they can do, and what they have done.
-use Rattle.std.specs.Prelude.{◌≡◌, ◌+◌, ◌-◌, ◌<◌, ◌≤◌, ℕ, List, [], All, length, map, nat_lt, sum_by, if◌then◌else◌, OnOk}
+use Rattle.std.specs.Prelude.{◌≡◌, ◌+◌, ◌-◌, ◌%◌, ◌<◌, ◌≤◌, ℕ, List, [], All, length, map, nat_lt, slice_index_or, sum_by, if◌then◌else◌, OnOk}
 use Rattle.steal_pool.specs.declared.worker.TheConstants.{MOST_WORKERS}
 use Rattle.steal_pool.specs.declared.task.Task.{Task}
 use Rattle.steal_pool.specs.declared.worker.Worker.{Worker}
@@ -135,6 +135,14 @@ module _ {T : Type 0} where
   -- so many tasks, of the numbers from 0 on, each once
   abbrev pub AreDealt : ℕ → List (End T) → Type 0
   AreDealt count deques = (number : ℕ) → sum_by (put_at number) deques ≡ (if nat_lt number count then 1 else 0)
+
+  -- in a round of so many places a task comes to this one
+  abbrev pub ComesTo : ℕ → ℕ → Task T → Type 0
+  ComesTo places place task = task.number % places ≡ place
+
+  -- in each deque are those that come to it
+  abbrev pub AreInRound : ℕ → List (End T) → Type 0
+  AreInRound places deques = (place : ℕ) (end : End T) → place < length deques → All (ComesTo places place) (slice_index_or deques place end).knows.put
 
   -- a worker before it works, which has a new pass to each of these deques
   pub record IsHired (marks : List (Mark T)) (worker : Worker T) : Type 0 where

@@ -3,7 +3,7 @@ ghost use Rattle.std.specs.Prelude.{◌≡◌, ◌<◌, [], All, length, IfOk};
 ghost use Rattle.steal_pool.specs.Tallies.{tally, WHOLE};
 ghost use Rattle.steal_pool.specs.Ends.{IsFresh};
 ghost use Rattle.steal_pool.specs.Turns.{IsOf};
-ghost use Rattle.steal_pool.specs.Workers.{AreDealt};
+ghost use Rattle.steal_pool.specs.Workers.{AreDealt, AreInRound};
 
 use crate::deque::Deque;
 use crate::task::Task;
@@ -38,6 +38,7 @@ pub fn deal<T: Turn>(
     ensures fresh { IfOk result (λ deques. All (IsFresh WHOLE) deques.items) }
     ensures of { IfOk result (λ deques. All (λ deque. All (IsOf turns.items) deque.knows.put) deques.items) }
     ensures once { IfOk result (λ deques. AreDealt (length turns.items) deques.items) }
+    ensures round { IfOk result (λ deques. AreInRound workers deques.items) }
 {
     let room = turns.len() / workers + 1;
     let mut deques = empty_deques(alloc, workers, room)?;

@@ -1,14 +1,14 @@
-//! The fork in which workers work, by halves of halves.
-ghost use Rattle.std.specs.Prelude.{◌<◌, ◌≤◌, All, IsOk, OnOk, length, map};
+//! The fork in which workers work.
+ghost use Rattle.std.specs.Prelude.{◌≤◌, All, IsOk, OnOk, length, map};
 ghost use Rattle.std.specs.List.{AllZip};
-ghost use Rattle.std.specs.Thread.{IsSend, IsSync};
+ghost use Rattle.std.specs.Thread.{IsSend};
 ghost use Rattle.steal_pool.specs.declared.worker.TheConstants.{MOST_WORKERS};
 ghost use Rattle.steal_pool.specs.Workers.{AllReady, AreHired, AreReady, Can, CanAll, HasDone, HaveWorked, own_mark};
 
 use crate::turn::Turn;
 use crate::worker::Worker;
 use delta_exchange::OutOfMemory;
-use std::thread::{Threads, join_mut};
+use std::thread::{Threads, for_each_mut};
 
 /// Lets one worker do turns until there are none left, and keeps its answer.
 fn do_turns<T: Turn>(worker: &mut Worker<T>)
@@ -20,40 +20,16 @@ fn do_turns<T: Turn>(worker: &mut Worker<T>)
 }
 
 /// Lets each worker work in a thread of its own, the calling one among them.
-#[cycle(halves)]
 fn work_all<R: Threads + Sync, T: Turn>(rt: &R, all: &mut [Worker<T>])
     requires { CanAll T.ready all.old }
     ensures { AllZip (HasDone T.turned) all.old all.new }
 {
-    if all.len() == 0 {
-        return;
-    }
-    if all.len() == 1 {
-        do_turns(&mut all[0]);
-        return;
-    }
-    let (front, back) = all.split_at_mut(all.len() / 2);
-    both_halves(rt, front, back);
-}
-
-/// Lets two halves work side by side.
-#[cycle(halves)]
-fn both_halves<R: Threads + Sync, T: Turn>(rt: &R, front: &mut [Worker<T>], back: &mut [Worker<T>])
-    requires sizes { (0 < length front.old) × (0 < length back.old) }
-    requires front { CanAll T.ready front.old }
-    requires back { CanAll T.ready back.old }
-    ensures front { AllZip (HasDone T.turned) front.old front.new }
-    ensures back { AllZip (HasDone T.turned) back.old back.new }
-{
-    let mut first = ||
-        requires { IsSync R.row × IsSend T.row × CanAll T.ready front.now }
-        ensures { AllZip (HasDone T.turned) front.entry.now front.exit.now }
-    { work_all(rt, front) };
-    let mut second = ||
-        requires { IsSync R.row × IsSend T.row × CanAll T.ready back.now }
-        ensures { AllZip (HasDone T.turned) back.entry.now back.exit.now }
-    { work_all(rt, back) };
-    join_mut(rt, &mut first, &mut second);
+    let work = |_place: usize, worker: &mut Worker<T>|
+        requires { IsSend T.row × Can worker.old × AllReady T.ready worker.old }
+        ensures { HasDone T.turned worker.old worker.new }
+    { do_turns(worker) };
+    let threads = all.len().max(1);
+    for_each_mut(rt, all, threads, &work);
 }
 
 /// Answers the refusal of a worker, if one was refused.

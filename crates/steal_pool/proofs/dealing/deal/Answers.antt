@@ -3,7 +3,7 @@ use Rattle.std.specs.Prelude.{Some, nat_lt, if◌then◌else◌}
 use Rattle.std.proofs.lemmas.List.{length-drop, length-set}
 use Rattle.std.proofs.lemmas.Option.{slice_get-get_or}
 use Rattle.steal_pool.proofs.PlaceLemmas.{from-place}
-use Rattle.steal_pool.proofs.DealLemmas.{Dealing, dealing-none, dealing-more}
+use Rattle.steal_pool.proofs.DealLemmas.{Dealing, dealing-none, dealing-more, round-none, round-more}
 use Rattle.steal_pool.proofs.dealing.deal.Goals as goal
 
 pub loop-number-init : goal.loop-number-init
@@ -14,6 +14,7 @@ loop-number-init g c =
       within = omega (arith, none);
       many = c.in_ok-deques.ensures.many;
       dealing = subst (λ i. Dealing c.args.turns.items i c.in_ok-deques.deques.items) (sym none) (dealing-none c.args.turns.items c.in_ok-deques.deques.items c.in_ok-deques.ensures.empty);
+      round = round-none c.args.workers c.in_ok-deques.deques.items c.in_ok-deques.ensures.empty;
     }
 
 pub loop-number-preserved : goal.loop-number-preserved
@@ -29,6 +30,8 @@ loop-number-preserved g c =
       dealing = subst (λ i. Dealing c.args.turns.items i (set c.loop-number.deques.items place c.put.new.self)) (sym steps.2)
           (dealing-more c.args.turns.items c.loop-number.number-iterator.count c.loop-number.deques.items place c.index_mut.result.now c.put.new.self _ before.dealing inside c.index_mut.ensures.value steps.1
           (slice_get-get_or c.args.turns.items c.loop-number.number-iterator.count c.in-Some.turn here.0 ∙ ap (λ turn. Some turn) here.2) c.in_ok-put.ensures);
+      round = round-more c.args.workers c.loop-number.number-iterator.count c.loop-number.deques.items place c.index_mut.result.now c.put.new.self _ before.round inside
+          c.index_mut.ensures.value steps.1 (ap (λ n. n % c.args.workers) (sym steps.1)) c.in_ok-put.ensures;
     }
 
 pub returns-clause-once : goal.returns-clause-once

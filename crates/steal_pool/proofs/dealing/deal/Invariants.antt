@@ -1,4 +1,5 @@
 use Rattle.std.proofs.Common.{◌≡◌, ◌≤◌, drop, length}
+use Rattle.steal_pool.specs.Workers.{AreInRound}
 use Rattle.steal_pool.proofs.DealLemmas.{Dealing}
 use Rattle.steal_pool.proofs.dealing.deal.Given as goal
 
@@ -8,4 +9,5 @@ invariant-loop-number g l = record {
   within : l.number-iterator.count ≤ length l.fn.turns.items;
   many : length l.deques.items ≡ l.fn.workers;
   dealing : Dealing l.fn.turns.items l.number-iterator.count l.deques.items;
+  round : AreInRound l.fn.workers l.deques.items;
 }
