@@ -55,10 +55,18 @@ record_lines m (told ∷ rest) = event_lines m told.0 told.1 ++ record_lines m r
 abbrev pub fault_line : Meaning → Key → ℕ → List ℕ
 fault_line m key code = codes "fault " ++ (place_text m key ++ (codes " " ++ (fault_text m code ++ codes "\n")))
 
+-- the line of a simulation that ran to its end, after so many events
+abbrev pub end_line : ℕ → ℕ → List ℕ
+end_line end count = codes "end " ++ (decimal end ++ (codes " events " ++ (decimal count ++ codes "\n")))
+
+-- the line of one that met its limit of events
+abbrev pub limit_line : ℕ → List ℕ
+limit_line count = codes "limit " ++ (decimal count ++ codes "\n")
+
 -- the line that says why a simulation stopped, after so many events
 unfoldable pub stop_line : Meaning → Terms → ℕ → Stop → List ℕ
-stop_line m t count End = codes "end " ++ (decimal t.end ++ (codes " events " ++ (decimal count ++ codes "\n")))
-stop_line m t count Limit = codes "limit " ++ (decimal count ++ codes "\n")
+stop_line m t count End = end_line t.end count
+stop_line m t count Limit = limit_line count
 stop_line m t count (Fault key code) = fault_line m key code
 
 -- where it stopped by a fault, that was at an object of the model

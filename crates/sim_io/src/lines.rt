@@ -1,7 +1,7 @@
 //! The lines of a simulation's text.
 ghost use Rattle.std.specs.Prelude.{◌≡◌, ◌<◌, ◌++◌, OnOk, OnErr, take};
 ghost use Rattle.std.specs.Io.{StartsWith};
-ghost use Rattle.sim_io.specs.Texts.{fault_line, stop_line, IsAtObject};
+ghost use Rattle.sim_io.specs.Texts.{end_line, fault_line, limit_line, stop_line, IsAtObject};
 ghost use Rattle.sim_io.specs.CycleTexts.{IsWhole, cycle_line, demo_line};
 
 mod head;
@@ -82,6 +82,26 @@ pub fn put_demo(
     Ok(())
 }
 
+/// Appends the line of a simulation that ran to its end.
+fn put_end(alloc: Global, end: u64, count: u64, into: &mut Vec<u8>) -> Result<(), OutOfMemory>
+    ensures ok { OnOk result (into.new.items ≡ into.old.items ++ end_line end count) }
+    ensures prefix { StartsWith into.new.items into.old.items }
+{
+    let line = format!(in alloc; "end {end} events {count}\n")?;
+    into.extend_from_slice(line.as_bytes())?;
+    Ok(())
+}
+
+/// Appends the line of one that met its limit of events.
+fn put_limit(alloc: Global, count: u64, into: &mut Vec<u8>) -> Result<(), OutOfMemory>
+    ensures ok { OnOk result (into.new.items ≡ into.old.items ++ limit_line count) }
+    ensures prefix { StartsWith into.new.items into.old.items }
+{
+    let line = format!(in alloc; "limit {count}\n")?;
+    into.extend_from_slice(line.as_bytes())?;
+    Ok(())
+}
+
 /// Appends the line of a fault.
 fn put_failure<M: Model>(
     alloc: Global,
@@ -115,14 +135,11 @@ fn put_reason<M: Model>(
     ensures ok { OnOk result (into.new.items ≡ into.old.items ++ stop_line (M.meaning model.now) terms.now count stop.now) }
     ensures prefix { StartsWith into.new.items into.old.items }
 {
-    let end = terms.end;
-    let line = match *stop {
-        Stop::End => format!(in alloc; "end {end} events {count}\n")?,
-        Stop::Limit => format!(in alloc; "limit {count}\n")?,
-        Stop::Fault { key, code } => return put_failure(alloc, model, &key, code, into),
-    };
-    into.extend_from_slice(line.as_bytes())?;
-    Ok(())
+    match *stop {
+        Stop::End => put_end(alloc, terms.end, count, into),
+        Stop::Limit => put_limit(alloc, count, into),
+        Stop::Fault { key, code } => put_failure(alloc, model, &key, code, into),
+    }
 }
 
 /// Appends the line that says why the simulation stopped after so many events. A refusal leaves what was there.

@@ -7,7 +7,7 @@ ghost use Rattle.sim_io.specs.Texts.{event_lines, part_line, stamp_text, word_te
 use crate::lines::cut_back;
 use crate::lines::head::{Head, LINE};
 use crate::lines::tail::{NUMBERS, TAIL, write_numbers};
-use crate::lines::text_parts::put_word;
+use crate::lines::text_parts::put_spaced_word;
 use crate::room::append;
 use event_key::Key;
 use model_core::model::{Model, NAME_ROOM};
@@ -111,6 +111,17 @@ impl LineWriter {
         Ok(())
     }
 
+    /// Appends room for the rest of a line. Answers the place where it begins.
+    fn append_rest(&self, into: &mut Vec<u8>) -> Result<usize, OutOfMemory>
+        ensures text { IfOk result (λ end. take end into.new.items ≡ into.old.items) }
+        ensures room { IfOk result (λ end. end + LINE ≤ vec_len into.new) }
+        ensures prefix { StartsWith into.new.items into.old.items }
+    {
+        let end = into.len();
+        self.append_room(into)?;
+        Ok(end)
+    }
+
     /// Puts the name of an object at a place with room for it and for the tail of a line. Answers the place behind it,
     /// where there is still room for the tail.
     fn put_name<M: Model>(
@@ -132,10 +143,9 @@ impl LineWriter {
         }
         into.truncate(at);
         model.put_name(alloc, object, into)?;
-        let end = into.len();
-        self.append_room(into)?;
-        Ok(end)
+        self.append_rest(into)
     }
+
     /// Puts a word between spaces at a place with room for it and for the numbers of a line. Answers the place behind it,
     /// where there is still room for the numbers.
     #[tactic(auto, unfolding(crate::specs::Texts::word_text))]
@@ -156,11 +166,7 @@ impl LineWriter {
             return Ok(end);
         }
         into.truncate(at);
-        into.push(b' ')?;
-        put_word(model, number, into)?;
-        into.push(b' ')?;
-        let end = into.len();
-        self.append_room(into)?;
-        Ok(end)
+        put_spaced_word(model, number, into)?;
+        self.append_rest(into)
     }
 }

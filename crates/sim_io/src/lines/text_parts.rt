@@ -1,6 +1,7 @@
 //! The parts of a line. Each call appends a text; where memory runs out, it may have appended some of it.
 ghost use Rattle.std.specs.Prelude.{◌≡◌, ◌<◌, ◌++◌, OnOk, decimal};
 ghost use Rattle.std.specs.Io.{StartsWith};
+ghost use Rattle.model_core.specs.SpacedWords.{between_spaces};
 ghost use Rattle.sim_io.specs.Texts.{stamp_text, fault_text, place_text, word_text};
 
 use event_key::{Key, step_of, time_of};
@@ -49,7 +50,7 @@ pub fn put_place<M: Model>(
 
 /// A word that events tell, or its number where it has no text.
 #[tactic(auto, unfolding(crate::specs::Texts::word_text))]
-pub fn put_word<M: Model>(model: &M, number: u32, into: &mut Vec<u8>) -> Result<(), OutOfMemory>
+fn put_word<M: Model>(model: &M, number: u32, into: &mut Vec<u8>) -> Result<(), OutOfMemory>
     ensures ok { OnOk result (into.new.items ≡ into.old.items ++ word_text (M.meaning model.now) number) }
     ensures prefix { StartsWith into.new.items into.old.items }
 {
@@ -57,6 +58,21 @@ pub fn put_word<M: Model>(model: &M, number: u32, into: &mut Vec<u8>) -> Result<
         Some(text) => into.extend_from_slice(text.as_bytes())?,
         None => put_number(u64::from(number), into)?,
     }
+    Ok(())
+}
+
+/// A word that events tell, between spaces.
+pub fn put_spaced_word<M: Model>(
+    model: &M,
+    number: u32,
+    into: &mut Vec<u8>,
+) -> Result<(), OutOfMemory>
+    ensures ok { OnOk result (into.new.items ≡ into.old.items ++ between_spaces (word_text (M.meaning model.now) number)) }
+    ensures prefix { StartsWith into.new.items into.old.items }
+{
+    into.push(b' ')?;
+    put_word(model, number, into)?;
+    into.push(b' ')?;
     Ok(())
 }
 
