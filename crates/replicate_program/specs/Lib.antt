@@ -1,1 +1,2 @@
+pub mod ReplicateTexts
 pub mod TableAnswers

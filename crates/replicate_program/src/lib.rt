@@ -2,13 +2,16 @@
 #![tactic(auto)]
 
 mod process;
-mod running;
+mod reader;
 mod text_seeds;
 mod top;
+mod window_rows;
 
 pub use process::{run_process, run_streams};
+pub use reader::ReplicateTexts;
 pub use text_seeds::TextSeeds;
 pub use top::replicate;
+pub use window_rows::WindowRows;
 
 #[cfg(test)]
 mod tests;

@@ -1,6 +1,6 @@
 //! The model of a text under every seed.
+use crate::window_rows::WindowRows;
 use model_core::OutOfMemory;
-use model_core::model::Model as SimulationModel;
 use model_text::{AnyModel, Seeded};
 use replications::Seeds;
 use std::alloc::Global;
@@ -12,15 +12,14 @@ pub struct TextSeeds {
     pub model: Arc<AnyModel>,
 }
 
-impl Seeds<Seeded> for TextSeeds {
+impl Seeds<Seeded, WindowRows> for TextSeeds {
     ghost use Rattle.std.specs.Arc.{arc_value};
     ghost use Rattle.model_text.specs.Meanings.{meaning_under};
+    ghost use Rattle.replications.specs.Rows.{window_rows};
 
     ghost seeded = { λ seeds seed. meaning_under seed (arc_value seeds.model) };
 
-    fn objects(&self) -> u32 {
-        self.model.objects()
-    }
+    ghost rows = { λ seeds seed. window_rows (meaning_under seed (arc_value seeds.model)) };
 
     fn with_seed(&self, alloc: Global, seed: u64) -> Result<Arc<Seeded>, OutOfMemory> {
         let model = self.model.clone()?;

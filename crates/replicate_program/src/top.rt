@@ -4,12 +4,13 @@ ghost use Rattle.program_answers.specs.Answered.{Answers, AnswersNoWords, stream
 ghost use Rattle.program_answers.specs.declared.status.TheConstants.{EVENT_LIMIT};
 ghost use Rattle.replicate_program.specs.TableAnswers.{table_asked_by};
 
-use crate::running::run_words;
+use crate::reader::ReplicateTexts;
 use program_answers::{conclude, unread_words};
 use sim_io::{Sink, Source};
 use std::alloc::AllocGlobal;
 use std::io::ErrorKind;
 use std::thread::Threads;
+use table_program::run_words;
 
 /// Reads a model, runs it under as many seeds as the words say, shared out among workers, and writes the table: a head line,
 /// and the rows of each replication in the order of the seeds. The table is the same for any number of workers and any
@@ -43,7 +44,14 @@ pub fn replicate<R: AllocGlobal + Threads + Sync, S: Source, K: Sink, N: Sink>(
 {
     match words {
         Ok(words) => {
-            let ending = run_words(rt, rt.alloc(), &words, source, out);
+            let ending = run_words(
+                rt,
+                rt.alloc(),
+                &ReplicateTexts,
+                words.as_slice(),
+                source,
+                out,
+            );
             conclude(&ending, notes)
         }
         Err(kind) => conclude(&unread_words(kind), notes),

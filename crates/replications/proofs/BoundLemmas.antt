@@ -10,6 +10,7 @@ use Rattle.sim_io.specs.Words.{and_then, is_number, number_within}
 use Rattle.replications.specs.declared.words.Choice.{Choice}
 use Rattle.replications.specs.declared.words.Choice.TheVariants.{First, From, Workers}
 use Rattle.replications.specs.declared.words.Given.{Given}
+use Rattle.replications.specs.declared.words.WindowStart.{WindowStart}
 use Rattle.replications.specs.declared.words.TheConstants.{LAST_SEED, MOST_WORKERS}
 use Rattle.replications.specs.ReplicateWords.{with_number, given_with, chosen, walked, IsGivenWithin, AreGivenInBounds}
 
@@ -52,28 +53,28 @@ given-bounds given next Workers word is fine = by (number_within 1 MOST_WORKERS 
         subst AreGivenInBounds same (record { first = fine.first; from = fine.from; workers = number_within-bounds 1 MOST_WORKERS word n read })
 
 -- what comes behind an option and its value
-behind : (out given : Given) (choice : Choice) (value : List ℕ) (rest : List (List ℕ)) → AreGivenInBounds given
-    → ((next : Given) → walked next rest ≡ Ok out → AreGivenInBounds next → AreGivenInBounds out)
-    → and_then (given_with given choice value) (λ (next : Given). walked next rest) ≡ Ok out → AreGivenInBounds out
-behind out given choice value rest fine again is = by (given_with given choice value) refl is
+behind : (start : WindowStart) (out given : Given) (choice : Choice) (value : List ℕ) (rest : List (List ℕ)) → AreGivenInBounds given
+    → ((next : Given) → walked start next rest ≡ Ok out → AreGivenInBounds next → AreGivenInBounds out)
+    → and_then (given_with given choice value) (λ (next : Given). walked start next rest) ≡ Ok out → AreGivenInBounds out
+behind start out given choice value rest fine again is = by (given_with given choice value) refl is
   where
-    by : (r : Result Given WordFault) → given_with given choice value ≡ r → and_then r (λ (next : Given). walked next rest) ≡ Ok out → AreGivenInBounds out
+    by : (r : Result Given WordFault) → given_with given choice value ≡ r → and_then r (λ (next : Given). walked start next rest) ≡ Ok out → AreGivenInBounds out
     by (Err fault) read gives = absurd (cc)
     by (Ok next) read gives = again next gives (given-bounds given next choice value read fine)
 
-pub walked-bounds : (out given : Given) (words : List (List ℕ)) → walked given words ≡ Ok out → AreGivenInBounds given → AreGivenInBounds out
+pub walked-bounds : (start : WindowStart) (out given : Given) (words : List (List ℕ)) → walked start given words ≡ Ok out → AreGivenInBounds given → AreGivenInBounds out
 unfolding walked
-walked-bounds out given [] is fine = (let same : given ≡ out = cc in subst AreGivenInBounds same fine)
-walked-bounds out given (word ∷ []) is fine = by (chosen given word) is
+walked-bounds start out given [] is fine = (let same : given ≡ out = cc in subst AreGivenInBounds same fine)
+walked-bounds start out given (word ∷ []) is fine = by (chosen start given word) is
   where
     by : (r : Result Choice WordFault) → and_then {U = Given} r (λ _. Err WordFault.MissingValue) ≡ Ok out → AreGivenInBounds out
     by (Ok choice) gives = absurd (cc)
     by (Err fault) gives = absurd (cc)
-walked-bounds out given (word ∷ value ∷ rest) is fine = by (chosen given word) (λ next gives fine. walked-bounds out next rest gives fine) is
+walked-bounds start out given (word ∷ value ∷ rest) is fine = by (chosen start given word) (λ next gives fine. walked-bounds start out next rest gives fine) is
   where
-    by : (r : Result Choice WordFault) → ((next : Given) → walked next rest ≡ Ok out → AreGivenInBounds next → AreGivenInBounds out)
-        → and_then r (λ (choice : Choice). and_then (given_with given choice value) (λ (next : Given). walked next rest)) ≡ Ok out → AreGivenInBounds out
-    by (Ok choice) again gives = behind out given choice value rest fine again gives
+    by : (r : Result Choice WordFault) → ((next : Given) → walked start next rest ≡ Ok out → AreGivenInBounds next → AreGivenInBounds out)
+        → and_then r (λ (choice : Choice). and_then (given_with given choice value) (λ (next : Given). walked start next rest)) ≡ Ok out → AreGivenInBounds out
+    by (Ok choice) again gives = behind start out given choice value rest fine again gives
     by (Err fault) again gives = absurd (cc)
 
 pub or_else : (least most default : ℕ) (o : Option ℕ) → IsGivenWithin least most o → least ≤ default → default ≤ most → (least ≤ unwrap_or o default) × (unwrap_or o default ≤ most)

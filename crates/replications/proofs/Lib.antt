@@ -1,4 +1,5 @@
 pub mod BoundLemmas
+pub mod ComingLemmas
 pub mod CutLaw
 pub mod GravestLemmas
 pub mod JobLemmas

@@ -1,3 +1,4 @@
+pub mod Ends
 pub mod Families
 pub mod Parts
 pub mod ReplicateWords

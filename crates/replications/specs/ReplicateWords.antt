@@ -1,5 +1,5 @@
 -- The words of `replicate`: what they set, or what is wrong with them.
-use Rattle.std.specs.Prelude.{◌≤◌, ℕ, Bool, List, [], ◌∷◌, Option, Some, None, is_some, unwrap_or, IfSome, Result, Ok, Err, if◌then◌else◌, codes, bytes_eq}
+use Rattle.std.specs.Prelude.{◌≤◌, ◌&&◌, ℕ, Bool, true, false, List, [], ◌∷◌, Option, Some, None, is_some, unwrap_or, IfSome, Result, Ok, Err, if◌then◌else◌, codes, bytes_eq}
 use Rattle.event_key.specs.declared.stamp.TheConstants.{LAST_TICK}
 use Rattle.sim_io.specs.declared.words.WordFault.{WordFault}
 use Rattle.sim_io.specs.declared.words.WordFault.TheVariants.{RepeatedOption, MissingValue}
@@ -8,12 +8,18 @@ use Rattle.replications.specs.declared.words.Choice.{Choice}
 use Rattle.replications.specs.declared.words.Choice.TheVariants.{First, From, Workers}
 use Rattle.replications.specs.declared.words.Given.{Given}
 use Rattle.replications.specs.declared.words.Replicate.{Replicate}
+use Rattle.replications.specs.declared.words.WindowStart.{WindowStart}
 use Rattle.replications.specs.declared.words.TheConstants.{MOST_REPLICATIONS, LAST_SEED, MOST_WORKERS, DEFAULT_WORKERS}
 
-abbrev pub choice_named : List ℕ → Option Choice
-choice_named word =
+-- `--from` is an option unless the model says from which tick on is counted
+abbrev pub is_in_words : WindowStart → Bool
+is_in_words WindowStart.Words = true
+is_in_words WindowStart.Model = false
+
+abbrev pub choice_named : WindowStart → List ℕ → Option Choice
+choice_named start word =
     if bytes_eq word (codes "--first") then Some First
-    else if bytes_eq word (codes "--from") then Some From
+    else if is_in_words start && bytes_eq word (codes "--from") then Some From
     else if bytes_eq word (codes "--workers") then Some Workers
     else None
 
@@ -37,18 +43,18 @@ abbrev pub chosen_if : Given → List ℕ → Option Choice → Result Choice Wo
 chosen_if given word None = Err (stray_word word)
 chosen_if given word (Some choice) = if has_value given choice then Err RepeatedOption else Ok choice
 
-abbrev pub chosen : Given → List ℕ → Result Choice WordFault
-chosen given word = chosen_if given word (choice_named word)
+abbrev pub chosen : WindowStart → Given → List ℕ → Result Choice WordFault
+chosen start given word = chosen_if given word (choice_named start word)
 
 -- with what a word gives an option
 abbrev pub given_with : Given → Choice → List ℕ → Result Given WordFault
 given_with given choice word = and_then (value_of choice word) (λ n. Ok (with_number given choice n))
 
 -- options are walked in turn, each a word and its value
-unfoldable pub walked : Given → List (List ℕ) → Result Given WordFault
-walked given [] = Ok given
-walked given (word ∷ []) = and_then (chosen given word) (λ _. Err MissingValue)
-walked given (word ∷ value ∷ rest) = and_then (chosen given word) (λ choice. and_then (given_with given choice value) (λ next. walked next rest))
+unfoldable pub walked : WindowStart → Given → List (List ℕ) → Result Given WordFault
+walked start given [] = Ok given
+walked start given (word ∷ []) = and_then (chosen start given word) (λ _. Err MissingValue)
+walked start given (word ∷ value ∷ rest) = and_then (chosen start given word) (λ choice. and_then (given_with given choice value) (λ next. walked start next rest))
 
 abbrev pub no_options : Given
 no_options = record { first = None; from = None; workers = None }
@@ -62,10 +68,10 @@ settings_of count given = record {
 }
 
 -- the first word is how many replications there are, and the others are options
-unfoldable pub replicate_settings : List (List ℕ) → Result Replicate WordFault
-replicate_settings [] = Err MissingValue
-replicate_settings (word ∷ rest) =
-    and_then (number_within 1 MOST_REPLICATIONS word) (λ count. and_then (walked no_options rest) (λ given. Ok (settings_of count given)))
+unfoldable pub replicate_settings : WindowStart → List (List ℕ) → Result Replicate WordFault
+replicate_settings start [] = Err MissingValue
+replicate_settings start (word ∷ rest) =
+    and_then (number_within 1 MOST_REPLICATIONS word) (λ count. and_then (walked start no_options rest) (λ given. Ok (settings_of count given)))
 
 -- a number lies between two where it is there
 abbrev pub IsGivenWithin : ℕ → ℕ → Option ℕ → Type 0

@@ -8,11 +8,10 @@ use Rattle.model_core.specs.Meaning.{Meaning}
 use Rattle.sim_spec.specs.declared.stop.Stop.{Stop}
 use Rattle.sim_spec.specs.declared.stop.Stop.TheVariants.{End, Limit, Fault}
 use Rattle.sim_spec.specs.declared.terms.Terms.{Terms}
-use Rattle.sim_spec.specs.State.{initial_state}
-use Rattle.sim_spec.specs.Run.{Run, run}
 use Rattle.run_tally.specs.Tallies.{last_time}
 use Rattle.replications.specs.declared.rows.RunEnd.{RunEnd}
 use Rattle.replications.specs.declared.window.Columns.{Columns}
+use Rattle.replications.specs.Ends.{RowsOf}
 use Rattle.replications.specs.Parts.{parts_told}
 use Rattle.replications.specs.Windows.{window_sums}
 
@@ -64,9 +63,6 @@ unfoldable pub rows_of_records : Meaning → Terms → ℕ → RunEnd → List (
 rows_of_records m t first end records =
     let last = last_tick t records end.stop in rows_from m first last end 0 (table_of first last m.objects records)
 
-abbrev pub end_of : ℕ → Run → RunEnd
-end_of seed r = record { seed = seed; events = r.last.count; stop = r.stop }
-
--- the rows of the run of a model from its start, under this seed
-unfoldable pub rows : Meaning → Terms → ℕ → ℕ → List ℕ
-rows m t first seed = let r = run m t (initial_state m) in rows_of_records m t first (end_of seed r) r.records
+-- what a table of windows says of a run of a model
+abbrev pub window_rows : Meaning → RowsOf
+window_rows m first t end records = rows_of_records m t first end records

@@ -1,5 +1,5 @@
 -- A model under many seeds.
-use Rattle.std.specs.Prelude.{◌≡◌, ℕ, ◌+◌, ◌%◌, ◌^◌, List, [], ◌∷◌, ◌++◌, map, codes, None, IfSome}
+use Rattle.std.specs.Prelude.{◌≡◌, ℕ, ◌+◌, ◌%◌, ◌^◌, List, [], ◌∷◌, ◌++◌, map, None, IfSome}
 use Rattle.std.specs.List.{flat_map, range_with_len}
 use Rattle.model_core.specs.Meaning.{Meaning}
 use Rattle.sim_spec.specs.declared.stop.Stop.{Stop}
@@ -8,11 +8,14 @@ use Rattle.sim_spec.specs.declared.terms.Terms.{Terms}
 use Rattle.sim_spec.specs.State.{initial_state}
 use Rattle.sim_spec.specs.Run.{run}
 use Rattle.replications.specs.declared.job.Job.{Job}
-use Rattle.replications.specs.Rows.{rows}
+use Rattle.replications.specs.Ends.{RowsOf, rows_of_run}
 
--- what a model means under each seed, how far its runs go, the first tick of the window, and the seed of the first replication
+-- what a model means under each seed, what its rows are then, the head line, how far its runs go, the first tick of the window,
+-- and the seed of the first replication
 pub record StudyOf : Type 0 where
   pub with_seed : ℕ → Meaning
+  pub rows : ℕ → RowsOf
+  pub head : List ℕ
   pub terms : Terms
   pub from : ℕ
   pub first_seed : ℕ
@@ -23,7 +26,7 @@ seed_at first number = (first + number) % 2 ^ 63
 
 -- the rows of the run under a seed, and why it stops
 abbrev pub rows_under : StudyOf → ℕ → List ℕ
-rows_under s seed = rows (s.with_seed seed) s.terms s.from seed
+rows_under s seed = rows_of_run (s.rows seed) (s.with_seed seed) s.terms s.from seed
 
 abbrev pub stop_under : StudyOf → ℕ → Stop
 stop_under s seed = (run (s.with_seed seed) s.terms (initial_state (s.with_seed seed))).stop
@@ -41,9 +44,9 @@ rows_between s number many = flat_map (rows_at s) (range_with_len number many)
 unfoldable pub stops_between : StudyOf → ℕ → ℕ → List Stop
 stops_between s number many = map (stop_at s) (range_with_len number many)
 
--- the table of so many replications
+-- the table of so many replications: the head line, and the rows of each of them
 unfoldable pub table_text : StudyOf → ℕ → List ℕ
-table_text s many = codes "seed,object,arrivals,served,lost,busy,waiting,age,longest,ticks,events,stop\n" ++ rows_between s 0 many
+table_text s many = s.head ++ rows_between s 0 many
 
 -- the graver of two stops: a fault, before the limit, before an end
 abbrev pub graver : Stop → Stop → Stop

@@ -8,6 +8,7 @@ ghost use Rattle.replications.specs.Studies.{AreDone, AreToDo, Does, IsDone, row
 
 use crate::job::Job;
 use crate::replication::replicate_once;
+use crate::run_rows::Rows;
 use crate::seeds::Seeds;
 use crate::study::Study;
 use model_core::OutOfMemory;
@@ -31,28 +32,32 @@ fn seed_at(first: u64, number: u64) -> u64
 }
 
 /// Runs a model under a seed, and appends its rows.
-fn run_seed<M: SimulationModel, S: Seeds<M>>(
+fn run_seed<M: SimulationModel, W: Rows<M>, S: Seeds<M, W>>(
     alloc: Global,
     study: &Study<S>,
     seed: u64,
     into: &mut Vec<u8>,
 ) -> Result<Stop, OutOfMemory>
     requires { seed < 2 ^ 63 }
-    ensures rows { OnOk result (into.new.items ≡ into.old.items ++ rows_under (study_of S.seeded study.now) seed) }
-    ensures stop { IfOk result (λ stop. stop ≡ stop_under (study_of S.seeded study.now) seed) }
+    ensures rows { OnOk result (into.new.items ≡ into.old.items ++ rows_under (study_of S.seeded S.rows study.now) seed) }
+    ensures stop { IfOk result (λ stop. stop ≡ stop_under (study_of S.seeded S.rows study.now) seed) }
 {
     let model = study.models.with_seed(alloc, seed)?;
-    let stop = replicate_once(alloc, model, study.terms, study.from, seed, into)?;
+    let stop = replicate_once::<M, W>(alloc, model, study.terms, study.from, seed, into)?;
     Ok(stop)
 }
 
 /// Does a job.
-fn do_job<M: SimulationModel, S: Seeds<M>>(alloc: Global, study: &Study<S>, job: &mut Job)
+fn do_job<M: SimulationModel, W: Rows<M>, S: Seeds<M, W>>(
+    alloc: Global,
+    study: &Study<S>,
+    job: &mut Job,
+)
     requires seed { job.old.seed < 2 ^ 63 }
     requires stop { job.old.stop ≡ None }
-    ensures { Does (study_of S.seeded study.now) job.old job.new }
+    ensures { Does (study_of S.seeded S.rows study.now) job.old job.new }
 {
-    if let Ok(stop) = run_seed(alloc, study, job.seed, &mut job.rows) {
+    if let Ok(stop) = run_seed::<M, W, S>(alloc, study, job.seed, &mut job.rows) {
         job.stop = Some(stop);
     }
 }
@@ -83,7 +88,7 @@ fn jobs_between(
 }
 
 /// Does the replications from one on, before another one, by so many workers. Answers them in their order.
-pub fn run_batch<R: Threads + Sync, M: SimulationModel, S: Seeds<M>>(
+pub fn run_batch<R: Threads + Sync, M: SimulationModel, W: Rows<M>, S: Seeds<M, W>>(
     rt: &R,
     alloc: Global,
     study: &Study<S>,
@@ -95,14 +100,14 @@ pub fn run_batch<R: Threads + Sync, M: SimulationModel, S: Seeds<M>>(
     requires order { from ≤ until }
     requires below { until < 2 ^ 63 }
     requires workers { (1 ≤ workers) × (workers ≤ MOST_WORKERS) }
-    ensures done { IfOk result (λ jobs. AreDone (study_of S.seeded study.now) from jobs.items) }
+    ensures done { IfOk result (λ jobs. AreDone (study_of S.seeded S.rows study.now) from jobs.items) }
     ensures many { IfOk result (λ jobs. from + length jobs.items ≡ until) }
 {
     let jobs = jobs_between(alloc, study.first_seed, from, until)?;
     let work = |job: &mut Job|
-        requires { IsSync S.row × IsSend M.row × IsSync M.row × (job.old.seed < 2 ^ 63) × (job.old.stop ≡ None) }
-        ensures { Does (study_of S.seeded study.entry.now) job.old job.new }
-    { do_job(alloc, study, job) };
+        requires { IsSync S.row × IsSend M.row × IsSync M.row × IsSend W.row × IsSync W.row × (job.old.seed < 2 ^ 63) × (job.old.stop ≡ None) }
+        ensures { Does (study_of S.seeded S.rows study.entry.now) job.old job.new }
+    { do_job::<M, W, S>(alloc, study, job) };
     let done = run_each(rt, alloc, jobs, workers, &work)?;
     Ok(done)
 }

@@ -8,6 +8,7 @@ pub mod laws;
 mod left;
 mod replication;
 mod rows;
+mod run_rows;
 mod seeds;
 mod study;
 mod table;
@@ -16,12 +17,14 @@ mod windows;
 mod words;
 
 pub use replication::replicate_once;
+pub use rows::{RunEnd, WINDOW_HEAD, put_end, put_field, put_seed};
+pub use run_rows::{Rows, add_all};
 pub use seeds::Seeds;
 pub use study::Study;
 pub use table::write_table;
 pub use window::{Columns, Window};
 pub use windows::Windows;
-pub use words::{Replicate, read_replicate_words};
+pub use words::{Replicate, WindowStart, read_replicate_words};
 
 #[cfg(test)]
 mod tests;

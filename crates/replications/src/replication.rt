@@ -1,14 +1,13 @@
 //! One replication.
-ghost use Rattle.std.specs.Prelude.{◌≡◌, ◌++◌, [], IfOk, OnOk, None};
+ghost use Rattle.std.specs.Prelude.{◌≡◌, ◌++◌, [], ℕ, IfOk, OnOk, None};
 ghost use Rattle.std.specs.Arc.{arc_value};
 ghost use Rattle.sim_spec.specs.Run.{run};
 ghost use Rattle.sim_spec.specs.Standing.{stands};
 ghost use Rattle.sim_spec.specs.State.{initial_state};
-ghost use Rattle.replications.specs.Rows.{end_of, rows};
-ghost use Rattle.replications.specs.Tables.{windows_of};
+ghost use Rattle.replications.specs.Ends.{end_of, rows_of_run};
 
 use crate::rows::RunEnd;
-use crate::windows::Windows;
+use crate::run_rows::{Rows, add_all};
 use model_core::OutOfMemory;
 use model_core::model::Model as SimulationModel;
 use one_thread::OneThread;
@@ -18,22 +17,21 @@ use sim_spec::{Stop, Terms};
 use std::alloc::Global;
 use std::sync::Arc;
 
-/// Runs an engine from its start until it has ended, and takes note of all records. No bucket is kept.
-fn run_to_stop<M: SimulationModel>(
+/// Runs an engine from its start until it has ended, and sums up all records. No bucket is kept.
+fn run_to_stop<M: SimulationModel, W: Rows<M>>(
     alloc: Global,
     model: &M,
     terms: &Terms,
-    first: u64,
     seed: u64,
     engine: &mut OneThread<M>,
-    windows: &mut Windows,
+    rows: &mut W,
 ) -> Result<RunEnd, OutOfMemory>
     requires model { engine.old.model ≡ model.now }
     requires terms { engine.old.terms ≡ terms.now }
     requires begins { engine.old.standing ≡ stands (initial_state (M.meaning model.now)) None }
-    requires windows { windows.old ≡ windows_of first (M.meaning model.now).objects [] }
-    ensures windows { OnOk result (windows.new
-        ≡ windows_of first (M.meaning model.now).objects (run (M.meaning model.now) terms.now (initial_state (M.meaning model.now))).records) }
+    requires rows { (first : ℕ) × W.sums_up model.now first rows.old [] }
+    ensures rows { OnOk result ((first : ℕ) → W.sums_up model.now first rows.old []
+        → W.sums_up model.now first rows.new (run (M.meaning model.now) terms.now (initial_state (M.meaning model.now))).records) }
     ensures end { IfOk result (λ end. end ≡ end_of seed (run (M.meaning model.now) terms.now (initial_state (M.meaning model.now)))) }
 {
     law_initial(model, terms);
@@ -49,15 +47,15 @@ fn run_to_stop<M: SimulationModel>(
             return Ok(RunEnd { seed, events, stop });
         }
         let bucket = engine.bucket(alloc)?;
-        windows.add_all(bucket.done.as_buffer());
+        add_all(rows, model, bucket.done.as_buffer());
         engine.give_back(bucket.done);
         cycles += 1;
     }
 }
 
 /// Runs an engine from its start until it has ended, and appends the rows of its run.
-#[tactic(auto, unfolding(crate::specs::Rows::rows))]
-fn put_run<M: SimulationModel>(
+#[tactic(auto, unfolding(crate::specs::Ends::rows_of_run))]
+fn put_run<M: SimulationModel, W: Rows<M>>(
     alloc: Global,
     model: &M,
     terms: &Terms,
@@ -69,18 +67,18 @@ fn put_run<M: SimulationModel>(
     requires model { engine.old.model ≡ model.now }
     requires terms { engine.old.terms ≡ terms.now }
     requires begins { engine.old.standing ≡ stands (initial_state (M.meaning model.now)) None }
-    ensures rows { OnOk result (into.new.items ≡ into.old.items ++ rows (M.meaning model.now) terms.now first seed) }
+    ensures rows { OnOk result (into.new.items ≡ into.old.items ++ rows_of_run (W.rows_of model.now) (M.meaning model.now) terms.now first seed) }
     ensures stop { IfOk result (λ stop. stop ≡ (run (M.meaning model.now) terms.now (initial_state (M.meaning model.now))).stop) }
 {
-    let mut windows = Windows::new(alloc, model.objects(), first)?;
-    let end = run_to_stop(alloc, model, terms, first, seed, engine, &mut windows)?;
-    windows.put_rows(alloc, model, terms, &end, into)?;
+    let mut rows = W::new(alloc, model, first)?;
+    let end = run_to_stop(alloc, model, terms, seed, engine, &mut rows)?;
+    rows.put(alloc, model, terms, &end, into)?;
     Ok(end.stop)
 }
 
-/// Runs a model from its start on the engine for one thread, and appends a row for each object: what it did from tick `first`
-/// to the end of the run, under this seed. Where memory runs out, it may have appended some of it.
-pub fn replicate_once<M: SimulationModel>(
+/// Runs a model from its start on the engine for one thread, and appends its rows: what was done from tick `first` to the end
+/// of the run, under this seed. Where memory runs out, it may have appended some of them.
+pub fn replicate_once<M: SimulationModel, W: Rows<M>>(
     alloc: Global,
     model: Arc<M>,
     terms: Terms,
@@ -88,9 +86,9 @@ pub fn replicate_once<M: SimulationModel>(
     seed: u64,
     into: &mut Vec<u8>,
 ) -> Result<Stop, OutOfMemory>
-    ensures rows { OnOk result (into.new.items ≡ into.old.items ++ rows (M.meaning (arc_value model)) terms first seed) }
+    ensures rows { OnOk result (into.new.items ≡ into.old.items ++ rows_of_run (W.rows_of (arc_value model)) (M.meaning (arc_value model)) terms first seed) }
     ensures stop { IfOk result (λ stop. stop ≡ (run (M.meaning (arc_value model)) terms (initial_state (M.meaning (arc_value model)))).stop) }
 {
     let mut engine = OneThread::new(alloc, model.clone()?, terms)?;
-    put_run(alloc, &*model, &terms, first, seed, &mut engine, into)
+    put_run::<M, W>(alloc, &*model, &terms, first, seed, &mut engine, into)
 }

@@ -7,8 +7,8 @@ use itoa::{Buffer, Integer};
 use model_core::OutOfMemory;
 use sim_spec::Stop;
 
-/// The head line of a table.
-pub const HEAD: &str =
+/// The head line of a table of windows.
+pub const WINDOW_HEAD: &str =
     "seed,object,arrivals,served,lost,busy,waiting,age,longest,ticks,events,stop\n";
 
 /// The seed of a replication, and how its run ended.
@@ -32,7 +32,7 @@ fn stop_name(stop: &Stop) -> &'static str
 }
 
 /// Appends a number and a comma. Where memory runs out, each call here may have appended some of its text.
-fn put_field<I: Integer>(number: I, into: &mut Vec<u8>) -> Result<(), OutOfMemory>
+pub fn put_field<I: Integer>(number: I, into: &mut Vec<u8>) -> Result<(), OutOfMemory>
     ensures { OnOk result (into.new.items ≡ into.old.items ++ (I.text number ++ codes ",")) }
 {
     let mut buffer = Buffer::new();

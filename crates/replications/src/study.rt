@@ -5,6 +5,10 @@ use sim_spec::Terms;
 #[derive(Debug, Drop)]
 pub struct Study<S> {
     pub models: S,
+    /// The head line of the table.
+    pub head: &'static str,
+    /// How many bytes the rows of a replication have at most, for the size of the batches: no text depends on it.
+    pub row_bytes: u64,
     pub terms: Terms,
     pub from: u64,
     /// Below 2^63.

@@ -11,7 +11,7 @@ ghost use Rattle.replications.specs.Studies.{StudyOf, AreDone, rows_between, sto
 use crate::batch::run_batch;
 use crate::gravest::graver;
 use crate::job::Job;
-use crate::rows::HEAD;
+use crate::run_rows::Rows;
 use crate::seeds::Seeds;
 use crate::study::Study;
 use model_core::model::Model as SimulationModel;
@@ -24,21 +24,18 @@ use std::thread::Threads;
 /// How many bytes the texts of a batch have at most, where it has several replications: 64 MiB.
 const BATCH_BYTES: u64 = 67_108_864;
 
-/// How many bytes a row has at most: a seed of 19 digits, a name of 16 bytes, sums of 20 digits or 39, and the rest.
-const ROW_BYTES: u64 = 274;
-
 /// How many replications of a batch each worker has on average, so that starting the workers costs little beside them, and
 /// that few of them wait at its end.
 const EACH: u64 = 256;
 
-/// How many replications a batch has, of a model with so many objects.
-fn batch_size(objects: u32, workers: u32) -> u64
+/// How many replications a batch has, if the rows of one have so many bytes at most.
+fn batch_size(row_bytes: u64, workers: u32) -> u64
     requires { workers ≤ MOST_WORKERS }
     ensures some { 1 ≤ result }
     ensures few { result ≤ 16384 }
 {
-    let rows = u64::from(objects.max(1)) * ROW_BYTES;
-    (BATCH_BYTES / rows).min(EACH * u64::from(workers)).max(1)
+    let fits = BATCH_BYTES / row_bytes.max(1);
+    fits.min(EACH * u64::from(workers)).max(1)
 }
 
 /// So many replications of a study, shared out among so many workers.
@@ -74,20 +71,20 @@ fn write_rows<K: Sink>(jobs: &[Job], worst: &mut Stop, out: &mut K) -> Result<()
 }
 
 /// Writes the rows of all replications, a batch at a time.
-fn write_batches<R: Threads + Sync, M: SimulationModel, S: Seeds<M>, K: Sink>(
+fn write_batches<R: Threads + Sync, M: SimulationModel, W: Rows<M>, S: Seeds<M, W>, K: Sink>(
     table: &Table<R, S>,
     out: &mut K,
 ) -> Result<Stop, Unfinished>
-    ensures text { WritesText K.Sink out.old out.new result (rows_between (study_of S.seeded table.now.study.now) 0 table.now.count) }
+    ensures text { WritesText K.Sink out.old out.new result (rows_between (study_of S.seeded S.rows table.now.study.now) 0 table.now.count) }
     ensures faults { TellsFaults K.Sink out.old out.new result }
-    ensures stops { IfOk result (λ worst. worst ≡ gravest (stops_between (study_of S.seeded table.now.study.now) 0 table.now.count)) }
+    ensures stops { IfOk result (λ worst. worst ≡ gravest (stops_between (study_of S.seeded S.rows table.now.study.now) 0 table.now.count)) }
 {
-    let size = batch_size(table.study.models.objects(), table.workers);
+    let size = batch_size(table.study.row_bytes, table.workers);
     let mut worst = Stop::End;
     let mut done = 0u64;
     'batches: while done < table.count {
         let until = table.count.min(done + size);
-        let jobs = run_batch(
+        let jobs = run_batch::<R, M, W, S>(
             table.rt,
             table.alloc,
             table.study,
@@ -103,16 +100,16 @@ fn write_batches<R: Threads + Sync, M: SimulationModel, S: Seeds<M>, K: Sink>(
 
 /// Writes the head line, and then all rows.
 #[tactic(auto, unfolding(crate::specs::Studies::table_text))]
-fn write_lines<R: Threads + Sync, M: SimulationModel, S: Seeds<M>, K: Sink>(
+fn write_lines<R: Threads + Sync, M: SimulationModel, W: Rows<M>, S: Seeds<M, W>, K: Sink>(
     table: &Table<R, S>,
     out: &mut K,
 ) -> Result<Stop, Unfinished>
-    ensures text { WritesText K.Sink out.old out.new result (table_text (study_of S.seeded table.now.study.now) table.now.count) }
+    ensures text { WritesText K.Sink out.old out.new result (table_text (study_of S.seeded S.rows table.now.study.now) table.now.count) }
     ensures faults { TellsFaults K.Sink out.old out.new result }
-    ensures stops { IfOk result (λ worst. worst ≡ gravest (stops_between (study_of S.seeded table.now.study.now) 0 table.now.count)) }
+    ensures stops { IfOk result (λ worst. worst ≡ gravest (stops_between (study_of S.seeded S.rows table.now.study.now) 0 table.now.count)) }
 {
-    write_all(out, HEAD.as_bytes())?;
-    let worst = write_batches(table, out)?;
+    write_all(out, table.study.head.as_bytes())?;
+    let worst = write_batches::<R, M, W, S, K>(table, out)?;
     Ok(worst)
 }
 
@@ -120,7 +117,7 @@ fn write_lines<R: Threads + Sync, M: SimulationModel, S: Seeds<M>, K: Sink>(
 /// each replication in the order of the seeds. It is the same for any number of workers and any schedule of threads. Memory
 /// is that of the runs under way and of the rows of a batch, and doesn't grow with the number of replications. The result is
 /// the gravest of the stops of the runs.
-pub fn write_table<R: Threads + Sync, M: SimulationModel, S: Seeds<M>, K: Sink>(
+pub fn write_table<R: Threads + Sync, M: SimulationModel, W: Rows<M>, S: Seeds<M, W>, K: Sink>(
     rt: &R,
     alloc: Global,
     study: &Study<S>,
@@ -131,11 +128,11 @@ pub fn write_table<R: Threads + Sync, M: SimulationModel, S: Seeds<M>, K: Sink>(
     requires first { study.now.first_seed < 2 ^ 63 }
     requires count { count < 2 ^ 32 }
     requires workers { (1 ≤ workers) × (workers ≤ MOST_WORKERS) }
-    ensures text { WritesText K.Sink out.old out.new result (table_text (study_of S.seeded study.now) count) }
+    ensures text { WritesText K.Sink out.old out.new result (table_text (study_of S.seeded S.rows study.now) count) }
     ensures faults { TellsFaults K.Sink out.old out.new result }
     ensures handed { OnOk result (Keeps (K.told out.new) (K.handed out.new)) }
     ensures handed_so_far { IsErrOf result NoMemory → Keeps (K.told out.new) (K.handed out.new) }
-    ensures stops { IfOk result (λ worst. worst ≡ gravest (stops_between (study_of S.seeded study.now) 0 count)) }
+    ensures stops { IfOk result (λ worst. worst ≡ gravest (stops_between (study_of S.seeded S.rows study.now) 0 count)) }
 {
     let table = Table {
         rt,
@@ -144,7 +141,7 @@ pub fn write_table<R: Threads + Sync, M: SimulationModel, S: Seeds<M>, K: Sink>(
         count,
         workers,
     };
-    let outcome = write_lines(&table, out);
+    let outcome = write_lines::<R, M, W, S, K>(&table, out);
     out.flush()?;
     outcome
 }

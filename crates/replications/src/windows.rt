@@ -1,5 +1,5 @@
 //! The sums of each object within a window of time.
-ghost use Rattle.std.specs.Prelude.{◌≡◌, ◌<◌, ◌≤◌, ◌+◌, ◌^◌, ◌++◌, ◌∷◌, [], ℕ, List, length, All, IfOk, OnOk};
+ghost use Rattle.std.specs.Prelude.{◌≡◌, ◌<◌, ◌≤◌, ◌+◌, ◌^◌, ◌++◌, ◌∷◌, [], ℕ, List, length, IfOk, OnOk};
 ghost use Rattle.event_key.specs.declared.key.Key.{Key};
 ghost use Rattle.event_key.specs.Stamps.{time_part};
 ghost use Rattle.model_core.specs.declared.note.Note.{Note};
@@ -8,7 +8,7 @@ use crate::rows::{RunEnd, put_columns, put_end, put_seed};
 use crate::window::Window;
 use event_key::{Key, time_of};
 use model_core::model::Model as SimulationModel;
-use model_core::{OutOfMemory, Part, RecordBuffer};
+use model_core::{OutOfMemory, Part};
 use sim_spec::{Stop, Terms};
 use std::alloc::Global;
 use std::marker::Model;
@@ -71,19 +71,6 @@ impl Windows {
         window.add(self.first, time, parts);
         self.records += 1;
         self.last = time;
-    }
-
-    /// All these records, in order, as `add` takes each.
-    pub fn add_all(&mut self, records: &RecordBuffer)
-        requires objects { All (λ (told : Key × Note). told.0.dest < length self.old.objects) records.now.items }
-        requires room { self.old.records + length records.now.items ≤ MOST_EVENTS }
-        ensures { (first objects : ℕ) (before : List (Key × Note)) → self.old ≡ windows_of first objects before
-            → self.new ≡ windows_of first objects (before ++ records.now.items) }
-    {
-        for i in 0..records.len() {
-            let (key, parts) = records.at(i);
-            self.add(key, parts);
-        }
     }
 
     /// The last tick of a run of these records that stopped for this reason.

@@ -1,7 +1,7 @@
 //! The words of `replicate`.
 ghost use Rattle.std.specs.Prelude.{◌≡◌, IfOk};
 ghost use Rattle.sim_io.specs.Words.{texts_of};
-ghost use Rattle.replications.specs.ReplicateWords.{AreInBounds, choice_named, chosen, given_with, has_value, replicate_settings, value_of, walked, with_number};
+ghost use Rattle.replications.specs.ReplicateWords.{AreInBounds, choice_named, chosen, given_with, has_value, is_in_words, replicate_settings, value_of, walked, with_number};
 
 use event_key::LAST_TICK;
 use sim_io::{WordFault, number_within, stray_word};
@@ -31,6 +31,27 @@ pub struct Replicate {
     pub workers: u64,
 }
 
+/// Where it is said from which tick on is counted.
+#[derive(Clone, Copy, Debug, PartialEq, Eq)]
+pub enum WindowStart {
+    /// In the words, by `--from`.
+    Words,
+    /// In the model, so that no option says it.
+    Model,
+}
+
+impl WindowStart {
+    /// Whether `--from` is an option.
+    fn is_in_words(self) -> bool
+        ensures { result ≡ is_in_words self }
+    {
+        match self {
+            WindowStart::Words => true,
+            WindowStart::Model => false,
+        }
+    }
+}
+
 /// An option.
 #[derive(Clone, Copy, Debug, PartialEq, Eq)]
 pub enum Choice {
@@ -48,12 +69,12 @@ pub struct Given {
 }
 
 /// The option that a word names.
-fn choice_named(word: &str) -> Option<Choice>
-    ensures { result ≡ choice_named word.now }
+fn choice_named(start: WindowStart, word: &str) -> Option<Choice>
+    ensures { result ≡ choice_named start word.now }
 {
     match word {
         "--first" => Some(Choice::First),
-        "--from" => Some(Choice::From),
+        "--from" if start.is_in_words() => Some(Choice::From),
         "--workers" => Some(Choice::Workers),
         _ => None,
     }
@@ -105,10 +126,10 @@ impl Given {
     }
 
     /// The option that a word names, where it wasn't given before.
-    fn choose(&self, word: &str) -> Result<Choice, WordFault>
-        ensures { result ≡ chosen self.now word.now }
+    fn choose(&self, start: WindowStart, word: &str) -> Result<Choice, WordFault>
+        ensures { result ≡ chosen start self.now word.now }
     {
-        let Some(choice) = choice_named(word) else {
+        let Some(choice) = choice_named(start, word) else {
             return Err(stray_word(word));
         };
         if self.has(choice) {
@@ -128,30 +149,30 @@ impl Given {
 
 /// What options give after those before them, each a word and its value.
 #[tactic(auto, unfolding(crate::specs::ReplicateWords::walked))]
-fn options(given: Given, words: &[String]) -> Result<Given, WordFault>
-    ensures { result ≡ walked given (texts_of words.now) }
+fn options(start: WindowStart, given: Given, words: &[String]) -> Result<Given, WordFault>
+    ensures { result ≡ walked start given (texts_of words.now) }
 {
     match words {
         [] => Ok(given),
         [word] => {
-            given.choose(word.as_str())?;
+            given.choose(start, word.as_str())?;
             Err(WordFault::MissingValue)
         }
         [word, value, rest @ ..] => {
-            let choice = given.choose(word.as_str())?;
+            let choice = given.choose(start, word.as_str())?;
             let next = given.take(choice, value.as_str())?;
-            options(next, rest)
+            options(start, next, rest)
         }
     }
 }
 
-/// Reads the words that follow the program's name. It takes no memory.
+/// Reads these words. It takes no memory.
 #[tactic(auto, unfolding(crate::specs::ReplicateWords::replicate_settings))]
-pub fn read_replicate_words(words: &Vec<String>) -> Result<Replicate, WordFault>
-    ensures settings { result ≡ replicate_settings (texts_of words.now.items) }
+pub fn read_replicate_words(start: WindowStart, words: &[String]) -> Result<Replicate, WordFault>
+    ensures settings { result ≡ replicate_settings start (texts_of words.now) }
     ensures bounds { IfOk result AreInBounds }
 {
-    let [count, rest @ ..] = words.as_slice() else {
+    let [count, rest @ ..] = words else {
         return Err(WordFault::MissingValue);
     };
     let count = number_within(1, MOST_REPLICATIONS, count.as_str())?;
@@ -160,7 +181,7 @@ pub fn read_replicate_words(words: &Vec<String>) -> Result<Replicate, WordFault>
         from: None,
         workers: None,
     };
-    let given = options(none, rest)?;
+    let given = options(start, none, rest)?;
     Ok(Replicate {
         count,
         first_seed: given.first,

@@ -1,8 +1,28 @@
-use Rattle.std.proofs.Common.{◌∙◌, ap, length}
-use Rattle.replications.specs.Tables.{WindowsView}
-use Rattle.replications.proofs.TableLemmas.{windows_of-length}
+-- The rows sum up all records of the run.
+use Rattle.std.proofs.Common.{◌∙◌, ◌++◌, refl, ap}
+use Rattle.run_tally.specs.Tallies.{AreOfRun}
+use Rattle.sim_spec.specs.Run.{run}
+use Rattle.sim_spec.specs.State.{initial_state}
+use Rattle.replications.specs.declared.rows.RunEnd.{RunEnd}
+use Rattle.replications.specs.Ends.{rows_of_run}
 use Rattle.replications.proofs.replication.put_run.Goals as goal
 
-pub put_rows-requires-after_bounds : goal.put_rows-requires-after_bounds
-put_rows-requires-after_bounds g c κs within =
-    ap (λ (w : WindowsView). length w.objects) c.in_ok-end.ensures.windows ∙ windows_of-length _ _ _
+pub run_to_stop-requires-clause-rows : goal.run_to_stop-requires-clause-rows
+run_to_stop-requires-clause-rows g c κs within = (c.args.first, c.in_ok-rows.ensures)
+
+pub put-requires : goal.put-requires
+put-requires g c = (
+  c.args.first,
+  (run (g.M.Model.meaning c.args.model.now) c.args.terms.now (initial_state (g.M.Model.meaning c.args.model.now))).records,
+  c.in_ok-end.ensures.rows c.args.first c.in_ok-rows.ensures,
+  record { are_all = refl; stops_so = ap (λ (e : RunEnd). e.stop) c.in_ok-end.ensures.end },
+)
+
+pub returns-clause-rows : goal.returns-clause-rows
+unfolding rows_of_run
+returns-clause-rows g c =
+    let m = g.M.Model.meaning c.args.model.now in
+    let records = (run m c.args.terms.now (initial_state m)).records in
+    let all : AreOfRun m c.args.terms.now records c.in_ok-end.end.stop = record { are_all = refl; stops_so = ap (λ (e : RunEnd). e.stop) c.in_ok-end.ensures.end } in
+    c.in_ok-put.ensures c.args.first records (c.in_ok-end.ensures.rows c.args.first c.in_ok-rows.ensures) all
+    ∙ ap (λ (end : RunEnd). c.args.into.now.items ++ g.W.Rows.rows_of c.args.model.now c.args.first c.args.terms.now end records) c.in_ok-end.ensures.end

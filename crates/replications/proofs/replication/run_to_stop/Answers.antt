@@ -1,7 +1,6 @@
 -- Each turn takes note of one bucket; the last one sees why the simulation stopped.
 use Rattle.std.proofs.Common.{◌≡◌, ℕ, ◌+◌, ◌<◌, ◌++◌, ◌∷◌, [], true, List, length, length-append, refl, sym, ap, ◌∙◌, subst, arith}
 use Rattle.std.specs.List.{AllPairs}
-use Rattle.std.specs.Prelude.{All}
 use Rattle.event_key.specs.declared.key.Key.{Key}
 use Rattle.event_key.specs.Keys.{key_lt}
 use Rattle.model_core.specs.declared.note.Note.{Note}
@@ -12,10 +11,10 @@ use Rattle.sim_spec.specs.Run.{run}
 use Rattle.sim_spec.specs.State.{initial_state}
 use Rattle.sim_spec.specs.Standing.{Standing}
 use Rattle.sim_text.proofs.SummaryLemmas.{records_of_buckets-more}
-use Rattle.sim_text.proofs.UnderWay.{IsUnderWay, begins, none_of, ended-same, cycle-same, ends_so, bucket-at_objects, bucket-has_room, goes_on, few_cycles}
+use Rattle.sim_text.proofs.UnderWay.{IsUnderWay, begins, none_of, ended-same, cycle-same, ends_so, goes_on, few_cycles}
 use Rattle.replications.specs.declared.rows.RunEnd.{RunEnd}
-use Rattle.replications.specs.Tables.{WindowsView, windows_of}
-use Rattle.replications.proofs.TableLemmas.{windows_of-length, windows_of-records}
+use Rattle.run_tally.specs.Tallies.{CanAllCome}
+use Rattle.replications.proofs.ComingLemmas.{bucket-can_come}
 use Rattle.replications.proofs.replication.run_to_stop.Goals as goal
 
 pub cycles-init : goal.cycles-init
@@ -41,17 +40,16 @@ cycles-init g c =
       };
       way = subst Way (sym c.requires.begins) (begins m t (initial_state m) c.law_initial.ensures);
       numbered = refl;
-      kept = c.requires.windows;
+      kept = λ first none. none;
     }
 
-pub returns-in-Some-clause-windows : goal.returns-in-Some-clause-windows
-returns-in-Some-clause-windows g c =
+pub returns-in-Some-clause-rows : goal.returns-in-Some-clause-rows
+returns-in-Some-clause-rows g c first none =
     let i = c.cycles.invariant in
-    let m = g.M.Model.meaning c.args.model.now in
     let ended = ended-same _ _ _ _ _ _ (ap g.M.Model.meaning i.model) i.terms (sym c.in-Some.is ∙ c.ended.ensures) in
     let counted = c.count-events.ensures.standing i.way.state i.way.fault i.way.at_state in
     let ends = ends_so _ _ _ i.laws _ i.so_far i.way c.in-Some.stop c.count-events.result ended counted in
-    i.kept ∙ ap (windows_of c.args.first m.objects) (sym ends.records)
+    subst (g.W.Rows.sums_up c.args.model.now first c.cycles.rows) (sym ends.records) (i.kept first none)
 
 pub returns-in-Some-clause-end : goal.returns-in-Some-clause-end
 returns-in-Some-clause-end g c =
@@ -65,32 +63,20 @@ returns-in-Some-clause-end g c =
 pub bucket-requires-after_bounds : goal.bucket-requires-after_bounds
 bucket-requires-after_bounds g c κs within = sym c.ended.ensures ∙ none_of _ c.in_default.not-Some
 
-pub add_all-requires-clause-objects : goal.add_all-requires-clause-objects
-add_all-requires-clause-objects g c =
+pub add_all-requires-after_bounds : goal.add_all-requires-after_bounds
+add_all-requires-after_bounds g c κs within =
     let i = c.cycles.invariant in
     let m = g.M.Model.meaning c.args.model.now in
+    let first = c.requires.rows.0 in
     let same = ap g.M.Model.meaning i.model in
     let own_none = sym c.ended.ensures ∙ none_of _ c.in_default.not-Some in
     let not_ended = ended-same _ _ _ _ _ _ same i.terms (sym own_none) in
-    let cycle = cycle-same _ _ _ _ _ _ c.in_ok-bucket.bucket same i.terms c.in_ok-bucket.ensures.gives in
-    let there = bucket-at_objects _ _ _ i.laws _ i.so_far i.way _ _ not_ended cycle in
-    let many : length c.cycles.windows.objects ≡ m.objects = ap (λ (w : WindowsView). length w.objects) i.kept ∙ windows_of-length c.args.first m.objects (records_of_buckets i.so_far) in
-    let At : List (Key × Note) → Type 0 = λ records. All (λ (told : Key × Note). told.0.dest < length c.cycles.windows.objects) records in
-    let Below : ℕ → Type 0 = λ n. All (λ (told : Key × Note). told.0.dest < n) c.in_ok-bucket.bucket.done in
-    subst At (sym c.as_buffer.ensures) (subst Below (sym many) there)
-
-pub add_all-requires-clause-room : goal.add_all-requires-clause-room
-add_all-requires-clause-room g c =
-    let i = c.cycles.invariant in
-    let m = g.M.Model.meaning c.args.model.now in
-    let same = ap g.M.Model.meaning i.model in
-    let own_none = sym c.ended.ensures ∙ none_of _ c.in_default.not-Some in
-    let not_ended = ended-same _ _ _ _ _ _ same i.terms (sym own_none) in
-    let cycle = cycle-same _ _ _ _ _ _ c.in_ok-bucket.bucket same i.terms c.in_ok-bucket.ensures.gives in
-    let room = bucket-has_room _ _ _ i.laws _ i.so_far i.way _ _ not_ended cycle in
-    let counted = ap (λ (w : WindowsView). w.records) i.kept ∙ windows_of-records c.args.first m.objects (records_of_buckets i.so_far) in
-    let long = ap (λ (records : List (Key × Note)). length records) c.as_buffer.ensures in
-    omega (arith, room, counted, long)
+    let cycle = cycle-same _ _ _ _ _ _ c.in_ok-bucket.bucket same i.terms c.in_ok-bucket.ensures.gives in (
+      first,
+      records_of_buckets i.so_far,
+      i.kept first c.requires.rows.1,
+      subst (CanAllCome m (records_of_buckets i.so_far)) (sym c.as_buffer.ensures) (bucket-can_come _ _ i.laws _ i.so_far i.way _ _ not_ended cycle),
+    )
 
 pub cycles-smaller : goal.cycles-smaller
 cycles-smaller g c =
@@ -116,7 +102,9 @@ cycles-preserved g c =
       laws = i.laws;
       way = subst Way (sym (ap (λ (e : EngineView _). e.standing) c.give_back.ensures)) (goes_on _ _ _ i.laws _ i.so_far i.way b _ not_ended cycle);
       numbered = ap (λ n. n + 1) i.numbered ∙ sym (length-append i.so_far (b ∷ []));
-      kept = c.add_all.ensures c.args.first m.objects (records_of_buckets i.so_far) i.kept
-          ∙ ap (windows_of c.args.first m.objects)
-          (ap (λ (done : List (Key × Note)). records_of_buckets i.so_far ++ done) c.as_buffer.ensures ∙ sym (records_of_buckets-more i.so_far b));
+      kept = λ first none.
+          subst (g.W.Rows.sums_up c.args.model.now first c.add_all.new.rows)
+          (ap (λ (done : List (Key × Note)). records_of_buckets i.so_far ++ done) c.as_buffer.ensures ∙ sym (records_of_buckets-more i.so_far b))
+          (c.add_all.ensures first (records_of_buckets i.so_far) (i.kept first none)
+          (subst (CanAllCome m (records_of_buckets i.so_far)) (sym c.as_buffer.ensures) (bucket-can_come _ _ i.laws _ i.so_far i.way _ _ not_ended cycle)));
     }

@@ -1,9 +1,8 @@
-use Rattle.std.proofs.Common.{◌≡◌, ◌+◌, ◌-◌, List, length}
+use Rattle.std.proofs.Common.{◌≡◌, ℕ, ◌+◌, ◌-◌, [], List, length}
 use Rattle.sim_spec.specs.declared.bucket.Bucket.{Bucket}
 use Rattle.sim_spec.specs.Cycles.{records_of_buckets}
 use Rattle.sim_spec.specs.State.{initial_state}
 use Rattle.sim_text.proofs.UnderWay.{IsUnderWay, SimulationLaws}
-use Rattle.replications.specs.Tables.{windows_of}
 use Rattle.replications.proofs.replication.run_to_stop.Given as goal
 
 abbrev pub invariant-cycles : goal.invariant-cycles
@@ -16,7 +15,7 @@ invariant-cycles g l =
       laws : SimulationLaws m l.terms (initial_state m);
       way : IsUnderWay m l.terms (initial_state m) l.engine.standing so_far;
       numbered : l.cycles ≡ length so_far;
-      kept : l.windows ≡ windows_of l.fn.first m.objects (records_of_buckets so_far);
+      kept : (first : ℕ) → g.W.Rows.sums_up l.model first l.fn.rows [] → g.W.Rows.sums_up l.model first l.rows (records_of_buckets so_far);
     }
 
 abbrev pub decreases-cycles : goal.decreases-cycles

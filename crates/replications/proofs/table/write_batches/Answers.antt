@@ -12,7 +12,7 @@ use Rattle.replications.proofs.table.write_batches.Goals as goal
 pub batches-init : goal.batches-init
 unfolding gravest
 batches-init g c =
-    let s = study_of g.S.Seeds.seeded c.args.table.now.study.now in
+    let s = study_of g.S.Seeds.seeded g.S.Seeds.rows c.args.table.now.study.now in
     let ends : End ≡ gravest [] = refl in
     let told = g.K.Sink.told c.args.out.now in
     record {
@@ -25,12 +25,12 @@ batches-init g c =
 
 pub returns-in_err-jobs-clause-text : goal.returns-in_err-jobs-clause-text
 returns-in_err-jobs-clause-text g c =
-    let s = study_of g.S.Seeds.seeded c.args.table.now.study.now in
+    let s = study_of g.S.Seeds.seeded g.S.Seeds.rows c.args.table.now.study.now in
     cut_short _ _ _ _ _ _ c.from_residual.ensures.1 (so_far-prefix s 0 c.batches.done c.args.table.now.count c.batches.invariant.within _ _ c.batches.invariant.written)
 
 pub returns-in_err-write_rows-clause-text : goal.returns-in_err-write_rows-clause-text
 returns-in_err-write_rows-clause-text g c =
-    let s = study_of g.S.Seeds.seeded c.args.table.now.study.now in
+    let s = study_of g.S.Seeds.seeded g.S.Seeds.rows c.args.table.now.study.now in
     let jobs = c.in_ok-jobs.jobs.items in
     let all : AreDone s c.batches.done c.as_slice.result.now = subst (AreDone s c.batches.done) (sym c.as_slice.ensures.value) c.in_ok-jobs.ensures.done in
     let P : ℕ → Type 0 = λ n. AppendsPrefix (g.K.Sink.told c.batches.out) (g.K.Sink.told c.write_rows.new.out) (rows_between s c.batches.done n) in
@@ -39,7 +39,7 @@ returns-in_err-write_rows-clause-text g c =
 
 pub batches-preserved : goal.batches-preserved
 batches-preserved g c =
-    let s = study_of g.S.Seeds.seeded c.args.table.now.study.now in
+    let s = study_of g.S.Seeds.seeded g.S.Seeds.rows c.args.table.now.study.now in
     let i = c.batches.invariant in
     let jobs = c.in_ok-jobs.jobs.items in
     let mid = g.K.Sink.told c.batches.out in

@@ -6,7 +6,7 @@ use Rattle.replications.proofs.table.write_batches.Given as goal
 
 abbrev pub invariant-batches : goal.invariant-batches
 invariant-batches g l =
-    let s = study_of g.S.Seeds.seeded l.table.study.now in
+    let s = study_of g.S.Seeds.seeded g.S.Seeds.rows l.table.study.now in
     record {
       within : l.done ≤ l.table.count;
       written : Appends (g.K.Sink.told l.fn.out) (g.K.Sink.told l.out) (rows_between s 0 l.done);

@@ -12,14 +12,14 @@ use Rattle.replications.proofs.table.write_lines.Goals as goal
 pub returns-in_err-write_all-clause-text : goal.returns-in_err-write_all-clause-text
 unfolding table_text
 returns-in_err-write_all-clause-text g c =
-    let s = study_of g.S.Seeds.seeded c.args.table.now.study.now in
+    let s = study_of g.S.Seeds.seeded g.S.Seeds.rows c.args.table.now.study.now in
     cut_short _ _ _ _ _ _ c.from_residual.ensures.1 (prefix_longer _ _ _ (rows_between s 0 c.args.table.now.count)
     (subst (AppendsPrefix (g.K.Sink.told c.args.out.now) (g.K.Sink.told c.write_all.new.sink)) c.as_bytes.ensures.value c.in_err-write_all.ensures.prefix))
 
 pub returns-in_err-worst-clause-text : goal.returns-in_err-worst-clause-text
 unfolding table_text
 returns-in_err-worst-clause-text g c =
-    let s = study_of g.S.Seeds.seeded c.args.table.now.study.now in
+    let s = study_of g.S.Seeds.seeded g.S.Seeds.rows c.args.table.now.study.now in
     cut_short _ _ _ _ _ _ c.from_residual-in_err-worst.ensures.1 (prefix_next _ _ _ _ (rows_between s 0 c.args.table.now.count)
     (subst (Appends (g.K.Sink.told c.args.out.now) (g.K.Sink.told c.write_all.new.sink)) c.as_bytes.ensures.value c.in_ok-write_all.ensures.all)
     c.in_err-worst.ensures.text.prefix)
@@ -27,7 +27,7 @@ returns-in_err-worst-clause-text g c =
 pub returns-clause-text : goal.returns-clause-text
 unfolding table_text
 returns-clause-text g c =
-    let s = study_of g.S.Seeds.seeded c.args.table.now.study.now in
+    let s = study_of g.S.Seeds.seeded g.S.Seeds.rows c.args.table.now.study.now in
     record {
       whole = Appends-trans _ _ _ _ (rows_between s 0 c.args.table.now.count)
           (subst (Appends (g.K.Sink.told c.args.out.now) (g.K.Sink.told c.write_all.new.sink)) c.as_bytes.ensures.value c.in_ok-write_all.ensures.all)

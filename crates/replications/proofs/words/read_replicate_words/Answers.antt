@@ -8,7 +8,7 @@ use Rattle.replications.proofs.words.read_replicate_words.Goals as goal
 pub returns-clause-bounds : goal.returns-clause-bounds
 returns-clause-bounds c =
     let given = c.in_ok-given.given in
-    let fine = walked-bounds given _ _ (sym c.options.ensures ∙ c.in_ok-given.was) (record { first = tt; from = tt; workers = tt }) in
+    let fine = walked-bounds c.args.start given _ _ (sym c.options.ensures ∙ c.in_ok-given.was) (record { first = tt; from = tt; workers = tt }) in
     let from = or_else 0 LAST_TICK 0 given.from fine.from (omega arith) (omega arith) in
     let workers = or_else 1 MOST_WORKERS DEFAULT_WORKERS given.workers fine.workers (omega arith) (omega arith) in
     record {

@@ -3,12 +3,7 @@ use Rattle.std.proofs.Common.{◌≡◌, ◌≤◌, ◌<◌, ◌^◌, ℕ, Bool,
 use Rattle.std.specs.Prelude.{IfOk, IfSome, IsErrOf, OnErr, OnOk, if◌then◌else◌, unwrap_or}
 use Rattle.std.specs.List.{list_any}
 use Rattle.std.specs.Io.KnownBytes.{Appends, Keeps}
-use Rattle.model_text.specs.declared.described.ReadModel.{ReadModel}
-use Rattle.model_text.specs.declared.model.AnyModel.{AnyModel}
 use Rattle.model_reader.specs.Checks.{Checked}
-use Rattle.model_text.specs.Meanings.{family_read, meaning_under}
-use Rattle.model_text.specs.ModelTexts.{FamilyOf, family_of}
-use Rattle.model_text.specs.Readers.{family_of-take}
 use Rattle.sim_io.specs.declared.streams.reading.TheConstants.{ENOUGH_BYTES}
 use Rattle.sim_io.specs.declared.streams.sink.Sink.{Ghosts as Sink}
 use Rattle.sim_io.specs.declared.words.WordFault.{WordFault}
@@ -28,7 +23,8 @@ use Rattle.replications.specs.declared.words.Replicate.{Replicate}
 use Rattle.replications.specs.declared.words.TheConstants.{LAST_SEED}
 use Rattle.replications.specs.ReplicateWords.{IsGivenWithin}
 use Rattle.replications.specs.Studies.{StudyOf, graver, gravest, stops_between, table_text}
-use Rattle.replicate_program.specs.TableAnswers.{is_fault, is_limit, status_of_stops, answer_to_family, answer_to_study, answer_to_read, answer_to_words}
+use Rattle.table_program.specs.Families.{FamilyOf, FamilyReading, FamilyLaws}
+use Rattle.table_program.specs.TableAnswers.{is_fault, is_limit, status_of_stops, answer_to_family, answer_to_study, answer_to_read, answer_to_words}
 
 -- the status of the gravest stop tells whether some run stopped at a fault, or else some at its limit
 pub gravest-status : (stops : List Stop) → status_of_stop (gravest stops) ≡ status_of_stops stops
@@ -64,9 +60,6 @@ pub first-below : (o : Option ℕ) (own : ℕ) → IsGivenWithin 0 LAST_SEED o �
 first-below None own fine below = below
 first-below (Some n) own fine below = omega (arith, fine.1)
 
-abbrev pub study_of_model : Replicate → ReadModel → AnyModel → ℕ → StudyOf
-study_of_model asked read model first = record { with_seed = λ seed. meaning_under seed model; terms = read.terms; from = asked.from; first_seed = first }
-
 module _ {K : Type 0} (sink : Sink K) (old new : K) (s : StudyOf) (count : ℕ) where
   -- how a table that was to be written ends
   pub table_ends : (outcome : Result Stop Unfinished) → OnOk outcome (Appends (sink.told old) (sink.told new) (table_text s count))
@@ -81,37 +74,29 @@ module _ {K : Type 0} (sink : Sink K) (old new : K) (s : StudyOf) (count : ℕ) 
   table_ends (Err Unfinished.OutOfMemory) whole handed handed_so_far stops part fault quiet no_memory =
       no_memory_ends sink old new _ part (no_memory refl) (λ _. handed_so_far refl)
 
-  -- so it is with the table of a model that was read, which stands in a place of its own then
-  pub tabulated : (asked : Replicate) (read : ReadModel) (model : AnyModel) (first : ℕ) (outcome : Result Stop Unfinished) (ending : Ending) → model ≡ read.model
-      → first ≡ unwrap_or asked.first_seed read.seed → s ≡ study_of_model asked read model first → count ≡ asked.count
-      → EndsModel sink old new (ending_of outcome) (answer_to_study s count) → ending ≡ ending_of outcome → EndsModel sink old new ending (answer_to_family asked (family_read read))
-  tabulated asked read model first outcome ending is_model is_first is_study is_count told ends =
-      let Told : StudyOf → Type 0 = λ s. EndsModel sink old new (ending_of outcome) (answer_to_study s asked.count) in
-      let counted : Told s = subst (λ n. EndsModel sink old new (ending_of outcome) (answer_to_study s n)) is_count told in
-      subst (λ (e : Ending). EndsModel sink old new e (answer_to_family asked (family_read read))) (sym ends)
-      (subst Told (is_study ∙ ap (λ (m : AnyModel). study_of_model asked read m first) is_model ∙ ap (study_of_model asked read read.model) is_first) counted)
+module _ (reading : FamilyReading) where
+  -- the answer to what was read is the one to what was taken
+  pub slice_answers : (taken slice : List ℕ) (asked : Replicate) (read : Checked FamilyOf) → slice ≡ taken → reading.read slice ≡ read
+      → answer_to_read reading asked read ≡ answer_to_read reading asked (reading.read taken)
+  slice_answers taken slice asked read is_slice is_read = ap (answer_to_read reading asked) (sym is_read ∙ ap reading.read is_slice)
 
--- the answer to what was read is the one to what was taken
-pub slice_answers : (taken slice : List ℕ) (asked : Replicate) (read : Checked FamilyOf) → slice ≡ taken → family_of slice ≡ read → answer_to_read asked read ≡ answer_to_read asked (family_of taken)
-slice_answers taken slice asked read is_slice is_read = ap (answer_to_read asked) (sym is_read ∙ ap family_of is_slice)
-
-module _ (old new : Option (List ℕ)) (taken slice : List ℕ) where
   -- the answer to what was read is the one to the whole input
-  pub family_answers : (asked : Replicate) (read : Checked FamilyOf) → TakesUpTo ENOUGH_BYTES old new taken → slice ≡ taken → family_of slice ≡ read
-      → IfSome old (λ bytes. answer_to_read asked read ≡ answer_to_read asked (family_of bytes))
-  family_answers asked read took is_slice is_read = by_left old new took
+  pub family_answers : FamilyLaws reading.read → (old new : Option (List ℕ)) (taken slice : List ℕ) (asked : Replicate) (read : Checked FamilyOf) → TakesUpTo ENOUGH_BYTES old new taken
+      → slice ≡ taken → reading.read slice ≡ read → IfSome old (λ bytes. answer_to_read reading asked read ≡ answer_to_read reading asked (reading.read bytes))
+  family_answers laws old new taken slice asked read took is_slice is_read = by_left old new took
     where
-      by_left : (left rest : Option (List ℕ)) → TakesUpTo ENOUGH_BYTES left rest taken → IfSome left (λ bytes. answer_to_read asked read ≡ answer_to_read asked (family_of bytes))
+      by_left : (left rest : Option (List ℕ)) → TakesUpTo ENOUGH_BYTES left rest taken
+          → IfSome left (λ bytes. answer_to_read reading asked read ≡ answer_to_read reading asked (reading.read bytes))
       by_left None rest took = tt
       by_left (Some bytes) None took = absurd took
-      by_left (Some bytes) (Some rest) took = ap (answer_to_read asked) (sym is_read ∙ ap family_of (is_slice ∙ took.0) ∙ family_of-take bytes)
+      by_left (Some bytes) (Some rest) took = ap (answer_to_read reading asked) (sym is_read ∙ ap reading.read (is_slice ∙ took.0) ∙ laws.first_bytes bytes)
 
-module _ (said : Result Replicate WordFault) where
-  -- what is answered to words that are accepted, and to others
-  pub answer_accepted : (asked : Replicate) → said ≡ Ok asked → (bytes : List ℕ) → answer_to_read asked (family_of bytes) ≡ answer_to_words said bytes
-  unfolding answer_to_words
-  answer_accepted asked is bytes = sym (ap (λ r. answer_to_words r bytes) is)
+  module _ (said : Result Replicate WordFault) where
+    -- what is answered to words that are accepted, and to others
+    pub answer_accepted : (asked : Replicate) → said ≡ Ok asked → (bytes : List ℕ) → answer_to_read reading asked (reading.read bytes) ≡ answer_to_words reading said bytes
+    unfolding answer_to_words
+    answer_accepted asked is bytes = sym (ap (λ r. answer_to_words reading r bytes) is)
 
-  pub answer_refused : (fault : WordFault) → said ≡ Err fault → (bytes : List ℕ) → answer_to_fault fault ≡ answer_to_words said bytes
-  unfolding answer_to_words
-  answer_refused fault is bytes = sym (ap (λ r. answer_to_words r bytes) is)
+    pub answer_refused : (fault : WordFault) → said ≡ Err fault → (bytes : List ℕ) → answer_to_fault fault ≡ answer_to_words reading said bytes
+    unfolding answer_to_words
+    answer_refused fault is bytes = sym (ap (λ r. answer_to_words reading r bytes) is)

@@ -1,0 +1,17 @@
+use Rattle.std.proofs.Common.{◌∙◌, length, ap, arith}
+use Rattle.replications.specs.Tables.{WindowsView}
+use Rattle.replications.proofs.TableLemmas.{windows_of-length, windows_of-records}
+use Rattle.replicate_program.proofs.window_rows.WindowRowsRowsSeeded.add.Goals as goal
+
+pub add-requires-clause-object : goal.add-requires-clause-object
+add-requires-clause-object c =
+    let many = ap (λ (w : WindowsView). length w.objects) c.requires.2 ∙ windows_of-length c.requires.0 _ c.requires.1 in
+    omega (arith, many, c.requires.3.object)
+
+pub add-requires-clause-room : goal.add-requires-clause-room
+add-requires-clause-room c =
+    let counted = ap (λ (w : WindowsView). w.records) c.requires.2 ∙ windows_of-records c.requires.0 _ c.requires.1 in
+    omega (arith, counted, c.requires.3.room)
+
+pub returns : goal.returns
+returns c first records is can = c.add.ensures.windows first _ records is

@@ -1,0 +1,58 @@
+//! What a table says of a run.
+ghost use Rattle.std.specs.Prelude.{◌≡◌, ◌++◌, ◌∷◌, [], ℕ, List, IfOk, OnOk};
+ghost use Rattle.event_key.specs.declared.key.Key.{Key};
+ghost use Rattle.model_core.specs.declared.note.Note.{Note};
+ghost use Rattle.run_tally.specs.Tallies.{CanCome, CanAllCome, AreOfRun};
+ghost use Rattle.replications.specs.Ends.{RowsOf};
+
+use crate::rows::RunEnd;
+use event_key::Key;
+use model_core::model::Model as SimulationModel;
+use model_core::{OutOfMemory, Part, RecordBuffer};
+use sim_spec::Terms;
+use std::alloc::Global;
+
+/// What is summed up of a run of a model within a window of time, record by record, and the rows that say it in the end.
+/// Unlike a tally it is told where the window begins, and which seed was drawn by.
+pub trait Rows<M: SimulationModel>: std::marker::Send + Sync + Drop {
+    /// The rows.
+    ghost rows_of: { M → RowsOf };
+
+    /// That it has summed up these records, in a window that begins at a tick.
+    ghost sums_up: { M → ℕ → Self → List (Key × Note) → Type 0 };
+
+    /// What is kept of no record, in a window that begins at a tick. This alone takes memory.
+    fn new(alloc: Global, model: &M, first: u64) -> Result<Self, OutOfMemory>
+        ensures { IfOk result (λ rows. sums_up model.now first rows []) };
+
+    /// One record more. It takes no memory, and should take time for its own parts alone.
+    fn add(&mut self, model: &M, key: &Key, parts: &[Part])
+        requires { (first : ℕ) × (records : List (Key × Note)) × sums_up model.now first self.old records × CanCome (M.meaning model.now) records (key.now, parts.now) }
+        ensures { (first : ℕ) (records : List (Key × Note)) → sums_up model.now first self.old records → CanCome (M.meaning model.now) records (key.now, parts.now)
+            → sums_up model.now first self.new (records ++ (key.now, parts.now) ∷ []) };
+
+    /// Appends the rows, once the run has ended so. Where memory runs out, it may have appended some of them.
+    fn put(
+        &self,
+        alloc: Global,
+        model: &M,
+        terms: &Terms,
+        end: &RunEnd,
+        into: &mut Vec<u8>,
+    ) -> Result<(), OutOfMemory>
+        requires { (first : ℕ) × (records : List (Key × Note)) × sums_up model.now first self.now records × AreOfRun (M.meaning model.now) terms.now records end.now.stop }
+        ensures { OnOk result ((first : ℕ) (records : List (Key × Note)) → sums_up model.now first self.now records → AreOfRun (M.meaning model.now) terms.now records end.now.stop
+            → into.new.items ≡ into.old.items ++ rows_of model.now first terms.now end.now records) };
+}
+
+/// Adds all these records, in order.
+pub fn add_all<M: SimulationModel, W: Rows<M>>(rows: &mut W, model: &M, records: &RecordBuffer)
+    requires { (first : ℕ) × (before : List (Key × Note)) × W.sums_up model.now first rows.old before × CanAllCome (M.meaning model.now) before records.now.items }
+    ensures { (first : ℕ) (before : List (Key × Note)) → W.sums_up model.now first rows.old before → CanAllCome (M.meaning model.now) before records.now.items
+        → W.sums_up model.now first rows.new (before ++ records.now.items) }
+{
+    for i in 0..records.len() {
+        let (key, parts) = records.at(i);
+        rows.add(model, key, parts);
+    }
+}
