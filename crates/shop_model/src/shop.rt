@@ -76,6 +76,14 @@ impl Shop {
         self
     }
 
+    /// The seed that its draws are drawn by.
+    pub fn seed(&self) -> u64
+        ensures seed { result ≡ (parts_of self.now).seed }
+        ensures below { result < 2 ^ 63 }
+    {
+        self.seed
+    }
+
     /// The tick from which on its totals count.
     pub fn counted_from(&self) -> u64
         ensures { result ≡ counted_from self.now }

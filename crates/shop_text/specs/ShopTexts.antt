@@ -1,9 +1,9 @@
 -- The shop of a text: the checks in the order in which the first refusal counts.
-use Rattle.std.specs.Prelude.{ℕ, ◌+◌, ◌==◌, nat_lt, pos, not, List, [], ◌∷◌, length, map, Ok, codes, if◌then◌else◌}
+use Rattle.std.specs.Prelude.{ℕ, ◌+◌, ◌==◌, nat_lt, pos, not, List, [], ◌∷◌, length, map, Ok, Err, codes, if◌then◌else◌}
 use Rattle.std.specs.Str.{bytes_eq}
 use Rattle.toml.specs.Data.{Data, integer, array, no_items, Members, get_member}
 use Rattle.event_key.specs.declared.stamp.TheConstants.{LAST_TICK}
-use Rattle.model_core.specs.declared.limits.TheConstants.{MOST_EVENTS, MOST_OBJECTS}
+use Rattle.model_core.specs.declared.limits.TheConstants.{MOST_EVENTS, MOST_OBJECTS, MOST_TEXT_BYTES}
 use Rattle.model_reader.specs.Readings.{ModelOf, if_short}
 use Rattle.model_reader.specs.Checks.{Refused}
 use Rattle.shop_model.specs.declared.class.Class.{Class}
@@ -52,12 +52,21 @@ abbrev pub top_keys : List (List ℕ)
 top_keys =
     codes "format" ∷ codes "model" ∷ codes "end" ∷ codes "seed" ∷ codes "limit" ∷ codes "from" ∷ codes "station" ∷ codes "class" ∷ []
 
--- a shop with these parts, whose totals count from this tick on
-abbrev pub shop_read : ShopParts → Terms → ℕ → ModelOf
-shop_read parts terms from = record { meaning = shop_meaning parts; terms = terms; totals = shop_lines parts from terms }
+-- what a text describes: the parts of a shop, how far its simulation goes, and from which tick on its totals count
+pub record ShopOf : Type 0 where
+  pub parts : ShopParts
+  pub terms : Terms
+  pub from : ℕ
+
+abbrev pub shop_read : ShopParts → Terms → ℕ → ShopOf
+shop_read parts terms from = record { parts = parts; terms = terms; from = from }
+
+-- the model that it is
+abbrev pub model_of_shop : ShopOf → ModelOf
+model_of_shop shop = record { meaning = shop_meaning shop.parts; terms = shop.terms; totals = shop_lines shop.parts shop.from shop.terms }
 
 -- the top table, and then the body
-unfoldable pub top : Members → Checked ModelOf
+unfoldable pub top : Members → Checked ShopOf
 top ms = do
   format ← required 0 (codes "format") ms >>= is_first
   name ← required 0 (codes "model") ms >>= text 0
@@ -74,9 +83,16 @@ abbrev pub too_long : Refused
 too_long = record { code = cause_code TooLong; item = 0 }
 
 -- what a text of any length says
-abbrev pub said : List ℕ → Checked ModelOf
+abbrev pub said : List ℕ → Checked ShopOf
 said bytes = tree bytes >>= top
 
--- the shop of a text, or the code and the item of the first check that fails
+-- what a text describes, or the code and the item of the first check that fails
+unfoldable pub shop_of_text : List ℕ → Checked ShopOf
+shop_of_text bytes = if nat_lt MOST_TEXT_BYTES (length bytes) then Err too_long else said bytes
+
+abbrev pub said_model : List ℕ → Checked ModelOf
+said_model bytes = said bytes >>= (λ shop. Ok (model_of_shop shop))
+
+-- the model of a text, or the code and the item of the first check that fails
 unfoldable pub shop_text : List ℕ → Checked ModelOf
-shop_text bytes = if_short too_long said bytes
+shop_text bytes = if_short too_long said_model bytes

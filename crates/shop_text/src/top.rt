@@ -3,7 +3,7 @@ ghost use Rattle.std.specs.Prelude.{◌≡◌, Ok, IfOk, IfErr};
 ghost use Rattle.toml.specs.View.{view, table_view};
 ghost use Rattle.shop_model.specs.Views.{parts_of, counted_from};
 ghost use Rattle.text_fields.specs.Checks.{Gives, Fails};
-ghost use Rattle.shop_text.specs.ShopTexts.{is_first, shop_read, top, shop_text};
+ghost use Rattle.shop_text.specs.ShopTexts.{is_first, model_of_shop, shop_of_text, shop_read, top, shop_text};
 
 use crate::body::body;
 use event_key::LAST_TICK;
@@ -53,10 +53,12 @@ fn top(alloc: Global, table: &Table) -> Result<(Shop, Terms), Refusal>
 
 /// The shop and the terms of a text, or the first check that it fails. A refusal has the code of that check, from 1 to 7,
 /// and the item that it speaks of. Item 0 is the top table. The stations and after them the classes are counted from 1.
-#[tactic(auto, unfolding(crate::specs::ShopTexts::shop_text))]
+#[tactic(auto, unfolding(crate::specs::ShopTexts::shop_text, crate::specs::ShopTexts::shop_of_text))]
 pub fn read_shop(alloc: Global, bytes: &[u8]) -> Result<(Shop, Terms), Refusal>
-    ensures read { IfOk result (λ read. shop_text bytes.now ≡ Ok (shop_read (parts_of read.0) read.1 (counted_from read.0))) }
-    ensures refused { IfErr result (λ refusal. Fails refusal (shop_text bytes.now)) }
+    ensures read { IfOk result (λ read. shop_of_text bytes.now ≡ Ok (shop_read (parts_of read.0) read.1 (counted_from read.0))) }
+    ensures refused { IfErr result (λ refusal. Fails refusal (shop_of_text bytes.now)) }
+    ensures model { IfOk result (λ read. shop_text bytes.now ≡ Ok (model_of_shop (shop_read (parts_of read.0) read.1 (counted_from read.0)))) }
+    ensures no_model { IfErr result (λ refusal. Fails refusal (shop_text bytes.now)) }
 {
     if bytes.len() > MOST_TEXT_BYTES {
         return Err(Cause::TooLong.at(0));

@@ -6,29 +6,29 @@ use Rattle.std.proofs.lemmas.List.{take_more}
 use Rattle.shop_model.specs.Meaning.{name_at}
 use Rattle.shop_model.specs.ShopParts.{ShopParts}
 use Rattle.shop_totals.specs.declared.visit_sums.VisitSums.{VisitSums}
-use Rattle.shop_totals.specs.Lines.{visit_text}
+use Rattle.shop_totals.specs.Forms.{Form, named}
 use Rattle.shop_totals.specs.ShopLines.{visit_line}
 use Rattle.shop_totals.specs.Summed.{visit_of}
 use Rattle.shop_totals.specs.Told.{TimedPart}
 
-pub visit_line-put : (p : ShopParts) (first : ℕ) (told : List TimedPart) (station class : ℕ) (before named parted both all : List ℕ) (sums : VisitSums)
-    → named ≡ before ++ name_at p station → parted ≡ named ++ 47 ∷ [] → both ≡ parted ++ name_at p (length p.stations + class) → all ≡ both ++ visit_text sums
-    → sums ≡ visit_of first told class → all ≡ before ++ visit_line p first told station class
+pub visit_line-put : (form : Form) (p : ShopParts) (first : ℕ) (told : List TimedPart) (station class : ℕ) (before begun parted both all : List ℕ) (sums : VisitSums)
+    → begun ≡ before ++ named form p station → parted ≡ begun ++ 47 ∷ [] → both ≡ parted ++ name_at p (length p.stations + class) → all ≡ both ++ form.visit sums
+    → sums ≡ visit_of first told class → all ≡ before ++ visit_line form p first told station class
 unfolding visit_line
-visit_line-put p first told station class before named parted both all sums names parts names_too ends is =
-    let name = name_at p station in
+visit_line-put form p first told station class before begun parted both all sums names parts names_too ends is =
+    let name = named form p station in
     let other = name_at p (length p.stations + class) in
-    let text = visit_text (visit_of first told class) in
+    let text = form.visit (visit_of first told class) in
     ends
-    ∙ ap (λ (xs : List ℕ). xs ++ visit_text sums) (names_too ∙ ap (λ (xs : List ℕ). xs ++ other) (parts ∙ ap (λ (xs : List ℕ). xs ++ 47 ∷ []) names))
-    ∙ ap (λ (s : VisitSums). (((before ++ name) ++ 47 ∷ []) ++ other) ++ visit_text s) is
+    ∙ ap (λ (xs : List ℕ). xs ++ form.visit sums) (names_too ∙ ap (λ (xs : List ℕ). xs ++ other) (parts ∙ ap (λ (xs : List ℕ). xs ++ 47 ∷ []) names))
+    ∙ ap (λ (s : VisitSums). (((before ++ name) ++ 47 ∷ []) ++ other) ++ form.visit s) is
     ∙ append_assoc ((before ++ name) ++ 47 ∷ []) other text
     ∙ append_assoc (before ++ name) (47 ∷ []) (other ++ text)
     ∙ append_assoc before name (47 ∷ [] ++ (other ++ text))
 
 -- a name and a text behind it
-pub named-put : (before named all name text shown : List ℕ) → named ≡ before ++ name → all ≡ named ++ shown → shown ≡ text → all ≡ before ++ (name ++ text)
-named-put before named all name text shown names ends is =
+pub named-put : (before begun all name text shown : List ℕ) → begun ≡ before ++ name → all ≡ begun ++ shown → shown ≡ text → all ≡ before ++ (name ++ text)
+named-put before begun all name text shown names ends is =
     ends ∙ ap (λ (xs : List ℕ). xs ++ shown) names ∙ ap (λ (shown : List ℕ). (before ++ name) ++ shown) is ∙ append_assoc before name text
 
 -- what is told of one more of a list, behind its head

@@ -1,4 +1,5 @@
 pub mod Flows
+pub mod Forms
 pub mod Kept
 pub mod Lines
 pub mod Records

@@ -4,6 +4,7 @@
 
 mod class_sums;
 mod flow;
+mod form;
 mod kept;
 mod lines;
 mod shop_totals;
@@ -16,6 +17,7 @@ mod visits;
 
 pub use class_sums::ClassSums;
 pub use flow::Flow;
+pub use form::{LineForm, TotalLines};
 pub use kept::Kept;
 pub use shop_totals::ShopTotals;
 pub use station_sums::StationSums;

@@ -3,11 +3,13 @@ ghost use Rattle.std.specs.Prelude.{◌≡◌, ◌<◌, ◌≤◌, ◌+◌, ◌*
 ghost use Rattle.event_key.specs.declared.key.Key.{Key};
 ghost use Rattle.model_core.specs.declared.note.Note.{Note};
 ghost use Rattle.run_tally.specs.Tallies.{last_time};
+ghost use Rattle.shop_model.specs.ShopParts.{ShopParts};
 ghost use Rattle.shop_model.specs.Views.{parts_of, counted_from};
-ghost use Rattle.shop_totals.specs.ShopLines.{clock_of, all_station_lines, all_class_lines};
+ghost use Rattle.shop_totals.specs.ShopLines.{clock_of, all_station_lines, all_class_lines, lines_by};
 ghost use Rattle.shop_totals.specs.Summed.{SumsUpShop, IsNewStation, AreNewStations};
 
 use crate::class_sums::ClassSums;
+use crate::form::{LineForm, TotalLines, put_named};
 use crate::station_totals::StationTotals;
 use crate::visits::classes_at;
 use event_key::{Key, time_of};
@@ -52,9 +54,9 @@ fn new_stations(alloc: Global, shop: &Shop) -> Result<Vec<StationTotals>, OutOfM
 }
 
 impl ShopTotals {
-    /// Until when ticks count.
-    fn clock(&self, terms: &Terms, stop: &Stop) -> u64
-        ensures { (records : List (Key × Note)) → self.now.last ≡ last_time 0 records → result ≡ clock_of terms.now records stop.now }
+    /// Until when ticks count, over a run that stopped so.
+    pub fn clock(&self, terms: &Terms, stop: &Stop) -> u64
+        ensures { (p : ShopParts) (first : ℕ) (records : List (Key × Note)) → SumsUpShop p first self.now records → result ≡ clock_of terms.now records stop.now }
     {
         match stop {
             Stop::End => terms.end,
@@ -64,9 +66,10 @@ impl ShopTotals {
     }
 
     /// Appends the lines of the stations.
-    fn put_stations(
+    fn put_stations<F: LineForm>(
         &self,
         alloc: Global,
+        form: &F,
         shop: &Shop,
         clock: u64,
         into: &mut Vec<u8>,
@@ -75,19 +78,20 @@ impl ShopTotals {
         requires soon { clock < 2 ^ 48 }
         requires sums { (records : List (Key × Note)) × SumsUpShop (parts_of shop.now) (counted_from shop.now) self.now records }
         ensures { OnOk result ((records : List (Key × Note)) → SumsUpShop (parts_of shop.now) (counted_from shop.now) self.now records
-            → into.new.items ≡ into.old.items ++ all_station_lines (parts_of shop.now) (counted_from shop.now) clock records) }
+            → into.new.items ≡ into.old.items ++ all_station_lines (F.form form.now) (parts_of shop.now) (counted_from shop.now) clock records) }
     {
         for number in 0..self.stations.len() {
             let station = &self.stations[number];
-            station.put(alloc, shop, number as u32, clock, into)?;
+            station.put(alloc, form, shop, number as u32, clock, into)?;
         }
         Ok(())
     }
 
     /// Appends the lines of the classes.
-    fn put_classes(
+    fn put_classes<F: LineForm>(
         &self,
         alloc: Global,
+        form: &F,
         shop: &Shop,
         clock: u64,
         into: &mut Vec<u8>,
@@ -96,15 +100,36 @@ impl ShopTotals {
         requires soon { clock < 2 ^ 48 }
         requires sums { (records : List (Key × Note)) × SumsUpShop (parts_of shop.now) (counted_from shop.now) self.now records }
         ensures { OnOk result ((records : List (Key × Note)) → SumsUpShop (parts_of shop.now) (counted_from shop.now) self.now records
-            → into.new.items ≡ into.old.items ++ all_class_lines (parts_of shop.now) (counted_from shop.now) clock records) }
+            → into.new.items ≡ into.old.items ++ all_class_lines (F.form form.now) (parts_of shop.now) (counted_from shop.now) clock records) }
     {
         for number in 0..self.classes.len() {
             let object = self.stations.len() as u32 + number as u32;
-            shop.put_name(alloc, object, into)?;
+            put_named(alloc, form, shop, object, into)?;
             let class = &self.classes[number];
             let sums = class.pass(clock);
-            sums.put(alloc, into)?;
+            form.put_class(alloc, &sums, into)?;
         }
+        Ok(())
+    }
+
+    /// Appends the lines of a shop, with what comes before the clock. Where memory runs out, it may have appended some of
+    /// them.
+    #[tactic(auto, unfolding(crate::specs::ShopLines::lines_by))]
+    pub fn put_by<F: LineForm>(
+        &self,
+        alloc: Global,
+        form: &F,
+        shop: &Shop,
+        clock: u64,
+        into: &mut Vec<u8>,
+    ) -> Result<(), OutOfMemory>
+        requires sums { (records : List (Key × Note)) × SumsUpShop (parts_of shop.now) (counted_from shop.now) self.now records × (last_time 0 records ≤ clock) }
+        requires soon { clock < 2 ^ 48 }
+        ensures { OnOk result ((records : List (Key × Note)) → SumsUpShop (parts_of shop.now) (counted_from shop.now) self.now records
+            → into.new.items ≡ into.old.items ++ lines_by (F.form form.now) (parts_of shop.now) (counted_from shop.now) clock records) }
+    {
+        self.put_stations(alloc, form, shop, clock, into)?;
+        self.put_classes(alloc, form, shop, clock, into)?;
         Ok(())
     }
 }
@@ -153,8 +178,7 @@ impl Tally<Shop> for ShopTotals {
         into: &mut Vec<u8>,
     ) -> Result<(), OutOfMemory> {
         let clock = self.clock(terms, stop);
-        self.put_stations(alloc, model, clock, into)?;
-        self.put_classes(alloc, model, clock, into)?;
+        self.put_by(alloc, &TotalLines, model, clock, into)?;
         Ok(())
     }
 }

@@ -10,6 +10,7 @@ ghost use Rattle.shop_totals.specs.Sums.{IsVisitWithin};
 ghost use Rattle.shop_totals.specs.Told.{TimedPart};
 ghost use Rattle.shop_totals.specs.Visits.{classes_at};
 
+use crate::form::{LineForm, put_named};
 use crate::station_sums::StationSums;
 use crate::visit_sums::VisitSums;
 use model_core::model::Model;
@@ -93,9 +94,10 @@ impl StationTotals {
     }
 
     /// Appends the line of a class. Where memory runs out, it may have appended some of it.
-    fn put_visit(
+    fn put_visit<F: LineForm>(
         &self,
         alloc: Global,
+        form: &F,
         shop: &Shop,
         station: u32,
         place: usize,
@@ -107,23 +109,24 @@ impl StationTotals {
             × SumsUpStation first (station_at (parts_of shop.now).stations station).servers (classes_at (parts_of shop.now) station) told (2 ^ 62) self.now }
         ensures { OnOk result ((first parts : ℕ) (told : List TimedPart)
             → SumsUpStation first (station_at (parts_of shop.now).stations station).servers (classes_at (parts_of shop.now) station) told parts self.now
-            → into.new.items ≡ into.old.items ++ visit_line (parts_of shop.now) first told station (get_or (classes_at (parts_of shop.now) station) place 0)) }
+            → into.new.items ≡ into.old.items ++ visit_line (F.form form.now) (parts_of shop.now) first told station (get_or (classes_at (parts_of shop.now) station) place 0)) }
     {
         let first = shop.stations().len() as u32;
         let class = self.classes[place] as u32;
-        shop.put_name(alloc, station, into)?;
+        put_named(alloc, form, shop, station, into)?;
         into.push(b'/')?;
         shop.put_name(alloc, first + class, into)?;
         let visit = &self.visits[place];
-        visit.put(alloc, into)?;
+        form.put_visit(alloc, visit, into)?;
         Ok(())
     }
 
     /// Appends the lines of the station, with what comes before the clock. Where memory runs out, it may have appended
     /// some of them.
-    pub fn put(
+    pub fn put<F: LineForm>(
         &self,
         alloc: Global,
+        form: &F,
         shop: &Shop,
         station: u32,
         clock: u64,
@@ -136,13 +139,13 @@ impl StationTotals {
             × SumsUpStation first (station_at (parts_of shop.now).stations station).servers (classes_at (parts_of shop.now) station) told (2 ^ 62) self.now }
         ensures { OnOk result ((first parts : ℕ) (told : List TimedPart)
             → SumsUpStation first (station_at (parts_of shop.now).stations station).servers (classes_at (parts_of shop.now) station) told parts self.now
-            → into.new.items ≡ into.old.items ++ station_lines (parts_of shop.now) first clock told station) }
+            → into.new.items ≡ into.old.items ++ station_lines (F.form form.now) (parts_of shop.now) first clock told station) }
     {
-        shop.put_name(alloc, station, into)?;
+        put_named(alloc, form, shop, station, into)?;
         let sums = self.sums.pass(clock);
-        sums.put(alloc, into)?;
+        form.put_station(alloc, &sums, into)?;
         for place in 0..self.classes.len() {
-            self.put_visit(alloc, shop, station, place, into)?;
+            self.put_visit(alloc, form, shop, station, place, into)?;
         }
         Ok(())
     }

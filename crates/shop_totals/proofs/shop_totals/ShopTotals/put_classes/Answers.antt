@@ -1,12 +1,12 @@
 use Rattle.std.proofs.Common.{◌≡◌, ◌∙◌, ℕ, ◌+◌, ◌*◌, ◌++◌, List, length, subst, sym, ap, arith, append_assoc}
 use Rattle.std.specs.List.{flat_map, range_with_len}
 use Rattle.model_core.proofs.Numbers.{flat_map-numbers-more}
-use Rattle.shop_model.specs.Meaning.{shop_meaning, name_at}
+use Rattle.shop_model.specs.Meaning.{shop_meaning}
 use Rattle.shop_model.specs.Views.{parts_of, counted_from}
 use Rattle.shop_totals.specs.declared.class_sums.ClassSums.{ClassSums}
-use Rattle.shop_totals.specs.Lines.{class_text}
+use Rattle.shop_totals.specs.Forms.{named}
 use Rattle.shop_totals.specs.Records.{told_at}
-use Rattle.shop_totals.specs.ShopLines.{class_line, class_name}
+use Rattle.shop_totals.specs.ShopLines.{class_line}
 use Rattle.shop_totals.specs.Summed.{SumsUpAtClass}
 use Rattle.shop_totals.specs.Sums.{class_sums_of}
 use Rattle.shop_totals.proofs.ClassLemmas.{passed-class}
@@ -14,8 +14,8 @@ use Rattle.shop_totals.proofs.LineLemmas.{named-put}
 use Rattle.shop_totals.proofs.ObjectLemmas.{class-object}
 use Rattle.shop_totals.proofs.shop_totals.ShopTotals.put_classes.Goals as goal
 
-pub put_name-requires : goal.put_name-requires
-put_name-requires c =
+pub put_named-requires : goal.put_named-requires
+put_named-requires g c =
     let p = parts_of c.args.shop.now in
     let is = c.requires.sums.1 in
     let object = class-object p c.loop-number.number (omega (arith, c.loop-number-test.true, c.len-number-end.ensures, is.class_count)) in
@@ -23,20 +23,30 @@ put_name-requires c =
 
 pub loop-number-preserved : goal.loop-number-preserved
 unfolding shop_meaning class_line
-loop-number-preserved c records is =
+loop-number-preserved g c records is =
+    let form = g.F.LineForm.form c.args.form.now in
     let p = parts_of c.args.shop.now in
     let first = counted_from c.args.shop.now in
     let n = c.loop-number.number in
     let told = told_at (length p.stations + n) records in
-    let f : ℕ → List ℕ = λ class. class_line p first c.args.clock (told_at (length p.stations + class) records) class in
+    let f : ℕ → List ℕ = λ class. class_line form p first c.args.clock (told_at (length p.stations + class) records) class in
     let At : ClassSums → Type 0 = SumsUpAtClass p first records c.args.self.now.last n in
     let own : At c.index-class.result.now =
     subst At (sym c.index-class.ensures) (is.classes n c.index-class.result.now (omega (arith, c.loop-number-test.true, c.len-number-end.ensures, is.class_count))) in
     let object : c.len.result + n ≡ length p.stations + n = omega (arith, c.len.ensures, is.station_count) in
-    named-put c.loop-number.into.items c.put_name.new.into.items c.put.new.into.items (class_name p n) (class_text (class_sums_of first told c.args.clock)) (class_text c.pass-sums.result)
-    (c.in_ok-put_name.ensures.ok ∙ ap (λ object. c.loop-number.into.items ++ name_at p object) object)
-    c.in_ok-put.ensures
-    (ap (λ (sums : ClassSums). class_text sums) (passed-class first told (4 * length records) c.args.clock c.index-class.result.now c.pass-sums.result own.0 c.pass-sums.ensures.sums))
+    named-put c.loop-number.into.items c.put_named.new.into.items c.put_class.new.into.items (named form p (length p.stations + n)) (form.class (class_sums_of first told c.args.clock)) (form.class c.pass-sums.result)
+    (c.in_ok-put_named.ensures ∙ ap (λ object. c.loop-number.into.items ++ named form p object) object)
+    c.in_ok-put_class.ensures
+    (ap (λ (sums : ClassSums). form.class sums) (passed-class first told (4 * length records) c.args.clock c.index-class.result.now c.pass-sums.result own.0 c.pass-sums.ensures.sums))
     ∙ ap (λ (lines : List ℕ). lines ++ f n) (c.loop-number.invariant records is)
     ∙ append_assoc c.args.into.now.items (flat_map f (range_with_len 0 n)) (f n)
     ∙ ap (λ (lines : List ℕ). c.args.into.now.items ++ lines) (sym (flat_map-numbers-more f n))
+
+pub returns : goal.returns
+returns g c records is =
+    let p = parts_of c.args.shop.now in
+    let first = counted_from c.args.shop.now in
+    let form = g.F.LineForm.form c.args.form.now in
+    let f : ℕ → List ℕ = λ class. class_line form p first c.args.clock (told_at (length p.stations + class) records) class in
+    let all : c.loop-number.number ≡ length p.classes = omega (arith, c.loop-number-test.false, c.loop-number.auto.number-end, c.len-number-end.ensures, is.class_count) in
+    c.loop-number.invariant records is ∙ ap (λ n. c.args.into.now.items ++ flat_map f (range_with_len 0 n)) all

@@ -9,7 +9,7 @@ use Rattle.shop_totals.specs.Summed.{SumsUpShop}
 use Rattle.shop_totals.proofs.shop_totals.ShopTotals.put_classes.Given as goal
 
 abbrev pub invariant-loop-number : goal.invariant-loop-number
-invariant-loop-number l =
+invariant-loop-number g l =
     (records : List (Key × Note)) → SumsUpShop (parts_of l.shop) (counted_from l.shop) l.self records
     → l.into.items ≡ l.fn.into.items
-    ++ flat_map (λ class. class_line (parts_of l.shop) (counted_from l.shop) l.clock (told_at (length (parts_of l.shop).stations + class) records) class) (range_with_len 0 l.number)
+    ++ flat_map (λ class. class_line (g.F.LineForm.form l.form) (parts_of l.shop) (counted_from l.shop) l.clock (told_at (length (parts_of l.shop).stations + class) records) class) (range_with_len 0 l.number)

@@ -1,4 +1,4 @@
-use Rattle.std.proofs.Common.{◌∙◌, ℕ, ◌*◌, ◌++◌, List, length, subst, sym, ap, arith, append_assoc}
+use Rattle.std.proofs.Common.{◌≡◌, ◌∙◌, ℕ, ◌*◌, ◌++◌, List, length, subst, sym, ap, arith, append_assoc}
 use Rattle.std.specs.List.{flat_map, range_with_len}
 use Rattle.model_core.proofs.Numbers.{flat_map-numbers-more}
 use Rattle.shop_model.specs.Views.{parts_of, counted_from}
@@ -9,11 +9,11 @@ use Rattle.shop_totals.specs.Summed.{SumsUpAtStation}
 use Rattle.shop_totals.proofs.shop_totals.ShopTotals.put_stations.Goals as goal
 
 pub loop-number-preserved : goal.loop-number-preserved
-loop-number-preserved c records is =
+loop-number-preserved g c records is =
     let p = parts_of c.args.shop.now in
     let first = counted_from c.args.shop.now in
     let n = c.loop-number.number in
-    let f : ℕ → List ℕ = λ station. station_lines p first c.args.clock (told_at station records) station in
+    let f : ℕ → List ℕ = λ station. station_lines (g.F.LineForm.form c.args.form.now) p first c.args.clock (told_at station records) station in
     let At : StationTotals → Type 0 = SumsUpAtStation p first records c.args.self.now.last n in
     let own : At c.index-station.result.now =
     subst At (sym c.index-station.ensures) (is.stations n c.index-station.result.now (omega (arith, c.loop-number-test.true, c.len-number-end.ensures, is.station_count))) in
@@ -21,3 +21,11 @@ loop-number-preserved c records is =
     ∙ ap (λ (lines : List ℕ). lines ++ f n) (c.loop-number.invariant records is)
     ∙ append_assoc c.args.into.now.items (flat_map f (range_with_len 0 n)) (f n)
     ∙ ap (λ (lines : List ℕ). c.args.into.now.items ++ lines) (sym (flat_map-numbers-more f n))
+
+pub returns : goal.returns
+returns g c records is =
+    let p = parts_of c.args.shop.now in
+    let first = counted_from c.args.shop.now in
+    let f : ℕ → List ℕ = λ station. station_lines (g.F.LineForm.form c.args.form.now) p first c.args.clock (told_at station records) station in
+    let all : c.loop-number.number ≡ length p.stations = omega (arith, c.loop-number-test.false, c.loop-number.auto.number-end, c.len-number-end.ensures, is.station_count) in
+    c.loop-number.invariant records is ∙ ap (λ n. c.args.into.now.items ++ flat_map f (range_with_len 0 n)) all

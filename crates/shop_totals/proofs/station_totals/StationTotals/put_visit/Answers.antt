@@ -10,29 +10,29 @@ use Rattle.shop_totals.proofs.ObjectLemmas.{station-object, class-object, visito
 use Rattle.shop_totals.proofs.station_totals.StationTotals.put_visit.Goals as goal
 
 pub overflow_cast-class : goal.overflow_cast-class
-overflow_cast-class c =
+overflow_cast-class g c =
     let p = parts_of c.args.shop.now in
     let few = visitor-few p c.args.station c.args.place c.index.result.now c.requires.sums.0 _ c.requires.sums.1 (2 ^ 62) c.args.self.now c.args.shop.now.in_range c.requires.sums.2 c.requires.place c.index.ensures in
     omega (arith, few.1)
 
 pub overflow_add-first : goal.overflow_add-first
-overflow_add-first c =
+overflow_add-first g c =
     let p = parts_of c.args.shop.now in
     let few = visitor-few p c.args.station c.args.place c.index.result.now c.requires.sums.0 _ c.requires.sums.1 (2 ^ 62) c.args.self.now c.args.shop.now.in_range c.requires.sums.2 c.requires.place c.index.ensures in
     omega (arith, few.1, ap length c.stations.ensures)
 
-pub put_name-requires : goal.put_name-requires
-put_name-requires c = station-object (parts_of c.args.shop.now) c.args.station c.requires.station
+pub put_named-requires : goal.put_named-requires
+put_named-requires g c = station-object (parts_of c.args.shop.now) c.args.station c.requires.station
 
-pub put_name-requires-2 : goal.put_name-requires-2
-put_name-requires-2 c =
+pub put_name-requires : goal.put_name-requires
+put_name-requires g c =
     let p = parts_of c.args.shop.now in
     let few = visitor-few p c.args.station c.args.place c.index.result.now c.requires.sums.0 _ c.requires.sums.1 (2 ^ 62) c.args.self.now c.args.shop.now.in_range c.requires.sums.2 c.requires.place c.index.ensures in
     omega (arith, class-object p c.index.result.now few.0, ap length c.stations.ensures)
 
 pub returns : goal.returns
 unfolding shop_meaning
-returns c first parts told is =
+returns g c first parts told is =
     let p = parts_of c.args.shop.now in
     let place = c.args.place in
     let classes = classes_at p c.args.station in
@@ -44,7 +44,7 @@ returns c first parts told is =
     let sums : c.index-visit.result.now ≡ visit_of first told class =
     c.index-visit.ensures ∙ ap (λ (visits : List VisitSums). get_or visits place c.index-visit.result.now) is.visits
     ∙ get_or-map (visit_of first told) classes place 0 c.index-visit.result.now c.requires.place in
-    visit_line-put p first told c.args.station class c.args.into.now.items c.put_name.new.into.items c.push.new.self.items c.put_name-2.new.into.items c.put.new.into.items c.index-visit.result.now
-    c.in_ok-put_name.ensures.ok c.in_ok-push.ensures.items
-    (c.in_ok-put_name-2.ensures.ok ∙ ap (λ object. c.push.new.self.items ++ name_at p object) object)
-    c.in_ok-put.ensures sums
+    visit_line-put (g.F.LineForm.form c.args.form.now) p first told c.args.station class c.args.into.now.items c.put_named.new.into.items c.push.new.self.items c.put_name.new.into.items c.put_visit.new.into.items c.index-visit.result.now
+    c.in_ok-put_named.ensures c.in_ok-push.ensures.items
+    (c.in_ok-put_name.ensures.ok ∙ ap (λ object. c.push.new.self.items ++ name_at p object) object)
+    c.in_ok-put_visit.ensures sums

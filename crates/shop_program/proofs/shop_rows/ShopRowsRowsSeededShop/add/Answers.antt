@@ -1,0 +1,21 @@
+use Rattle.std.proofs.Common.{◌++◌, ◌∷◌, [], List, subst, sym}
+use Rattle.event_key.specs.declared.key.Key.{Key}
+use Rattle.model_core.specs.declared.note.Note.{Note}
+use Rattle.shop_model.specs.declared.shop.Shop.{Shop}
+use Rattle.shop_model.specs.Views.{parts_of, counted_from}
+use Rattle.shop_totals.specs.Summed.{SumsUpShop}
+use Rattle.shop_program.proofs.SeedLemmas.{can_come-seeded}
+use Rattle.shop_program.proofs.shop_rows.ShopRowsRowsSeededShop.add.Goals as goal
+
+pub add-requires : goal.add-requires
+add-requires c =
+    let Up : Shop → Type 0 = λ shop. SumsUpShop (parts_of shop) (counted_from shop) c.args.self.now.totals c.requires.1 in
+    (c.requires.1, subst Up (sym c.shop.ensures) c.requires.2, can_come-seeded c.args.model.now c.shop.result.now c.requires.1 _ c.shop.ensures c.requires.3)
+
+pub returns : goal.returns
+returns c first records is can =
+    let told : Key × Note = (c.args.key.now, c.args.parts.now) in
+    let Up : Shop → Type 0 = λ shop. SumsUpShop (parts_of shop) (counted_from shop) c.args.self.now.totals records in
+    let More : Shop → Type 0 = λ shop. SumsUpShop (parts_of shop) (counted_from shop) c.add.new.self (records ++ told ∷ []) in
+    subst More c.shop.ensures
+    (c.add.ensures records (subst Up (sym c.shop.ensures) is) (can_come-seeded c.args.model.now c.shop.result.now records told c.shop.ensures can))

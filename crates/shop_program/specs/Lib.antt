@@ -1,0 +1,4 @@
+pub mod Answer
+pub mod RowForms
+pub mod SeededShops
+pub mod ShopFamilies

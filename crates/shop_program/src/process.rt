@@ -1,0 +1,64 @@
+//! The program over what a process has: its words and its three streams.
+ghost use Rattle.std.specs.Prelude.{◌≤◌, IfOk, IfErr};
+ghost use Rattle.std.specs.Process.{exit_status};
+ghost use Rattle.program_answers.specs.declared.status.TheConstants.{STATE};
+ghost use Rattle.program_answers.specs.Answered.{streams};
+ghost use Rattle.program_answers.specs.Process.{AnswersStreams, LeavesStreams};
+ghost use Rattle.shop_program.specs.Answer.{asked_by};
+
+use crate::program::run_program;
+use node_team::Open;
+use program_answers::{ProcessEnd, program_words};
+use sim_io::{GatheringSink, StdSink, StdSource};
+use std::alloc::{AllocGlobal, Global};
+use std::env::Env;
+use std::io::{ErrorKind, Read, Write};
+use std::process::ExitCode;
+use std::thread::Threads;
+
+/// Does what `run_program` does over a reader, a writer and another one for the notes, and hands them back: reads the model
+/// from `input` and writes to `output`, in pieces of 16 KiB, and to `notes`.
+pub fn run_streams<R, I, O, N>(
+    rt: &R,
+    words: Result<Vec<String>, ErrorKind>,
+    input: I,
+    output: O,
+    notes: N,
+) -> ProcessEnd<I, O, N>
+where
+    R: AllocGlobal + Threads + Sync,
+    I: Read + Drop,
+    O: Write + Drop,
+    N: Write + Drop,
+    ensures read { IfOk words (λ list. AnswersStreams I.remaining O.contents N.contents result.status result.note_faults
+        (streams input output notes) (streams result.input result.output result.notes) (asked_by list.items)) }
+    ensures unread { IfErr words (LeavesStreams I.remaining O.contents N.contents result.status result.note_faults
+        (streams input output notes) (streams result.input result.output result.notes)) }
+    ensures known { result.status ≤ STATE }
+{
+    let mut source = StdSource::new(input);
+    let mut out = GatheringSink::new(rt.alloc(), StdSink::new(output));
+    let mut lines = StdSink::new(notes);
+    let status = run_program(rt, words, &mut source, &mut out, &mut lines, &Open);
+    ProcessEnd {
+        status,
+        note_faults: lines.faults(),
+        input: source.into_inner(),
+        output: out.into_inner().into_inner(),
+        notes: lines.into_inner(),
+    }
+}
+
+/// Does what `run_streams` does with the words of the process. The status is one of those that `run_program` lists.
+pub fn run_process<R, I, O, N>(rt: &R, input: I, output: O, notes: N) -> ExitCode
+where
+    R: AllocGlobal + Env + Threads + Sync,
+    I: Read + Drop,
+    O: Write + Drop,
+    N: Write + Drop,
+    ensures known { exit_status result ≤ STATE }
+{
+    let words = program_words(rt).map_err(|error| error.kind());
+    let ended = run_streams(rt, words, input, output, notes);
+    ExitCode::from(ended.status)
+}
