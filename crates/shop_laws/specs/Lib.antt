@@ -1,0 +1,12 @@
+pub mod AgeLaws
+pub mod DueLaws
+pub mod FlowLaws
+pub mod IdleLaws
+pub mod JobLaws
+pub mod OrderLaws
+pub mod Places
+pub mod ServerLaws
+pub mod TimeLaws
+pub mod Told
+pub mod TurnLaws
+pub mod Waiting
