@@ -1,0 +1,57 @@
+-- Those from a place on aren't due, and the one before it is.
+use Rattle.std.proofs.Common.{◌≡◌, ℕ, suc, ◌-◌, true, false, take, drop, sym, ap, ◌∙◌, subst, arith}
+use Rattle.std.specs.List.{AllByRecursion as Each}
+use Rattle.key_order.specs.Due.{is_due}
+use Rattle.event_log.proofs.DueFacts.{Due, NotDue, all-due, due-cut, none-past, one-more, with-key}
+use Rattle.event_log.proofs.news.News.due.Goals as goal
+
+pub loop-due-init : goal.loop-due-init
+loop-due-init c = record {
+  within = omega (arith, c.len-due.ensures);
+  rest = none-past c.args.horizon c.args.cut.now c.args.self.now.done c.len-due.result (omega (arith, c.len-due.ensures));
+}
+
+pub loop-due-preserved : goal.loop-due-preserved
+loop-due-preserved c =
+    let ds = c.args.self.now.done in
+    let at = c.loop-due.due - 1 in
+    let x = with-key ds at c.key_at.result c.key_at.ensures in
+    let idle : is_due c.args.horizon c.args.cut.now x.0.event.key ≡ false = ap (is_due c.args.horizon c.args.cut.now) x.2 ∙ sym c.is_due_at.ensures ∙ c.if-is_due_at.false in
+    let D : ℕ → Type 0 = λ k. Each (NotDue c.args.horizon c.args.cut.now) (drop k ds) in
+    let next : c.loop-due.due ≡ suc at = omega (arith, c.loop-due-test.true) in
+    record {
+      within = omega (arith, c.loop-due.invariant.within);
+      rest = one-more c.args.horizon c.args.cut.now ds at x.0 x.1 idle (subst D next c.loop-due.invariant.rest);
+    }
+
+pub returns-then-is_due_at-clause-taken : goal.returns-then-is_due_at-clause-taken
+returns-then-is_due_at-clause-taken c =
+    let ds = c.args.self.now.done in
+    let at = c.loop-due.due - 1 in
+    let x = with-key ds at c.key_at.result c.key_at.ensures in
+    let due : is_due c.args.horizon c.args.cut.now x.0.event.key ≡ true = ap (is_due c.args.horizon c.args.cut.now) x.2 ∙ sym c.is_due_at.ensures ∙ c.if-is_due_at.true in
+    let D : ℕ → Type 0 = λ k. Each (Due c.args.horizon c.args.cut.now) (take k ds) in
+    let next : suc at ≡ c.loop-due.due = omega (arith, c.loop-due-test.true) in
+    (due-cut c.args.horizon c.args.cut.now ds c.loop-due.due (subst D next (all-due c.args.horizon c.args.cut.now ds at x.0 c.tells.ensures.ordered x.1 due)) c.loop-due.invariant.rest).0
+
+pub returns-then-is_due_at-clause-left : goal.returns-then-is_due_at-clause-left
+returns-then-is_due_at-clause-left c =
+    let ds = c.args.self.now.done in
+    let at = c.loop-due.due - 1 in
+    let x = with-key ds at c.key_at.result c.key_at.ensures in
+    let due : is_due c.args.horizon c.args.cut.now x.0.event.key ≡ true = ap (is_due c.args.horizon c.args.cut.now) x.2 ∙ sym c.is_due_at.ensures ∙ c.if-is_due_at.true in
+    let D : ℕ → Type 0 = λ k. Each (Due c.args.horizon c.args.cut.now) (take k ds) in
+    let next : suc at ≡ c.loop-due.due = omega (arith, c.loop-due-test.true) in
+    (due-cut c.args.horizon c.args.cut.now ds c.loop-due.due (subst D next (all-due c.args.horizon c.args.cut.now ds at x.0 c.tells.ensures.ordered x.1 due)) c.loop-due.invariant.rest).1
+
+pub returns-clause-taken : goal.returns-clause-taken
+returns-clause-taken c =
+    let D : ℕ → Type 0 = λ k. Each (NotDue c.args.horizon c.args.cut.now) (drop k c.args.self.now.done) in
+    let none : c.loop-due.due ≡ 0 = omega (arith, c.loop-due-test.false) in
+    (due-cut c.args.horizon c.args.cut.now c.args.self.now.done 0 tt (subst D none c.loop-due.invariant.rest)).0
+
+pub returns-clause-left : goal.returns-clause-left
+returns-clause-left c =
+    let D : ℕ → Type 0 = λ k. Each (NotDue c.args.horizon c.args.cut.now) (drop k c.args.self.now.done) in
+    let none : c.loop-due.due ≡ 0 = omega (arith, c.loop-due-test.false) in
+    (due-cut c.args.horizon c.args.cut.now c.args.self.now.done 0 tt (subst D none c.loop-due.invariant.rest)).1

@@ -1,0 +1,29 @@
+-- The row has the key.
+use Rattle.std.proofs.Common.{◌≡◌, Some, List, length, get_or, ap, ◌∙◌, subst, arith}
+use Rattle.std.specs.Prelude.{slice_get}
+use Rattle.event_key.specs.declared.stamp.TheConstants.{NO_STAMP}
+use Rattle.object_log.specs.Dones.{Done}
+use Rattle.object_log.specs.Logs.{keys_of}
+use Rattle.event_log.proofs.NewsFacts.{seen, view-long}
+use Rattle.event_log.proofs.ReadFacts.{row-key}
+use Rattle.event_log.specs.declared.row.Row.{Row}
+use Rattle.event_log.proofs.news.News.key_at.Goals as goal
+
+pub index-requires : goal.index-requires
+index-requires c =
+    let n = c.self.inside in
+    let h = c.self.invariant in
+    let same = seen h.0 h.1 n.told.items n.rows.items n.undo.items n.outbox.sent n.fault h.2 c.args.self.now n.outbox.nodes c.self.view_is in
+    let long = view-long h.0 h.1 n.told.items n.rows.items n.undo.items n.outbox.sent n.fault h.2 in
+    let all = ap length same in
+    omega (arith, c.requires, n.rows.ok.0)
+
+pub returns : goal.returns
+returns c =
+    let n = c.self.inside in
+    let h = c.self.invariant in
+    let same = seen h.0 h.1 n.told.items n.rows.items n.undo.items n.outbox.sent n.fault h.2 c.args.self.now n.outbox.nodes c.self.view_is in
+    let r = c.index.result.now in
+    let all = ap length same in
+    let P : List Done → Type 0 = λ ds. slice_get (keys_of ds) c.args.place ≡ Some r.event.key in
+    subst P same (row-key NO_STAMP h.0 c.args.place r (omega (arith, c.requires)) (c.index.ensures ∙ ap (λ (rs : List Row). get_or rs c.args.place r) h.2.rows_are))

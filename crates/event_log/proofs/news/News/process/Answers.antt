@@ -1,0 +1,148 @@
+-- The object fires the event, which joins the news.
+use Rattle.std.proofs.Common.{◌≡◌, ℕ, ◌+◌, ◌-◌, ◌<◌, min, List, [], ◌∷◌, ◌++◌, length, map, refl, sym, ap, ◌∙◌, subst, arith, length-append}
+use Rattle.std.proofs.lemmas.List.{append-nil}
+use Rattle.std.specs.Prelude.{Some}
+use Rattle.std.specs.List.{AllByRecursion as Each}
+use Rattle.event_key.specs.declared.stamp.TheConstants.{NO_STAMP}
+use Rattle.delta_exchange.specs.declared.change.Change.{Change}
+use Rattle.key_order.specs.Stamps.{least_stamp}
+use Rattle.model_core.specs.declared.effect.Effect.{Effect}
+use Rattle.model_core.specs.declared.effect.Ending.{Ending}
+use Rattle.model_core.specs.declared.event.Event.{Event}
+use Rattle.model_core.specs.Meaning.{Meaning}
+use Rattle.sim_spec.specs.Firing.{emissions}
+use Rattle.object_log.specs.Objects.{HasFired}
+use Rattle.object_log.proofs.HeldLemmas.{least-start}
+use Rattle.event_log.specs.Fired.{HasFiredInto, HasGone, failed_of, went_of}
+use Rattle.event_log.specs.News.{NewsView, homed, least_after}
+use Rattle.event_log.proofs.ProcessFacts.{code-none, joined, joins-news, pushed-failed, pushed-went}
+use Rattle.event_log.proofs.news.News.process.Goals as goal
+
+pub hold_all-least-requires-clause-homes : goal.hold_all-least-requires-clause-homes
+hold_all-least-requires-clause-homes g c =
+    let H : ℕ → Type 0 = λ k. Each (λ (h : ℕ). h < k) c.args.homes.now in
+    subst H (sym (c.make_room-room.ensures.nodes ∙ ap (λ (v : NewsView). v.nodes) c.self.view_is)) c.requires.homes
+
+pub invariant_of-self-in-Fails : goal.invariant_of-self-in-Fails
+invariant_of-self-in-Fails g c =
+    let m : Meaning = g.M.Model.meaning c.args.model.now in
+    let n = c.self.inside in
+    let made = c.make_room-room.ensures in
+    let old = c.args.object.now in
+    let new = c.fire-fired.new.self in
+    let e = c.args.event in
+    let value = c.recycle-event.ensures.value in
+    let x : Effect = c.fire-fired.new.sheet in
+    let homes = c.args.homes.now in
+    let undo = c.fire-fired.new.undo.items in
+    let before_is = c.least_in-before.ensures ∙ ap (least_after NO_STAMP) (c.deref.ensures.value ∙ made.rows) in
+    let K : Ending → Type 0 = λ k. HasFiredInto m old new c.get.result.now k x c.make_room-room.new.undo.items undo in
+    let fault = c.in-Fails.code in
+    let fired = subst K c.in-Fails.is c.in-Ok-fired.ensures.ok in
+    let F : Event → Type 0 = λ y. HasFired m old new y (failed_of y fault) in
+    let d = failed_of e fault in
+    let told = c.make_room-room.new.told.items in
+    let rows = c.push_reserved.new.self.items in
+    let sent = c.make_room-room.new.outbox.sent in
+    let rows_is = c.push_reserved.ensures.items ∙ (λ i. made.rows i ++ (record { event = value i; least = before_is i; changes = 0; sends = 0 }) ∷ []) in
+    let p = pushed-failed c.args.self.now n.told.items n.rows.items n.undo.items n.outbox.sent n.fault n.outbox.nodes c.self.invariant c.self.view_is e fault undo told rows sent (fired.0 ∙ made.undo) made.told made.sent rows_is in
+    (c.self.invariant.0 ++ d ∷ [], c.self.invariant.1, joins-news c.args.self.now n.told.items n.rows.items n.undo.items n.outbox.sent n.fault n.outbox.nodes c.self.invariant c.self.view_is told rows undo sent (Some fault) d c.requires.whole c.requires.went c.requires.above p)
+
+pub returns-in-Fails-clause-ok : goal.returns-in-Fails-clause-ok
+returns-in-Fails-clause-ok g c =
+    let m : Meaning = g.M.Model.meaning c.args.model.now in
+    let n = c.self.inside in
+    let made = c.make_room-room.ensures in
+    let old = c.args.object.now in
+    let new = c.fire-fired.new.self in
+    let e = c.args.event in
+    let value = c.recycle-event.ensures.value in
+    let x : Effect = c.fire-fired.new.sheet in
+    let homes = c.args.homes.now in
+    let undo = c.fire-fired.new.undo.items in
+    let before_is = c.least_in-before.ensures ∙ ap (least_after NO_STAMP) (c.deref.ensures.value ∙ made.rows) in
+    let K : Ending → Type 0 = λ k. HasFiredInto m old new c.get.result.now k x c.make_room-room.new.undo.items undo in
+    let fault = c.in-Fails.code in
+    let fired = subst K c.in-Fails.is c.in-Ok-fired.ensures.ok in
+    let F : Event → Type 0 = λ y. HasFired m old new y (failed_of y fault) in
+    let d = failed_of e fault in
+    let told = c.make_room-room.new.told.items in
+    let rows = c.push_reserved.new.self.items in
+    let sent = c.make_room-room.new.outbox.sent in
+    let rows_is = c.push_reserved.ensures.items ∙ (λ i. made.rows i ++ (record { event = value i; least = before_is i; changes = 0; sends = 0 }) ∷ []) in
+    let p = pushed-failed c.args.self.now n.told.items n.rows.items n.undo.items n.outbox.sent n.fault n.outbox.nodes c.self.invariant c.self.view_is e fault undo told rows sent (fired.0 ∙ made.undo) made.told made.sent rows_is in
+    joined c.args.self.now n.told.items n.rows.items n.undo.items n.outbox.sent n.fault n.outbox.nodes c.self.invariant c.self.view_is told rows undo sent (Some fault) d c.requires.whole c.requires.went c.requires.above p m homes e old new NO_STAMP c.make_room-room.new.outbox.nodes
+    (subst F c.get.ensures fired.1) (made.sent ∙ sym (append-nil n.outbox.sent)) made.nodes (least-start [] refl)
+
+pub invariant_of-self-in-Goes : goal.invariant_of-self-in-Goes
+invariant_of-self-in-Goes g c =
+    let m : Meaning = g.M.Model.meaning c.args.model.now in
+    let n = c.self.inside in
+    let made = c.make_room-room.ensures in
+    let old = c.args.object.now in
+    let new = c.fire-fired.new.self in
+    let e = c.args.event in
+    let value = c.recycle-event.ensures.value in
+    let x : Effect = c.fire-fired.new.sheet in
+    let homes = c.args.homes.now in
+    let undo = c.fire-fired.new.undo.items in
+    let before_is = c.least_in-before.ensures ∙ ap (least_after NO_STAMP) (c.deref.ensures.value ∙ made.rows) in
+    let K : Ending → Type 0 = λ k. HasFiredInto m old new c.get.result.now k x c.make_room-room.new.undo.items undo in
+    let F : Event → Type 0 = λ y. HasGone m old new y x c.make_room-room.new.undo.items undo in
+    let U : List Change → Type 0 = λ us. HasGone m old new e x us undo in
+    let fired = subst U made.undo (subst F c.get.ensures (subst K c.in-Goes.is c.in-Ok-fired.ensures.ok)) in
+    let d = went_of e old.sent x fired.undo in
+    let told = c.push_reserved-in-Goes.new.self.items in
+    let rows = c.push_reserved-in-Goes-2.new.self.items in
+    let sent = c.hold_all-least.new.outbox.sent in
+    let least = c.hold_all-least.result in
+    let changes = c.len.result - c.len-from.result in
+    let added = ap length fired.added in
+    let parts = length-append n.undo.items fired.undo in
+    let was = ap length made.undo in
+    let count : changes + length n.undo.items ≡ length undo = omega (arith, c.len.ensures, c.len-from.ensures, c.fire-fired.new.undo.ok.0, c.make_room-room.new.undo.ok.0) in
+    let least_is = c.hold_all-least.ensures.least ∙ (λ i. least_stamp NO_STAMP (emissions (value i).key.stamp (value i).key.dest (c.sent-serial.ensures i) (c.as_slice-sends.ensures i))) in
+    let low = c.min.ensures ∙ ap (λ k. min k least) before_is in
+    let rows_is = c.push_reserved-in-Goes-2.ensures.items ∙ (λ i. made.rows i ++ (record { event = value i; least = low i; changes = changes; sends = length (c.as_slice-sends.ensures i) }) ∷ []) in
+    let told_is = c.push_reserved-in-Goes.ensures.items ∙ (λ i. made.told i ++ ((value i).key, x.note) ∷ []) in
+    let sent_is = c.hold_all-least.ensures.sent ∙ (λ i. made.sent i ++ map (homed homes) (emissions (value i).key.stamp (value i).key.dest (c.sent-serial.ensures i) (c.as_slice-sends.ensures i))) in
+    let none = code-none c.args.self.now n.told.items n.rows.items n.undo.items n.outbox.sent n.fault n.outbox.nodes c.self.invariant c.self.view_is c.requires.went in
+    let p = pushed-went c.args.self.now n.told.items n.rows.items n.undo.items n.outbox.sent n.fault n.outbox.nodes c.self.invariant c.self.view_is homes m old new e x undo told rows sent least changes fired count least_is rows_is told_is sent_is none in
+    (c.self.invariant.0 ++ d ∷ [], c.self.invariant.1, joins-news c.args.self.now n.told.items n.rows.items n.undo.items n.outbox.sent n.fault n.outbox.nodes c.self.invariant c.self.view_is told rows undo sent n.fault d c.requires.whole c.requires.went c.requires.above p)
+
+pub returns-in-Goes-clause-ok : goal.returns-in-Goes-clause-ok
+returns-in-Goes-clause-ok g c =
+    let m : Meaning = g.M.Model.meaning c.args.model.now in
+    let n = c.self.inside in
+    let made = c.make_room-room.ensures in
+    let old = c.args.object.now in
+    let new = c.fire-fired.new.self in
+    let e = c.args.event in
+    let value = c.recycle-event.ensures.value in
+    let x : Effect = c.fire-fired.new.sheet in
+    let homes = c.args.homes.now in
+    let undo = c.fire-fired.new.undo.items in
+    let before_is = c.least_in-before.ensures ∙ ap (least_after NO_STAMP) (c.deref.ensures.value ∙ made.rows) in
+    let K : Ending → Type 0 = λ k. HasFiredInto m old new c.get.result.now k x c.make_room-room.new.undo.items undo in
+    let F : Event → Type 0 = λ y. HasGone m old new y x c.make_room-room.new.undo.items undo in
+    let U : List Change → Type 0 = λ us. HasGone m old new e x us undo in
+    let fired = subst U made.undo (subst F c.get.ensures (subst K c.in-Goes.is c.in-Ok-fired.ensures.ok)) in
+    let d = went_of e old.sent x fired.undo in
+    let told = c.push_reserved-in-Goes.new.self.items in
+    let rows = c.push_reserved-in-Goes-2.new.self.items in
+    let sent = c.hold_all-least.new.outbox.sent in
+    let least = c.hold_all-least.result in
+    let changes = c.len.result - c.len-from.result in
+    let added = ap length fired.added in
+    let parts = length-append n.undo.items fired.undo in
+    let was = ap length made.undo in
+    let count : changes + length n.undo.items ≡ length undo = omega (arith, c.len.ensures, c.len-from.ensures, c.fire-fired.new.undo.ok.0, c.make_room-room.new.undo.ok.0) in
+    let least_is = c.hold_all-least.ensures.least ∙ (λ i. least_stamp NO_STAMP (emissions (value i).key.stamp (value i).key.dest (c.sent-serial.ensures i) (c.as_slice-sends.ensures i))) in
+    let low = c.min.ensures ∙ ap (λ k. min k least) before_is in
+    let rows_is = c.push_reserved-in-Goes-2.ensures.items ∙ (λ i. made.rows i ++ (record { event = value i; least = low i; changes = changes; sends = length (c.as_slice-sends.ensures i) }) ∷ []) in
+    let told_is = c.push_reserved-in-Goes.ensures.items ∙ (λ i. made.told i ++ ((value i).key, x.note) ∷ []) in
+    let sent_is = c.hold_all-least.ensures.sent ∙ (λ i. made.sent i ++ map (homed homes) (emissions (value i).key.stamp (value i).key.dest (c.sent-serial.ensures i) (c.as_slice-sends.ensures i))) in
+    let none = code-none c.args.self.now n.told.items n.rows.items n.undo.items n.outbox.sent n.fault n.outbox.nodes c.self.invariant c.self.view_is c.requires.went in
+    let p = pushed-went c.args.self.now n.told.items n.rows.items n.undo.items n.outbox.sent n.fault n.outbox.nodes c.self.invariant c.self.view_is homes m old new e x undo told rows sent least changes fired count least_is rows_is told_is sent_is none in
+    joined c.args.self.now n.told.items n.rows.items n.undo.items n.outbox.sent n.fault n.outbox.nodes c.self.invariant c.self.view_is told rows undo sent n.fault d c.requires.whole c.requires.went c.requires.above p m homes e old new least c.hold_all-least.new.outbox.nodes
+    fired.fired sent_is (c.hold_all-least.ensures.nodes ∙ made.nodes) least_is

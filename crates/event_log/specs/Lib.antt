@@ -1,0 +1,4 @@
+pub mod Fired
+pub mod News
+pub mod Outboxes
+pub mod Popping

@@ -1,0 +1,321 @@
+//! What was processed since the last commit.
+ghost use Rattle.std.specs.Prelude.{◌≡◌, ℕ, ◌<◌, ◌≤◌, ◌+◌, ◌^◌, [], ◌∷◌, ◌++◌, length, map, take, drop, slice_get, filter, vec_len, vec_capacity, IfOk, IfErr, IfSome, IfNone, OnOk, OnErr, IsTrue, Some, None, true};
+ghost use Rattle.std.specs.List.{AllByRecursion};
+ghost use Rattle.event_key.specs.Keys.{key_lt};
+ghost use Rattle.event_key.specs.Stamps.{time_part};
+ghost use Rattle.event_key.specs.declared.stamp.TheConstants.{NO_STAMP};
+ghost use Rattle.key_order.specs.Ascending.{Ascends};
+ghost use Rattle.key_order.specs.Stamps.{least_stamp};
+ghost use Rattle.model_core.specs.Meaning.{Meaning};
+ghost use Rattle.object_log.specs.Dones.{Done};
+ghost use Rattle.object_log.specs.EventLogs.{done_key};
+ghost use Rattle.object_log.specs.Keeping.{OnlyLastFailed};
+ghost use Rattle.object_log.specs.Logs.{fault_of, held_of, keys_of};
+ghost use Rattle.object_log.specs.Objects.{HasFired, IsSameObject};
+ghost use Rattle.object_log.specs.Parts.{due_of, left_of};
+ghost use Rattle.object_log.specs.Tellings.{told_all};
+ghost use Rattle.event_log.specs.News.{HasJoined, least_after};
+ghost use Rattle.event_log.specs.Outboxes.{AreBlank, chain_at, parcel};
+ghost use Rattle.event_log.specs.Popping.{HasPopped};
+
+use crate::object::Object;
+use crate::outbox::Outbox;
+use crate::popped::{Popped, take_sends, verdict_at};
+use crate::row::Row;
+use crate::sending::hold_all;
+use event_chain::{Cell, CellPool, Chain};
+use event_key::{Key, NO_STAMP};
+use model_core::model::Model as SimulationModel;
+use model_core::{Change, Effect, Ending, Event, OutOfMemory, RecordBuffer};
+use object_log::is_due_at;
+use std::alloc::Global;
+use std::marker::Model;
+use std::mem;
+
+/// What was processed since the last commit, in the order of the keys, in flat lists that serve again: the events, what is told
+/// of each in the buffer that a commit hands out, what undoes their changes, and their messages in the chains of their homes.
+#[derive(Drop)]
+pub struct News {
+    rows: Vec<Row>,
+    told: RecordBuffer,
+    // what undoes the changes, one event's behind another's
+    undo: Vec<Change>,
+    outbox: Outbox,
+    // the code of the last event, if that failed
+    fault: Option<u32>,
+}
+
+impl Model for News {
+    ghost use Rattle.event_log.specs.News.{IsNews, NewsView, news_view};
+
+    ghost Value = { NewsView };
+
+    ghost view = { λ n. news_view n.rows.items n.told.items n.undo.items n.outbox.sent n.fault n.outbox.nodes };
+
+    ghost invariant = { λ n. IsNews n.rows.items n.told.items n.undo.items n.outbox.sent n.fault };
+}
+
+impl News {
+    /// No event. There is a chain for each home, without events.
+    pub fn new(alloc: Global, chains: Vec<Chain<Event>>) -> News
+        requires { AreBlank chains.items }
+        ensures { result ≡ record { done = []; sent = []; gone = []; nodes = length chains.items } }
+    {
+        News {
+            rows: Vec::new(alloc),
+            told: RecordBuffer::new(alloc),
+            undo: Vec::new(alloc),
+            outbox: Outbox::new(alloc, chains),
+            fault: None,
+        }
+    }
+
+    /// How many events there are.
+    pub fn len(&self) -> usize
+        ensures { result ≡ length self.now.done }
+    {
+        self.rows.len()
+    }
+
+    /// What is true of all: they are in the order of their keys, only the last one may have failed, and what they send is what
+    /// lies in the chains.
+    pub fn tells(&self)
+        ensures ordered { Ascends done_key self.now.done }
+        ensures last { OnlyLastFailed self.now.done }
+        ensures sent { map (λ s. s.1) self.now.sent ≡ held_of self.now.done }
+    {
+        let _ = &self.rows;
+    }
+
+    /// The key of the event at a place, the first at place 0.
+    pub fn key_at(&self, place: usize) -> Key
+        requires { place < length self.now.done }
+        ensures { slice_get (keys_of self.now.done) place ≡ Some result }
+    {
+        self.rows[place].event.key
+    }
+
+    /// The least stamp that they send, or `NO_STAMP`, in constant time.
+    pub fn held_least(&self) -> u64
+        ensures { result ≡ least_stamp NO_STAMP (held_of self.now.done) }
+    {
+        least_in(&self.rows)
+    }
+
+    /// The key and the code of the event that failed, if one did, in constant time.
+    pub fn faulted(&self) -> Option<(Key, u32)>
+        ensures { result ≡ fault_of self.now.done }
+    {
+        let code = self.fault?;
+        let last = self.rows.len() - 1;
+        Some((self.rows[last].event.key, code))
+    }
+
+    /// Processes an event at an object, which is the last of all by its key. Answers the least stamp that it sends, or
+    /// `NO_STAMP`. The sheet is written over. The event's own cell is the first that its messages take. Memory is taken only for
+    /// what the lists and the pool lack; if none is left, the event comes back.
+    pub fn process<M: SimulationModel>(
+        &mut self,
+        alloc: Global,
+        model: &M,
+        homes: &[u32],
+        sheet: &mut Effect,
+        pool: &mut CellPool<Event>,
+        object: &mut Object,
+        event: Cell<Event>,
+    ) -> Result<u64, (OutOfMemory, Cell<Event>)>
+        requires object { object.old.object < (M.meaning model.now).objects }
+        requires lawful { IsTrue ((M.meaning model.now).lawful object.old.object object.old.cells.contents) }
+        requires dest { event.key.dest ≡ object.old.object }
+        requires time { time_part event.key.stamp < 2 ^ 46 }
+        requires sent { object.old.sent < 2 ^ 60 }
+        requires above { AllByRecursion (λ d. key_lt d.event.key event.key ≡ true) self.old.done }
+        requires went { fault_of self.old.done ≡ None }
+        requires whole { self.old.gone ≡ [] }
+        requires known { length homes.now ≡ (M.meaning model.now).objects }
+        requires homes { AllByRecursion (λ home. home < self.old.nodes) homes.now }
+        requires few { length self.old.sent + 8 < 2 ^ 60 }
+        ensures ok { IfOk result (λ least. HasJoined (M.meaning model.now) homes.now event object.old object.new self.old self.new least) }
+        ensures lawful { OnOk result (IsTrue ((M.meaning model.now).lawful object.new.object object.new.cells.contents)) }
+        ensures err { OnErr result (self.new ≡ self.old) }
+        ensures same { OnErr result (IsSameObject object.old object.new) }
+        ensures back { IfErr result (λ refused. refused.1 ≡ event) }
+    {
+        let room = make_room(
+            alloc,
+            &mut self.rows,
+            &mut self.told,
+            &mut self.undo,
+            &mut self.outbox,
+            pool,
+        );
+        let Ok(()) = room else {
+            return Err((OutOfMemory, event));
+        };
+        let serial = object.sent();
+        let from = self.undo.len();
+        let fired = object.fire(model, sheet, event.get(), &mut self.undo);
+        let Ok(ending) = fired else {
+            return Err((OutOfMemory, event));
+        };
+        let before = least_in(&self.rows);
+        let event = pool.recycle(event);
+        match ending {
+            Ending::Fails(code) => {
+                self.fault = Some(code);
+                self.rows.push_reserved(Row {
+                    event,
+                    least: before,
+                    changes: 0,
+                    sends: 0,
+                });
+                Ok(NO_STAMP)
+            }
+            Ending::Goes => {
+                let sends = sheet.sends.as_slice();
+                let least = hold_all(&mut self.outbox, pool, homes, &event.key, serial, sends);
+                self.told.push_reserved(&event.key, &sheet.note);
+                self.rows.push_reserved(Row {
+                    event,
+                    least: before.min(least),
+                    changes: (self.undo.len() - from) as u32,
+                    sends: sends.len() as u32,
+                });
+                Ok(least)
+            }
+        }
+    }
+
+    /// How many of them a commit takes, which are the first ones. As a rule it takes all, and looks at the last one only.
+    pub fn due(&self, horizon: u64, cut: &Option<Key>) -> usize
+        ensures within { result ≤ length self.now.done }
+        ensures taken { take result self.now.done ≡ due_of horizon cut.now self.now.done }
+        ensures left { drop result self.now.done ≡ left_of horizon cut.now self.now.done }
+    {
+        self.tells();
+        let mut due = self.len();
+        while due > 0 {
+            if is_due_at(horizon, cut, &self.key_at(due - 1)) {
+                return due;
+            }
+            due -= 1;
+        }
+        0
+    }
+
+    /// Takes the last event back. What undoes its changes goes behind a list.
+    pub fn pop(&mut self, undo: &mut Vec<Change>) -> Result<Popped, OutOfMemory>
+        requires { 0 < length self.old.done }
+        ensures ok { IfOk result (λ popped. HasPopped self.old self.new popped.event popped.sends popped.verdict undo.old.items undo.new.items) }
+        ensures err { OnErr result (self.new ≡ self.old) }
+        ensures kept { OnErr result (undo.new.items ≡ undo.old.items) }
+    {
+        let last = self.rows.len() - 1;
+        let row = self.rows[last];
+        let from = self.undo.len() - row.changes as usize;
+        undo.extend_from_slice(&self.undo[from..])?;
+        let verdict = verdict_at(&self.told, last, self.fault);
+        let sends = take_sends(&mut self.outbox, row.sends);
+        self.rows.truncate(last);
+        self.undo.truncate(from);
+        self.fault = None;
+        Ok(Popped {
+            event: row.event,
+            sends,
+            verdict,
+        })
+    }
+
+    /// Hands out what is told of all events, in the order of their keys, and their messages in the chains of their homes. No
+    /// event is touched.
+    pub fn hand_out(&mut self, done: &mut RecordBuffer, chains: &mut Vec<Chain<Event>>)
+        requires went { fault_of self.old.done ≡ None }
+        requires whole { self.old.gone ≡ [] }
+        requires told { done.old.items ≡ [] }
+        requires blank { AreBlank chains.old.items }
+        requires long { length chains.old.items ≡ self.old.nodes }
+        ensures told { done.new.items ≡ told_all self.old.done }
+        ensures parcels { (node : ℕ) → chain_at chains.new.items node ≡ parcel node self.old.sent }
+        ensures long { length chains.new.items ≡ self.old.nodes }
+        ensures done { self.new.done ≡ [] }
+        ensures sent { self.new.sent ≡ [] }
+        ensures gone { self.new.gone ≡ [] }
+        ensures nodes { self.new.nodes ≡ self.old.nodes }
+    {
+        self.rows.clear();
+        self.undo.clear();
+        mem::swap(&mut self.told, done);
+        self.outbox.hand_out(chains);
+    }
+
+    /// Hands out what is told of the events that are left, where others were taken back. The records are copied to a buffer
+    /// that has room for them.
+    pub fn copy_out(&mut self, done: &mut RecordBuffer, chains: &mut Vec<Chain<Event>>)
+        requires went { fault_of self.old.done ≡ None }
+        requires told { done.old.items ≡ [] }
+        requires room { length self.old.done ≤ done.old.room }
+        requires blank { AreBlank chains.old.items }
+        requires long { length chains.old.items ≡ self.old.nodes }
+        ensures told { done.new.items ≡ told_all self.old.done }
+        ensures parcels { (node : ℕ) → chain_at chains.new.items node ≡ parcel node self.old.sent }
+        ensures long { length chains.new.items ≡ self.old.nodes }
+        ensures done { self.new.done ≡ [] }
+        ensures sent { self.new.sent ≡ [] }
+        ensures gone { self.new.gone ≡ [] }
+        ensures nodes { self.new.nodes ≡ self.old.nodes }
+    {
+        copy_first(&self.told, self.rows.len(), done);
+        self.rows.clear();
+        self.undo.clear();
+        self.told.clear();
+        self.outbox.hand_out(chains);
+    }
+}
+
+/// Puts the first records of a buffer behind those of another, which has room for them.
+fn copy_first(told: &RecordBuffer, count: usize, done: &mut RecordBuffer)
+    requires count { count ≤ length told.now.items }
+    requires room { count ≤ done.old.room }
+    ensures { done.new.items ≡ done.old.items ++ take count told.now.items }
+{
+    for i in 0..count {
+        done.push_from(told, i);
+    }
+}
+
+/// Makes room for one event more.
+fn make_room(
+    alloc: Global,
+    rows: &mut Vec<Row>,
+    told: &mut RecordBuffer,
+    undo: &mut Vec<Change>,
+    outbox: &mut Outbox,
+    pool: &mut CellPool<Event>,
+) -> Result<(), OutOfMemory>
+    ensures rows { rows.new.items ≡ rows.old.items }
+    ensures told { told.new.items ≡ told.old.items }
+    ensures undo { undo.new.items ≡ undo.old.items }
+    ensures sent { outbox.new.sent ≡ outbox.old.sent }
+    ensures nodes { outbox.new.nodes ≡ outbox.old.nodes }
+    ensures row_room { OnOk result (vec_len rows.new + 1 ≤ vec_capacity rows.new) }
+    ensures told_room { OnOk result (1 ≤ told.new.room) }
+    ensures undo_room { OnOk result (vec_len undo.new + 16 ≤ vec_capacity undo.new) }
+    ensures sent_room { OnOk result (8 ≤ outbox.new.room) }
+    ensures cells { OnOk result (8 ≤ pool.new) }
+{
+    rows.reserve(1)?;
+    told.reserve(1)?;
+    undo.reserve(16)?;
+    outbox.reserve(8)?;
+    pool.reserve(alloc, 8)
+}
+
+/// The least stamp that these send, or `NO_STAMP`.
+fn least_in(rows: &[Row]) -> u64
+    ensures { result ≡ least_after NO_STAMP rows.now }
+{
+    match rows.last() {
+        Some(last) => last.least,
+        None => NO_STAMP,
+    }
+}
