@@ -17,6 +17,3 @@ pub use row_form::RowForm;
 pub use seeded::SeededShop;
 pub use shop_rows::ShopRows;
 pub use shop_seeds::ShopSeeds;
-
-#[cfg(test)]
-mod tests;
