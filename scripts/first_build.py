@@ -3,11 +3,11 @@
 
     scripts/first_build.py
 
-On copies of the repository in which nothing is built: each library is built once, over those below it, some side by side;
-a second run builds nothing, nor does a copy of the built tree; a failed build names its crate and its log; what a failed
-or an interrupted build has built or begun is used by the next one; a signal ends a build and nothing beside it; of two
-builds at once the second waits; and without rt, or where nothing can be written, the script says so. It stands outside the
-gate: it takes two or three minutes.
+On copies of the repository in which nothing is built: rt is given the crates of the program and nothing else; a second run
+builds nothing, nor does a copy of the built tree; a failed build names its log; what a failed or an interrupted build has
+proved is used by the next one, and by that of another program; a signal ends a build and nothing beside it; of two builds
+at once the second waits; and without rt, or where nothing can be written, the script says so. It stands outside the gate: it
+takes a minute or two.
 """
 import os
 import pathlib
@@ -20,42 +20,38 @@ import time
 
 TOP = pathlib.Path(__file__).resolve().parent.parent
 PARTS = ("src", "specs", "proofs")
-STORED_RUN = ("args", "stdin", "status")
+STORED_RUN = ("args", "stdin", "stdout", "status", "data")
 FAILED, NO_TOOLCHAIN = 126, 127
 NOBODY = 65534
 STAND_IN = r"""#!/usr/bin/env bash
-# Stands for rt: a library takes a third of a second, and needs those below it; the program prints its words.
+# Stands for rt: a crate takes a twentieth of a second, and is kept by its sources. The program prints its words.
 set -eu
 notes="NOTES"
-crate=$(basename "$PWD")
-if [ "$1" = run ]; then
-    [ "$*" = "run -- $(tr '\n' ' ' <args | sed 's/ $//')" ]
-    cmp -s - stdin
-    [ ! -f "$notes/refuses_$crate" ]
-    mkdir -p out/incremental
-    printf '#!/bin/sh\necho ran "$@"\n' >"out/$crate"
-    chmod +x "out/$crate"
-    touch "out/$crate.stamp"
-    if [ -f status ]; then exit "$(cat status)"; fi
-    exit 0
-fi
-[ "$1 $2" = "lib --jobs" ]
-needs=$(grep -E "^$crate[ :]" ../../crates.txt)
-[ "$(wc -l <../../crates.txt)" = "$(ls .. | wc -l)" ]
-for lower in ${needs#*:}; do
-    [ ! -d "../$lower" ] || [ -f "../$lower/out/rlib/$lower" ]
+[ "$*" = ci ]
+[ -d .git ] && [ -f HANDLES ]
+[ "$(wc -l <crates.txt)" = "$(ls crates | wc -l)" ]
+echo asked >>"$notes/asked"
+for crate in $(sed 's/[ :].*//' crates.txt); do
+    [ -d "crates/$crate/src" ] && [ ! -e "crates/$crate/must-fail" ]
+    sum=$(find "crates/$crate" -type f -exec sha256sum {} + | sort | sha256sum | cut -c 1-64)
+    if [ -f "$notes/kept-$crate-$sum" ]; then
+        echo "rt: $crate is kept: an earlier run on this machine proved the same files over the same libraries"
+        continue
+    fi
+    echo "$crate" >>"$notes/begun"
+    sleep 0.05
+    if [ -f "$notes/refuses_$crate" ]; then
+        echo "rt: $crate NOT PROVED"
+        exit 1
+    fi
+    touch "$notes/kept-$crate-$sum"
+    echo "$crate" >>"$notes/built"
+    echo "rt: $crate proved"
 done
-[ -d src ]
-if [ -f "out/rlib/$crate" ]; then echo "$crate" >>"$notes/current"; exit 0; fi
-if [ -f out/incremental/begun ]; then echo "$crate" >>"$notes/went_on"; fi
-mkdir -p out/incremental
-touch out/incremental/begun
-echo "$crate $(date +%s%N)" >>"$notes/begun"
-[ ! -f "$notes/refuses_$crate" ]
-sleep 0.3
-mkdir -p out/rlib
-touch "out/rlib/$crate"
-echo "$crate $(date +%s%N)" >>"$notes/built"
+program=$(basename "$(dirname "$(dirname "$(ls crates/*/src/main.rt)")")")
+mkdir "crates/$program/out"
+printf '#!/bin/sh\necho ran "$@"\n' >"crates/$program/out/$program"
+chmod +x "crates/$program/out/$program"
 """
 # Starts the script, ends it once something is built, and says that it is still there.
 PARENT = """
@@ -87,6 +83,8 @@ class Tree:
             for file in STORED_RUN:
                 if (crate / file).is_file():
                     shutil.copy2(crate / file, self.top / "crates" / crate.name)
+            if (crate / "must-fail").is_dir():
+                shutil.copytree(crate / "must-fail", self.top / "crates" / crate.name / "must-fail")
         self.out = self.top / "crates/btb/out"
         (tools / "rt").write_text(STAND_IN.replace("NOTES", str(self.notes)))
         (tools / "rt").chmod(0o755)
@@ -110,11 +108,11 @@ class Tree:
             time.sleep(0.1)
 
     def noted(self, name):
-        """The crates of a note and their times, in order; the note is taken away."""
+        """The lines of a note, in order; the note is taken away."""
         note = self.notes / name
         lines = note.read_text().splitlines() if note.exists() else []
         note.unlink(missing_ok=True)
-        return [line.split() for line in lines]
+        return lines
 
 
 def ended(job):
@@ -131,18 +129,11 @@ def check(holds, what):
 def whole_build(tree):
     status, out, err = tree.run()
     begun, built = tree.noted("begun"), tree.noted("built")
-    crates = [crate for crate, _ in built]
-    ends = {crate: int(end) for crate, end in built}
-    together = any(
-        int(start) < ends[other] and int(other_start) < ends[crate]
-        for at, (crate, start) in enumerate(begun) for other, other_start in begun[:at])
     check((status, out) == (0, "ran one\n"), "a first run builds, and then runs the program")
-    check(len(crates) == len(set(crates)) and "btb_program" in crates, f"each of {len(crates)} libraries is built once, over those below it")
-    check(len(os.sched_getaffinity(0)) == 1 or together, "some are built side by side")
-    check(err.count("\n") == len(crates) + 2, "a line for each crate says how far it is, one what is begun and one what is done")
-    check(not (tree.out / "rooms").exists(), "no room is left")
-    left = [it for it in (tree.top / "crates").glob("*/out/*") if it.name == "incremental"]
-    check(not left, "and none of what serves only a next check")
+    check(begun == built and len(built) == len(set(built)) and "btb" in built, f"each of {len(built)} crates is proved once")
+    check("shop" not in built and "cross_tests" not in built, "and none on which the program doesn't stand")
+    check(err.count("\n") == len(built) + 2, "a line for each crate says how far it is, one what is begun and one what is done")
+    check(not (tree.out / "room").exists(), "no room is left")
 
 
 def second_run(tree):
@@ -166,12 +157,10 @@ def copied_tree(tree):
 
 
 def another_program(tree):
-    tree.noted("begun")
-    tree.noted("built")
     status, out, err = tree.run(script=tree.top / "replicate")
-    built = {crate for crate, _ in tree.noted("built")}
+    built = tree.noted("built")
     check((status, out) == (0, "ran one\n") and "building replicate" in err, "the other program is built and run by its own name")
-    check(built == {crate for crate, _ in tree.noted("begun")} and "sim_io" not in built, "over the libraries that both stand on")
+    check("replicate" in built and "sim_io" not in built, "over the libraries that both stand on")
     link = tree.top.parent / "a link of another name"
     link.symlink_to(tree.top / "replicate")
     status, out, err = tree.run(script=link)
@@ -179,14 +168,14 @@ def another_program(tree):
 
 
 def changed_source(tree):
-    tree.noted("current")
+    tree.noted("asked")
     source = tree.top / "crates/sim_io/src/lib.rt"
     source.touch()
     status, _, err = tree.run()
     check((status, err) == (0, ""), "a source with a new time and the same text builds nothing")
     source.write_text(source.read_text() + "// changed\n")
     status, out, _ = tree.run()
-    check((status, out) == (0, "ran one\n") and tree.noted("current") and not tree.noted("begun"), "where a source changed, rt is asked again about each library")
+    check((status, out) == (0, "ran one\n") and tree.noted("built") == ["sim_io"], "where a source changed, rt is asked again, and proves what changed")
     test = next((tree.top / "crates").glob("worked_examples/src/*.rt"))
     test.write_text(test.read_text() + "// changed\n")
     status, _, err = tree.run()
@@ -207,23 +196,14 @@ def failed_build(tree):
     refusal = tree.notes / "refuses_sim_spec"
     refusal.touch()
     status, out, err = tree.run()
-    log = tree.out / "logs/sim_spec.log"
-    check(status == FAILED and out == "" and err.endswith(f"btb: the build of sim_spec failed (log: {log})\n") and log.exists(), "a failed build names its crate and its log")
-    built = {crate for crate, _ in tree.noted("built")}
+    log = tree.out / "build.log"
+    check(status == FAILED and out == "" and err.endswith(f"btb: the build of btb failed (log: {log})\n"), "a failed build names its log")
+    check("sim_spec NOT PROVED" in log.read_text(), "which says what failed")
+    check(not (tree.out / "room").exists() and not (tree.out / "btb").exists(), "and leaves no room and no program")
+    built = set(tree.noted("built"))
     refusal.unlink()
     status, out, _ = tree.run()
-    later = {crate for crate, _ in tree.noted("built")}
-    check((status, out) == (0, "ran one\n") and not built & later, "the next run builds what is left")
-    check(["sim_spec"] in tree.noted("went_on"), "and goes on where the failed crate stood")
-
-
-def failed_program(tree):
-    refusal = tree.notes / "refuses_btb"
-    refusal.touch()
-    status, out, err = tree.run()
-    check(status == FAILED and out == "" and "the build of btb failed" in err, "a program that isn't linked is a failed build")
-    refusal.unlink()
-    check(tree.run()[:2] == (0, "ran one\n"), "and is built by the next run")
+    check((status, out) == (0, "ran one\n") and built and not built & set(tree.noted("built")), "the next run builds what is left")
 
 
 def interrupted_build(tree):
@@ -232,12 +212,11 @@ def interrupted_build(tree):
         tree.wait_for("built")
         os.killpg(job.pid, number)
         job.communicate(timeout=60)
-        built = {crate for crate, _ in tree.noted("built")}
+        built = set(tree.noted("built"))
         check(job.returncode == -number and built, f"a build that gets {number.name} ends by it, and with it what it runs")
     check(nothing_is_left(tree), "and nothing of it is left")
     status, out, _ = tree.run()
-    later = {crate for crate, _ in tree.noted("built")}
-    check((status, out) == (0, "ran one\n") and not built & later, "the next run builds what is left")
+    check((status, out) == (0, "ran one\n") and not built & set(tree.noted("built")), "the next run builds what is left")
 
 
 def ended_by_its_parent(tree):
@@ -263,9 +242,8 @@ def two_builds(tree):
     tree.wait_for("begun")
     second = tree.start()
     results = [ended(it) for it in (first, second)]
-    built = [crate for crate, _ in tree.noted("built")]
     check([it[:2] for it in results] == 2 * [(0, "ran one\n")], "two builds at once both end with the program")
-    check(len(built) == len(set(built)), "each library is built once")
+    check(len(tree.noted("asked")) == 1, "rt is asked once")
     check(results[1][2] == "btb: another build of this tree is under way: waiting for it\n", "the second says that it waits")
 
 
@@ -303,7 +281,7 @@ def works_in(process, folder):
 def main():
     for cases in (
         (no_toolchain, read_only_tree, whole_build, second_run, by_a_link, copied_tree, another_program, changed_source), (failed_build,),
-        (kept_work,), (failed_program,), (interrupted_build,), (ended_by_its_parent, killed_build), (two_builds,),
+        (kept_work,), (interrupted_build,), (ended_by_its_parent, killed_build), (two_builds,),
     ):
         with tempfile.TemporaryDirectory() as room:
             tree = Tree(pathlib.Path(room))
