@@ -1,10 +1,11 @@
 -- Places that are filled one after another.
-use Rattle.std.proofs.Common.{◌≡◌, ◌≢◌, ◌+◌, ◌<◌, ℕ, zero, suc, Bool, true, false, List, [], ◌∷◌, ◌++◌, length, map, set, refl, sym, ap, ◌∙◌, subst, arith, cond, eqb, eqb-true, ◌⊎◌, ⊎_elim, inl, inr}
+use Rattle.std.proofs.Common.{◌≡◌, ◌≢◌, ◌+◌, ◌<◌, ℕ, zero, suc, Bool, true, false, List, [], ◌∷◌, ◌++◌, length, map, set, refl, sym, append_assoc, ap, ◌∙◌, subst, arith, cond, eqb, eqb-true, ◌⊎◌, ⊎_elim, inl, inr}
 use Rattle.std.specs.Prelude.{All, IfOk, Option, Result, Ok, Err, Vec, slice_get, Some}
 use Rattle.std.specs.List.{AllZip}
 use Rattle.std.proofs.lemmas.Bool.{eqb-false}
 use Rattle.std.proofs.lemmas.Bool.Decides.{eqb_tells}
 use Rattle.std.proofs.lemmas.List.{append-nil, get_or-set_same, get_or-set_other, length-map, length-set}
+use Rattle.std.proofs.lemmas.List.Elements.{All-head}
 use Rattle.std.proofs.lemmas.List.Sums.{sum_by_push}
 use Rattle.std.proofs.lemmas.Option.{slice_get-get_or, slice_get_within, get_or_from_slice_get, same_Some}
 use Rattle.std.specs.declared.alloc.Global.{Global}
@@ -76,6 +77,15 @@ module _ {T : Type 0} (turned : T → T → Type 0) where
           let none : f task ≡ 0 = ⊎_elim (λ (same : (eqb task.number number ≡ true) × (task.number ≡ number)). absurd (apart (sym same.1)))
           (λ (other : (eqb task.number number ≡ false) × (task.number ≢ number)). ap (λ b. cond b 1 0) other.0) (eqb_tells task.number number) in
           omega arith
+
+  -- the task that comes next is put at its place
+  pub filling-next : (tasks rest all : List (Task T)) (old now : List (Option T)) (task : Task T) → Filling tasks old now → tasks ++ (task ∷ rest) ≡ all → All (λ (task : Task T). task.number < length old) all
+      → ((tasks ++ task ∷ []) ++ rest ≡ all) × Filling (tasks ++ task ∷ []) old (set now task.number (Some task.turn))
+  filling-next tasks rest all old now task filling whole inside =
+      let P : Task T → Type 0 = λ task. task.number < length old in
+      let here = All-head P task rest (last-part P tasks (task ∷ rest) (subst (All P) (sym whole) inside)) in
+      let many = filling.many in
+      (append_assoc tasks (task ∷ []) rest ∙ whole, filling-more tasks old now task filling (omega arith))
 
   -- what is said of the places once all are filled is said of the turns
   pub zip-right : (turns all : List T) → length all ≡ length turns → AreRight turned turns (map Some all) → AllZip turned turns all

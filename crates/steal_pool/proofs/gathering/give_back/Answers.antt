@@ -7,7 +7,17 @@ use Rattle.steal_pool.specs.Ends.{Mark, mark, parts}
 use Rattle.steal_pool.specs.Workers.{HasGotBack, own_mark, taken_at}
 use Rattle.steal_pool.proofs.PlaceLemmas.{upto-length, upto-more, upto-all}
 use Rattle.steal_pool.proofs.GatherLemmas.{comes-next, got-back, its-owner, sum-back}
+use Rattle.steal_pool.proofs.gathering.give_back.Given.{Over}
 use Rattle.steal_pool.proofs.gathering.give_back.Goals as goal
+use Rattle.steal_pool.proofs.gathering.give_back.Goals.{After-index_mut}
+
+-- the worker that the pass comes back to, as it was
+its : (g : Over) (c : After-index_mut g) → (c.index_mut.result.now ≡ get_or c.args.workers.now.items c.loop-place.place-iterator.count c.index_mut.result.now) × (mark c.in-Some.victim ≡ own_mark c.index_mut.result.now)
+its g c =
+    let before = c.loop-place.invariant in
+    its-owner c.args.workers.now.items c.loop-place.workers.items c.loop-place.place-iterator.count c.index_mut.result.now c.in-Some.victim c.next.new.self.iter.rest.items before.upto
+    (sym (ap (map mark) c.in-Some.ensures.steps.0.0) ∙ before.to)
+    (subst (λ i. c.index_mut.result.now ≡ get_or c.loop-place.workers.items i c.index_mut.result.now) c.in-Some.ensures.steps.1 c.index_mut.ensures.value)
 
 pub index_mut-requires : goal.index_mut-requires
 index_mut-requires g c =
@@ -20,21 +30,13 @@ index_mut-requires g c =
 pub take_back-requires-clause-part : goal.take_back-requires-clause-part
 take_back-requires-clause-part g c κs within =
     let before = c.loop-place.invariant in
-    let place = c.in-Some.ensures.steps.1 in
-    let owner = its-owner c.args.workers.now.items c.loop-place.workers.items c.loop-place.place-iterator.count c.index_mut.result.now c.in-Some.victim c.next.new.self.iter.rest.items before.upto
-    (sym (ap (map mark) c.in-Some.ensures.steps.0.0) ∙ before.to) (subst (λ i. c.index_mut.result.now ≡ get_or c.loop-place.workers.items i c.index_mut.result.now) place c.index_mut.ensures.value) in
     let next = comes-next c.args.workers.now.items c.loop-place.workers.items c.loop-place.place-iterator.count c.in-Some.victim c.next.new.self.iter.rest.items before.upto
     (sym (ap (map mark) c.in-Some.ensures.steps.0.0) ∙ before.to) in
-    subst (λ worker. 0 < worker.deque.knows.parts) (sym owner.0)
+    subst (λ worker. 0 < worker.deque.knows.parts) (sym (its g (goal.at.take_back-requires-clause-part g c).After-index_mut).0)
     (c.requires.part c.loop-place.place-iterator.count c.index_mut.result.now (omega (arith, upto-length HasGotBack c.loop-place.place-iterator.count c.args.workers.now.items c.loop-place.workers.items before.upto)))
 
 pub take_back-requires-clause-deque : goal.take_back-requires-clause-deque
-take_back-requires-clause-deque g c κs within =
-    let before = c.loop-place.invariant in
-    let place = c.in-Some.ensures.steps.1 in
-    let owner = its-owner c.args.workers.now.items c.loop-place.workers.items c.loop-place.place-iterator.count c.index_mut.result.now c.in-Some.victim c.next.new.self.iter.rest.items before.upto
-    (sym (ap (map mark) c.in-Some.ensures.steps.0.0) ∙ before.to) (subst (λ i. c.index_mut.result.now ≡ get_or c.loop-place.workers.items i c.index_mut.result.now) place c.index_mut.ensures.value) in
-    ap (λ (one : Mark _). one.deque) owner.1
+take_back-requires-clause-deque g c κs within = ap (λ (one : Mark _). one.deque) (its g (goal.at.take_back-requires-clause-deque g c).After-index_mut).1
 
 pub loop-place-preserved : goal.loop-place-preserved
 loop-place-preserved g c =

@@ -8,16 +8,14 @@ use Rattle.steal_pool.proofs.running.run_turns.Goals as goal
 pub work_together-requires-clause-ready : goal.work_together-requires-clause-ready
 work_together-requires-clause-ready g c κs within =
     let deques = c.in_ok-deques.deques.items in
-    let of = dealt-of c.args.turns.items deques c.in_ok-deques.ensures.of in
     let marks = ap (map own_mark) c.as_mut_slice.ensures.value ∙ c.in_ok-workers.ensures.marks_are in
-    subst (AreReady g.T.Turn.ready) (sym marks) (dealt-ready g.T.Turn.ready c.args.turns.items (map mark deques) c.requires.ready of)
+    subst (AreReady g.T.Turn.ready) (sym marks) (dealt-ready g.T.Turn.ready c.args.turns.items (map mark deques) c.requires.ready (dealt-of c.args.turns.items deques c.in_ok-deques.ensures.of))
 
 pub gather-requires-clause-ready : goal.gather-requires-clause-ready
 gather-requires-clause-ready g c κs within =
     let deques = c.in_ok-deques.deques.items in
-    let of = dealt-of c.args.turns.items deques c.in_ok-deques.ensures.of in
     let marks = same-marks (map mark deques) c.in_ok-workers.workers c.as_mut_slice.result.now c.work_together.new.workers c.as_mut_slice.ensures.value c.in_ok-workers.ensures.marks_are c.in_ok-work_together.ensures.marks_are in
-    subst (AreReady g.T.Turn.ready) (sym marks) (dealt-ready g.T.Turn.ready c.args.turns.items (map mark deques) c.requires.ready of)
+    subst (AreReady g.T.Turn.ready) (sym marks) (dealt-ready g.T.Turn.ready c.args.turns.items (map mark deques) c.requires.ready (dealt-of c.args.turns.items deques c.in_ok-deques.ensures.of))
 
 pub in_order-requires-clause-within : goal.in_order-requires-clause-within
 in_order-requires-clause-within g c κs within =
