@@ -1,5 +1,5 @@
 -- Plain slots: new ones, and what is left of them as parcels are taken.
-use Rattle.std.proofs.Common.{◌≡◌, ◌⊎◌, inl, inr, ⊎_elim, ℕ, zero, suc, ◌-◌, ◌<◌, ◌≤◌, List, [], ◌∷◌, ◌++◌, map, length, take, get_or, set, sym, ap, ◌∙◌, refl, arith}
+use Rattle.std.proofs.Common.{◌≡◌, ◌⊎◌, inl, inr, ⊎_elim, ℕ, zero, suc, ◌-◌, ◌<◌, ◌≤◌, List, [], ◌∷◌, ◌++◌, map, length, take, drop, get_or, set, sym, ap, subst, ◌∙◌, refl, arith}
 use Rattle.std.specs.Prelude.{Option, None, Some, All, option_to_list, slice_get}
 use Rattle.std.specs.List.{range_with_len}
 use mathlib.Core.List.{map-map}
@@ -12,7 +12,7 @@ use Rattle.release_lanes.specs.declared.parcel.Parcel.{Parcel}
 use Rattle.release_lanes.specs.declared.plain.PlainEnd.{PlainEnd}
 use Rattle.release_lanes.specs.Lanes.{AddsOneOn, TakesRest, list_at, lane_at}
 use Rattle.release_lanes.specs.Plain.{outline, posted, standing, delivered, TakesFirst, IsTeam, AreEmpty, AreBack}
-use Rattle.release_lanes.proofs.Rows.{lane_at_other_row, lane_at_other_place, lane_at_emptied, emptied_falls}
+use Rattle.release_lanes.proofs.Rows.{lent_whole, lane_at_other_row, lane_at_other_place, lane_at_emptied, emptied_falls}
 
 pub team_length : (nodes : ℕ) (ends : List PlainEnd) → IsTeam nodes ends → length ends ≡ nodes
 team_length nodes ends team = sym (length-map ends outline) ∙ ap length team ∙ length-map-range_with_len (λ (k : ℕ). (k, nodes)) 0 nodes
@@ -129,3 +129,13 @@ search_takes nodes served first from sent ends mid parcel back outlines found =
           found.none_before,
       record { from = from; within = omega arith; first = one.0; last = one.1 },
     )
+
+-- the same of ends that a search was lent, and that is given back whole
+pub search_gives : (nodes served first from count : ℕ) (sent ends mid lent : List PlainEnd) (parcel : Parcel) → AreBack nodes served first sent ends → lent ≡ ends → count ≡ length ends
+    → map outline mid ≡ map outline lent → TakesFirst lent mid served first from parcel
+    → (take count (mid ++ drop (length mid) ends) ≡ mid) × AreBack nodes served from sent mid × TakesRest nodes (standing ends) (standing mid) (delivered sent ends) (delivered sent mid) served parcel
+search_gives nodes served first from count sent ends mid lent parcel back is long same found =
+    let outlines : map outline mid ≡ map outline ends = same ∙ ap (map outline) is in
+    let F : List PlainEnd → Type 0 = λ l. TakesFirst l mid served first from parcel in
+    let takes = search_takes nodes served first from sent ends mid parcel back outlines (subst F is found) in
+    (lent_whole outline ends mid count long outlines, takes.0, takes.1)
