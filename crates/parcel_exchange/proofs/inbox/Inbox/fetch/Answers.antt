@@ -5,62 +5,56 @@ use Rattle.model_core.specs.declared.event.Event.{Event}
 use Rattle.release_lanes.proofs.Numbers.{rest_kept}
 use Rattle.parcel_exchange.specs.Mail.{events_in, from_each}
 use Rattle.parcel_exchange.proofs.Gathering.{from_each-same, from_each-none}
-use Rattle.parcel_exchange.proofs.Fetching.{fetched, arrives, few_arrive}
+use Rattle.parcel_exchange.proofs.Fetching.{Fetched, fetched, arrives, few_arrive}
+use Rattle.parcel_exchange.proofs.inbox.Inbox.fetch.Given.{Over}
 use Rattle.parcel_exchange.proofs.inbox.Inbox.fetch.Goals as goal
+use Rattle.parcel_exchange.proofs.inbox.Inbox.fetch.Goals.{In-Some}
+
+-- a parcel is fetched
+fetches : (g : Over) (c : In-Some g) → Fetched (g.L.Lanes.nodes c.args.lanes.now) c.args.to (g.L.Lanes.rest c.loop-parcel.lanes) (g.L.Lanes.rest c.rest.new.self) c.in-Some.parcel
+fetches g c =
+    let old = c.loop-parcel.lanes in
+    let new = c.rest.new.self in
+    let inv = c.loop-parcel.invariant in
+    let many = inv.nodes in
+    let now = c.in-Some.ensures.nodes in
+    fetched (g.L.Lanes.nodes c.args.lanes.now) (g.L.Lanes.nodes old) c.args.to (g.L.Lanes.received old) (g.L.Lanes.rest old) (g.L.Lanes.sent old) (g.L.Lanes.received new) (g.L.Lanes.rest new) (g.L.Lanes.sent new)
+    c.in-Some.parcel inv.nodes c.requires.node
+    (λ i j first second. g.met.L.Lanes.lane old inv.back i j (omega arith) (omega arith)) (λ i j first second. g.met.L.Lanes.lane new c.in-Some.ensures.back i j (omega arith) (omega arith))
+    c.in-Some.ensures.sent c.in-Some.ensures.some
 
 pub append-requires : goal.append-requires
 append-requires g c =
+    let one = fetches g (goal.at.append-requires g c).In-Some in
     let old = c.loop-parcel.lanes in
     let new = c.rest.new.self in
     let inv = c.loop-parcel.invariant in
     let nodes = g.L.Lanes.nodes c.args.lanes.now in
-    let now = c.in-Some.ensures.nodes in
-    let one = fetched nodes (g.L.Lanes.nodes old) c.args.to (g.L.Lanes.received old) (g.L.Lanes.rest old) (g.L.Lanes.sent old) (g.L.Lanes.received new) (g.L.Lanes.rest new) (g.L.Lanes.sent new)
-    c.in-Some.parcel inv.nodes c.requires.node
-    (λ i j first second. let many = inv.nodes in g.met.L.Lanes.lane old inv.back i j (omega arith) (omega arith))
-    (λ i j first second. let many = inv.nodes in g.met.L.Lanes.lane new c.in-Some.ensures.back i j (omega arith) (omega arith))
-    c.in-Some.ensures.sent c.in-Some.ensures.some in
     few_arrive (c.args.self.now.arrived ++ from_each nodes (λ from. events_in (g.L.Lanes.rest c.args.lanes.now from c.args.to))) c.loop-parcel.self.arrived
     (from_each nodes (λ from. events_in (g.L.Lanes.rest old from c.args.to))) (from_each nodes (λ from. events_in (g.L.Lanes.rest new from c.args.to))) c.in-Some.parcel.events (2 ^ 60)
     inv.moved one.events c.requires.few
 
 pub loop-parcel-smaller : goal.loop-parcel-smaller
 loop-parcel-smaller g c =
-    let old = c.loop-parcel.lanes in
-    let new = c.rest.new.self in
     let inv = c.loop-parcel.invariant in
-    let nodes = g.L.Lanes.nodes c.args.lanes.now in
-    let now = c.in-Some.ensures.nodes in
-    let one = fetched nodes (g.L.Lanes.nodes old) c.args.to (g.L.Lanes.received old) (g.L.Lanes.rest old) (g.L.Lanes.sent old) (g.L.Lanes.received new) (g.L.Lanes.rest new) (g.L.Lanes.sent new)
-    c.in-Some.parcel inv.nodes c.requires.node
-    (λ i j first second. let many = inv.nodes in g.met.L.Lanes.lane old inv.back i j (omega arith) (omega arith))
-    (λ i j first second. let many = inv.nodes in g.met.L.Lanes.lane new c.in-Some.ensures.back i j (omega arith) (omega arith))
-    c.in-Some.ensures.sent c.in-Some.ensures.some in
-    let fewer = one.fewer in
-    let same_old = ap (λ n. length (from_each n (λ k. g.L.Lanes.rest old k c.args.to))) inv.nodes in
-    let same_new = ap (λ n. length (from_each n (λ k. g.L.Lanes.rest new k c.args.to))) (now ∙ inv.nodes) in
+    let fewer = (fetches g (goal.at.loop-parcel-smaller g c).In-Some).fewer in
+    let same_old = ap (λ n. length (from_each n (λ k. g.L.Lanes.rest c.loop-parcel.lanes k c.args.to))) inv.nodes in
+    let same_new = ap (λ n. length (from_each n (λ k. g.L.Lanes.rest c.rest.new.self k c.args.to))) (c.in-Some.ensures.nodes ∙ inv.nodes) in
     omega arith
 
 pub loop-parcel-preserved : goal.loop-parcel-preserved
 loop-parcel-preserved g c =
-    let old = c.loop-parcel.lanes in
-    let new = c.rest.new.self in
     let inv = c.loop-parcel.invariant in
+    let one = fetches g (goal.at.loop-parcel-preserved g c).In-Some in
     let nodes = g.L.Lanes.nodes c.args.lanes.now in
-    let now = c.in-Some.ensures.nodes in
-    let one = fetched nodes (g.L.Lanes.nodes old) c.args.to (g.L.Lanes.received old) (g.L.Lanes.rest old) (g.L.Lanes.sent old) (g.L.Lanes.received new) (g.L.Lanes.rest new) (g.L.Lanes.sent new)
-    c.in-Some.parcel inv.nodes c.requires.node
-    (λ i j first second. let many = inv.nodes in g.met.L.Lanes.lane old inv.back i j (omega arith) (omega arith))
-    (λ i j first second. let many = inv.nodes in g.met.L.Lanes.lane new c.in-Some.ensures.back i j (omega arith) (omega arith))
-    c.in-Some.ensures.sent c.in-Some.ensures.some in
     let first = c.args.self.now.arrived ++ from_each nodes (λ from. events_in (g.L.Lanes.rest c.args.lanes.now from c.args.to)) in
-    let rests = from_each nodes (λ from. events_in (g.L.Lanes.rest new from c.args.to)) in
+    let rests = from_each nodes (λ from. events_in (g.L.Lanes.rest c.rest.new.self from c.args.to)) in
     let P : List Event → Type 0 = λ l. IsPermutation first (l ++ rests) in record {
       back = c.in-Some.ensures.back;
-      nodes = now ∙ inv.nodes;
+      nodes = c.in-Some.ensures.nodes ∙ inv.nodes;
       others = λ i j low high ne. one.others i j low high ne ∙ inv.others i j low high ne;
       moved = subst P (sym c.append.ensures)
-          (arrives first c.loop-parcel.self.arrived (from_each nodes (λ from. events_in (g.L.Lanes.rest old from c.args.to))) rests c.in-Some.parcel.events inv.moved one.events);
+          (arrives first c.loop-parcel.self.arrived (from_each nodes (λ from. events_in (g.L.Lanes.rest c.loop-parcel.lanes from c.args.to))) rests c.in-Some.parcel.events inv.moved one.events);
       early = inv.early;
     }
 
