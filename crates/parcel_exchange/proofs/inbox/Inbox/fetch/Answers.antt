@@ -8,7 +8,7 @@ use Rattle.parcel_exchange.proofs.Gathering.{from_each-same, from_each-none}
 use Rattle.parcel_exchange.proofs.Fetching.{Fetched, fetched, arrives, few_arrive}
 use Rattle.parcel_exchange.proofs.inbox.Inbox.fetch.Given.{Over}
 use Rattle.parcel_exchange.proofs.inbox.Inbox.fetch.Goals as goal
-use Rattle.parcel_exchange.proofs.inbox.Inbox.fetch.Goals.{In-Some}
+use Rattle.parcel_exchange.proofs.inbox.Inbox.fetch.Goals.{In-Some, In_default}
 
 -- a parcel is fetched
 fetches : (g : Over) (c : In-Some g) → Fetched (g.L.Lanes.nodes c.args.lanes.now) c.args.to (g.L.Lanes.rest c.loop-parcel.lanes) (g.L.Lanes.rest c.rest.new.self) c.in-Some.parcel
@@ -58,31 +58,24 @@ loop-parcel-preserved g c =
       early = inv.early;
     }
 
-pub returns-clause-others : goal.returns-clause-others
-returns-clause-others g c = λ i j first second ne.
+-- where none is fetched, what rests stays
+keeps : (g : Over) (c : In_default g) (i j : ℕ) → i < g.L.Lanes.nodes c.args.lanes.now → j < g.L.Lanes.nodes c.args.lanes.now → g.L.Lanes.rest c.rest.new.self i j ≡ g.L.Lanes.rest c.loop-parcel.lanes i j
+keeps g c i j first second =
     let old = c.loop-parcel.lanes in
     let new = c.rest.new.self in
-    let inv = c.loop-parcel.invariant in
-    let many = inv.nodes in
+    let many = c.loop-parcel.invariant.nodes in
     let now = c.in_default.ensures.nodes in
     rest_kept (g.L.Lanes.received old i j) (g.L.Lanes.sent old i j) (g.L.Lanes.rest old i j) (g.L.Lanes.received new i j) (g.L.Lanes.sent new i j) (g.L.Lanes.rest new i j)
     (c.in_default.ensures.same i j) (c.in_default.ensures.sent i j)
-    (g.met.L.Lanes.lane old inv.back i j (omega arith) (omega arith)) (g.met.L.Lanes.lane new c.in_default.ensures.back i j (omega arith) (omega arith))
-    ∙ inv.others i j first second ne
+    (g.met.L.Lanes.lane old c.loop-parcel.invariant.back i j (omega arith) (omega arith)) (g.met.L.Lanes.lane new c.in_default.ensures.back i j (omega arith) (omega arith))
+
+pub returns-clause-others : goal.returns-clause-others
+returns-clause-others g c = λ i j first second ne. keeps g (goal.at.returns-clause-others g c).In_default i j first second ∙ c.loop-parcel.invariant.others i j first second ne
 
 pub returns-clause-rest : goal.returns-clause-rest
 returns-clause-rest g c = λ i first.
-    let old = c.loop-parcel.lanes in
-    let new = c.rest.new.self in
-    let inv = c.loop-parcel.invariant in
-    let many = inv.nodes in
-    let now = c.in_default.ensures.nodes in
-    let j = c.args.to in
-    let second = c.requires.node in
-    rest_kept (g.L.Lanes.received old i j) (g.L.Lanes.sent old i j) (g.L.Lanes.rest old i j) (g.L.Lanes.received new i j) (g.L.Lanes.sent new i j) (g.L.Lanes.rest new i j)
-    (c.in_default.ensures.same i j) (c.in_default.ensures.sent i j)
-    (g.met.L.Lanes.lane old inv.back i j (omega arith) (omega arith)) (g.met.L.Lanes.lane new c.in_default.ensures.back i j (omega arith) (omega arith))
-    ∙ c.in_default.ensures.none i (omega arith)
+    let many = c.loop-parcel.invariant.nodes in
+    keeps g (goal.at.returns-clause-rest g c).In_default i c.args.to first c.requires.node ∙ c.in_default.ensures.none i (omega arith)
 
 pub returns-clause-arrived : goal.returns-clause-arrived
 returns-clause-arrived g c =
