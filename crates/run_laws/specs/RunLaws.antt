@@ -23,6 +23,11 @@ pub record IsReachedAfter (m : Meaning) (t : Terms) (n : ℕ) : Type 0 where
 abbrev pub RunIsReached : Meaning → Terms → Type 0
 RunIsReached m t = (n : ℕ) × IsReachedAfter m t n
 
+-- the states that are spoken of are those of the run
+pub record StatesAreTheRuns (m : Meaning) (t : Terms) : Type 0 where
+  pub run : RunIsReached m t
+  pub lawful : AllReachedLawful m t
+
 -- each record has a greater key than those before it
 abbrev pub RecordsAscend : Meaning → Terms → Type 0
 RecordsAscend m t = (n : ℕ) → AllPairs (λ (earlier later : Key × Note). key_lt earlier.0 later.0 ≡ true) (first_records n m t)
@@ -58,6 +63,11 @@ IsKnown m t k n e = Contains (after_events n m t).pending e ⊎ ((j : ℕ) × (k
 pub record NothingIsForgotten (m : Meaning) (t : Terms) : Type 0 where
   pub initial : (n : ℕ) (e : Event) → IsInitial m e → IsKnown m t 0 n e
   pub sent : (k n : ℕ) (e : Event) → k < n → IsCause m t k e → IsKnown m t (suc k) n e
+
+-- causality
+pub record EventsAreCaused (m : Meaning) (t : Terms) : Type 0 where
+  pub causes : EachHasACause m t
+  pub none_forgotten : NothingIsForgotten m t
 
 -- those that have happened and those that are pending are the initial ones and those that were sent, each as often
 abbrev pub EventsBalance : Meaning → Terms → Type 0

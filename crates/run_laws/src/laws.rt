@@ -1,6 +1,5 @@
 //! Laws of every run. Each function does nothing: its contract is the law.
-ghost use Rattle.run_laws.specs.RunLaws.{AllReachedLawful, RunIsReached, RecordsAscend, EachHasACause};
-ghost use Rattle.run_laws.specs.RunLaws.{NothingIsForgotten, EventsBalance, LongerRunGoesOn};
+ghost use Rattle.run_laws.specs.RunLaws.{StatesAreTheRuns, RecordsAscend, EventsAreCaused, EventsBalance, LongerRunGoesOn};
 
 use model_core::model::{Model, keeps_laws};
 use sim_spec::Terms;
@@ -8,8 +7,7 @@ use sim_spec::Terms;
 /// The states that are spoken of are those of the run: its last state is reached, with its records on the way, and
 /// each reached state is lawful.
 pub fn law_reached<M: Model>(model: &M, terms: &Terms)
-    ensures run { RunIsReached (M.meaning model.now) terms.now }
-    ensures lawful { AllReachedLawful (M.meaning model.now) terms.now }
+    ensures { StatesAreTheRuns (M.meaning model.now) terms.now }
 {
     keeps_laws(model);
 }
@@ -24,8 +22,7 @@ pub fn law_order<M: Model>(model: &M, terms: &Terms)
 /// Causality: each event that happens is an initial one of the model, or the very event that one before it sent, to a later
 /// stamp. And each initial event, and each that was sent, has happened or is pending.
 pub fn law_causality<M: Model>(model: &M, terms: &Terms)
-    ensures causes { EachHasACause (M.meaning model.now) terms.now }
-    ensures none_forgotten { NothingIsForgotten (M.meaning model.now) terms.now }
+    ensures { EventsAreCaused (M.meaning model.now) terms.now }
 {
     keeps_laws(model);
 }

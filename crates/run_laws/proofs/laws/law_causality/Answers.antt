@@ -2,8 +2,8 @@
 use Rattle.run_laws.proofs.CausalityLaw.{causality_law, nothing_is_forgotten}
 use Rattle.run_laws.proofs.laws.law_causality.Goals as goal
 
-pub returns-clause-causes : goal.returns-clause-causes
-returns-clause-causes g c = causality_law (g.M.Model.meaning c.args.model.now) c.args.terms.now
-
-pub returns-clause-none_forgotten : goal.returns-clause-none_forgotten
-returns-clause-none_forgotten g c = nothing_is_forgotten (g.M.Model.meaning c.args.model.now) c.args.terms.now
+pub returns : goal.returns
+returns g c =
+    let m = g.M.Model.meaning c.args.model.now in
+    let t = c.args.terms.now in
+    record { causes = causality_law m t; none_forgotten = nothing_is_forgotten m t }

@@ -2,8 +2,8 @@
 use Rattle.run_laws.proofs.ReachedLemmas.{reached-lawful, run_is_reached}
 use Rattle.run_laws.proofs.laws.law_reached.Goals as goal
 
-pub returns-clause-run : goal.returns-clause-run
-returns-clause-run g c = run_is_reached (g.M.Model.meaning c.args.model.now) c.args.terms.now
-
-pub returns-clause-lawful : goal.returns-clause-lawful
-returns-clause-lawful g c = λ s. reached-lawful (g.M.Model.meaning c.args.model.now) c.args.terms.now s c.keeps_laws.ensures
+pub returns : goal.returns
+returns g c =
+    let m = g.M.Model.meaning c.args.model.now in
+    let t = c.args.terms.now in
+    record { run = run_is_reached m t; lawful = λ s. reached-lawful m t s c.keeps_laws.ensures }
