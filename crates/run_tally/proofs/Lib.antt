@@ -1,2 +1,3 @@
 pub mod InTime
 pub mod ComingLemmas
+pub mod ToldLemmas

@@ -1,8 +1,5 @@
-use Rattle.std.proofs.Common.{◌++◌, length, ◌<◌, take, subst, sym, arith, append-nil}
-use Rattle.std.proofs.lemmas.Option.{get_or_from_slice_get}
-use Rattle.event_key.specs.declared.key.Key.{Key}
-use Rattle.model_core.specs.declared.note.Note.{Note}
-use Rattle.run_tally.proofs.ComingLemmas.{can_come, one_more}
+use Rattle.std.proofs.Common.{◌++◌, take, subst, sym, append-nil}
+use Rattle.run_tally.proofs.ComingLemmas.{read-comes, read-more}
 use Rattle.run_tally.proofs.adding.add_all.Goals as goal
 
 pub loop-i-init : goal.loop-i-init
@@ -10,22 +7,13 @@ loop-i-init g c before up can = subst (g.L.Tally.sums_up c.args.model.now c.args
 
 pub add-requires : goal.add-requires
 add-requires g c =
-    let m = g.M.Model.meaning c.args.model.now in
-    let records = c.args.records.now.items in
-    let i = c.loop-i.i in
     let before = c.requires.0 in
-    let told : Key × Note = (c.at.result.0.now, c.at.result.1.now) in
-    let below : i < length records = omega (arith, c.loop-i-test.true, c.len-i-end.ensures) in
-    let is = sym (get_or_from_slice_get records i told told c.at.ensures.told) in
-    (before ++ take i records, c.loop-i.invariant before c.requires.1 c.requires.2, can_come m before records i told below is c.at.ensures.few c.requires.2)
+    let comes = read-comes (g.M.Model.meaning c.args.model.now) before c.args.records.now.items c.loop-i.i _ c.at.ensures.told c.at.ensures.few c.requires.2 in
+    (before ++ take c.loop-i.i c.args.records.now.items, c.loop-i.invariant before c.requires.1 c.requires.2, comes)
 
 pub loop-i-preserved : goal.loop-i-preserved
 loop-i-preserved g c before up can =
     let m = g.M.Model.meaning c.args.model.now in
     let records = c.args.records.now.items in
-    let i = c.loop-i.i in
-    let told : Key × Note = (c.at.result.0.now, c.at.result.1.now) in
-    let below : i < length records = omega (arith, c.loop-i-test.true, c.len-i-end.ensures) in
-    let is = sym (get_or_from_slice_get records i told told c.at.ensures.told) in
-    subst (g.L.Tally.sums_up c.args.model.now c.add.new.self) (one_more m before records i told below is)
-    (c.add.ensures (before ++ take i records) (c.loop-i.invariant before up can) (can_come m before records i told below is c.at.ensures.few can))
+    subst (g.L.Tally.sums_up c.args.model.now c.add.new.self) (read-more m before records c.loop-i.i _ c.at.ensures.told)
+    (c.add.ensures (before ++ take c.loop-i.i records) (c.loop-i.invariant before up can) (read-comes m before records c.loop-i.i _ c.at.ensures.told c.at.ensures.few can))
