@@ -1,1 +1,2 @@
+pub mod HotLemmas
 pub mod PinCounts

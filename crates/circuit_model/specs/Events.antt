@@ -64,14 +64,16 @@ level_to delay output p = record { dest = p.gate; delay = delay; kind = 5; a = p
 abbrev pub told : LogicGate → ℕ → List Part
 told gate output = if gate.probe then record { word = LEVEL_WORD; a = output; b = 0 } ∷ [] else []
 
--- an output that differs is kept, sent to each pin that the gate feeds, and told
-unfoldable pub gate_effect : List LogicGate → ℕ → CellData → Event → Effect
-gate_effect gates number cells event =
-    let gate = gate_at gates number in
+-- what an event does at a gate that feeds these pins: an output that differs is kept, sent to each of them, and told
+abbrev pub effect_of : LogicGate → List Pin → CellData → Event → Effect
+effect_of gate pins cells event =
     let output = output_after gate cells event in
     if output == output_of cells then record { changes = pin_changes gate event; sends = []; note = [] }
     else record {
       changes = pin_changes gate event ++ Set 1 output ∷ [];
-      sends = map (level_to (delay_of gate) output) (fed_by gates number);
+      sends = map (level_to (delay_of gate) output) pins;
       note = told gate output;
     }
+
+unfoldable pub gate_effect : List LogicGate → ℕ → CellData → Event → Effect
+gate_effect gates number cells event = effect_of (gate_at gates number) (fed_by gates number) cells event

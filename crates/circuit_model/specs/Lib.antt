@@ -1,5 +1,6 @@
 pub mod Events
 pub mod Gates
+pub mod Hot
 pub mod LawfulCells
 pub mod Meaning
 pub mod ModelLaws

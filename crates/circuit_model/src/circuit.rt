@@ -1,18 +1,18 @@
 //! The model of a circuit.
-ghost use Rattle.std.specs.Prelude.{◌≡◌, ◌<◌, IfOk};
+ghost use Rattle.std.specs.Prelude.{◌≡◌, ◌<◌, length, IfOk};
 ghost use Rattle.circuit_model.specs.Parts.{IsCircuit};
 ghost use Rattle.circuit_model.specs.PartsProps.{IsCircuit-prop};
 ghost use Rattle.circuit_model.specs.Meaning.{circuit_meaning};
 ghost use Rattle.circuit_model.specs.Starts.{starts_of};
-ghost use Rattle.circuit_model.specs.Wiring.{Lists, all_pins};
+ghost use Rattle.circuit_model.specs.Hot.{HaveHot};
 
 use crate::gate::LogicGate;
-use crate::response::OUTPUT;
+use crate::hot::HotGates;
 use crate::starts::starts_of;
-use crate::wiring::{Pins, gate_at, wire};
+use crate::wiring::{gate_at, wire};
 use model_core::model::Model as SimulationModel;
 use model_core::{
-    Cells, Change, Digits, Effect, Ending, Event, OutOfMemory, Start, fault_word, record_word,
+    Cells, Digits, Effect, Ending, Event, OutOfMemory, Start, fault_word, record_word,
     write_record_word,
 };
 use random_streams::Stream;
@@ -22,10 +22,10 @@ use std::alloc::Global;
 #[derive(Debug, Drop)]
 pub struct Circuit {
     gates: Vec<LogicGate>,
-    feeds: Vec<Pins>,
+    hot: HotGates,
     starts: Vec<Start>,
     ghost in_range: { IsCircuit gates.items } by { IsCircuit-prop gates.items },
-    ghost wired: { Lists gates.items feeds.items (all_pins gates.items) },
+    ghost heated: { HaveHot gates.items hot.gates.items hot.fed.items (length gates.items) },
     ghost listed: { starts.items ≡ starts_of gates.items },
 }
 
@@ -38,12 +38,9 @@ impl Circuit {
         ensures { IfOk result (λ circuit. ⟦<Circuit as SimulationModel>⟧.meaning circuit ≡ circuit_meaning gates.items) }
     {
         let feeds = wire(alloc, &gates)?;
+        let hot = HotGates::of(alloc, &gates, &feeds)?;
         let starts = starts_of(alloc, &gates)?;
-        Ok(Circuit {
-            gates,
-            feeds,
-            starts,
-        })
+        Ok(Circuit { gates, hot, starts })
     }
 }
 
@@ -79,7 +76,8 @@ impl SimulationModel for Circuit {
         gate.is_lawful(cells)
     }
 
-    #[tactic(auto, unfolding(crate::specs::Meaning::circuit_meaning, crate::specs::Events::gate_effect))]
+    #[tactic(auto, unfolding(crate::specs::Meaning::circuit_meaning))]
+    #[inline(always)]
     fn respond(
         &self,
         _words: &mut Stream,
@@ -88,19 +86,8 @@ impl SimulationModel for Circuit {
         event: &Event,
         sheet: &mut Effect,
     ) -> Result<Ending, OutOfMemory> {
-        let gate = gate_at(&self.gates, object);
-        let output = gate.output_after(cells, event);
-        sheet.clear();
-        gate.change_pin(event, &mut sheet.changes);
-        if output != cells.word(OUTPUT) {
-            sheet.changes.push(Change::Set {
-                word: OUTPUT,
-                value: output,
-            });
-            let pins = &self.feeds[object as usize];
-            gate.send_all(output, pins.as_slice(), &mut sheet.sends);
-            sheet.note = gate.told(output);
-        }
+        let gate = self.hot.at(object);
+        gate.respond(self.hot.fed_by(gate), cells, event, sheet);
         Ok(Ending::Goes)
     }
 

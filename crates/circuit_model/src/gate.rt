@@ -1,6 +1,6 @@
 //! Gates, and the values that they compute.
 ghost use Rattle.std.specs.Prelude.{IsTrue, ◌↔◌, ◌≡◌, ◌≤◌, ℕ, List, length};
-ghost use Rattle.circuit_model.specs.Gates.{is_input, is_flip_flop, value_of, toggled, delay_of, HasPins, AreBits, ones_in};
+ghost use Rattle.circuit_model.specs.Gates.{is_input, is_flip_flop, value_of, toggled, HasPins, AreBits, ones_in};
 
 use crate::limits::MOST_PINS;
 use model_core::{Name, Sequence};
@@ -111,12 +111,5 @@ impl LogicGate {
         ensures { result ≡ length self.now.from }
     {
         self.from.as_slice().len()
-    }
-
-    /// How long its output takes to the pins that it feeds, in ticks.
-    pub fn output_delay(&self) -> u64
-        ensures { result ≡ delay_of self.now }
-    {
-        if self.kind.is_input() { 0 } else { self.delay }
     }
 }

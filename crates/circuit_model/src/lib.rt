@@ -9,6 +9,7 @@
 mod circuit;
 mod fan_out;
 mod gate;
+mod hot;
 mod limits;
 mod response;
 mod starts;

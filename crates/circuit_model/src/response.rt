@@ -2,16 +2,18 @@
 ghost use Rattle.std.specs.Prelude.{◌≡◌, ◌+◌, ◌<◌, ◌≤◌, [], length, map, drop, IsTrue};
 ghost use Rattle.std.specs.List.{list_all};
 ghost use Rattle.circuit_model.specs.Events.{is_bit, is_gate_cells, is_level, levels_of, output_of, output_on, output_after};
-ghost use Rattle.circuit_model.specs.Events.{pin_changes, level_to, rises, told};
+ghost use Rattle.circuit_model.specs.Events.{pin_changes, level_to, rises, told, effect_of};
 ghost use Rattle.circuit_model.specs.Gates.{HasPins, ones_in, delay_of};
+ghost use Rattle.circuit_model.specs.Hot.{bare};
 
 use crate::gate::{LogicGate, LogicKind};
+use crate::hot::HotGate;
 use crate::starts::{COMPUTE, LEVEL, TURN};
 use crate::wiring::Pin;
-use model_core::{Cells, Change, Event, Few, LEVEL_WORD, Note, Part, Send};
+use model_core::{Cells, Change, Effect, Event, Few, LEVEL_WORD, Note, Part, Send};
 
 /// The word of a gate's cells that is its output.
-pub const OUTPUT: u32 = 1;
+const OUTPUT: u32 = 1;
 
 /// The first word of a gate's cells that is a pin.
 const FIRST_PIN: u32 = 2;
@@ -41,13 +43,50 @@ impl LogicGate {
             && cells.word(0) == 0
             && are_bits(cells)
     }
+}
+
+impl HotGate {
+    /// Writes what an event does at it, where it feeds these pins.
+    #[inline(always)]
+    pub fn respond(&self, fed: &[Pin], cells: &Cells, event: &Event, sheet: &mut Effect)
+        requires pins { HasPins self.now.kind (length (bare self.now).from) }
+        requires lawful { IsTrue (is_gate_cells (bare self.now) cells.now.contents) }
+        requires few { length fed.now ≤ 8 }
+        ensures { sheet.new ≡ effect_of (bare self.now) fed.now cells.now.contents event.now }
+    {
+        let output = self.output_after(cells, event);
+        sheet.clear();
+        self.change_pin(event, &mut sheet.changes);
+        if output != cells.word(OUTPUT) {
+            sheet.changes.push(Change::Set {
+                word: OUTPUT,
+                value: output,
+            });
+            self.send_all(output, fed, &mut sheet.sends);
+            sheet.note = self.told(output);
+        }
+    }
+
+    /// How many pins it has.
+    fn pins(&self) -> usize
+        ensures { result ≡ length (bare self.now).from }
+    {
+        usize::from(self.pins)
+    }
+
+    /// How long its output takes to the pins that it feeds, in ticks.
+    fn output_delay(&self) -> u64
+        ensures { result ≡ delay_of (bare self.now) }
+    {
+        if self.kind.is_input() { 0 } else { self.delay }
+    }
 
     /// The output that an event leaves.
     #[tactic(auto, unfolding(crate::specs::Events::output_after))]
-    pub fn output_after(&self, cells: &Cells, event: &Event) -> u64
-        requires pins { HasPins self.now.kind (length self.now.from) }
-        requires lawful { IsTrue (is_gate_cells self.now cells.now.contents) }
-        ensures { result ≡ output_after self.now cells.now.contents event.now }
+    fn output_after(&self, cells: &Cells, event: &Event) -> u64
+        requires pins { HasPins self.now.kind (length (bare self.now).from) }
+        requires lawful { IsTrue (is_gate_cells (bare self.now) cells.now.contents) }
+        ensures { result ≡ output_after (bare self.now) cells.now.contents event.now }
     {
         let held = cells.word(OUTPUT);
         if event.kind == TURN {
@@ -64,8 +103,8 @@ impl LogicGate {
     }
 
     /// Whether the event brings a level to a pin that there is.
-    pub fn is_level(&self, event: &Event) -> bool
-        ensures { result ≡ is_level self.now event.now }
+    fn is_level(&self, event: &Event) -> bool
+        ensures { result ≡ is_level (bare self.now) event.now }
     {
         event.kind == LEVEL && event.a < self.pins() as u64
     }
@@ -73,9 +112,9 @@ impl LogicGate {
     /// The output once a pin has taken a level.
     #[tactic(auto, unfolding(crate::specs::Events::output_on))]
     fn output_on(&self, cells: &Cells, place: u32, level: u64) -> u64
-        requires pins { HasPins self.now.kind (length self.now.from) }
-        requires lawful { IsTrue (is_gate_cells self.now cells.now.contents) }
-        requires exists { place < length self.now.from }
+        requires pins { HasPins self.now.kind (length (bare self.now).from) }
+        requires lawful { IsTrue (is_gate_cells (bare self.now) cells.now.contents) }
+        requires exists { place < length (bare self.now).from }
         requires level { level ≤ 1 }
         ensures { result ≡ output_on self.now.kind (levels_of cells.now.contents) (output_of cells.now.contents) place level }
     {
@@ -90,8 +129,8 @@ impl LogicGate {
 
     /// How many of the pins are 1.
     fn ones(&self, cells: &Cells) -> u64
-        requires pins { HasPins self.now.kind (length self.now.from) }
-        requires lawful { IsTrue (is_gate_cells self.now cells.now.contents) }
+        requires pins { HasPins self.now.kind (length (bare self.now).from) }
+        requires lawful { IsTrue (is_gate_cells (bare self.now) cells.now.contents) }
         ensures { result ≡ ones_in (levels_of cells.now.contents) }
     {
         let mut ones = 0;
@@ -102,10 +141,10 @@ impl LogicGate {
     }
 
     /// Lets a pin take the level that an event brings.
-    pub fn change_pin(&self, event: &Event, changes: &mut Few<Change, 16>)
-        requires pins { HasPins self.now.kind (length self.now.from) }
+    fn change_pin(&self, event: &Event, changes: &mut Few<Change, 16>)
+        requires pins { HasPins self.now.kind (length (bare self.now).from) }
         requires blank { changes.old ≡ [] }
-        ensures { changes.new ≡ pin_changes self.now event.now }
+        ensures { changes.new ≡ pin_changes (bare self.now) event.now }
     {
         if self.is_level(event) {
             changes.push(Change::Set {
@@ -116,8 +155,8 @@ impl LogicGate {
     }
 
     /// What is told of an output.
-    pub fn told(&self, output: u64) -> Note
-        ensures { result ≡ told self.now output }
+    fn told(&self, output: u64) -> Note
+        ensures { result ≡ told (bare self.now) output }
     {
         if !self.probe {
             return Note::none();
@@ -130,10 +169,10 @@ impl LogicGate {
     }
 
     /// Sends an output to the pins that the gate feeds.
-    pub fn send_all(&self, output: u64, pins: &[Pin], sends: &mut Few<Send, 8>)
+    fn send_all(&self, output: u64, pins: &[Pin], sends: &mut Few<Send, 8>)
         requires few { length pins.now ≤ 8 }
         requires blank { sends.old ≡ [] }
-        ensures { sends.new ≡ map (level_to (delay_of self.now) output) pins.now }
+        ensures { sends.new ≡ map (level_to (delay_of (bare self.now)) output) pins.now }
     {
         let delay = self.output_delay();
         for pin in pins {

@@ -6,12 +6,13 @@ use Rattle.circuit_model.specs.Gates.{ones_in, value_of}
 use Rattle.circuit_model.specs.LawfulCells.{AreGateCells-from_lawful, length-levels_of, AreBits-levels_of, level-is_word}
 use Rattle.circuit_model.specs.Ones.{AreBits-set, ones_in-≤, ones_in-set}
 use Rattle.circuit_model.proofs.PinCounts.{few_pins}
-use Rattle.circuit_model.proofs.gate.LogicGate.output_on.Goals as goal
+use Rattle.circuit_model.specs.Hot.{bare}
+use Rattle.circuit_model.proofs.hot.HotGate.output_on.Goals as goal
 
 pub overflow_sub-ones : goal.overflow_sub-ones
 overflow_sub-ones c =
     let cells = c.args.cells.now.contents in
-    let are = AreGateCells-from_lawful c.args.self.now cells c.requires.lawful in
+    let are = AreGateCells-from_lawful (bare c.args.self.now) cells c.requires.lawful in
     let within : c.args.place < length (levels_of cells) = omega (arith, length-levels_of _ cells are, c.requires.exists) in
     omega (
       arith,
@@ -24,7 +25,7 @@ overflow_sub-ones c =
 pub overflow_add-ones : goal.overflow_add-ones
 overflow_add-ones c =
     let cells = c.args.cells.now.contents in
-    let are = AreGateCells-from_lawful c.args.self.now cells c.requires.lawful in
+    let are = AreGateCells-from_lawful (bare c.args.self.now) cells c.requires.lawful in
     omega (
       arith,
       ones_in-≤ (levels_of cells),
@@ -37,7 +38,7 @@ overflow_add-ones c =
 pub value-requires-clause-ones : goal.value-requires-clause-ones
 value-requires-clause-ones c =
     let cells = c.args.cells.now.contents in
-    let are = AreGateCells-from_lawful c.args.self.now cells c.requires.lawful in
+    let are = AreGateCells-from_lawful (bare c.args.self.now) cells c.requires.lawful in
     let within : c.args.place < length (levels_of cells) = omega (arith, length-levels_of _ cells are, c.requires.exists) in
     let after = slice_set (levels_of cells) c.args.place c.args.level in
     let size : length after ≡ length (levels_of cells) = length-set _ _ _ in
@@ -57,7 +58,7 @@ pub returns : goal.returns
 unfolding output_on
 returns c =
     let cells = c.args.cells.now.contents in
-    let are = AreGateCells-from_lawful c.args.self.now cells c.requires.lawful in
+    let are = AreGateCells-from_lawful (bare c.args.self.now) cells c.requires.lawful in
     let within : c.args.place < length (levels_of cells) = omega (arith, length-levels_of _ cells are, c.requires.exists) in
     let after = slice_set (levels_of cells) c.args.place c.args.level in
     let before : c.word-before.result ≡ slice_index (levels_of cells) c.args.place = c.word-before.ensures ∙ sym (level-is_word cells c.args.place) in
