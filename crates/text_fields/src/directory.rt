@@ -2,7 +2,7 @@
 ghost use Rattle.std.specs.Prelude.{◌≡◌, OnOk};
 
 use std::alloc::{AllocError, Global};
-use std::collections::BTreeMap;
+use std::collections::HashMap;
 
 /// What has a name: an object or a gate.
 #[derive(Clone, Copy, Debug)]
@@ -16,7 +16,7 @@ pub struct Place {
 /// What was read so far, by its names.
 #[derive(Drop)]
 pub struct Directory {
-    places: BTreeMap<Vec<u8>, Place>,
+    places: HashMap<Vec<u8>, Place>,
 }
 
 impl Directory {
@@ -28,7 +28,7 @@ impl Directory {
         ensures { finder result ≡ nothing }
     {
         Directory {
-            places: BTreeMap::new(alloc),
+            places: HashMap::new(alloc),
         }
     }
 
