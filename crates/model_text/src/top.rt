@@ -17,6 +17,7 @@ use model_core::model::Model as SimulationModel;
 use model_core::{MOST_EVENTS, MOST_TEXT_BYTES};
 use sim_spec::Terms;
 use std::alloc::Global;
+use std::mem;
 use text_fields::{Cause, Refusal, number, only, optional, required, terms_of, text, tree};
 use toml::{Table, Value};
 
@@ -107,7 +108,8 @@ fn top(alloc: Global, table: &Table) -> Result<ReadModel, Refusal>
 
 /// What a text describes, or the first check that it fails: a model that can be had under any seed without reading the
 /// text again. A refusal has the code of that check, from 1 to 7, and the item that it speaks of. Item 0 is the model as a
-/// whole. The entries of `start`, or the objects and after them the jobs, are counted from 1.
+/// whole. The entries of `start`, or the objects and after them the jobs, are counted from 1. The memory of the text's tree
+/// isn't given back.
 #[tactic(auto, unfolding(crate::specs::ModelTexts::family_of))]
 pub fn read_family(alloc: Global, bytes: &[u8]) -> Result<ReadModel, Refusal>
     ensures read { IfOk result (λ read. family_of bytes.now ≡ Ok (family_read read)) }
@@ -119,7 +121,10 @@ pub fn read_family(alloc: Global, bytes: &[u8]) -> Result<ReadModel, Refusal>
         return Err(Cause::TooLong.at(0));
     }
     let table = tree(alloc, bytes)?;
-    top(alloc, &table)
+    let read = top(alloc, &table);
+    // a program reads one model, and taking a large tree apart is a tenth of that work
+    mem::forget(table);
+    read
 }
 
 /// The model and the terms of a text, or the first check that it fails, as `read_family` tells it.
