@@ -1,4 +1,5 @@
 //! How the nodes of an advance are handed out to threads.
+ghost use Rattle.std.specs.Prelude.{◌≡◌, ◌<◌, ◌≤◌, ℕ};
 ghost use Rattle.node_team.specs.Handings.{AreWorkers, IsHanding};
 
 /// How the nodes of an advance are handed out to threads.
@@ -16,7 +17,10 @@ impl Handing {
     /// In so many threads, where more than one pays, or by workers in their place.
     pub fn of(threads: usize, workers: Option<u32>) -> Handing
         requires { AreWorkers workers }
-        ensures { IsHanding result }
+        ensures can { IsHanding result }
+        ensures alone { threads < 2 → result ≡ Handing.InTurn }
+        ensures parts { 2 ≤ threads → workers ≡ None → result ≡ Handing.InParts threads }
+        ensures stolen { (many : ℕ) → 2 ≤ threads → workers ≡ Some many → result ≡ Handing.Stolen many }
     {
         if threads < 2 {
             return Handing::InTurn;
