@@ -53,13 +53,13 @@ abbrev pub busy_in : ℕ → Readings → ℕ
 busy_in most r = most - length r.idle + r.held
 
 -- a server that begins a job is busy then, and nothing else is read otherwise
-record BeganAs (most : ℕ) (visit : AVisit) (counts : Counts) (r : Readings) : Type 0 where
+pub record BeganAs (most : ℕ) (visit : AVisit) (counts : Counts) (r : Readings) : Type 0 where
   pub busy : busy_in most (began visit counts r) ≡ busy_in most r + 1
   pub waiting : (began visit counts r).waiting ≡ r.waiting
   pub opened : (began visit counts r).opened ≡ r.opened
   pub down : (began visit counts r).down ≡ r.down
 
-began_as : (most : ℕ) (visit : AVisit) (counts : Counts) (r : Readings) → counts.held ≡ r.held → 0 < length r.idle → length r.idle ≤ most → BeganAs most visit counts r
+pub began_as : (most : ℕ) (visit : AVisit) (counts : Counts) (r : Readings) → counts.held ≡ r.held → 0 < length r.idle → length r.idle ≤ most → BeganAs most visit counts r
 began_as most visit counts r held some few = record {
   busy = by (is_none visit.service);
   waiting = number (λ r. r.waiting) (λ v. refl) (λ xs. refl) (is_none visit.service);
@@ -147,7 +147,7 @@ module _ (p : ShopParts) (site : Site) (cells : CellData) (e : Event) (is : AtSt
   tells x (works breakdowns kind has) = record { came = omega arith; begun = omega arith; busy = refl; waiting = refl; opened = refl; down = refl }
 
 -- the lag grows by the standstills that are told
-began_lag : (visit : AVisit) (counts : Counts) (r : Readings) → (began visit counts r).lag ≡ r.lag
+pub began_lag : (visit : AVisit) (counts : Counts) (r : Readings) → (began visit counts r).lag ≡ r.lag
 began_lag visit counts r = by (is_none visit.service)
   where
     by : (takes_it : Bool) → (if takes_it then record r { held = counts.held + 1 } else record r { idle = take (length r.idle - 1) r.idle }).lag ≡ r.lag

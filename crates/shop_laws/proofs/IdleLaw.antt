@@ -168,14 +168,14 @@ unfolding first_station_cells
 nobody_first station = get_or-replicate (4 + station.levels + station.most) 1 0 0 (omega arith)
 
 -- what is sent at once comes in the same tick
-same_tick : (stamp : ℕ) → has_no_step stamp 0 ≡ false → time_part (next_stamp stamp 0) ≡ time_part stamp
+pub same_tick : (stamp : ℕ) → has_no_step stamp 0 ≡ false → time_part (next_stamp stamp 0) ≡ time_part stamp
 unfolding has_no_step next_stamp
 same_tick stamp more =
     let apart : step_part stamp ≢ 65535 = eqb-false (step_part stamp) 65535 more in
     omega arith
 
 -- what is sent is among the events that are sent
-sent_event : (stamp object serial : ℕ) (sends : List Send) (s : Send) → Contains sends s → has_endless_chain stamp sends ≡ false
+pub sent_event : (stamp object serial : ℕ) (sends : List Send) (s : Send) → Contains sends s → has_endless_chain stamp sends ≡ false
     → (k : ℕ) × Contains (emissions stamp object serial sends) (emission stamp object k s) × (has_no_step stamp s.delay ≡ false)
 unfolding emissions has_endless_chain
 sent_event stamp object serial [] s there free = none-in s there

@@ -211,7 +211,7 @@ module _ (p : ShopParts) (site : Site) (cells : CellData) (e : Event) (is : AtSt
       let free = spare_frees station.most (counts_of cells) (record { free = is.lawful.free; held = is.lawful.held }) is.lawful.opened spare in
       omega (arith, free)
 
-  next_below : 0 < length (line_of cells FREE_SERVERS) → next_server cells < station.most
+  pub next_below : 0 < length (line_of cells FREE_SERVERS) → next_server cells < station.most
   next_below some = ltb-true _ _ (is.lawful.servers (length (line_of cells FREE_SERVERS) - 1) 0 (omega arith))
 
   -- a job that begins

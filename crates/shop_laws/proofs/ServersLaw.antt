@@ -71,7 +71,7 @@ servers_law p t s i fine exists reached =
       no_more = omega (arith, lawful.held, lawful.free);
     }
 
-spare_is : (most : ℕ) (counts : Counts) → 0 < spare_of most counts → (counts.down ≡ 0) × (busy_of most counts < counts.opened)
+pub spare_is : (most : ℕ) (counts : Counts) → 0 < spare_of most counts → (counts.down ≡ 0) × (busy_of most counts < counts.opened)
 unfolding spare_of
 spare_is most counts some = by (counts.down == 0) refl some
   where

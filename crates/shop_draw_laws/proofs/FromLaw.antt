@@ -1,0 +1,66 @@
+-- What is told before a tick and what is told from it on are all that is told.
+use Rattle.std.proofs.Common.{◌≡◌, ℕ, zero, suc, ◌+◌, ◌-◌, ◌<◌, ◌≤◌, Bool, true, false, cond, List, [], ◌∷◌, refl, sym, ap, ◌∙◌, arith}
+use Rattle.std.specs.Prelude.{nat_lt, nat_le, sum_by}
+use Rattle.std.specs.List.{range_with_len, filter}
+use Rattle.std.proofs.lemmas.Bool.{ltb-true, ltb-false, leb-true, leb-false}
+use Rattle.std.proofs.lemmas.List.Sums.{sum_by-cons}
+use Rattle.model_core.specs.declared.note.Part.{Part}
+use Rattle.shop_totals.specs.Flows.{is_coming, is_beginning, is_end, is_loss, is_reneging, count_told, flow_of}
+use Rattle.shop_totals.specs.Kept.{number_after, ticks_of}
+use Rattle.shop_totals.specs.Told.{TimedPart, told_by, told_from}
+use Rattle.shop_laws.specs.FlowLaws.{told_of}
+use Rattle.shop_draw_laws.specs.FromLaws.{told_before, AddsUpFrom, TotalsFrom}
+
+-- words are told before a tick, or from it on
+split : (c : ℕ → Bool) (first : ℕ) (told : List TimedPart) → count_told c told ≡ count_told c (told_before first told) + count_told c (told_from first told)
+split c first [] = omega arith
+split c first (one ∷ rest) = by (nat_lt one.time first) (nat_le first one.time) refl refl (split c first rest)
+  where
+    f : TimedPart → ℕ
+    f one = cond (c one.part.word) 1 0
+
+    by : (before after : Bool) → nat_lt one.time first ≡ before → nat_le first one.time ≡ after
+        → count_told c rest ≡ count_told c (told_before first rest) + count_told c (told_from first rest)
+        → count_told c (one ∷ rest)
+        ≡ count_told c (cond before (one ∷ told_before first rest) (told_before first rest)) + count_told c (cond after (one ∷ told_from first rest) (told_from first rest))
+    by true true before after more = absurd (let lt : one.time < first = ltb-true _ _ before in let le : first ≤ one.time = leb-true _ _ after in omega arith)
+    by true false before after more =
+        omega (arith, more, sum_by-cons (λ (one : TimedPart). cond (c one.part.word) 1 0) one rest, sum_by-cons (λ (one : TimedPart). cond (c one.part.word) 1 0) one (told_before first rest))
+    by false true before after more =
+        omega (arith, more, sum_by-cons (λ (one : TimedPart). cond (c one.part.word) 1 0) one rest, sum_by-cons (λ (one : TimedPart). cond (c one.part.word) 1 0) one (told_from first rest))
+    by false false before after more = absurd (let ge : first ≤ one.time = ltb-false _ _ before in let gt : one.time < first = leb-false _ _ after in omega arith)
+
+-- ticks from 0 on and before a first one, and from that on
+ticks_split : (f : ℕ → ℕ) (a n m : ℕ) → sum_by f (range_with_len a (n + m)) ≡ sum_by f (range_with_len a n) + sum_by f (range_with_len (a + n) m)
+ticks_split f a zero m =
+    let same : a + 0 ≡ a = omega arith in
+    let none : zero + m ≡ m = omega arith in
+    omega (arith, ap (λ k. sum_by f (range_with_len a k)) none, ap (λ k. sum_by f (range_with_len k m)) same)
+ticks_split f a (suc n) m =
+    let more : suc n + m ≡ suc (n + m) = omega arith in
+    let on : a + suc n ≡ a + 1 + n = omega arith in
+    ap (λ k. sum_by f (range_with_len a k)) more
+    ∙ (let e : sum_by f (range_with_len a (suc (n + m))) ≡ sum_by f (range_with_len a (suc n)) + sum_by f (range_with_len (a + 1 + n) m) =
+    omega (arith, sum_by-cons f a (range_with_len (a + 1) (n + m)), sum_by-cons f a (range_with_len (a + 1) n), ticks_split f (a + 1) n m) in e)
+    ∙ ap (λ k. sum_by f (range_with_len a (suc n)) + sum_by f (range_with_len k m)) (sym on)
+
+pub totals_from : TotalsFrom
+unfolding flow_of ticks_of
+totals_from p t n i first clock le =
+    let told : List TimedPart = told_of p t n i in
+    record {
+      came = split is_coming first told;
+      begun = split is_beginning first told;
+      done = split is_end first told;
+      lost = split is_loss first told;
+      reneged = split is_reneging first told;
+      ticks = λ after now.
+          let f : ℕ → ℕ = λ tick. number_after after now (told_by tick told) in
+          let all : clock - 0 ≡ first + (clock - first) = omega (arith, le) in
+          let from : 0 + first ≡ first = omega arith in
+          let early : first ≡ first - 0 = omega arith in
+          ap (λ k. sum_by f (range_with_len 0 k)) all
+          ∙ ticks_split f 0 first (clock - first)
+          ∙ ap (λ k. sum_by f (range_with_len 0 first) + sum_by f (range_with_len k (clock - first))) from
+          ∙ ap (λ k. sum_by f (range_with_len 0 k) + sum_by f (range_with_len first (clock - first))) early;
+    }

@@ -1,0 +1,10 @@
+pub mod ClassLaw
+pub mod DrawsLaw
+pub mod EntriesAfter
+pub mod FromLaw
+pub mod PatienceLaw
+pub mod Places
+pub mod Sending
+pub mod ShiftsLaw
+pub mod SmallDraws
+pub mod StandingLaw

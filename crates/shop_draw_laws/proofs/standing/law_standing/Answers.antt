@@ -1,0 +1,6 @@
+-- For how long services take.
+use Rattle.shop_draw_laws.proofs.StandingLaw.{services_stand_still}
+use Rattle.shop_draw_laws.proofs.standing.law_standing.Goals as goal
+
+pub returns : goal.returns
+returns c = services_stand_still

@@ -1,0 +1,9 @@
+pub mod ClassLaws
+pub mod DrawLaws
+pub mod Draws
+pub mod FromLaws
+pub mod Patience
+pub mod PatienceLaws
+pub mod Services
+pub mod ShiftLaws
+pub mod StandingLaws
