@@ -1,22 +1,21 @@
 -- What comes to a station is accounted for, class by class.
 use Rattle.std.proofs.Common.{◌≡◌, ◌≢◌, ℕ, suc, ◌+◌, ◌/◌, ◌^◌, ◌<◌, Bool, true, false, cond, List, [], ◌∷◌, ◌++◌, length, refl, sym, ap, ◌∙◌, subst, ⊎_elim, arith, append-nil}
-use Rattle.std.specs.Prelude.{if◌then◌else◌, ◌==◌, slice_index, count_by}
+use Rattle.std.specs.Prelude.{if◌then◌else◌, ◌==◌, count_by}
 use Rattle.std.specs.Int.{from_bool}
 use Rattle.std.proofs.lemmas.Bool.{cases_eq}
 use Rattle.std.proofs.lemmas.List.Elements.{filter-append}
 use Rattle.event_key.specs.declared.key.Key.{Key}
 use Rattle.event_key.specs.Stamps.{time_part}
-use Rattle.delta_exchange.specs.Changes.{CellData, line_of, cells_after_all}
+use Rattle.delta_exchange.specs.Changes.{CellData, cells_after_all}
 use Rattle.model_core.specs.declared.effect.Effect.{Effect}
 use Rattle.model_core.specs.declared.event.Event.{Event}
 use Rattle.model_core.specs.declared.note.Note.{Note}
 use Rattle.model_core.specs.Meaning.{Meaning}
 use Rattle.run_laws.specs.Reached.{after_events, gathered, record_of}
 use Rattle.run_laws.proofs.Induction.{after_events-does, after_events-stops, gathered-more, each_number}
-use Rattle.sim_spec.specs.declared.stop.Stop.{Stop}
 use Rattle.sim_spec.specs.declared.terms.Terms.{Terms}
 use Rattle.sim_spec.specs.Run.{stops, does, next}
-use Rattle.sim_spec.specs.State.{State, initial_state}
+use Rattle.sim_spec.specs.State.{State}
 use Rattle.shop_model.specs.declared.job.Job.{Job}
 use Rattle.shop_model.specs.declared.job.TheConstants.{JOBS_A_CLASS}
 use Rattle.shop_model.specs.declared.routes.Routes.{Routes}
@@ -27,14 +26,11 @@ use Rattle.shop_model.specs.Meaning.{shop_meaning, site_of}
 use Rattle.shop_model.specs.ShopParts.{ShopParts, IsShop, routes_of, station_at}
 use Rattle.shop_model.specs.Sites.{told as one_told}
 use Rattle.shop_model.specs.StationEffects.{take_effect, wait_effect, lose_effect, begin_effect, pass_effect, renege_effect, still_effect, works_effect}
-use Rattle.shop_model.specs.Stations.{first_station_cells}
 use Rattle.shop_totals.specs.Flows.{is_coming, is_beginning, is_loss, is_reneging, count_told, flow_of}
 use Rattle.shop_totals.specs.Records.{timed_parts, parts_at, told_at, of_class}
 use Rattle.shop_totals.specs.Told.{TimedPart}
 use Rattle.shop_totals.proofs.RecordLemmas.{told_at-here, told_at-elsewhere}
-use Rattle.shop_laws.specs.FlowLaws.{told_of}
 use Rattle.shop_laws.specs.Told.{cells_at}
-use Rattle.shop_laws.specs.Waiting.{sum_in_line}
 use Rattle.shop_laws.proofs.After.{readings_after, reads_after}
 use Rattle.shop_laws.proofs.Cases.{StationDoes, rests, goes_on, frees, takes, waits, loses, passes, begins, ends, puts_off, reneges, shifts, stands, works, entry_at, calls_at}
 use Rattle.shop_laws.proofs.Entries.{reads_sum}

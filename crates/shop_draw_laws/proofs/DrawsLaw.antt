@@ -1,15 +1,15 @@
 -- Each object of a shop draws from its own stream, each time where it stopped before.
-use Rattle.std.proofs.Common.{◌≡◌, ◌≢◌, ℕ, zero, suc, ◌+◌, ◌-◌, ◌%◌, ◌<◌, ◌≤◌, Bool, true, false, List, [], ◌∷◌, ◌++◌, length, All, refl, sym, ap, ◌∙◌, subst, ⊎_elim, arith, eq-eqb, ne_eqb, append-nil, append_assoc}
+use Rattle.std.proofs.Common.{◌≡◌, ◌≢◌, ℕ, ◌+◌, ◌-◌, ◌%◌, ◌<◌, ◌≤◌, Bool, true, false, List, [], ◌∷◌, ◌++◌, length, All, refl, sym, ap, ◌∙◌, subst, ⊎_elim, arith, eq-eqb, ne_eqb, append-nil, append_assoc}
 use Rattle.std.specs.Prelude.{if◌then◌else◌, ◌==◌, ◌&&◌, is_none, nat_lt, nat_le, slice_index, Option, None, Some}
 use Rattle.std.specs.List.{AllByRecursion as Each, flat_map}
 use Rattle.std.specs.Option.{ForSome, option_and_then}
-use Rattle.std.proofs.lemmas.Bool.{and_parts, and_from, cases_eq, cases_lt, eqb-true, eqb-false, le-leb, lt-ltb, ltb-true}
+use Rattle.std.proofs.lemmas.Bool.{and_parts, and_from, cases_eq, cases_lt, eqb-true, eqb-false, le-leb, ltb-true}
 use Rattle.std.proofs.lemmas.Bool.Decides.{nat_tests}
 use Rattle.std.proofs.lemmas.List.Elements.{All-from_recursion, All-nil}
 use Rattle.event_key.specs.declared.key.Key.{Key}
 use Rattle.delta_exchange.specs.declared.change.Change.{Change}
-use Rattle.delta_exchange.specs.declared.change.Change.TheVariants.{Set, Push, Flip}
-use Rattle.delta_exchange.specs.Changes.{CellData, line_of, cells_after_all}
+use Rattle.delta_exchange.specs.declared.change.Change.TheVariants.{Set}
+use Rattle.delta_exchange.specs.Changes.{CellData, cells_after_all}
 use Rattle.key_order.proofs.EachLemmas.{Each-append, Each-map}
 use Rattle.model_core.specs.declared.effect.Effect.{Effect}
 use Rattle.model_core.specs.declared.event.Event.{Event}
@@ -26,27 +26,25 @@ use Rattle.random_streams.specs.Laws.{draw}
 use Rattle.run_laws.specs.Reached.{after_events, gathered, Reaches}
 use Rattle.run_laws.specs.Sent.{first_of}
 use Rattle.run_laws.proofs.Induction.{after_events-does, after_events-stops, gathered-more, each_number}
-use Rattle.sim_spec.specs.declared.stop.Stop.{Stop}
 use Rattle.sim_spec.specs.declared.terms.Terms.{Terms}
-use Rattle.sim_spec.specs.Run.{Next, stops, does, next}
+use Rattle.sim_spec.specs.Run.{stops, does, next}
 use Rattle.sim_spec.specs.State.{State, initial_state}
 use Rattle.shop_model.specs.declared.class.Class.{Class}
-use Rattle.shop_model.specs.declared.class.TheConstants.{MADE, INSIDE}
+use Rattle.shop_model.specs.declared.class.TheConstants.{INSIDE}
 use Rattle.shop_model.specs.declared.counts.Counts.{Counts}
 use Rattle.shop_model.specs.declared.job.Job.{Job}
 use Rattle.shop_model.specs.declared.kinds.TheConstants.{MAKE, COME, DONE, CALL, TIRE, SHIFT, BREAK, MEND}
 use Rattle.shop_model.specs.declared.make.Arrival.{Arrival}
 use Rattle.shop_model.specs.declared.routes.Routes.{Routes}
 use Rattle.shop_model.specs.declared.site.Site.{Site}
-use Rattle.shop_model.specs.declared.station.Breakdowns.{Breakdowns}
 use Rattle.shop_model.specs.declared.station.Station.{Station}
-use Rattle.shop_model.specs.declared.station.TheConstants.{WAITING, DOWN, LAG}
+use Rattle.shop_model.specs.declared.station.TheConstants.{WAITING}
 use Rattle.shop_model.specs.declared.step.Branch.{Branch}
 use Rattle.shop_model.specs.declared.step.Step.{Step}
 use Rattle.shop_model.specs.declared.step.Step.TheVariants.{Visit, Free, Delay, Go}
 use Rattle.shop_model.specs.declared.step.Visit.{Visit as AVisit}
 use Rattle.shop_model.specs.Beginnings.{next_server, service_drawn, begin_changes, begin_sent}
-use Rattle.shop_model.specs.Classes.{made_jobs, jobs_inside, pause_drawn, arrival_of, next_job, others_sent, next_arrival, one_made, arrival_effect, make_effect, stay_effect, go_effect, leave_effect, first_class_cells}
+use Rattle.shop_model.specs.Classes.{made_jobs, jobs_inside, pause_drawn, arrival_of, next_job, others_sent, next_arrival, one_made, arrival_effect, make_effect, stay_effect, go_effect, leave_effect}
 use Rattle.shop_model.specs.JobLaws.{HasHere, Names, job_named}
 use Rattle.shop_model.specs.Jobs.{job_at, birth_of, step_of, served_by}
 use Rattle.shop_model.specs.Meaning.{job_here, home_by, class_of_object, class_effect, effect_at, shop_meaning, site_of}
@@ -61,7 +59,7 @@ use Rattle.shop_laws.proofs.After.{one_less}
 use Rattle.shop_laws.proofs.Cases.{StationDoes, rests, goes_on, frees, takes, waits, loses, passes, begins, ends, puts_off, reneges, shifts, stands, works, IsAtStep}
 use Rattle.shop_laws.proofs.ClassCases.{ClassDoes, idles, makes_none, makes, holds, branches, leaves}
 use Rattle.shop_laws.proofs.Fine.{named_of}
-use Rattle.shop_laws.proofs.Serving.{Serving, serving, station_step, class_step}
+use Rattle.shop_laws.proofs.Serving.{serving, station_step, class_step}
 use Rattle.shop_laws.proofs.Steps.{IsShopStep, shop_step, cells_here, cells_elsewhere, station_at_start, class_at_start, class_cells_lawful}
 use Rattle.shop_draw_laws.specs.DrawLaws.{PlacesFollow, value_at, brought, AreDrawn, ValuesAreDrawn}
 use Rattle.shop_draw_laws.specs.Draws.{laws_of, service_at, patience_at, stay_at, way_at, down_by, up_by, step_named, step_come, delay_law, arrival_laws, laws_drawn, laws_next, laws_by, place_behind}

@@ -1,6 +1,6 @@
 -- Each job that waits at a station after an event waited there before it, or joins by it.
-use Rattle.std.proofs.Common.{get_or, ◌≡◌, ◌≢◌, ℕ, ◌+◌, ◌-◌, ◌^◌, ◌<◌, ◌≤◌, List, [], ◌∷◌, ◌++◌, length, take, drop, refl, sym, ap, ◌∙◌, subst, ⊎_elim, arith, get_or-set_same, get_or-set_other}
-use Rattle.std.specs.Prelude.{Bool, true, false, if◌then◌else◌, ◌==◌, nat_lt, slice_index, slice_set, Some}
+use Rattle.std.proofs.Common.{◌≡◌, ◌≢◌, ℕ, ◌+◌, ◌-◌, ◌^◌, ◌<◌, ◌≤◌, List, [], ◌∷◌, length, refl, sym, ap, ◌∙◌, subst, ⊎_elim, arith, get_or-set_same, get_or-set_other}
+use Rattle.std.specs.Prelude.{Bool, true, false, if◌then◌else◌, ◌==◌, nat_lt, slice_index, Some}
 use Rattle.std.proofs.lemmas.Bool.{cases_eq, cases_lt, lt-ltb, eqb-true, eqb-false}
 use Rattle.std.proofs.lemmas.List.{get_or-drop, get_or-take, get_or_append_left, get_or_push, length-drop, length-take-le, length-append, length-set}
 use Rattle.delta_exchange.specs.Changes.{CellData, line_of, flipped, with_flipped}
@@ -28,7 +28,7 @@ use Rattle.shop_laws.specs.Told.{word_told, first_told}
 use Rattle.shop_laws.proofs.After.{readings_after, push, one_less}
 use Rattle.shop_laws.proofs.Cases.{StationDoes, rests, goes_on, frees, takes, waits, loses, passes, begins, ends, puts_off, reneges, shifts, stands, works, IsAtStep}
 use Rattle.shop_laws.proofs.Entries.{four_jobs, four_since, four_elsewhere}
-use Rattle.shop_laws.proofs.Readings.{Readings, readings_of, put, put_same, put_other, four_put, went_out, began_line}
+use Rattle.shop_laws.proofs.Readings.{readings_of, put, put_same, put_other, four_put, went_out, began_line}
 
 -- at a place of a level a job stands, since when, and until when at most
 pub record Stands (line : ℕ → List ℕ) (level place a since until : ℕ) : Type 0 where

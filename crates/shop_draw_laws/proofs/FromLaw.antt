@@ -1,15 +1,14 @@
 -- What is told before a tick and what is told from it on are all that is told.
 use Rattle.std.proofs.Common.{◌≡◌, ℕ, zero, suc, ◌+◌, ◌-◌, ◌<◌, ◌≤◌, Bool, true, false, cond, List, [], ◌∷◌, refl, sym, ap, ◌∙◌, arith}
 use Rattle.std.specs.Prelude.{nat_lt, nat_le, sum_by}
-use Rattle.std.specs.List.{range_with_len, filter}
+use Rattle.std.specs.List.{range_with_len}
 use Rattle.std.proofs.lemmas.Bool.{ltb-true, ltb-false, leb-true, leb-false}
 use Rattle.std.proofs.lemmas.List.Sums.{sum_by-cons}
-use Rattle.model_core.specs.declared.note.Part.{Part}
 use Rattle.shop_totals.specs.Flows.{is_coming, is_beginning, is_end, is_loss, is_reneging, count_told, flow_of}
 use Rattle.shop_totals.specs.Kept.{number_after, ticks_of}
 use Rattle.shop_totals.specs.Told.{TimedPart, told_by, told_from}
 use Rattle.shop_laws.specs.FlowLaws.{told_of}
-use Rattle.shop_draw_laws.specs.FromLaws.{told_before, AddsUpFrom, TotalsFrom}
+use Rattle.shop_draw_laws.specs.FromLaws.{told_before, TotalsFrom}
 
 -- words are told before a tick, or from it on
 split : (c : ℕ → Bool) (first : ℕ) (told : List TimedPart) → count_told c told ≡ count_told c (told_before first told) + count_told c (told_from first told)

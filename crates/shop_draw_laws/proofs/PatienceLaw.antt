@@ -1,6 +1,6 @@
 -- Who loses patience has waited for as long as was drawn as it joined.
-use Rattle.std.proofs.Common.{◌≡◌, ◌≢◌, ◌⊎◌, ℕ, suc, ◌+◌, ◌-◌, ◌^◌, ◌<◌, ◌≤◌, Bool, true, false, List, [], ◌∷◌, ◌++◌, length, map, inl, inr, refl, sym, ap, ◌∙◌, subst, ⊎_elim, arith, append-nil, eq-eqb}
-use Rattle.std.specs.Prelude.{if◌then◌else◌, ◌==◌, ◌&&◌, slice_index, Contains, Option, None, Some}
+use Rattle.std.proofs.Common.{◌≡◌, ◌≢◌, ◌⊎◌, ℕ, suc, ◌+◌, ◌-◌, ◌^◌, ◌<◌, List, [], ◌∷◌, ◌++◌, length, map, inl, inr, refl, sym, ap, ◌∙◌, subst, ⊎_elim, arith, append-nil, eq-eqb}
+use Rattle.std.specs.Prelude.{if◌then◌else◌, ◌==◌, slice_index, Contains, Option, None, Some}
 use Rattle.std.specs.List.{flat_map}
 use Rattle.std.proofs.lemmas.Bool.{cases_eq, and_from}
 use Rattle.std.proofs.lemmas.List.Elements.{Contains-append_left, Contains-append_right}
@@ -17,7 +17,6 @@ use Rattle.random_streams.specs.declared.delay_law.DelayLaw.{DelayLaw}
 use Rattle.run_laws.specs.Reached.{after_events, gathered}
 use Rattle.run_laws.specs.Sent.{first_of}
 use Rattle.run_laws.proofs.Induction.{after_events-does, after_events-stops, gathered-more, each_number}
-use Rattle.sim_spec.specs.declared.stop.Stop.{Stop}
 use Rattle.sim_spec.specs.declared.terms.Terms.{Terms}
 use Rattle.sim_spec.specs.Run.{stops, does, next}
 use Rattle.sim_spec.specs.State.{State, initial_state}
@@ -28,9 +27,8 @@ use Rattle.shop_model.specs.declared.levels.TheConstants.{EMPTY, NEVER}
 use Rattle.shop_model.specs.declared.routes.Routes.{Routes}
 use Rattle.shop_model.specs.declared.site.Site.{Site}
 use Rattle.shop_model.specs.declared.station.Station.{Station}
-use Rattle.shop_model.specs.Jobs.{id_of, job_at}
+use Rattle.shop_model.specs.Jobs.{id_of}
 use Rattle.shop_model.specs.Meaning.{shop_meaning, site_of}
-use Rattle.shop_model.specs.Routes.{step_at}
 use Rattle.shop_model.specs.ShopParts.{ShopParts, IsShop, routes_of, station_at}
 use Rattle.shop_model.specs.Sites.{place_of}
 use Rattle.shop_model.specs.StationEffects.{until_of, take_effect, wait_effect, lose_effect, begin_effect, pass_effect, renege_effect, still_effect, works_effect}
@@ -46,9 +44,9 @@ use Rattle.shop_laws.proofs.Steps.{IsShopStep, shop_step, cells_here, cells_else
 use Rattle.shop_draw_laws.specs.DrawLaws.{value_at}
 use Rattle.shop_draw_laws.specs.Draws.{laws_of, patience_at, step_come}
 use Rattle.shop_draw_laws.specs.Patience.{Waiter, joins_next, joined}
-use Rattle.shop_draw_laws.specs.PatienceLaws.{WaitsSince, LosesPatience, PatienceIsDrawn}
+use Rattle.shop_draw_laws.specs.PatienceLaws.{LosesPatience, PatienceIsDrawn}
 use Rattle.shop_draw_laws.proofs.DrawsLaw.{come_step}
-use Rattle.shop_draw_laws.proofs.EntriesAfter.{Stands, Joins, Came, stood, joins, came, ups}
+use Rattle.shop_draw_laws.proofs.EntriesAfter.{Stands, Came, stood, joins, came, ups}
 
 -- a job that waits is among those that joined, until its patience ends, or it has none
 abbrev IsWaiter : List Waiter → ℕ → ℕ → ℕ → Type 0

@@ -1,12 +1,12 @@
 -- A word of a station's cells after changes that leave it as it is, and the random place.
-use Rattle.std.proofs.Common.{◌≡◌, ◌≢◌, ℕ, ◌+◌, ◌<◌, Bool, true, false, List, [], ◌∷◌, ◌++◌, length, refl, sym, ap, ◌∙◌, append-nil, arith, get_or-set_same, get_or-set_other}
-use Rattle.std.specs.Prelude.{if◌then◌else◌, ◌==◌, is_none, slice_index, slice_set, Option, None, Some}
+use Rattle.std.proofs.Common.{◌≡◌, ◌≢◌, ℕ, ◌+◌, ◌<◌, Bool, true, false, List, [], ◌∷◌, ◌++◌, length, refl, sym, ap, ◌∙◌, append-nil, get_or-set_same, get_or-set_other}
+use Rattle.std.specs.Prelude.{if◌then◌else◌, ◌==◌, is_none, slice_index, slice_set}
 use Rattle.std.specs.List.{AllByRecursion as Each}
 use Rattle.std.proofs.lemmas.Bool.{eqb-true}
 use Rattle.std.proofs.lemmas.List.{length-set}
 use Rattle.delta_exchange.specs.declared.change.Change.{Change}
 use Rattle.delta_exchange.specs.declared.change.Change.TheVariants.{Set, Push, Pop, Unpush, Unpop, Flip}
-use Rattle.delta_exchange.specs.Changes.{CellData, line_of, with_line, cells_after, cells_after_all}
+use Rattle.delta_exchange.specs.Changes.{CellData, cells_after, cells_after_all}
 use Rattle.model_core.specs.Places.{place_changes}
 use Rattle.shop_model.specs.declared.counts.Counts.{Counts}
 use Rattle.shop_model.specs.declared.station.Order.{Order}
@@ -18,7 +18,7 @@ use Rattle.shop_model.specs.Beginnings.{next_server, begin_changes}
 use Rattle.shop_model.specs.Keeping.{place_cases}
 use Rattle.shop_model.specs.Sites.{place_of}
 use Rattle.shop_model.specs.StationEffects.{out_changes}
-use Rattle.shop_model.specs.Stations.{gone_word, mark_word, jobs_line, births_line, since_line, until_line}
+use Rattle.shop_model.specs.Stations.{gone_word, mark_word}
 
 -- a change that leaves a word as it is
 abbrev pub Leaves : ℕ → Change → Type 0

@@ -1,14 +1,14 @@
 -- What holds of what is sent, at its time, and of what stays pending.
-use Rattle.std.proofs.Common.{◌≡◌, ◌≢◌, ℕ, ◌+◌, ◌*◌, ◌<◌, ◌≤◌, Bool, true, false, List, [], ◌∷◌, refl, sym, ap, ◌∙◌, subst, ⊎_elim, arith, cond}
-use Rattle.std.specs.Prelude.{if◌then◌else◌, ◌==◌, ◌&&◌, Contains, count_by}
+use Rattle.std.proofs.Common.{◌≡◌, ℕ, ◌+◌, ◌*◌, ◌≤◌, Bool, true, false, List, [], ◌∷◌, refl, sym, ap, ◌∙◌, subst, ⊎_elim, arith, cond}
+use Rattle.std.specs.Prelude.{if◌then◌else◌, ◌==◌, Contains, count_by}
 use Rattle.std.specs.List.{AllByRecursion as Each}
 use Rattle.std.proofs.lemmas.Bool.{eqb-true, or_parts}
 use Rattle.std.proofs.lemmas.List.Sums.{sum_by-cons}
-use Rattle.event_key.specs.Stamps.{time_part, step_part, next_stamp, has_no_step}
+use Rattle.event_key.specs.Stamps.{time_part, next_stamp, has_no_step}
 use Rattle.key_order.proofs.MemberLemmas.{first-or-later, none-in}
 use Rattle.model_core.specs.declared.event.Event.{Event}
 use Rattle.model_core.specs.declared.event.Send.{Send}
-use Rattle.sim_spec.specs.Firing.{has_endless_chain, emission, emissions}
+use Rattle.sim_spec.specs.Firing.{has_endless_chain, emissions}
 use Rattle.shop_laws.proofs.IdleLaw.{same_tick}
 
 -- what is sent comes as many ticks later as its delay says

@@ -1,9 +1,8 @@
 -- How many servers are busy beside those that are open.
-use Rattle.std.proofs.Common.{◌≡◌, ◌≢◌, ℕ, ◌+◌, ◌-◌, ◌⊎◌, ◌<◌, ◌≤◌, Bool, true, false, List, [], ◌∷◌, length, take, refl, sym, ap, ◌∙◌, subst, ⊎_elim, arith, length-append}
-use Rattle.std.specs.Prelude.{if◌then◌else◌, is_none}
+use Rattle.std.proofs.Common.{◌≡◌, ◌≢◌, ℕ, ◌+◌, ◌-◌, ◌<◌, ◌≤◌, List, [], ◌∷◌, length, refl, sym, ap, ◌∙◌, subst, ⊎_elim, arith, length-append}
 use Rattle.std.specs.List.{range_with_len}
 use Rattle.std.proofs.lemmas.Bool.{cases_eq, cases_lt}
-use Rattle.std.proofs.lemmas.List.{length-take-le, length-reverse, get_or-replicate}
+use Rattle.std.proofs.lemmas.List.{length-reverse, get_or-replicate}
 use Rattle.std.proofs.lemmas.List.FromFn.{length-range_with_len}
 use Rattle.event_key.specs.declared.key.Key.{Key}
 use Rattle.delta_exchange.specs.Changes.{CellData, line_of, cells_after_all}
@@ -15,18 +14,15 @@ use Rattle.run_laws.proofs.Induction.{each_reached}
 use Rattle.sim_spec.specs.declared.terms.Terms.{Terms}
 use Rattle.sim_spec.specs.Run.{does, next}
 use Rattle.sim_spec.specs.State.{State, initial_state}
-use Rattle.shop_model.specs.declared.counts.Counts.{Counts}
 use Rattle.shop_model.specs.declared.routes.Routes.{Routes}
 use Rattle.shop_model.specs.declared.site.Site.{Site}
 use Rattle.shop_model.specs.declared.station.Shift.{Shift}
 use Rattle.shop_model.specs.declared.station.Station.{Station}
 use Rattle.shop_model.specs.declared.station.TheConstants.{FREE_SERVERS}
-use Rattle.shop_model.specs.declared.step.Visit.{Visit as AVisit}
 use Rattle.shop_model.specs.Jobs.{server_of}
 use Rattle.shop_model.specs.Lawful.{IsLawful}
 use Rattle.shop_model.specs.Meaning.{shop_meaning, site_of}
 use Rattle.shop_model.specs.ShopParts.{ShopParts, IsShop, routes_of, station_at}
-use Rattle.shop_model.specs.StationEffects.{shift_at}
 use Rattle.shop_model.specs.Stations.{counts_of, busy_of, spare_of, first_station_cells}
 use Rattle.shop_laws.specs.ServerLaws.{busy_at}
 use Rattle.shop_laws.specs.Told.{cells_at}

@@ -1,8 +1,8 @@
 -- A service takes the ticks that were drawn, and those for which the station stands still in between.
-use Rattle.std.proofs.Common.{◌≡◌, ◌≢◌, ◌⊎◌, ℕ, suc, ◌+◌, ◌-◌, ◌*◌, ◌/◌, ◌%◌, ◌^◌, ◌<◌, ◌≤◌, Bool, true, false, cond, List, [], ◌∷◌, ◌++◌, length, map, take, inl, inr, refl, sym, ap, ◌∙◌, subst, ⊎_elim, arith, append-nil, append_assoc, eq-eqb, ne_eqb, get_or-set_same}
+use Rattle.std.proofs.Common.{◌≡◌, ◌≢◌, ◌⊎◌, ℕ, suc, ◌+◌, ◌-◌, ◌%◌, ◌^◌, ◌<◌, ◌≤◌, Bool, true, false, cond, List, [], ◌∷◌, ◌++◌, length, map, inl, inr, refl, sym, ap, ◌∙◌, subst, ⊎_elim, arith, append-nil, eq-eqb, get_or-set_same}
 use Rattle.std.specs.Prelude.{if◌then◌else◌, ◌==◌, ◌&&◌, ◌||◌, min, is_none, nat_lt, slice_index, slice_set, Contains, count_by, Option, None, Some}
 use Rattle.std.specs.List.{AllByRecursion as Each}
-use Rattle.std.proofs.lemmas.Bool.{cases_eq, cases_lt, and_from, eqb-true, eqb-false, ltb-true}
+use Rattle.std.proofs.lemmas.Bool.{cases_eq, cases_lt, and_from, eqb-false, ltb-true}
 use Rattle.std.proofs.lemmas.List.{get_or-replicate}
 use Rattle.std.proofs.lemmas.List.Sums.{sum_by-cons}
 use Rattle.std.proofs.lemmas.List.Elements.{Contains-append_left, Contains-append_right, Contains-get_or}
@@ -11,7 +11,7 @@ use Rattle.event_key.specs.Stamps.{time_part}
 use Rattle.key_order.proofs.EachLemmas.{Each-append, Each-map}
 use Rattle.key_order.proofs.MemberLemmas.{each-contains, each-member, is-first, is-later}
 use Rattle.delta_exchange.specs.declared.change.Change.{Change}
-use Rattle.delta_exchange.specs.declared.change.Change.TheVariants.{Set, Push, Unpush}
+use Rattle.delta_exchange.specs.declared.change.Change.TheVariants.{Set, Unpush}
 use Rattle.delta_exchange.specs.Changes.{CellData, line_of, cells_after_all}
 use Rattle.delta_exchange.proofs.Lists.{cells_after_all_append}
 use Rattle.model_core.specs.declared.effect.Effect.{Effect}
@@ -22,13 +22,10 @@ use Rattle.model_core.specs.declared.words.TheConstants.{DONE_WORD}
 use Rattle.model_core.specs.Meaning.{Meaning}
 use Rattle.model_core.specs.Places.{place_changes}
 use Rattle.random_streams.specs.declared.delay_law.DelayLaw.{DelayLaw}
-use Rattle.random_streams.specs.Delays.{draw_delay}
 use Rattle.random_streams.proofs.DelayBounds.{draw_delay-le}
-use Rattle.run_laws.specs.Reached.{after_events, gathered, Reaches}
+use Rattle.run_laws.specs.Reached.{after_events}
 use Rattle.run_laws.proofs.Induction.{after_events-does, after_events-stops, gathered-more, each_number}
 use Rattle.run_laws.proofs.OrderLaw.{step_keeps}
-use Rattle.run_laws.proofs.Steps.{first_firing}
-use Rattle.sim_spec.specs.declared.stop.Stop.{Stop}
 use Rattle.sim_spec.specs.declared.terms.Terms.{Terms}
 use Rattle.sim_spec.specs.Run.{stops, does, next}
 use Rattle.sim_spec.specs.State.{State, initial_state, object_at as state_at}
@@ -41,20 +38,19 @@ use Rattle.shop_model.specs.declared.routes.Routes.{Routes}
 use Rattle.shop_model.specs.declared.site.Site.{Site}
 use Rattle.shop_model.specs.declared.station.Breakdowns.{Breakdowns}
 use Rattle.shop_model.specs.declared.station.Station.{Station}
-use Rattle.shop_model.specs.declared.station.TheConstants.{HELD, WAITING, OPEN, DOWN, LAG, FREE_SERVERS}
+use Rattle.shop_model.specs.declared.station.TheConstants.{HELD, WAITING, LAG, FREE_SERVERS}
 use Rattle.shop_model.specs.declared.step.Visit.{Visit as AVisit}
 use Rattle.shop_model.specs.Beginnings.{next_server, service_drawn, begin_changes, begin_sent}
-use Rattle.shop_model.specs.HasStation.{IsStation, AreBreakdowns}
 use Rattle.shop_model.specs.Jobs.{id_of, birth_of, server_of, job_at, served_by}
 use Rattle.shop_model.specs.Meaning.{shop_meaning, site_of, class_of_object}
 use Rattle.shop_model.specs.ModelLaws.{station_fine}
-use Rattle.shop_model.specs.Routes.{moved, HasJob}
+use Rattle.shop_model.specs.Routes.{moved}
 use Rattle.shop_model.specs.ShopParts.{ShopParts, IsShop, routes_of, station_at}
 use Rattle.shop_model.specs.Sites.{to_self, place_of, words_at, drawn_at, drawn_or}
 use Rattle.shop_model.specs.StationEffects.{take_effect, tire_sent, wait_effect, lose_effect, out_changes, begin_effect, pass_effect, renege_effect, shift_at, shift_sent, shift_again, still_effect, works_effect}
-use Rattle.shop_model.specs.Stations.{counts_of, call_sent, spare_of, first_station_cells, gone_word, mark_word, jobs_line, births_line, since_line, until_line}
+use Rattle.shop_model.specs.Stations.{counts_of, call_sent, spare_of, first_station_cells, mark_word, jobs_line, births_line}
 use Rattle.shop_totals.specs.Flows.{is_beginning}
-use Rattle.shop_laws.specs.ServerLaws.{free_at, ends_by, AreServers}
+use Rattle.shop_laws.specs.ServerLaws.{ends_by, AreServers}
 use Rattle.shop_laws.specs.Told.{word_told, first_told, cells_at}
 use Rattle.shop_laws.specs.TurnLaws.{turns}
 use Rattle.shop_laws.proofs.After.{one_less, readings_after, reads_after}
@@ -63,14 +59,14 @@ use Rattle.shop_laws.proofs.ClassCases.{class_sends_each}
 use Rattle.shop_laws.proofs.Fine.{named_of, IsFine}
 use Rattle.shop_laws.proofs.FlowLaw.{began_lag}
 use Rattle.shop_laws.proofs.Moves.{AtStationOf, some_free, next_below}
-use Rattle.shop_laws.proofs.Readings.{Readings, readings_of, went_out, began}
+use Rattle.shop_laws.proofs.Readings.{readings_of, went_out}
 use Rattle.shop_laws.proofs.Serving.{IsStationStep, serving, station_step, class_step}
 use Rattle.shop_laws.proofs.ServersLaw.{servers_law}
 use Rattle.shop_laws.proofs.Starts.{pending_start}
 use Rattle.shop_laws.proofs.Steps.{IsShopStep, shop_step, cells_here, cells_elsewhere, station_at_start}
 use Rattle.shop_laws.proofs.TurnLaw.{breaks_in_turn}
 use Rattle.shop_draw_laws.specs.DrawLaws.{value_at}
-use Rattle.shop_draw_laws.specs.Draws.{laws_of, laws_drawn, laws_next}
+use Rattle.shop_draw_laws.specs.Draws.{laws_of, laws_next}
 use Rattle.shop_draw_laws.specs.Services.{Service, lag_at, services_next, services}
 use Rattle.shop_draw_laws.specs.StandingLaws.{IsOver, ServicesStandStill}
 use Rattle.shop_draw_laws.proofs.DrawsLaw.{law_of, station_laws, laws_here}

@@ -1,5 +1,5 @@
 -- Each object of a shop draws from its own stream, each time where it stopped before.
-use Rattle.std.specs.Prelude.{◌≡◌, ℕ, ◌+◌, ◌<◌, List, [], ◌∷◌, All, length, slice_index, Option, None, Some}
+use Rattle.std.specs.Prelude.{◌≡◌, ℕ, ◌+◌, ◌<◌, List, ◌∷◌, All, length, slice_index, Option, None, Some}
 use Rattle.std.specs.Option.{ForSome}
 use Rattle.event_key.specs.declared.key.Key.{Key}
 use Rattle.delta_exchange.specs.Changes.{CellData}

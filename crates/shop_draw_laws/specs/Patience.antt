@@ -1,5 +1,5 @@
 -- Who joins a line, and the patience that is drawn then.
-use Rattle.std.specs.Prelude.{ℕ, ◌==◌, ◌&&◌, if◌then◌else◌, List, [], ◌∷◌, map}
+use Rattle.std.specs.Prelude.{ℕ, ◌==◌, ◌&&◌, if◌then◌else◌, List, [], map}
 use Rattle.std.specs.List.{flat_map}
 use Rattle.event_key.specs.Stamps.{time_part}
 use Rattle.model_core.specs.declared.event.Event.{Event}

@@ -1,5 +1,5 @@
 -- The services that begin at a station.
-use Rattle.std.specs.Prelude.{ℕ, if◌then◌else◌, List, [], ◌∷◌, map, slice_index}
+use Rattle.std.specs.Prelude.{ℕ, if◌then◌else◌, List, [], map, slice_index}
 use Rattle.event_key.specs.Stamps.{time_part}
 use Rattle.random_streams.specs.declared.delay_law.DelayLaw.{DelayLaw}
 use Rattle.run_laws.specs.Reached.{gathered}
