@@ -6,7 +6,7 @@ ghost use Rattle.event_key.specs.Stamps.{end_stamp};
 ghost use Rattle.world_spec.specs.Share.{IsAtHome, IsHome};
 ghost use Rattle.world_spec.specs.Moves.{IsDueDone};
 ghost use Rattle.node_core.specs.Blank.{IsBlank};
-ghost use Rattle.node_core.specs.Calls.{HasCommitted, HasReceived, HasUndoneFrom, HaveOwnKeys, HaveSentFew, IsLeastFaultOf, IsLeastKeyOf, IsNewNode, tallies_of};
+ghost use Rattle.node_core.specs.Calls.{CommitsNothing, ReceivesNothing, HasCommitted, HasReceived, HasUndoneFrom, HaveOwnKeys, HaveSentFew, IsLeastFaultOf, IsLeastKeyOf, IsNewNode, tallies_of};
 ghost use Rattle.node_core.specs.Homes.{IsLeastObject, home_of, objects_of};
 ghost use Rattle.node_core.specs.Moving.{AreAlikeBut, CanTakeIn, HasTakenIn, HasTakenOut, KeepObjects};
 ghost use Rattle.node_core.specs.Nodes.{IsAsBefore, Stands, ahead_of, data_of, home, share_of};
@@ -23,7 +23,7 @@ use crate::moved::Moved;
 use crate::room::Room;
 use crate::step::Step;
 use crate::store::Store;
-use crate::tallies::{Tallies, met_after, raised};
+use crate::tallies::{Tallies, met_after, raised, tells_range};
 use event_chain::Chain;
 use event_key::Key;
 use model_core::model::{Model as SimulationModel, keeps_laws};
@@ -270,6 +270,17 @@ impl<M: SimulationModel> Node<M> {
         ensures size { length self.now.processed + length self.now.waiting ≡ length (share_of self.now).pending }
         ensures few { length self.now.processed + length self.now.waiting < 2 ^ 60 }
     {
+        self.store.tells();
+    }
+
+    /// A commit changes nothing if no event is processed, and a receipt changes nothing if no event arrives.
+    pub fn tells_idle(&self)
+        ensures commits { CommitsNothing (M.meaning self.now.model) self.now }
+        ensures receives { ReceivesNothing (M.meaning self.now.model) self.now }
+    {
+        tells_range(self.committed);
+        tells_range(self.undone);
+        keeps_laws(&*self.model);
         self.store.tells();
     }
 
