@@ -1,5 +1,5 @@
 -- An event joins the news.
-use Rattle.std.proofs.Common.{◌≡◌, ℕ, true, List, [], ◌∷◌, ◌++◌, map, refl, sym, ap, ◌∙◌, append_assoc}
+use Rattle.std.proofs.Common.{◌≡◌, ℕ, true, List, [], ◌∷◌, ◌++◌, map, refl, sym, ap, ◌∙◌, subst}
 use Rattle.std.proofs.lemmas.List.{append-nil}
 use Rattle.std.specs.Prelude.{Option, Some, None, IfSome}
 use Rattle.std.specs.List.{AllByRecursion as Each}
@@ -7,7 +7,7 @@ use Rattle.event_key.specs.declared.key.Key.{Key}
 use Rattle.event_key.specs.Keys.{key_lt}
 use Rattle.event_key.specs.declared.stamp.TheConstants.{NO_STAMP}
 use Rattle.delta_exchange.specs.declared.change.Change.{Change}
-use Rattle.key_order.specs.Ascending.{After, Ascends}
+use Rattle.key_order.specs.Ascending.{Ascends}
 use Rattle.key_order.specs.Stamps.{least_stamp}
 use Rattle.key_order.proofs.StampLemmas.{least_stamp-append}
 use Rattle.model_core.specs.declared.event.Event.{Event}
@@ -15,23 +15,20 @@ use Rattle.model_core.specs.declared.note.Note.{Note}
 use Rattle.object_log.specs.Dones.{Done}
 use Rattle.object_log.specs.declared.done.Verdict.{Verdict}
 use Rattle.object_log.specs.declared.done.Verdict.TheVariants.{Noted, Failed}
-use Rattle.object_log.specs.EventLogs.{done_key}
 use Rattle.object_log.specs.Flat.{changes_of}
 use Rattle.object_log.specs.Keeping.{OnlyLastFailed}
 use Rattle.object_log.specs.Logs.{fault_of, fault_or, held_of}
 use Rattle.object_log.specs.Tellings.{told_all, told_of}
 use Rattle.object_log.proofs.FaultLemmas.{only_push}
 use Rattle.object_log.proofs.FlatLemmas.{changes-push}
-use Rattle.object_log.proofs.HeldLemmas.{held-append}
+use Rattle.object_log.proofs.PushLemmas.{ascends-push, held-push, told-push}
 use Rattle.event_log.specs.declared.row.Row.{Row}
 use Rattle.event_log.specs.News.{HoldsNews, code_of, code_or, least_after, row_of, rows_of}
 use Rattle.event_log.specs.Outboxes.{message}
+use Rattle.event_log.proofs.NewsFacts.{no-code}
 
 abbrev Told : Type 0
 Told = List (Key × Note)
-
-no-code : {X : Type 0} (code : ℕ) (P : X) → ◌≡◌ {A = Option ℕ} (Some code) None → ⊥
-no-code code P is = cc
 
 no-fault : (f : Key × ℕ) → ◌≡◌ {A = Option (Key × ℕ)} (Some f) None → ⊥
 no-fault f is = cc
@@ -47,24 +44,6 @@ unfolding rows_of held_of least_stamp
 rows-push least [] d = refl
 rows-push least (x ∷ xs) d =
     ap (λ rs. row_of least x ∷ rs) (rows-push (least_stamp least x.sends) xs d ∙ ap (λ n. rows_of (least_stamp least x.sends) xs ++ row_of n d ∷ []) (sym (least_stamp-append least x.sends (held_of xs))))
-
-pub told-push : (ds : List Done) (d : Done) → told_all (ds ++ d ∷ []) ≡ told_all ds ++ told_of d.event.key d.verdict
-unfolding told_all
-told-push [] d = append-nil (told_of d.event.key d.verdict)
-told-push (x ∷ xs) d = ap (λ ts. told_of x.event.key x.verdict ++ ts) (told-push xs d) ∙ sym (append_assoc (told_of x.event.key x.verdict) (told_all xs) (told_of d.event.key d.verdict))
-
-pub held-push : (ds : List Done) (d : Done) → held_of (ds ++ d ∷ []) ≡ held_of ds ++ d.sends
-unfolding held_of
-held-push ds d = held-append ds (d ∷ []) ∙ ap (λ es. held_of ds ++ es) (append-nil d.sends)
-
-after-push : (x d : Done) (ds : List Done) → key_lt x.event.key d.event.key ≡ true → After done_key x.event.key ds → After done_key x.event.key (ds ++ d ∷ [])
-after-push x d [] lt all = (lt, tt)
-after-push x d (y ∷ ys) lt all = (all.0, after-push x d ys lt all.1)
-
-ascends-push : (ds : List Done) (d : Done) → Each (λ (x : Done). key_lt x.event.key d.event.key ≡ true) ds → Ascends done_key ds → Ascends done_key (ds ++ d ∷ [])
-unfolding Ascends
-ascends-push [] d below up = (tt, tt)
-ascends-push (x ∷ xs) d below up = (after-push x d xs below.0 up.0, ascends-push xs d below.1 up.1)
 
 -- where none failed, there is no code
 pub code-went : (ds : List Done) → fault_of ds ≡ None → code_of ds ≡ None
@@ -83,7 +62,7 @@ code-push (x ∷ xs) d went = by_verdict x.verdict (code-push xs d) went
   where
     by_verdict : (v : Verdict) → (code_of xs ≡ None → code_of (xs ++ d ∷ []) ≡ code_or d.verdict None) → code_or v (code_of xs) ≡ None → code_or v (code_of (xs ++ d ∷ [])) ≡ code_or d.verdict None
     by_verdict (Noted note) more went = more went
-    by_verdict (Failed code) more went = absurd (no-code code x went)
+    by_verdict (Failed code) more went = absurd (no-code code went)
 
 -- each list is longer by the event's part
 pub record IsPushed (d : Done) (told : Told) (rows : List Row) (undo : List Change) (sent : List (ℕ × Event)) (told' : Told) (rows' : List Row) (undo' : List Change) (sent' : List (ℕ × Event)) (code' : Option ℕ) : Type 0 where
@@ -130,3 +109,20 @@ holds-none told rows undo sent code no_told no_rows no_undo no_sent no_code = re
   whole = whole-none [] code refl;
   ordered = tt;
 }
+
+-- nothing is told of those that were taken back any more
+pub forgets : (news : List Done) (gone told told' : Told) (rows : List Row) (undo : List Change) (sent : List (ℕ × Event)) (code : Option ℕ) → HoldsNews news gone told rows undo sent code → news ≡ [] → told' ≡ [] → HoldsNews [] [] told' rows undo sent code
+unfolding told_all
+forgets news gone told told' rows undo sent code holds none no_told =
+    let P : List Done → Type 0 = λ ds. HoldsNews ds gone told rows undo sent code in
+    let h = subst P none holds in
+    record {
+      rows_are = h.rows_are;
+      told_are = no_told;
+      undo_are = h.undo_are;
+      sent_are = h.sent_are;
+      code_is = h.code_is;
+      last = h.last;
+      whole = whole-none [] code refl;
+      ordered = h.ordered;
+    }

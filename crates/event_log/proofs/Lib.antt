@@ -1,8 +1,11 @@
 pub mod DueFacts
-pub mod FireFacts
+pub mod ItemLemmas
 pub mod JoinFacts
+pub mod LogFacts
 pub mod NewsFacts
 pub mod OutboxLemmas
 pub mod PopFacts
 pub mod ProcessFacts
+pub mod ProcessedFacts
 pub mod ReadFacts
+pub mod TakesFacts

@@ -23,8 +23,11 @@ use Rattle.event_log.specs.Outboxes.{message}
 abbrev Told : Type 0
 Told = List (Key × Note)
 
-no-code : {X : Type 0} (code : ℕ) (P : X) → ◌≡◌ {A = Option ℕ} (Some code) None → ⊥
-no-code code P is = cc
+pub no-code : (code : ℕ) → ◌≡◌ {A = Option ℕ} (Some code) None → ⊥
+no-code code is = cc
+
+pub no-none : (code : ℕ) → ◌≡◌ {A = Option ℕ} None (Some code) → ⊥
+no-none code is = cc
 
 -- the events are what lies there
 pub events-are : (ds : List Done) (least : ℕ) (gone told : Told) (code : Option ℕ) (undo : List Change) (sent : List Event) → OnlyLastFailed ds → IfSome (code_of ds) (λ c. gone ≡ []) → told ≡ told_all ds ++ gone
@@ -64,7 +67,7 @@ told-long (d ∷ ds) went = by_verdict d.verdict (told-long ds) went
   where
     by_verdict : (v : Verdict) → (code_of ds ≡ None → length (told_all ds) ≡ length ds) → code_or v (code_of ds) ≡ None → length (told_of d.event.key v ++ told_all ds) ≡ length (d ∷ ds)
     by_verdict (Noted note) more went = let long = more went in omega arith
-    by_verdict (Failed code) more went = absurd (no-code code d went)
+    by_verdict (Failed code) more went = absurd (no-code code went)
 
 pub told-most : (ds : List Done) → length (told_all ds) < length ds + 1
 unfolding told_all

@@ -1,6 +1,7 @@
 -- The last of the news is taken back.
-use Rattle.std.proofs.Common.{◌≡◌, ℕ, zero, suc, ◌+◌, ◌<◌, Some, List, [], ◌∷◌, ◌++◌, length, map, take, drop, get_or, refl, sym, ap, ◌∙◌, subst, arith, append_assoc, length-append}
+use Rattle.std.proofs.Common.{◌≡◌, ℕ, zero, suc, ◌+◌, ◌<◌, min, Some, List, [], ◌∷◌, ◌++◌, length, map, take, drop, get_or, refl, sym, ap, ◌∙◌, subst, arith, append_assoc, length-append}
 use Rattle.std.proofs.lemmas.List.{drop_at, length-map, map-append, same_from_push, take_all, take_at, take_more}
+use Rattle.std.specs.List.{AllByRecursion as Each}
 use Rattle.std.specs.Prelude.{Option, None, IfNone, IfSome, slice_get}
 use Rattle.event_key.specs.declared.key.Key.{Key}
 use Rattle.event_key.specs.declared.stamp.TheConstants.{NO_STAMP}
@@ -8,6 +9,7 @@ use Rattle.delta_exchange.specs.declared.change.Change.{Change}
 use Rattle.key_order.specs.Ascending.{Ascends}
 use Rattle.key_order.specs.Stamps.{least_stamp}
 use Rattle.key_order.proofs.AscendingLemmas.{Ascends-prefix}
+use Rattle.key_order.proofs.StampLemmas.{least_stamp-le}
 use Rattle.model_core.specs.declared.event.Event.{Event}
 use Rattle.model_core.specs.declared.note.Note.{Note}
 use Rattle.object_log.specs.Dones.{Done}
@@ -20,20 +22,16 @@ use Rattle.object_log.specs.Logs.{held_of}
 use Rattle.object_log.specs.Tellings.{told_all, told_of}
 use Rattle.object_log.proofs.FaultLemmas.{only_pop}
 use Rattle.object_log.proofs.FlatLemmas.{changes-push}
+use Rattle.object_log.proofs.HeldLemmas.{least-join}
 use Rattle.event_log.specs.declared.row.Row.{Row}
 use Rattle.event_log.specs.News.{HoldsNews, code_of, code_or, row_of, rows_of}
 use Rattle.event_log.specs.Outboxes.{message}
-use Rattle.event_log.proofs.JoinFacts.{code-push, code-went, held-push, rows-push, told-push}
-use Rattle.event_log.proofs.NewsFacts.{told-long, view-long}
+use Rattle.object_log.proofs.PushLemmas.{held-push, told-push}
+use Rattle.event_log.proofs.JoinFacts.{code-push, code-went, rows-push}
+use Rattle.event_log.proofs.NewsFacts.{no-code, no-none, told-long, view-long}
 
 abbrev Told : Type 0
 Told = List (Key × Note)
-
-no-code : (code : ℕ) → ◌≡◌ {A = Option ℕ} (Some code) None → ⊥
-no-code code is = cc
-
-no-none : (code : ℕ) → ◌≡◌ {A = Option ℕ} None (Some code) → ⊥
-no-none code is = cc
 
 one-of : (x y : Key × Note) → ◌≡◌ {A = Option (Key × Note)} (Some x) (Some y) → x ≡ y
 one-of x y is = cc
@@ -52,6 +50,10 @@ get-at [] ys x zero long = refl
 get-at [] ys x (suc n) long = absurd (omega arith)
 get-at (y ∷ xs) ys x zero long = absurd (omega arith)
 get-at (y ∷ xs) ys x (suc n) long = get-at xs ys x n (omega arith)
+
+pub each-last : {X : Type 0} (P : X → Type 0) (xs : List X) (x : X) → Each P (xs ++ x ∷ []) → P x
+each-last P [] x all = all.0
+each-last P (y ∷ xs) x all = each-last P xs x all.1
 
 -- lists whose ends are as long have the same parts
 same-ends : {X : Type 0} (us vs xs ys : List X) → length xs ≡ length ys → us ++ xs ≡ vs ++ ys → (us ≡ vs) × (xs ≡ ys)
@@ -216,3 +218,11 @@ module _ (news : List Done) (gone told : Told) (rows : List Row) (undo : List Ch
           let own_long = length-map own message in
           let sends = sends-own in
           same-ends (map message left) (held_of e.front) (map message own) e.d.sends (omega arith) both
+
+-- a message more in front
+pub least-front : (least : ℕ) (e : Event) (es : List Event) → least ≡ least_stamp NO_STAMP es → min least e.key.stamp ≡ least_stamp NO_STAMP (e ∷ es)
+unfolding least_stamp
+least-front least e es is =
+    let both = least-join (e ∷ []) es in
+    let le = least_stamp-le NO_STAMP es in
+    omega arith

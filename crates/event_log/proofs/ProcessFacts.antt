@@ -1,5 +1,5 @@
 -- An event that an object fired joins the news.
-use Rattle.std.proofs.Common.{◌≡◌, ℕ, ◌+◌, min, true, List, [], ◌∷◌, ◌++◌, length, map, refl, sym, ap, ◌∙◌, subst, arith, length-append}
+use Rattle.std.proofs.Common.{◌≡◌, ℕ, ◌+◌, ◌≤◌, min, true, List, [], ◌∷◌, ◌++◌, length, map, refl, sym, ap, ◌∙◌, subst, arith, length-append}
 use Rattle.std.proofs.lemmas.List.{append-nil, map-append}
 use Rattle.std.specs.Prelude.{Option, Some, None}
 use Rattle.std.specs.List.{AllByRecursion as Each}
@@ -20,7 +20,7 @@ use Rattle.object_log.specs.Logs.{fault_of, held_of}
 use Rattle.object_log.specs.Objects.{HasFired, KeptObject}
 use Rattle.object_log.proofs.HeldLemmas.{least-join}
 use Rattle.event_log.specs.declared.row.Row.{Row}
-use Rattle.event_log.specs.Fired.{HasGone, failed_of, went_of}
+use Rattle.object_log.specs.Fired.{HasGone, failed_of, went_of}
 use Rattle.event_log.specs.News.{HasJoined, HoldsNews, IsNews, NewsView, homed, least_after, news_view}
 use Rattle.event_log.specs.Outboxes.{message}
 use Rattle.event_log.proofs.JoinFacts.{IsPushed, code-went, holds-push, least-after}
@@ -104,8 +104,8 @@ module _ (v : NewsView) (told : Told) (rows : List Row) (undo : List Change) (se
         holds-push news inside.1 told rows undo sent code d told' rows' undo' sent' code' inside.2 (gone-same ∙ whole) (subst F (sym same) went) (subst A (sym same) above) p
 
     pub joined : (m : Meaning) (homes : List ℕ) (event : Event) (earlier later : KeptObject) (least nodes' : ℕ) → HasFired m earlier later event d → sent' ≡ sent ++ map (homed homes) d.sends → nodes' ≡ nodes
-        → least ≡ least_stamp NO_STAMP d.sends → HasJoined m homes event earlier later v (news_view rows' told' undo' sent' code' nodes') least
-    joined m homes event earlier later least nodes' fired sent_is nodes_is least_is =
+        → least ≡ least_stamp NO_STAMP d.sends → length d.undo ≤ 16 → length d.sends ≤ 8 → HasJoined m homes event earlier later v (news_view rows' told' undo' sent' code' nodes') least
+    joined m homes event earlier later least nodes' fired sent_is nodes_is least_is few_changes few_sends =
         let now = view-is (news ++ d ∷ []) inside.1 told' rows' undo' sent' code' joins-news nodes' in
         record {
           entry = d;
@@ -115,4 +115,6 @@ module _ (v : NewsView) (told : Told) (rows : List Row) (undo : List Change) (se
           gone = ap (λ (w : NewsView). w.gone) now ∙ gone-same;
           nodes = nodes_is ∙ ap (λ (w : NewsView). w.nodes) is;
           least_is = least_is;
+          few_changes = few_changes;
+          few_sends = few_sends;
         }

@@ -1,6 +1,6 @@
 -- What is read off rows.
 use Rattle.std.proofs.Common.{◌≡◌, ℕ, zero, suc, ◌+◌, ◌<◌, Some, List, [], ◌∷◌, ◌++◌, length, get_or, take, refl, sym, ap, ◌∙◌, arith}
-use Rattle.std.specs.Prelude.{Option, None, slice_get}
+use Rattle.std.specs.Prelude.{None, slice_get}
 use Rattle.key_order.specs.Stamps.{least_stamp}
 use Rattle.object_log.specs.Dones.{Done}
 use Rattle.object_log.specs.declared.done.Verdict.{Verdict}
@@ -9,12 +9,7 @@ use Rattle.object_log.specs.Keeping.{EndsAtFault, OnlyLastFailed}
 use Rattle.object_log.specs.Logs.{fault_of, fault_or, keys_of}
 use Rattle.event_log.specs.declared.row.Row.{Row}
 use Rattle.event_log.specs.News.{code_of, code_or, least_after, rows_of}
-
-no-code : (code : ℕ) → ◌≡◌ {A = Option ℕ} (Some code) None → ⊥
-no-code code is = cc
-
-no-none : (code : ℕ) → ◌≡◌ {A = Option ℕ} None (Some code) → ⊥
-no-none code is = cc
+use Rattle.event_log.proofs.NewsFacts.{no-code, no-none}
 
 no-more : (d : Done) (ds : List Done) → d ∷ ds ≡ [] → ⊥
 no-more d ds is = cc

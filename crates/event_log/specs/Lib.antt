@@ -1,4 +1,7 @@
-pub mod Fired
+pub mod Items
+pub mod Keeping
 pub mod News
+pub mod NodeLogs
 pub mod Outboxes
 pub mod Popping
+pub mod Processing

@@ -1,6 +1,8 @@
 -- Processed events in flat lists.
-use Rattle.std.specs.Prelude.{◌≡◌, ℕ, List, [], ◌∷◌, ◌++◌, length, map, take, drop, slice_index, Option, Some, None, IfSome}
+use Rattle.std.specs.Prelude.{◌≡◌, ℕ, ◌<◌, ◌≤◌, ◌+◌, ◌^◌, true, List, [], ◌∷◌, ◌++◌, length, map, take, drop, slice_index, Option, Some, None, IfSome}
+use Rattle.std.specs.List.{AllByRecursion}
 use Rattle.event_key.specs.declared.key.Key.{Key}
+use Rattle.event_key.specs.Keys.{key_lt}
 use Rattle.event_key.specs.declared.stamp.TheConstants.{NO_STAMP}
 use Rattle.delta_exchange.specs.declared.change.Change.{Change}
 use Rattle.key_order.specs.Ascending.{Ascends}
@@ -14,7 +16,7 @@ use Rattle.object_log.specs.declared.done.Verdict.TheVariants.{Noted, Failed}
 use Rattle.object_log.specs.EventLogs.{done_key}
 use Rattle.object_log.specs.Flat.{changes_of}
 use Rattle.object_log.specs.Keeping.{OnlyLastFailed}
-use Rattle.object_log.specs.Logs.{held_of}
+use Rattle.object_log.specs.Logs.{fault_of, held_of}
 use Rattle.object_log.specs.Objects.{HasFired, KeptObject}
 use Rattle.object_log.specs.Tellings.{told_all}
 use Rattle.event_log.specs.declared.row.Row.{Row}
@@ -97,3 +99,12 @@ pub record HasJoined (m : Meaning) (homes : List ℕ) (event : Event) (earlier l
   pub gone : new.gone ≡ old.gone
   pub nodes : new.nodes ≡ old.nodes
   pub least_is : least ≡ least_stamp NO_STAMP entry.sends
+  pub few_changes : length entry.undo ≤ 16
+  pub few_sends : length entry.sends ≤ 8
+
+-- an event of this key can come behind them
+pub record CanTake (key : Key) (v : NewsView) : Type 0 where
+  pub above : AllByRecursion (λ (d : Done). key_lt d.event.key key ≡ true) v.done
+  pub went : fault_of v.done ≡ None
+  pub few : length v.done + 8 < 2 ^ 60
+  pub few_sent : length v.sent + 8 < 2 ^ 60

@@ -1,9 +1,7 @@
 -- The last of the news is taken back.
 use Rattle.std.specs.Prelude.{◌≡◌, ℕ, List, [], ◌∷◌, ◌++◌, length, map}
-use Rattle.delta_exchange.specs.declared.change.Change.{Change}
 use Rattle.model_core.specs.declared.event.Event.{Event}
 use Rattle.object_log.specs.Dones.{Done}
-use Rattle.object_log.specs.declared.done.Verdict.{Verdict}
 use Rattle.object_log.specs.Tellings.{told_of}
 use Rattle.event_log.specs.News.{NewsView}
 use Rattle.event_log.specs.Outboxes.{message}
@@ -15,14 +13,9 @@ pub record TakesLast (old new : List (ℕ × Event)) (count : ℕ) (taken : List
   pub long : length own ≡ count
   pub taken_are : taken ≡ map message own
 
--- the last event is taken out, and what undoes it goes behind a list
-pub record HasPopped (old new : NewsView) (event : Event) (sends : List Event) (verdict : Verdict) (was now : List Change) : Type 0 where
-  pub entry : Done
+-- the last event is taken out
+pub record HasPopped (old new : NewsView) (entry : Done) : Type 0 where
   pub done : old.done ≡ new.done ++ entry ∷ []
-  pub event_is : event ≡ entry.event
-  pub sends_are : sends ≡ entry.sends
-  pub verdict_is : verdict ≡ entry.verdict
-  pub undo : now ≡ was ++ entry.undo
   pub gone : new.gone ≡ told_of entry.event.key entry.verdict ++ old.gone
   pub messages : TakesLast old.sent new.sent (length entry.sends) entry.sends
   pub nodes : new.nodes ≡ old.nodes

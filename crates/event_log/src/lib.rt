@@ -1,19 +1,24 @@
-//! What a node has processed since its last commit: flat lists in the order of the keys, and messages that lie in the
-//! chains of their homes at once (optimistic processing; Jefferson, "Virtual Time", 1985).
+//! What a node has processed and not yet committed: flat lists in the order of the keys, with messages that lie in the
+//! chains of their homes at once, and beside them what is carried over a commit (optimistic processing; Jefferson, "Virtual
+//! Time", 1985).
 #![tactic(auto)]
 
+mod carried;
+mod item;
+mod kept;
+mod log;
 mod news;
-mod object;
 mod outbox;
 mod popped;
+mod processed;
 mod row;
 mod sending;
+mod undo_list;
 
+pub use log::NodeLog;
 pub use model_core::OutOfMemory;
 pub use news::News;
-pub use object::Object;
 pub use outbox::Outbox;
-pub use popped::Popped;
 pub use row::Row;
 
 #[cfg(test)]

@@ -1,5 +1,5 @@
 //! What was processed since the last commit.
-ghost use Rattle.std.specs.Prelude.{◌≡◌, ℕ, ◌<◌, ◌≤◌, ◌+◌, ◌^◌, [], ◌∷◌, ◌++◌, length, map, take, drop, slice_get, filter, vec_len, vec_capacity, IfOk, IfErr, IfSome, IfNone, OnOk, OnErr, IsTrue, Some, None, true};
+ghost use Rattle.std.specs.Prelude.{◌≡◌, ℕ, ◌<◌, ◌≤◌, ◌+◌, ◌^◌, [], ◌∷◌, ◌++◌, length, map, min, take, drop, slice_get, filter, vec_len, vec_capacity, IfOk, IfErr, IfSome, IfNone, OnOk, OnErr, IsTrue, Some, None, true};
 ghost use Rattle.std.specs.List.{AllByRecursion};
 ghost use Rattle.event_key.specs.Keys.{key_lt};
 ghost use Rattle.event_key.specs.Stamps.{time_part};
@@ -7,30 +7,34 @@ ghost use Rattle.event_key.specs.declared.stamp.TheConstants.{NO_STAMP};
 ghost use Rattle.key_order.specs.Ascending.{Ascends};
 ghost use Rattle.key_order.specs.Stamps.{least_stamp};
 ghost use Rattle.model_core.specs.Meaning.{Meaning};
-ghost use Rattle.object_log.specs.Dones.{Done};
 ghost use Rattle.object_log.specs.EventLogs.{done_key};
 ghost use Rattle.object_log.specs.Keeping.{OnlyLastFailed};
 ghost use Rattle.object_log.specs.Logs.{fault_of, held_of, keys_of};
-ghost use Rattle.object_log.specs.Objects.{HasFired, IsSameObject};
+ghost use Rattle.object_log.specs.Objects.{IsSameObject};
 ghost use Rattle.object_log.specs.Parts.{due_of, left_of};
 ghost use Rattle.object_log.specs.Tellings.{told_all};
-ghost use Rattle.event_log.specs.News.{HasJoined, least_after};
+ghost use Rattle.object_log.specs.Flat.{zeros};
+ghost use Rattle.event_log.specs.News.{CanTake, HasJoined, least_after};
 ghost use Rattle.event_log.specs.Outboxes.{AreBlank, chain_at, parcel};
 ghost use Rattle.event_log.specs.Popping.{HasPopped};
 
-use crate::object::Object;
+use crate::kept::Kept;
 use crate::outbox::Outbox;
-use crate::popped::{Popped, take_sends, verdict_at};
+use crate::popped::{Taken, take_sends, verdict_at};
 use crate::row::Row;
 use crate::sending::hold_all;
+use crate::undo_list::UndoList;
 use event_chain::{Cell, CellPool, Chain};
 use event_key::{Key, NO_STAMP};
 use model_core::model::Model as SimulationModel;
 use model_core::{Change, Effect, Ending, Event, OutOfMemory, RecordBuffer};
-use object_log::is_due_at;
+use object_log::{Object, is_due_at};
 use std::alloc::Global;
 use std::marker::Model;
 use std::mem;
+
+/// How many events or messages there are at most when another event comes.
+const MOST: usize = 1 << 40;
 
 /// What was processed since the last commit, in the order of the keys, in flat lists that serve again: the events, what is told
 /// of each in the buffer that a commit hands out, what undoes their changes, and their messages in the chains of their homes.
@@ -140,6 +144,8 @@ impl News {
         ensures err { OnErr result (self.new ≡ self.old) }
         ensures same { OnErr result (IsSameObject object.old object.new) }
         ensures back { IfErr result (λ refused. refused.1 ≡ event) }
+        ensures cells_kept { OnErr result (pool.old ≤ pool.new) }
+        ensures cells { OnOk result (min (pool.old + 1) (2 ^ 60) + length self.old.sent ≤ pool.new + length self.new.sent) }
     {
         let room = make_room(
             alloc,
@@ -154,7 +160,7 @@ impl News {
         };
         let serial = object.sent();
         let from = self.undo.len();
-        let fired = object.fire(model, sheet, event.get(), &mut self.undo);
+        let fired = object.fire_into(model, sheet, event.get(), &mut self.undo);
         let Ok(ending) = fired else {
             return Err((OutOfMemory, event));
         };
@@ -203,27 +209,54 @@ impl News {
         0
     }
 
-    /// Takes the last event back. What undoes its changes goes behind a list.
-    pub fn pop(&mut self, undo: &mut Vec<Change>) -> Result<Popped, OutOfMemory>
-        requires { 0 < length self.old.done }
-        ensures ok { IfOk result (λ popped. HasPopped self.old self.new popped.event popped.sends popped.verdict undo.old.items undo.new.items) }
-        ensures err { OnErr result (self.new ≡ self.old) }
-        ensures kept { OnErr result (undo.new.items ≡ undo.old.items) }
+    /// Takes the last event back, with a cell of the pool if it sends nothing. Takes no memory.
+    pub fn pop(&mut self, cells: &mut CellPool<Event>) -> Kept
+        requires some { 0 < length self.old.done }
+        requires few { AllByRecursion (λ d. length d.undo ≤ 16) self.old.done }
+        requires cells { zeros self.old.done ≤ cells.old }
+        ensures popped { HasPopped self.old self.new result }
+        ensures cells { zeros self.new.done ≤ cells.new }
     {
         let last = self.rows.len() - 1;
         let row = self.rows[last];
         let from = self.undo.len() - row.changes as usize;
-        undo.extend_from_slice(&self.undo[from..])?;
+        let undo = UndoList::of(&self.undo[from..]);
         let verdict = verdict_at(&self.told, last, self.fault);
-        let sends = take_sends(&mut self.outbox, row.sends);
+        let Taken { sends, least } = take_sends(&mut self.outbox, row.sends);
         self.rows.truncate(last);
         self.undo.truncate(from);
         self.fault = None;
-        Ok(Popped {
-            event: row.event,
-            sends,
-            verdict,
-        })
+        Kept::new(row.event, undo, sends, least, verdict, cells)
+    }
+
+    /// Whether an event of this key can come behind them: it comes after the last one, none failed, and they are few.
+    pub fn takes(&self, key: &Key) -> bool
+        ensures { result ≡ true → CanTake key.now self.now }
+    {
+        self.tells();
+        let len = self.len();
+        if len == 0 {
+            return true;
+        }
+        if len >= MOST || self.sent() >= MOST || self.faulted().is_some() {
+            return false;
+        }
+        self.key_at(len - 1).is_before(key)
+    }
+
+    /// How many messages they sent.
+    pub fn sent(&self) -> usize
+        ensures { result ≡ length self.now.sent }
+    {
+        self.outbox.len()
+    }
+
+    /// Forgets what is told of those that were taken back, where none is left.
+    pub fn forget(&mut self)
+        requires { self.old.done ≡ [] }
+        ensures { self.new ≡ record self.old { gone = [] } }
+    {
+        self.told.clear();
     }
 
     /// Hands out what is told of all events, in the order of their keys, and their messages in the chains of their homes. No
@@ -302,6 +335,7 @@ fn make_room(
     ensures undo_room { OnOk result (vec_len undo.new + 16 ≤ vec_capacity undo.new) }
     ensures sent_room { OnOk result (8 ≤ outbox.new.room) }
     ensures cells { OnOk result (8 ≤ pool.new) }
+    ensures cells_kept { pool.old ≤ pool.new }
 {
     rows.reserve(1)?;
     told.reserve(1)?;

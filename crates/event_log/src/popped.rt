@@ -1,34 +1,43 @@
 //! An event that is taken back.
 ghost use Rattle.std.specs.Prelude.{◌≡◌, ◌<◌, ◌≤◌, ◌^◌, length, slice_get, IfSome, IfNone, Some, None};
 ghost use Rattle.event_key.specs.declared.key.Key.{Key};
+ghost use Rattle.event_key.specs.declared.stamp.TheConstants.{NO_STAMP};
+ghost use Rattle.key_order.specs.Stamps.{least_stamp};
 ghost use Rattle.model_core.specs.declared.note.Note.{Note};
 ghost use Rattle.object_log.specs.declared.done.Verdict.TheVariants.{Noted, Failed};
 ghost use Rattle.event_log.specs.Popping.{TakesLast};
 
 use crate::outbox::Outbox;
 use event_chain::Chain;
+use event_key::NO_STAMP;
 use model_core::{Event, Note, Part, RecordBuffer};
 use object_log::Verdict;
 
-/// An event that is taken back, with the messages that it sent and what came of it.
+/// Messages that are taken back, and the least of their stamps, or `NO_STAMP`.
 #[derive(Drop)]
-pub struct Popped {
-    pub event: Event,
+pub struct Taken {
     pub sends: Chain<Event>,
-    pub verdict: Verdict,
+    pub least: u64,
+    ghost least_is: { least ≡ least_stamp NO_STAMP sends },
 }
 
 /// Takes so many messages back, those that were put in last, and answers them in the order in which they were.
-pub fn take_sends(outbox: &mut Outbox, sends: u32) -> Chain<Event>
+pub fn take_sends(outbox: &mut Outbox, sends: u32) -> Taken
     requires { sends ≤ length outbox.old.sent }
-    ensures taken { TakesLast outbox.old.sent outbox.new.sent sends result }
+    ensures taken { TakesLast outbox.old.sent outbox.new.sent sends result.sends }
     ensures nodes { outbox.new.nodes ≡ outbox.old.nodes }
 {
     let mut taken = Chain::new();
+    let mut least = NO_STAMP;
     for _ in 0..sends {
-        taken.push_front(outbox.pop());
+        let message = outbox.pop();
+        least = least.min(message.get().key.stamp);
+        taken.push_front(message);
     }
-    taken
+    Taken {
+        sends: taken,
+        least,
+    }
 }
 
 /// What came of the event at a place, which failed if there is a code, and else has a record there.

@@ -1,23 +1,18 @@
--- Carried events by their places, and the least stamps that they hold.
+-- Elements in order by their places.
 use Rattle.std.proofs.Common.{◌≡◌, ℕ, zero, suc, ◌+◌, ◌-◌, ◌<◌, ◌≤◌, Bool, true, false, cond, Some, List, [], ◌∷◌, ◌++◌, length, map, take, drop, get_or, set, refl, sym, ap, ◌∙◌, subst, arith}
 use Rattle.std.proofs.lemmas.List.{get_or_read}
 use Rattle.std.proofs.lemmas.List.Sums.{sum_by-cons}
 use Rattle.std.specs.Prelude.{slice_get}
-use Rattle.std.specs.List.{insert as inserted, remove}
+use Rattle.std.specs.List.{remove}
 use Rattle.event_key.specs.declared.key.Key.{Key}
-use Rattle.event_key.specs.declared.stamp.TheConstants.{NO_STAMP}
 use Rattle.event_key.specs.Keys.{key_lt}
 use Rattle.event_key.proofs.Order.{key_lt-trans}
 use Rattle.key_order.proofs.AscendingLemmas.{key_lt-turned}
 use Rattle.key_order.proofs.KeyLemmas.{key_lt-other, new-head, new-tail}
 use Rattle.key_order.specs.Ascending.{After, Ascends}
 use Rattle.key_order.specs.Keys.{at_key, times}
-use Rattle.key_order.specs.Stamps.{least_stamp}
-use Rattle.object_log.specs.declared.item.Item.{Item}
-use Rattle.object_log.specs.Carrying.{AreHeld, AreHeldBut, IsHeld, IsHeldBut, Placed, first_held, item_key, place_of, placed, placed_key, placed_of}
-use Rattle.object_log.specs.Logs.{held_of}
+use Rattle.object_log.specs.Carrying.{place_of}
 use Rattle.object_log.specs.Weave.{insert}
-use Rattle.object_log.proofs.HeldLemmas.{least-join, least-none}
 
 module _ {X : Type 0} (key : X → Key) where
   -- what comes before a key
@@ -116,94 +111,3 @@ read-map f (y ∷ ys) (suc i) x within at = read-map f ys i x (omega arith) at
 
 pub same-read : {X : Type 0} (xs : List X) (i : ℕ) (x y : X) → i < length xs → x ≡ get_or xs i x → y ≡ get_or xs i y → x ≡ y
 same-read xs i x y within one other = get_or_read xs i x within one y ∙ sym other
-
--- what the events hold
-pub held-is : (es : List Item) → AreHeld es → first_held es ≡ least_stamp NO_STAMP (held_of (map (λ (p : Placed). p.done) (placed es)))
-unfolding AreHeld held_of
-held-is [] held = sym least-none
-held-is (e ∷ es) held =
-    let more = held-is es held.1 in
-    let is = held.0 in
-    let own = e.least_is in
-    let join = least-join e.done.sends (held_of (map (λ (p : Placed). p.done) (placed es))) in
-    omega arith
-
--- an item more
-pub but-inserted : (n : ℕ) (e : Item) (es : List Item) → n ≤ length es → IsHeld e (drop n es) → AreHeld es → AreHeldBut n (take n es ++ e ∷ drop n es)
-unfolding AreHeld AreHeldBut
-but-inserted zero e es within is held = (is, held)
-but-inserted (suc n) e [] within is held = absurd (omega arith)
-but-inserted (suc n) e (f ∷ es) within is held = (still n es (omega arith) held.0, but-inserted n e es (omega arith) is held.1)
-  where
-    still : (n : ℕ) (es : List Item) → n ≤ length es → IsHeld f es → IsHeldBut n f (take n es ++ e ∷ drop n es)
-    still zero es within h = tt
-    still (suc n) [] within h = absurd (omega arith)
-    still (suc n) (g ∷ es) within h = h
-
--- an item less
-pub but-removed : (n : ℕ) (es : List Item) → AreHeld es → AreHeldBut n (remove es n)
-unfolding AreHeld AreHeldBut
-but-removed zero [] held = tt
-but-removed zero (e ∷ es) held = held.1
-but-removed (suc n) [] held = tt
-but-removed (suc n) (e ∷ es) held = (still n es held.0, but-removed n es held.1)
-  where
-    still : (n : ℕ) (es : List Item) → IsHeld e es → IsHeldBut n e (remove es n)
-    still zero es h = tt
-    still (suc n) [] h = h
-    still (suc n) (f ∷ es) h = h
-
--- an item is mended
-but-set : (n : ℕ) (e : Item) (es : List Item) → AreHeldBut (suc n) es → n < length es → IsHeld e (drop (suc n) es) → AreHeldBut n (set es n e)
-unfolding AreHeld AreHeldBut
-but-set n e [] but some is = absurd (omega arith)
-but-set zero e (f ∷ es) but some is = (is, but.1)
-but-set (suc n) e (f ∷ es) but some is = (still n es but.0, but-set n e es but.1 (omega arith) is)
-  where
-    still : (n : ℕ) (es : List Item) → IsHeld f es → IsHeldBut n f (set es n e)
-    still zero es h = tt
-    still (suc n) [] h = h
-    still (suc n) (g ∷ es) h = h
-
-but-stays : (n : ℕ) (e : Item) (es : List Item) → AreHeldBut (suc n) es → n < length es → e ≡ get_or es n e → IsHeld e (drop (suc n) es) → AreHeld es
-unfolding AreHeld AreHeldBut
-but-stays n e [] but some at is = absurd (omega arith)
-but-stays zero e (f ∷ es) but some at is = let P : Item → Type 0 = λ e. IsHeld e es in (subst P at is, but.1)
-but-stays (suc n) e (f ∷ es) but some at is = (but.0, but-stays n e es but.1 (omega arith) at is)
-
-pub placed-set : (n : ℕ) (e f : Item) (es : List Item) → f ≡ get_or es n f → placed_of e ≡ placed_of f → n < length es → placed (set es n e) ≡ placed es
-placed-set n e f [] at is some = absurd (omega arith)
-placed-set zero e f (g ∷ es) at is some = ap (λ p. p ∷ placed es) (is ∙ ap placed_of at)
-placed-set (suc n) e f (g ∷ es) at is some = ap (λ ps. placed_of g ∷ ps) (placed-set n e f es at is (omega arith))
-
-pub mend-goes : (place : ℕ) (e : Item) (es : List Item) → 0 < place → place ≤ length es → AreHeldBut place es → IsHeld e (drop place es) → AreHeldBut (place - 1) (set es (place - 1) e)
-mend-goes zero e es some within but is = absurd (omega arith)
-mend-goes (suc n) e es some within but is =
-    let P : ℕ → Type 0 = λ m. AreHeldBut m (set es m e) in
-    let at : suc n - 1 ≡ n = omega arith in
-    subst P (sym at) (but-set n e es but (omega arith) is)
-
-pub mend-stays : (place : ℕ) (e : Item) (es : List Item) → 0 < place → place ≤ length es → AreHeldBut place es → e ≡ get_or es (place - 1) e → IsHeld e (drop place es) → AreHeld es
-mend-stays zero e es some within but at is = absurd (omega arith)
-mend-stays (suc n) e es some within but at is =
-    let P : ℕ → Type 0 = λ m. e ≡ get_or es m e in
-    let back : suc n - 1 ≡ n = omega arith in
-    but-stays n e es but (omega arith) (subst P back at) is
-
-pub mend-ends : (place : ℕ) (es : List Item) → place ≤ 0 → AreHeldBut place es → AreHeld es
-unfolding AreHeldBut
-mend-ends zero es none but = but
-mend-ends (suc n) es none but = absurd (omega arith)
-
-pub none-carried : Ascends item_key [] × AreHeld []
-unfolding Ascends AreHeld
-none-carried = (tt, tt)
-
--- an item that was put in at its place
-pub inserted-placed : (es now : List Item) (e : Item) (at : ℕ) (key : Key) → placed now ≡ placed (inserted es at e) → at ≡ place_of item_key key es → key ≡ item_key e → times placed_key (item_key e) (placed es) ≡ 0
-    → placed now ≡ insert placed_key (placed_of e) (placed es)
-inserted-placed es now e at key is place same fresh =
-    is
-    ∙ ap (λ n. placed (inserted es n e)) (place ∙ ap (λ k. place_of item_key k es) same)
-    ∙ ap placed (place-put item_key e es (times-map placed_of placed_key (item_key e) es ∙ fresh))
-    ∙ map-insert placed_of placed_key e es

@@ -163,3 +163,28 @@ module _ {X : Type 0} (key : X → Key) where
   -- where all of the first list comes before all of the second, at each object, its log is one behind the other
   pub weave-own : (p : X → Bool) (cs ns : List X) → Ascends key (weave key cs ns) → Ascends key (filter p cs ++ filter p ns) → filter p (weave key cs ns) ≡ filter p cs ++ filter p ns
   weave-own p cs ns up apart = weave-filter p cs ns up ∙ weave-apart (filter p cs) (filter p ns) apart
+
+  -- the last of the first list is put in first
+  pub weave-last : (xs ys : List X) (x : X) → weave key (xs ++ x ∷ []) ys ≡ weave key xs (insert key x ys)
+  unfolding weave
+  weave-last [] ys x = refl
+  weave-last (z ∷ xs) ys x = ap (insert key z) (weave-last xs ys x)
+
+  -- the second list is in order where the whole is
+  pub weave-below : (xs ys : List X) → Ascends key (weave key xs ys) → Ascends key ys
+  unfolding weave
+  weave-below [] ys up = up
+  weave-below (x ∷ xs) ys up = weave-below xs ys (insert-without x (weave key xs ys) up)
+
+  -- no other element of a list in order has the key
+  pub insert-fresh : (x : X) (ys : List X) → Ascends key (insert key x ys) → times key (key x) ys ≡ 0
+  insert-fresh x ys up =
+      Differ-first key x ys (Differ-permutation key (insert key x ys) (x ∷ ys) (IsPermutation-sym (x ∷ ys) (insert key x ys) (insert-permutation x ys)) (Ascends-differ key (insert key x ys) up))
+
+  -- an element behind the first list comes to its place in the whole
+  pub weave-come : (xs ys : List X) (x : X) → times key (key x) (weave key xs ys) ≡ 0 → Ascends key (weave key xs ys) → weave key (xs ++ x ∷ []) ys ≡ insert key x (weave key xs ys)
+  unfolding weave
+  weave-come xs ys x new up =
+      weave-moved (x ∷ xs) ys (xs ++ x ∷ []) ys
+      (IsPermutation-append_left ys (x ∷ xs) (xs ++ x ∷ []) (IsPermutation-sym (xs ++ x ∷ []) (x ∷ xs) (IsPermutation-to_front xs x)))
+      (insert-ascends x (weave key xs ys) new up) (weave-below xs ys up)

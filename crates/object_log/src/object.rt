@@ -1,9 +1,11 @@
 //! One object, which fires events and takes them back.
-ghost use Rattle.std.specs.Prelude.{◌≡◌, ◌<◌, ◌≤◌, ◌+◌, ◌-◌, ◌^◌, min, length, IfOk, IfErr, OnOk, OnErr, IsTrue};
+ghost use Rattle.std.specs.Prelude.{◌≡◌, ◌<◌, ◌≤◌, ◌+◌, ◌-◌, ◌^◌, min, length, vec_len, vec_capacity, IfOk, IfErr, OnOk, OnErr, IsTrue};
 ghost use Rattle.event_key.specs.Stamps.{time_part};
 ghost use Rattle.event_key.specs.declared.stamp.TheConstants.{NO_STAMP};
 ghost use Rattle.model_core.specs.Meaning.{Meaning};
 ghost use Rattle.key_order.specs.Stamps.{least_stamp};
+ghost use Rattle.object_log.specs.Dones.{Done};
+ghost use Rattle.object_log.specs.Fired.{HasFiredInto};
 ghost use Rattle.object_log.specs.Objects.{HasFired, HasUndone, IsNewest, IsSameObject};
 
 use crate::done::{Done, Verdict};
@@ -13,7 +15,7 @@ use event_chain::{Cell, Chain};
 use event_firing::settle;
 use event_key::NO_STAMP;
 use model_core::model::{Model as SimulationModel, keeps_laws};
-use model_core::{Cells, Effect, Ending, Event, OutOfMemory};
+use model_core::{Cells, Change, Effect, Ending, Event, OutOfMemory};
 use random_streams::Stream;
 use std::alloc::Global;
 use std::marker::Model;
@@ -37,7 +39,7 @@ impl Model for Object {
 }
 
 /// A fired event, and the least stamp that it sends, or `NO_STAMP`.
-pub struct Fired {
+pub(crate) struct Fired {
     pub done: Cell<Done>,
     pub least: u64,
     ghost least_is: { least ≡ least_stamp NO_STAMP done.sends },
@@ -79,7 +81,7 @@ impl Object {
 
     /// Fires an event and keeps what takes it back. The sheet is written over. Memory is taken only for what the pool
     /// lacks; if none is left, the event comes back.
-    pub fn fire<M: SimulationModel>(
+    pub(crate) fn fire<M: SimulationModel>(
         &mut self,
         alloc: Global,
         model: &M,
@@ -142,9 +144,58 @@ impl Object {
         }
     }
 
+    /// Fires an event, whose effect is written into the sheet, and puts what undoes its changes behind a list that has room for
+    /// it. What the event sends stands in the sheet.
+    pub fn fire_into<M: SimulationModel>(
+        &mut self,
+        model: &M,
+        sheet: &mut Effect,
+        event: &Event,
+        undo: &mut Vec<Change>,
+    ) -> Result<Ending, OutOfMemory>
+        requires object { self.old.object < (M.meaning model.now).objects }
+        requires lawful { IsTrue ((M.meaning model.now).lawful self.old.object self.old.cells.contents) }
+        requires dest { event.now.key.dest ≡ self.old.object }
+        requires time { time_part event.now.key.stamp < 2 ^ 46 }
+        requires sent { self.old.sent < 2 ^ 60 }
+        requires room { vec_len undo.old + 16 ≤ vec_capacity undo.old }
+        ensures ok { IfOk result (λ ending. HasFiredInto (M.meaning model.now) self.old self.new event.now ending sheet.new undo.old.items undo.new.items) }
+        ensures lawful { OnOk result (IsTrue ((M.meaning model.now).lawful self.new.object self.new.cells.contents)) }
+        ensures err { OnErr result (IsSameObject self.old self.new) }
+        ensures kept { OnErr result (undo.new.items ≡ undo.old.items) }
+    {
+        keeps_laws(model);
+        let ending = settle(model, &mut self.words, &self.cells, event, sheet)?;
+        match ending {
+            Ending::Fails(code) => Ok(Ending::Fails(code)),
+            Ending::Goes => {
+                let changes = sheet.changes.as_slice();
+                self.cells.room(changes)?;
+                let from = undo.len();
+                let Ok(()) = undo.extend_from_slice(changes) else {
+                    unreachable!()
+                };
+                let (_, added) = undo.as_mut_slice().split_at_mut(from);
+                self.cells.apply(added);
+                self.sent += sheet.sends.as_slice().len() as u64;
+                Ok(Ending::Goes)
+            }
+        }
+    }
+
+    /// Takes back the event that it fired last of those that it has not taken back, by what undoes its changes and how many
+    /// messages it sent. Takes no memory.
+    pub fn take_back(&mut self, undo: &mut [Change], sends: usize)
+        requires { (d : Done) × IsNewest self.old d × (undo.old ≡ d.undo) × (sends ≡ length d.sends) }
+        ensures { (d : Done) → undo.old ≡ d.undo → sends ≡ length d.sends → HasUndone self.old self.new d }
+    {
+        self.cells.undo(undo);
+        self.sent -= sends as u64;
+    }
+
     /// Takes back the event that it fired last of those that it has not taken back. What else the event leaves goes to
     /// the pool.
-    pub fn undo(&mut self, done: Cell<Done>, pool: &mut LogPool) -> Cell<Event>
+    pub(crate) fn undo(&mut self, done: Cell<Done>, pool: &mut LogPool) -> Cell<Event>
         requires { IsNewest self.old done }
         ensures undone { HasUndone self.old self.new done }
         ensures event { result ≡ done.event }
@@ -158,8 +209,7 @@ impl Object {
             sends,
             verdict: _,
         } = pool.take_out(done);
-        self.cells.undo(undo.as_mut_slice());
-        self.sent -= sends.len() as u64;
+        self.take_back(undo.as_mut_slice(), sends.len());
         pool.keep(undo, sends);
         event
     }

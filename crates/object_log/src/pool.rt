@@ -166,7 +166,7 @@ impl LogPool {
 }
 
 /// Puts the cells of messages into the pool.
-fn recycle_all(pool: &mut CellPool<Event>, messages: Chain<Event>)
+pub fn recycle_all(pool: &mut CellPool<Event>, messages: Chain<Event>)
     ensures { pool.new ≡ min (pool.old + length messages) (2 ^ 60) }
 {
     prove!(pool.spare() <= 1 << 60);

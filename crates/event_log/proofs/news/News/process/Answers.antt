@@ -1,6 +1,6 @@
 -- The object fires the event, which joins the news.
 use Rattle.std.proofs.Common.{◌≡◌, ℕ, ◌+◌, ◌-◌, ◌<◌, min, List, [], ◌∷◌, ◌++◌, length, map, refl, sym, ap, ◌∙◌, subst, arith, length-append}
-use Rattle.std.proofs.lemmas.List.{append-nil}
+use Rattle.std.proofs.lemmas.List.{append-nil, length-map}
 use Rattle.std.specs.Prelude.{Some}
 use Rattle.std.specs.List.{AllByRecursion as Each}
 use Rattle.event_key.specs.declared.stamp.TheConstants.{NO_STAMP}
@@ -11,9 +11,10 @@ use Rattle.model_core.specs.declared.effect.Ending.{Ending}
 use Rattle.model_core.specs.declared.event.Event.{Event}
 use Rattle.model_core.specs.Meaning.{Meaning}
 use Rattle.sim_spec.specs.Firing.{emissions}
+use Rattle.sim_spec.proofs.SerialLemmas.{length-emissions}
 use Rattle.object_log.specs.Objects.{HasFired}
 use Rattle.object_log.proofs.HeldLemmas.{least-start}
-use Rattle.event_log.specs.Fired.{HasFiredInto, HasGone, failed_of, went_of}
+use Rattle.object_log.specs.Fired.{HasFiredInto, HasGone, failed_of, went_of}
 use Rattle.event_log.specs.News.{NewsView, homed, least_after}
 use Rattle.event_log.proofs.ProcessFacts.{code-none, joined, joins-news, pushed-failed, pushed-went}
 use Rattle.event_log.proofs.news.News.process.Goals as goal
@@ -29,12 +30,12 @@ invariant_of-self-in-Fails g c =
     let n = c.self.inside in
     let made = c.make_room-room.ensures in
     let old = c.args.object.now in
-    let new = c.fire-fired.new.self in
+    let new = c.fire_into-fired.new.self in
     let e = c.args.event in
     let value = c.recycle-event.ensures.value in
-    let x : Effect = c.fire-fired.new.sheet in
+    let x : Effect = c.fire_into-fired.new.sheet in
     let homes = c.args.homes.now in
-    let undo = c.fire-fired.new.undo.items in
+    let undo = c.fire_into-fired.new.undo.items in
     let before_is = c.least_in-before.ensures ∙ ap (least_after NO_STAMP) (c.deref.ensures.value ∙ made.rows) in
     let K : Ending → Type 0 = λ k. HasFiredInto m old new c.get.result.now k x c.make_room-room.new.undo.items undo in
     let fault = c.in-Fails.code in
@@ -54,12 +55,12 @@ returns-in-Fails-clause-ok g c =
     let n = c.self.inside in
     let made = c.make_room-room.ensures in
     let old = c.args.object.now in
-    let new = c.fire-fired.new.self in
+    let new = c.fire_into-fired.new.self in
     let e = c.args.event in
     let value = c.recycle-event.ensures.value in
-    let x : Effect = c.fire-fired.new.sheet in
+    let x : Effect = c.fire_into-fired.new.sheet in
     let homes = c.args.homes.now in
-    let undo = c.fire-fired.new.undo.items in
+    let undo = c.fire_into-fired.new.undo.items in
     let before_is = c.least_in-before.ensures ∙ ap (least_after NO_STAMP) (c.deref.ensures.value ∙ made.rows) in
     let K : Ending → Type 0 = λ k. HasFiredInto m old new c.get.result.now k x c.make_room-room.new.undo.items undo in
     let fault = c.in-Fails.code in
@@ -72,7 +73,7 @@ returns-in-Fails-clause-ok g c =
     let rows_is = c.push_reserved.ensures.items ∙ (λ i. made.rows i ++ (record { event = value i; least = before_is i; changes = 0; sends = 0 }) ∷ []) in
     let p = pushed-failed c.args.self.now n.told.items n.rows.items n.undo.items n.outbox.sent n.fault n.outbox.nodes c.self.invariant c.self.view_is e fault undo told rows sent (fired.0 ∙ made.undo) made.told made.sent rows_is in
     joined c.args.self.now n.told.items n.rows.items n.undo.items n.outbox.sent n.fault n.outbox.nodes c.self.invariant c.self.view_is told rows undo sent (Some fault) d c.requires.whole c.requires.went c.requires.above p m homes e old new NO_STAMP c.make_room-room.new.outbox.nodes
-    (subst F c.get.ensures fired.1) (made.sent ∙ sym (append-nil n.outbox.sent)) made.nodes (least-start [] refl)
+    (subst F c.get.ensures fired.1) (made.sent ∙ sym (append-nil n.outbox.sent)) made.nodes (least-start [] refl) (omega arith) (omega arith)
 
 pub invariant_of-self-in-Goes : goal.invariant_of-self-in-Goes
 invariant_of-self-in-Goes g c =
@@ -80,12 +81,12 @@ invariant_of-self-in-Goes g c =
     let n = c.self.inside in
     let made = c.make_room-room.ensures in
     let old = c.args.object.now in
-    let new = c.fire-fired.new.self in
+    let new = c.fire_into-fired.new.self in
     let e = c.args.event in
     let value = c.recycle-event.ensures.value in
-    let x : Effect = c.fire-fired.new.sheet in
+    let x : Effect = c.fire_into-fired.new.sheet in
     let homes = c.args.homes.now in
-    let undo = c.fire-fired.new.undo.items in
+    let undo = c.fire_into-fired.new.undo.items in
     let before_is = c.least_in-before.ensures ∙ ap (least_after NO_STAMP) (c.deref.ensures.value ∙ made.rows) in
     let K : Ending → Type 0 = λ k. HasFiredInto m old new c.get.result.now k x c.make_room-room.new.undo.items undo in
     let F : Event → Type 0 = λ y. HasGone m old new y x c.make_room-room.new.undo.items undo in
@@ -100,7 +101,7 @@ invariant_of-self-in-Goes g c =
     let added = ap length fired.added in
     let parts = length-append n.undo.items fired.undo in
     let was = ap length made.undo in
-    let count : changes + length n.undo.items ≡ length undo = omega (arith, c.len.ensures, c.len-from.ensures, c.fire-fired.new.undo.ok.0, c.make_room-room.new.undo.ok.0) in
+    let count : changes + length n.undo.items ≡ length undo = omega (arith, c.len.ensures, c.len-from.ensures, c.fire_into-fired.new.undo.ok.0, c.make_room-room.new.undo.ok.0) in
     let least_is = c.hold_all-least.ensures.least ∙ (λ i. least_stamp NO_STAMP (emissions (value i).key.stamp (value i).key.dest (c.sent-serial.ensures i) (c.as_slice-sends.ensures i))) in
     let low = c.min.ensures ∙ ap (λ k. min k least) before_is in
     let rows_is = c.push_reserved-in-Goes-2.ensures.items ∙ (λ i. made.rows i ++ (record { event = value i; least = low i; changes = changes; sends = length (c.as_slice-sends.ensures i) }) ∷ []) in
@@ -116,12 +117,12 @@ returns-in-Goes-clause-ok g c =
     let n = c.self.inside in
     let made = c.make_room-room.ensures in
     let old = c.args.object.now in
-    let new = c.fire-fired.new.self in
+    let new = c.fire_into-fired.new.self in
     let e = c.args.event in
     let value = c.recycle-event.ensures.value in
-    let x : Effect = c.fire-fired.new.sheet in
+    let x : Effect = c.fire_into-fired.new.sheet in
     let homes = c.args.homes.now in
-    let undo = c.fire-fired.new.undo.items in
+    let undo = c.fire_into-fired.new.undo.items in
     let before_is = c.least_in-before.ensures ∙ ap (least_after NO_STAMP) (c.deref.ensures.value ∙ made.rows) in
     let K : Ending → Type 0 = λ k. HasFiredInto m old new c.get.result.now k x c.make_room-room.new.undo.items undo in
     let F : Event → Type 0 = λ y. HasGone m old new y x c.make_room-room.new.undo.items undo in
@@ -136,7 +137,7 @@ returns-in-Goes-clause-ok g c =
     let added = ap length fired.added in
     let parts = length-append n.undo.items fired.undo in
     let was = ap length made.undo in
-    let count : changes + length n.undo.items ≡ length undo = omega (arith, c.len.ensures, c.len-from.ensures, c.fire-fired.new.undo.ok.0, c.make_room-room.new.undo.ok.0) in
+    let count : changes + length n.undo.items ≡ length undo = omega (arith, c.len.ensures, c.len-from.ensures, c.fire_into-fired.new.undo.ok.0, c.make_room-room.new.undo.ok.0) in
     let least_is = c.hold_all-least.ensures.least ∙ (λ i. least_stamp NO_STAMP (emissions (value i).key.stamp (value i).key.dest (c.sent-serial.ensures i) (c.as_slice-sends.ensures i))) in
     let low = c.min.ensures ∙ ap (λ k. min k least) before_is in
     let rows_is = c.push_reserved-in-Goes-2.ensures.items ∙ (λ i. made.rows i ++ (record { event = value i; least = low i; changes = changes; sends = length (c.as_slice-sends.ensures i) }) ∷ []) in
@@ -144,5 +145,20 @@ returns-in-Goes-clause-ok g c =
     let sent_is = c.hold_all-least.ensures.sent ∙ (λ i. made.sent i ++ map (homed homes) (emissions (value i).key.stamp (value i).key.dest (c.sent-serial.ensures i) (c.as_slice-sends.ensures i))) in
     let none = code-none c.args.self.now n.told.items n.rows.items n.undo.items n.outbox.sent n.fault n.outbox.nodes c.self.invariant c.self.view_is c.requires.went in
     let p = pushed-went c.args.self.now n.told.items n.rows.items n.undo.items n.outbox.sent n.fault n.outbox.nodes c.self.invariant c.self.view_is homes m old new e x undo told rows sent least changes fired count least_is rows_is told_is sent_is none in
+    let long : length (emissions e.key.stamp e.key.dest old.sent x.sends) ≡ length x.sends = length-emissions e.key.stamp e.key.dest old.sent x.sends in
     joined c.args.self.now n.told.items n.rows.items n.undo.items n.outbox.sent n.fault n.outbox.nodes c.self.invariant c.self.view_is told rows undo sent n.fault d c.requires.whole c.requires.went c.requires.above p m homes e old new least c.hold_all-least.new.outbox.nodes
-    fired.fired sent_is (c.hold_all-least.ensures.nodes ∙ made.nodes) least_is
+    fired.fired sent_is (c.hold_all-least.ensures.nodes ∙ made.nodes) least_is (omega (arith, fired.few_changes)) (omega (arith, long, fired.few_sends))
+
+pub returns-in-Goes-clause-cells : goal.returns-in-Goes-clause-cells
+returns-in-Goes-clause-cells g c =
+    let n = c.self.inside in
+    let made = c.make_room-room.ensures in
+    let sends = c.as_slice-sends.result.now in
+    let es = emissions c.recycle-event.result.key.stamp c.recycle-event.result.key.dest c.sent-serial.result sends in
+    let sent = ap length c.hold_all-least.ensures.sent in
+    let parts = length-append c.make_room-room.new.outbox.sent (map (homed c.args.homes.now) es) in
+    let mapped = length-map es (homed c.args.homes.now) in
+    let long = length-emissions c.recycle-event.result.key.stamp c.recycle-event.result.key.dest c.sent-serial.result sends in
+    let was = ap length made.sent in
+    let seen = ap (λ (v : NewsView). length v.sent) c.self.view_is in
+    omega (arith, made.cells_kept, c.recycle-event.ensures.spare, c.hold_all-least.ensures.cells)

@@ -1,0 +1,65 @@
+-- One event more in the log of a node.
+use Rattle.std.proofs.Common.{◌≡◌, ℕ, ◌<◌, true, List, [], ◌∷◌, length, get_or, sym, ap, ◌∙◌, subst}
+use Rattle.std.specs.Prelude.{Result, Ok, Err, IfOk, OnErr, slice_set}
+use Rattle.std.specs.List.{AllByRecursion as Each}
+use Rattle.event_key.specs.Keys.{key_lt}
+use Rattle.key_order.specs.Keys.{times}
+use Rattle.model_core.specs.declared.event.Event.{Event}
+use Rattle.model_core.specs.Meaning.{Meaning}
+use Rattle.object_log.specs.Carrying.{Placed, placed_key}
+use Rattle.object_log.specs.Dones.{Done}
+use Rattle.object_log.specs.declared.done.Verdict.TheVariants.{Failed}
+use Rattle.object_log.specs.EventCalls.{HasProcessed}
+use Rattle.object_log.specs.EventLogs.{done_key, dones_at}
+use Rattle.object_log.specs.Logs.{keys_of}
+use Rattle.object_log.specs.Objects.{IsSameObject, KeptObject}
+use Rattle.object_log.specs.Whole.{IsEventLog, dones_in, log_view}
+use Rattle.object_log.proofs.CarriedLemmas.{times-map}
+use Rattle.object_log.proofs.EventLogLemmas.{IsFiring, processed-one, same-log, same-view, still-log}
+use Rattle.object_log.proofs.JoinLemmas.{new-key}
+use Rattle.event_log.specs.Processing.{HasCome, IsSameProcessed, ProcessedView}
+
+pub ok-more : {T E : Type 0} (r : Result T E) (P Q : T → Type 0) → ((t : T) → P t → Q t) → IfOk r P → IfOk r Q
+ok-more (Ok t) P Q more holds = more t holds
+ok-more (Err e) P Q more holds = holds
+
+pub either : {T E : Type 0} (r : Result T E) (P : T → Type 0) (Q R X : Type 0) → IfOk r P → OnErr r Q → OnErr r R → ((t : T) → P t → X) → (Q → R → X) → X
+either (Ok t) P Q R X ok err same one other = one t ok
+either (Err e) P Q R X ok err same one other = other err same
+
+pub err-more : {T E : Type 0} (r : Result T E) (P Q X : Type 0) → (P → Q → X) → OnErr r P → OnErr r Q → OnErr r X
+err-more (Ok t) P Q X more one other = one
+err-more (Err e) P Q X more one other = more one other
+
+pub err-one : {T E : Type 0} (r : Result T E) (P X : Type 0) → (P → X) → OnErr r P → OnErr r X
+err-one (Ok t) P X more one = one
+err-one (Err e) P X more one = more one
+
+keys-above : (event : Event) (xs : List Done) → Each (λ k. key_lt k event.key ≡ true) (keys_of xs) → Each (λ (x : Done). key_lt x.event.key event.key ≡ true) xs
+keys-above event [] all = tt
+keys-above event (x ∷ xs) all = (all.0, keys-above event xs all.1)
+
+-- a key above all of its object is new
+pub fresh-key : (event : Event) (items : List Placed) → Each (λ k. key_lt k event.key ≡ true) (keys_of (dones_at event.key.dest (dones_in items))) → times placed_key event.key items ≡ 0
+fresh-key event items above =
+    let d : Done = record { event = event; undo = []; sends = []; verdict = Failed 0 } in
+    times-map (λ (q : Placed). q.done) done_key event.key items ∙ new-key d (dones_in items) (keys-above event (dones_at event.key.dest (dones_in items)) above)
+
+module _ (m : Meaning) (objects : List KeptObject) (place : ℕ) (o later : KeptObject) (event : Event) (old new : ProcessedView) where
+  -- it came
+  module _ (least : ℕ) (h : HasCome m event place o later old new least) (f : IsFiring m objects old.items place o later event h.entry) where
+    pub come-log : IsEventLog (slice_set objects place later) new.items
+    come-log = subst (IsEventLog (slice_set objects place later)) (sym h.items) (still-log m objects old.items place o later event h.entry f)
+
+    pub come-processed : HasProcessed m (log_view objects old.items) (log_view (slice_set objects place later) new.items) event least
+    come-processed =
+        let P : List Placed → Type 0 = λ items. HasProcessed m (log_view objects old.items) (log_view (slice_set objects place later) items) event least in
+        subst P (sym h.items) (processed-one m objects old.items place o later event h.entry f least h.least_is)
+
+  -- or all is as it was
+  module _ (same : IsSameProcessed old new) (is : IsSameObject o later) (log : IsEventLog objects old.items) (within : place < length objects) (at : o ≡ get_or objects place o) where
+    pub kept-log : IsEventLog (slice_set objects place later) new.items
+    kept-log = subst (IsEventLog (slice_set objects place later)) (sym same.items) (same-log objects old.items place o later log within at is)
+
+    pub kept-view : log_view (slice_set objects place later) new.items ≡ log_view objects old.items
+    kept-view = ap (log_view (slice_set objects place later)) same.items ∙ same-view objects old.items place o later log within at is

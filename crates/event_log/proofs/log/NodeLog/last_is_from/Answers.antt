@@ -1,0 +1,64 @@
+-- The last item has the last event.
+use Rattle.std.proofs.Common.{◌≡◌, ℕ, ◌-◌, ◌<◌, ◌≤◌, Some, true, false, length, ap, subst, arith}
+use Rattle.std.proofs.lemmas.Bool.Decides.{nat_tests}
+use Rattle.std.proofs.lemmas.List.{length-map}
+use Rattle.std.specs.List.{AllByRecursion as Each}
+use Rattle.std.specs.Prelude.{nat_lt, slice_get}
+use Rattle.event_key.specs.declared.key.Key.{Key}
+use Rattle.key_order.proofs.AscendingLemmas.{Ascends-map}
+use Rattle.object_log.specs.Carrying.{Placed}
+use Rattle.object_log.specs.Dones.{Done}
+use Rattle.object_log.specs.EventLogs.{EventLogView, done_key}
+use Rattle.object_log.specs.Undoings.{LastIsFrom}
+use Rattle.object_log.specs.Whole.{dones_in}
+use Rattle.object_log.proofs.UndoLemmas.{get-map}
+use Rattle.object_log.proofs.UndoneLemmas.{below-last, none-below}
+use Rattle.event_log.specs.NodeLogs.{NodeLogView}
+use Rattle.event_log.proofs.log.NodeLog.last_is_from.Goals as goal
+
+pub returns-clause-some : goal.returns-clause-some
+returns-clause-some c = λ yes.
+    let items = c.self.inside.events.items in
+    let ds = dones_in items in
+    let h = c.args.horizon in
+    let at = c.at-place.ensures in
+    let long = length-map items (λ (p : Placed). p.done) in
+    let counted = c.len-len.ensures in
+    let some = c.if-len-eq0.false in
+    let le : h ≤ c.at-place.result.0.stamp = grind (arith, nat_tests) in
+    let stamp = ap (λ (k : Key). k.stamp) at.2 in
+    let from : nat_lt at.0.done.event.key.stamp h ≡ false = grind (arith, nat_tests) in
+    let P : ℕ → Type 0 = λ n. slice_get ds n ≡ Some at.0.done in
+    let last : c.len-len.result - 1 ≡ length ds - 1 = omega arith in
+    let V : EventLogView → Type 0 = λ v. LastIsFrom h v.done in
+    subst V (ap (λ (v : NodeLogView). v.log) c.self.view_is) (record {
+      last = at.0.done;
+      some = omega arith;
+      found = subst P last (get-map (λ (p : Placed). p.done) items (c.len-len.result - 1) at.0 at.1);
+      from = from;
+    })
+
+pub returns-clause-none : goal.returns-clause-none
+returns-clause-none c = λ no.
+    let items = c.self.inside.events.items in
+    let ds = dones_in items in
+    let h = c.args.horizon in
+    let at = c.at-place.ensures in
+    let long = length-map items (λ (p : Placed). p.done) in
+    let counted = c.len-len.ensures in
+    let some = c.if-len-eq0.false in
+    let lt : c.at-place.result.0.stamp < h = grind (arith, nat_tests) in
+    let stamp = ap (λ (k : Key). k.stamp) at.2 in
+    let low : nat_lt at.0.done.event.key.stamp h ≡ true = grind (arith, nat_tests) in
+    let V : EventLogView → Type 0 = λ v. Each (λ (d : Done). nat_lt d.event.key.stamp h ≡ true) v.done in
+    subst V (ap (λ (v : NodeLogView). v.log) c.self.view_is)
+    (below-last h ds (c.len-len.result - 1) at.0.done (Ascends-map done_key (λ (p : Placed). p.done) items c.self.invariant.ordered) (omega arith)
+    (get-map (λ (p : Placed). p.done) items (c.len-len.result - 1) at.0 at.1) low)
+
+pub returns-then-len-eq0-clause-none : goal.returns-then-len-eq0-clause-none
+returns-then-len-eq0-clause-none c = λ no.
+    let long = length-map c.self.inside.events.items (λ (p : Placed). p.done) in
+    let counted = c.len-len.ensures in
+    let none = c.if-len-eq0.true in
+    let same = ap (λ (v : EventLogView). length v.done) (ap (λ (v : NodeLogView). v.log) c.self.view_is) in
+    none-below c.args.horizon c.args.self.now.log.done (omega arith)

@@ -1,0 +1,40 @@
+-- All news go over.
+use Rattle.std.proofs.Common.{sym, ap, ◌∙◌, subst, arith}
+use Rattle.std.proofs.lemmas.List.{nil_from_length}
+use Rattle.event_log.specs.News.{NewsView}
+use Rattle.event_log.specs.Processing.{CanCarry, ProcessedView, merged}
+use Rattle.event_log.proofs.ProcessedFacts.{idle-carried}
+use Rattle.event_log.proofs.TakesFacts.{nothing-sent}
+use Rattle.event_log.proofs.processed.Processed.carry_all.Goals as goal
+
+pub carry_from-requires-clause-can : goal.carry_from-requires-clause-can
+carry_from-requires-clause-can c =
+    let p = c.self.invariant in
+    let enough = p.cells_are in
+    let zeros_are = p.zeros_are in
+    record { ordered = p.ordered; long = p.long; room = p.room; few = p.few; cells_are = omega arith }
+
+pub invariant_of-self : goal.invariant_of-self
+invariant_of-self c =
+    let can = c.carry_from.ensures.can in
+    let places = c.carry_from.new.places.items in
+    let k = c.carry_from.new.carried in
+    let R : NewsView → Type 0 = λ v. CanCarry places v k c.carry_from.new.cells in
+    idle-carried places c.forget.new.self k c.carry_from.new.cells c.carry_from.new.cells
+    (subst R (sym c.forget.ensures) (record { ordered = can.ordered; long = can.long; room = can.room; few = can.few; cells_are = can.cells_are }))
+    (ap (λ (v : NewsView). v.done) c.forget.ensures ∙ c.carry_from.ensures.done) (ap (λ (v : NewsView). v.gone) c.forget.ensures)
+
+pub returns-clause-same : goal.returns-clause-same
+returns-clause-same c = record {
+  items = ap (λ (v : NewsView). merged v.done c.carry_from.new.places.items c.carry_from.new.carried.items) c.forget.ensures ∙ c.carry_from.ensures.same ∙ ap (λ (v : ProcessedView). v.items) c.self.view_is;
+  nodes = ap (λ (v : NewsView). v.nodes) c.forget.ensures ∙ c.carry_from.ensures.nodes ∙ ap (λ (v : ProcessedView). v.nodes) c.self.view_is;
+}
+
+pub returns-clause-news : goal.returns-clause-news
+returns-clause-news c = ap (λ (v : NewsView). v.done) c.forget.ensures ∙ c.carry_from.ensures.done
+
+pub returns-clause-chained : goal.returns-clause-chained
+returns-clause-chained c =
+    let v = c.carry_from.new.news in
+    let silent = nothing-sent v.sent v.done c.carry_from.ensures.done c.tells.ensures.sent in
+    ap (λ (w : NewsView). w.sent) c.forget.ensures ∙ nil_from_length v.sent (omega arith)

@@ -1,0 +1,117 @@
+-- The event comes behind the news, for which there is room.
+use Rattle.std.proofs.Common.{◌≡◌, ℕ, ◌+◌, ◌-◌, ◌<◌, ◌≤◌, ◌^◌, min, List, [], ◌∷◌, ◌++◌, length, map, sym, ap, ◌∙◌, subst, arith, length-append}
+use Rattle.std.proofs.lemmas.List.{length-map}
+use Rattle.std.specs.List.{AllByRecursion as Each}
+use Rattle.key_order.specs.Keys.{times}
+use Rattle.model_core.specs.declared.event.Event.{Event}
+use Rattle.model_core.specs.Meaning.{Meaning}
+use Rattle.object_log.specs.Carrying.{placed_key}
+use Rattle.object_log.specs.Objects.{KeptObject}
+use Rattle.object_log.specs.Weave.{insert}
+use Rattle.event_log.specs.Items.{CarriedView}
+use Rattle.event_log.specs.News.{HasJoined, NewsView, homed}
+use Rattle.event_log.specs.Processing.{AreHomed, CanJoin, HasCome, IsProcessed, ProcessedView, merged, processed_view}
+use Rattle.event_log.proofs.ProcessedFacts.{homed-more, joined-items, roomier, still-processed}
+use Rattle.event_log.proofs.processed.Processed.join.Goals as goal
+
+pub make_room-room-requires-clause-few : goal.make_room-room-requires-clause-few
+make_room-room-requires-clause-few g c =
+    let same = ap (λ (v : ProcessedView). length v.news) c.self.view_is in
+    let few = c.requires.can.few in
+    omega (arith, c.len-news.ensures)
+
+pub make_room-room-requires-clause-idle : goal.make_room-room-requires-clause-idle
+make_room-room-requires-clause-idle g c = omega (arith, c.len-news.ensures, c.self.invariant.idle_most)
+
+pub invariant_of-self : goal.invariant_of-self
+invariant_of-self g c =
+    let n = c.self.inside in
+    let made = c.make_room-room.ensures in
+    roomier n.places.items c.make_room-room.new.places.items n.news n.carried c.make_room-room.new.carried n.idle n.cells c.make_room-room.new.cells c.self.invariant made.places made.items made.room_kept made.cells_kept
+
+pub process-requires-clause-above : goal.process-requires-clause-above
+process-requires-clause-above g c = λ k l.
+    let P : ProcessedView → Type 0 = λ v. CanJoin c.args.event.key v in
+    (subst P (sym c.self.view_is) c.requires.can).above
+
+pub process-requires-clause-went : goal.process-requires-clause-went
+process-requires-clause-went g c = λ k l.
+    let P : ProcessedView → Type 0 = λ v. CanJoin c.args.event.key v in
+    (subst P (sym c.self.view_is) c.requires.can).went
+
+pub process-requires-clause-few : goal.process-requires-clause-few
+process-requires-clause-few g c = λ k l.
+    let P : ProcessedView → Type 0 = λ v. CanJoin c.args.event.key v in
+    (subst P (sym c.self.view_is) c.requires.can).few_sent
+
+pub process-requires-clause-homes : goal.process-requires-clause-homes
+process-requires-clause-homes g c = λ k l.
+    let H : ℕ → Type 0 = λ m. Each (λ (h : ℕ). h < m) c.args.homes.now in
+    subst H (sym (ap (λ (v : ProcessedView). v.nodes) c.self.view_is)) c.requires.homes
+
+-- what came of it
+came : (m : Meaning) (places places' : List ℕ) (place idle idle' spare room cells : ℕ) (v v' : NewsView) (k k' : CarriedView) (event : Event) (earlier later : KeptObject) (least : ℕ) (homes : List ℕ) → IsProcessed places v k idle spare → (h : HasJoined m homes event earlier later v v' least)
+    → places' ≡ places ++ place ∷ [] → k'.items ≡ k.items → length v.done + 1 ≤ k'.room → length v.done + 8 < 2 ^ 60 → idle + 8 ≤ room → min (room + 1) (2 ^ 60) + length v.sent ≤ cells + length v'.sent
+    → (0 < length v'.sent - length v.sent → idle' ≡ idle) → (length v'.sent - length v.sent ≡ 0 → idle' ≡ idle + 1) → times placed_key event.key (merged v.done places k.items) ≡ 0
+    → IsProcessed places' v' k' idle' cells × HasCome m event place earlier later (processed_view places v k) (processed_view places' v' k') least
+came m places places' place idle idle' spare room cells v v' k k' event earlier later least homes p h places_are items_are enough few spares left some none new =
+    let d = h.entry in
+    let T : Event → Type 0 = λ e. times placed_key e.key (merged v.done places k.items) ≡ 0 in
+    let fresh = subst T (sym h.fired.event_is) new in
+    let sent = ap length h.sent in
+    let parts = length-append v.sent (map (homed homes) d.sends) in
+    let mapped = length-map d.sends (homed homes) in
+    let few_sends = h.few_sends in
+    let L : List ℕ → Type 0 = λ ps. IsProcessed ps v' k' idle' cells in
+    let I : List ℕ → Type 0 = λ ps. merged v'.done ps k'.items ≡ insert placed_key (record { done = d; place = place }) (merged v.done places k.items) in (
+      subst L (sym places_are) (still-processed places place v v' k k' d idle spare idle' cells p h.done fresh items_are h.gone h.few_changes few_sends enough few room spares (omega arith) (λ some_sent. some (omega arith)) (λ none_sent. none (omega arith))),
+      record {
+        entry = d;
+        fired = h.fired;
+        items = subst I (sym places_are) (joined-items places place v v' k k' d idle spare idle' cells p h.done fresh items_are);
+        least_is = h.least_is;
+      },
+    )
+
+pub invariant_of-self-in-Ok-process : goal.invariant_of-self-in-Ok-process
+invariant_of-self-in-Ok-process g c =
+    let m : Meaning = g.M.Model.meaning c.args.model.now in
+    let n = c.self.inside in
+    let made = c.make_room-room.ensures in
+    let same : length n.news.done ≡ length c.args.self.now.news = ap (λ (v : ProcessedView). length v.news) c.self.view_is in
+    let few = c.requires.can.few in
+    let T : ProcessedView → Type 0 = λ v. times placed_key c.args.event.key v.items ≡ 0 in
+    (came m n.places.items c.push_reserved.new.self.items c.args.place n.idle c.idle_after-self-inside.result n.cells c.make_room-room.new.cells c.process.new.pool n.news c.process.new.self n.carried c.make_room-room.new.carried c.args.event c.args.object.now c.process.new.object
+    c.in-Ok-process.least c.args.homes.now c.self.invariant c.in-Ok-process.ensures.ok (c.push_reserved.ensures.items ∙ ap (λ (ps : List ℕ). ps ++ c.args.place ∷ []) made.places) made.items (omega (arith, c.in-Ok.ensures.room, c.len-news.ensures)) (omega arith)
+    c.in-Ok.ensures.cells c.in-Ok-process.ensures.cells (λ some. c.idle_after-self-inside.ensures.some (omega (arith, some, c.sent.ensures, c.sent-sent.ensures))) (λ none. c.idle_after-self-inside.ensures.none (omega (arith, none, c.sent.ensures, c.sent-sent.ensures)))
+    (subst T (sym c.self.view_is) c.requires.new)).0
+
+pub returns-in-Ok-process-clause-ok : goal.returns-in-Ok-process-clause-ok
+returns-in-Ok-process-clause-ok g c =
+    let m : Meaning = g.M.Model.meaning c.args.model.now in
+    let n = c.self.inside in
+    let made = c.make_room-room.ensures in
+    let same : length n.news.done ≡ length c.args.self.now.news = ap (λ (v : ProcessedView). length v.news) c.self.view_is in
+    let few = c.requires.can.few in
+    let T : ProcessedView → Type 0 = λ v. times placed_key c.args.event.key v.items ≡ 0 in
+    let V : ProcessedView → Type 0 = λ v. HasCome m c.args.event c.args.place c.args.object.now c.process.new.object v (processed_view c.push_reserved.new.self.items c.process.new.self c.make_room-room.new.carried) c.in-Ok-process.least in
+    subst V c.self.view_is ((came m n.places.items c.push_reserved.new.self.items c.args.place n.idle c.idle_after-self-inside.result n.cells c.make_room-room.new.cells c.process.new.pool n.news c.process.new.self n.carried c.make_room-room.new.carried c.args.event c.args.object.now c.process.new.object
+    c.in-Ok-process.least c.args.homes.now c.self.invariant c.in-Ok-process.ensures.ok (c.push_reserved.ensures.items ∙ ap (λ (ps : List ℕ). ps ++ c.args.place ∷ []) made.places) made.items (omega (arith, c.in-Ok.ensures.room, c.len-news.ensures)) (omega arith)
+    c.in-Ok.ensures.cells c.in-Ok-process.ensures.cells (λ some. c.idle_after-self-inside.ensures.some (omega (arith, some, c.sent.ensures, c.sent-sent.ensures))) (λ none. c.idle_after-self-inside.ensures.none (omega (arith, none, c.sent.ensures, c.sent-sent.ensures)))
+    (subst T (sym c.self.view_is) c.requires.new)).1)
+
+pub invariant_of-self-in-Err : goal.invariant_of-self-in-Err
+invariant_of-self-in-Err g c =
+    let n = c.self.inside in
+    let made = c.make_room-room.ensures in
+    let more = made.cells_kept in
+    let kept = c.in-Err.ensures.cells_kept in
+    let R : NewsView → Type 0 = λ v. IsProcessed c.make_room-room.new.places.items v c.make_room-room.new.carried n.idle c.process.new.pool in
+    subst R (sym c.in-Err.ensures.err)
+    (roomier n.places.items c.make_room-room.new.places.items n.news n.carried c.make_room-room.new.carried n.idle n.cells c.process.new.pool c.self.invariant made.places made.items made.room_kept (omega arith))
+
+pub returns-in-Ok-process-clause-homed : goal.returns-in-Ok-process-clause-homed
+returns-in-Ok-process-clause-homed g c = λ homed_are.
+    let h = c.in-Ok-process.ensures.ok in
+    let H : ProcessedView → Type 0 = λ v. AreHomed c.args.homes.now v.chained in
+    homed-more c.args.homes.now c.self.inside.news.sent c.process.new.self.sent h.entry.sends h.sent (subst H (sym c.self.view_is) homed_are)

@@ -1,0 +1,45 @@
+-- Carried events in the order of their keys, and the least stamps that they hold.
+use Rattle.std.specs.Prelude.{◌≡◌, ℕ, zero, suc, min, List, [], ◌∷◌, map}
+use Rattle.event_key.specs.declared.key.Key.{Key}
+use Rattle.event_key.specs.declared.stamp.TheConstants.{NO_STAMP}
+use Rattle.object_log.specs.Carrying.{Placed}
+use Rattle.event_log.specs.declared.item.Item.{Item}
+
+-- the events in order, and for how many more there is room
+pub record CarriedView : Type 0 where
+  pub items : List Placed
+  pub room : ℕ
+
+abbrev pub placed_of : Item → Placed
+placed_of i = record { done = i.done; place = i.place }
+
+abbrev pub placed : List Item → List Placed
+placed = map placed_of
+
+abbrev pub item_key : Item → Key
+item_key i = i.done.event.key
+
+-- what the first one holds
+abbrev pub first_held : List Item → ℕ
+first_held [] = NO_STAMP
+first_held (i ∷ is) = i.held
+
+-- an item holds the least of what it and those behind it send
+abbrev pub IsHeld : Item → List Item → Type 0
+IsHeld i is = i.held ≡ min i.least (first_held is)
+
+-- each does
+unfoldable pub AreHeld : List Item → Type 0
+AreHeld [] = Unit {0}
+AreHeld (i ∷ is) = IsHeld i is × AreHeld is
+
+-- so does an item, but not the last one before a place
+abbrev pub IsHeldBut : ℕ → Item → List Item → Type 0
+IsHeldBut zero i is = Unit {0}
+IsHeldBut (suc n) i is = IsHeld i is
+
+-- each does but the one before a place
+unfoldable pub AreHeldBut : ℕ → List Item → Type 0
+AreHeldBut zero is = AreHeld is
+AreHeldBut (suc n) [] = Unit {0}
+AreHeldBut (suc n) (i ∷ is) = IsHeldBut n i is × AreHeldBut n is

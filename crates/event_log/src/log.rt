@@ -1,0 +1,247 @@
+//! The log of a node.
+ghost use Rattle.std.specs.Prelude.{◌≡◌, ◌<◌, ◌≤◌, ◌+◌, ◌^◌, [], ◌∷◌, ◌++◌, length, slice_get, IfOk, IfErr, IfSome, IfNone, OnOk, OnErr, IsTrue, Some, None, is_some, false, true, nat_lt};
+ghost use Rattle.std.specs.List.{AllByRecursion};
+ghost use Rattle.event_key.specs.Keys.{key_lt};
+ghost use Rattle.event_key.specs.Stamps.{time_part};
+ghost use Rattle.event_key.specs.declared.stamp.TheConstants.{NO_STAMP};
+ghost use Rattle.model_core.specs.Meaning.{Meaning};
+ghost use Rattle.key_order.specs.Ascending.{Ascends};
+ghost use Rattle.key_order.specs.Stamps.{least_stamp};
+ghost use Rattle.object_log.specs.EventCalls.{HasGoneBack, HasProcessed, HasUndoneFrom};
+ghost use Rattle.object_log.specs.EventLogs.{done_key, dones_at, state_in};
+ghost use Rattle.object_log.specs.Logs.{fault_of, held_of, keys_of};
+ghost use Rattle.object_log.specs.Objects.{IsPlaced};
+ghost use Rattle.object_log.specs.Undoings.{HasUndoneAt, IsNewestAt, LastIsFrom};
+ghost use Rattle.event_log.specs.NodeLogs.{IsCarried, IsStillCarried};
+ghost use Rattle.event_log.specs.Outboxes.{AreBlank};
+ghost use Rattle.event_log.specs.Processing.{AreHomed};
+
+use crate::processed::Processed;
+use event_chain::{Cell, Chain};
+use event_key::Key;
+use model_core::model::Model as SimulationModel;
+use model_core::{Cells, Effect, Event, OutOfMemory};
+use object_log::Object;
+use std::alloc::Global;
+use std::marker::Model;
+
+/// Objects at their places, and all that they have processed and not yet committed, in the order of the keys: what is carried
+/// over the last commit, and the news, whose messages lie in the chains of their homes at once.
+///
+/// An event is processed in constant time if it comes behind the news. The calls that undo events, and `carry_all`, take no
+/// memory: each event that is processed has made room for it to be carried.
+#[derive(Drop)]
+pub struct NodeLog {
+    objects: Vec<Object>,
+    events: Processed,
+}
+
+impl Model for NodeLog {
+    ghost use Rattle.object_log.specs.Whole.{IsEventLog};
+    ghost use Rattle.event_log.specs.NodeLogs.{NodeLogView, node_log_view};
+
+    ghost Value = { NodeLogView };
+
+    ghost view = { λ log. node_log_view log.objects.items log.events };
+
+    ghost invariant = { λ log. IsEventLog log.objects.items log.events.items };
+}
+
+impl NodeLog {
+    /// No object. There is a chain for each home, without events.
+    pub fn new(alloc: Global, chains: Vec<Chain<Event>>) -> NodeLog
+        requires { AreBlank chains.items }
+        ensures log { result.log ≡ record { objects = []; done = [] } }
+        ensures carried { result.news ≡ [] }
+        ensures chained { result.chained ≡ [] }
+        ensures nodes { result.nodes ≡ length chains.items }
+    {
+        NodeLog {
+            objects: Vec::new(alloc),
+            events: Processed::new(alloc, chains),
+        }
+    }
+
+    /// Puts an object that isn't here behind the others. It has sent so many events.
+    pub fn add(&mut self, number: u32, cells: Cells, sent: u64) -> Result<(), OutOfMemory>
+        requires { state_in self.old.log.objects number ≡ None }
+        ensures ok { OnOk result (self.new.log.objects ≡ self.old.log.objects ++ (record { object = number; state = record { cells = cells.contents; sent = sent } }) ∷ []) }
+        ensures same { self.new ≡ record self.old { log = record self.old.log { objects = self.new.log.objects } } }
+        ensures err { OnErr result (self.new ≡ self.old) }
+    {
+        self.objects.reserve(1)?;
+        self.objects.push_reserved(Object::new(number, cells, sent));
+        Ok(())
+    }
+
+    /// How many events are processed.
+    pub fn len(&self) -> usize
+        ensures { result ≡ length self.now.log.done }
+    {
+        self.events.len()
+    }
+
+    /// What is true of each log: its events are in the order of their keys, and few.
+    pub fn tells(&self)
+        ensures ordered { Ascends done_key self.now.log.done }
+        ensures few { length self.now.log.done < 2 ^ 60 }
+    {
+        let _ = &self.objects;
+    }
+
+    /// The least stamp of the messages that are held, or `NO_STAMP`, in constant time.
+    pub fn held_least(&self) -> u64
+        ensures { result ≡ least_stamp NO_STAMP (held_of self.now.log.done) }
+    {
+        self.events.held_least()
+    }
+
+    /// Carries all that isn't carried yet. No message lies in the chain of a home then. Takes no memory.
+    pub fn carry_all(&mut self)
+        ensures log { self.new.log ≡ self.old.log }
+        ensures carried { IsCarried self.new }
+        ensures nodes { self.new.nodes ≡ self.old.nodes }
+    {
+        self.events.carry_all();
+    }
+
+    /// Processes an event at the object that stands at a place. Answers the least stamp that it sends, or `NO_STAMP`. What it
+    /// sends goes to the homes of its destinations. The sheet is written over. If no memory is left, the event comes back.
+    pub fn process<M: SimulationModel>(
+        &mut self,
+        alloc: Global,
+        model: &M,
+        homes: &[u32],
+        sheet: &mut Effect,
+        place: u32,
+        event: Cell<Event>,
+    ) -> Result<u64, (OutOfMemory, Cell<Event>)>
+        requires place { IsPlaced self.old.log place event.key.dest }
+        requires object { event.key.dest < (M.meaning model.now).objects }
+        requires lawful { IfSome (state_in self.old.log.objects event.key.dest) (λ s. IsTrue ((M.meaning model.now).lawful event.key.dest s.cells)) }
+        requires above { AllByRecursion (λ key. key_lt key event.key ≡ true) (keys_of (dones_at event.key.dest self.old.log.done)) }
+        requires time { time_part event.key.stamp < 2 ^ 46 }
+        requires went { fault_of (dones_at event.key.dest self.old.log.done) ≡ None }
+        requires sent { IfSome (state_in self.old.log.objects event.key.dest) (λ s. s.sent < 2 ^ 60) }
+        requires few { length self.old.log.done + 1 < 2 ^ 60 }
+        requires known { length homes.now ≡ (M.meaning model.now).objects }
+        requires homes { AllByRecursion (λ home. home < self.old.nodes) homes.now }
+        ensures ok { IfOk result (λ least. HasProcessed (M.meaning model.now) self.old.log self.new.log event least) }
+        ensures err { OnErr result (self.new.log ≡ self.old.log) }
+        ensures back { IfErr result (λ refused. refused.1 ≡ event) }
+        ensures nodes { self.new.nodes ≡ self.old.nodes }
+        ensures homed { AreHomed homes.now self.old.chained → AreHomed homes.now self.new.chained }
+    {
+        let object = &mut self.objects[place as usize];
+        self.events
+            .process(alloc, model, homes, sheet, object, place, event)
+    }
+
+    /// Undoes a carried event that is the newest of its object.
+    fn undo_at(&mut self, index: usize) -> Cell<Event>
+        requires carried { IsCarried self.old }
+        requires newest { IsNewestAt index self.old.log }
+        ensures undone { HasUndoneAt index self.old.log self.new.log result }
+        ensures carried { IsStillCarried self.old self.new }
+    {
+        let (_key, place) = self.events.at(index);
+        let done = self.events.take(index);
+        let object = &mut self.objects[place as usize];
+        self.events.undo(done, object)
+    }
+
+    /// The key of the event at a place of the list.
+    fn key_at(&self, index: usize) -> Key
+        requires carried { IsCarried self.now }
+        requires index { index < length self.now.log.done }
+        ensures { slice_get (keys_of self.now.log.done) index ≡ Some result }
+    {
+        let (key, _place) = self.events.at(index);
+        key
+    }
+
+    /// Undoes each event of an object that doesn't come before a key, and puts them into `into` in the order of their keys.
+    /// Answers how many there were. Takes no memory, and a look at each event that doesn't come before the key.
+    pub fn back_to(&mut self, object: u32, key: Key, into: &mut Chain<Event>) -> u64
+        requires here { is_some (state_in self.old.log.objects object) ≡ true }
+        requires empty { into.old ≡ [] }
+        ensures back { HasGoneBack object key self.old.log self.new.log into.new }
+        ensures count { result ≡ length into.new }
+        ensures carried { IsCarried self.new }
+        ensures nodes { self.new.nodes ≡ self.old.nodes }
+    {
+        self.carry_all();
+        self.go_back(object, key, into)
+    }
+
+    /// The same, where all is carried.
+    fn go_back(&mut self, object: u32, key: Key, into: &mut Chain<Event>) -> u64
+        requires carried { IsCarried self.old }
+        requires here { is_some (state_in self.old.log.objects object) ≡ true }
+        requires empty { into.old ≡ [] }
+        ensures back { HasGoneBack object key self.old.log self.new.log into.new }
+        ensures count { result ≡ length into.new }
+        ensures carried { IsStillCarried self.old self.new }
+    {
+        self.tells();
+        let mut count = 0;
+        let mut index = self.len();
+        while index > 0 {
+            let at = self.key_at(index - 1);
+            if at.is_before(&key) {
+                return count;
+            }
+            index -= 1;
+            if at.dest == object {
+                into.push_front(self.undo_at(index));
+                count += 1;
+            }
+        }
+        count
+    }
+
+    /// Whether the last event isn't below a horizon, in constant time.
+    fn last_is_from(&self, horizon: u64) -> bool
+        requires { IsCarried self.now }
+        ensures some { IsTrue result → LastIsFrom horizon self.now.log.done }
+        ensures none { result ≡ false → AllByRecursion (λ d. nat_lt d.event.key.stamp horizon ≡ true) self.now.log.done }
+    {
+        let len = self.events.len();
+        if len == 0 {
+            return false;
+        }
+        let (key, _place) = self.events.at(len - 1);
+        key.stamp >= horizon
+    }
+
+    /// Undoes each event that isn't below a horizon, and puts them into `into` in the order of their keys. Answers how many
+    /// there were. Takes no memory.
+    pub fn undo_from(&mut self, horizon: u64, into: &mut Chain<Event>) -> u64
+        requires { into.old ≡ [] }
+        ensures undone { HasUndoneFrom horizon self.old.log self.new.log into.new }
+        ensures count { result ≡ length into.new }
+        ensures carried { IsCarried self.new }
+        ensures nodes { self.new.nodes ≡ self.old.nodes }
+    {
+        self.carry_all();
+        self.undo_down(horizon, into)
+    }
+
+    /// The same, where all is carried.
+    fn undo_down(&mut self, horizon: u64, into: &mut Chain<Event>) -> u64
+        requires carried { IsCarried self.old }
+        requires empty { into.old ≡ [] }
+        ensures undone { HasUndoneFrom horizon self.old.log self.new.log into.new }
+        ensures count { result ≡ length into.new }
+        ensures carried { IsStillCarried self.old self.new }
+    {
+        self.tells();
+        let mut count = 0;
+        while self.last_is_from(horizon) {
+            let last = self.len() - 1;
+            into.push_front(self.undo_at(last));
+            count += 1;
+        }
+        count
+    }
+}

@@ -1,0 +1,291 @@
+//! All that is processed: what is carried, and the news.
+ghost use Rattle.std.specs.Prelude.{◌≡◌, ℕ, List, ◌<◌, ◌≤◌, ◌+◌, ◌^◌, [], ◌∷◌, ◌++◌, length, map, min, take, slice_get, vec_len, vec_capacity, IfOk, IfErr, OnOk, OnErr, IsTrue, Some, None, true, false};
+ghost use Rattle.std.specs.List.{AllByRecursion, remove};
+ghost use Rattle.event_key.specs.Stamps.{time_part};
+ghost use Rattle.event_key.specs.declared.stamp.TheConstants.{NO_STAMP};
+ghost use Rattle.key_order.specs.Ascending.{Ascends};
+ghost use Rattle.key_order.specs.Keys.{times};
+ghost use Rattle.key_order.specs.Stamps.{least_stamp};
+ghost use Rattle.model_core.specs.Meaning.{Meaning};
+ghost use Rattle.object_log.specs.Carrying.{Placed, placed_key};
+ghost use Rattle.object_log.specs.Logs.{held_of};
+ghost use Rattle.model_core.specs.declared.event.Event.{Event};
+ghost use Rattle.object_log.specs.Objects.{HasUndone, IsNewest, IsSameObject};
+ghost use Rattle.event_log.specs.Outboxes.{AreBlank};
+ghost use Rattle.event_log.specs.Processing.{AreHomed, CanCarry, CanJoin, HasCome, IsSameProcessed, merged};
+
+use crate::carried::Carried;
+use crate::kept::Kept;
+use crate::news::News;
+use event_chain::{Cell, CellPool, Chain};
+use event_key::Key;
+use model_core::model::Model as SimulationModel;
+use model_core::{Effect, Event, OutOfMemory};
+use object_log::Object;
+use std::alloc::Global;
+use std::marker::Model;
+
+/// All that many objects have processed and not yet committed, in the order of the keys: what is carried over the last commit,
+/// and the news. There is room for all news among what is carried, so that to carry them takes no memory.
+#[derive(Drop)]
+pub struct Processed {
+    carried: Carried,
+    news: News,
+    // the places of the objects of the news
+    places: Vec<u32>,
+    // how many of the news send nothing, or more
+    idle: usize,
+    // empty cells, at least that many
+    cells: CellPool<Event>,
+}
+
+impl Model for Processed {
+    ghost use Rattle.event_log.specs.Processing.{IsProcessed, ProcessedView, processed_view};
+
+    ghost Value = { ProcessedView };
+
+    ghost view = { λ p. processed_view p.places.items p.news p.carried };
+
+    ghost invariant = { λ p. IsProcessed p.places.items p.news p.carried p.idle p.cells };
+}
+
+impl Processed {
+    /// No event. There is a chain for each home, without events.
+    pub fn new(alloc: Global, chains: Vec<Chain<Event>>) -> Processed
+        requires { AreBlank chains.items }
+        ensures { result ≡ record { items = []; news = []; chained = []; nodes = length chains.items } }
+    {
+        Processed {
+            carried: Carried::new(alloc),
+            news: News::new(alloc, chains),
+            places: Vec::new(alloc),
+            idle: 0,
+            cells: CellPool::new(),
+        }
+    }
+
+    /// How many there are.
+    pub fn len(&self) -> usize
+        requires { length self.now.items < 2 ^ 60 }
+        ensures { result ≡ length self.now.items }
+    {
+        self.carried.len() + self.news.len()
+    }
+
+    /// What is true of all: they are in the order of their keys.
+    pub fn tells(&self)
+        ensures { Ascends placed_key self.now.items }
+    {
+        let _ = &self.news;
+    }
+
+    /// The least stamp that they send, or `NO_STAMP`, in constant time.
+    pub fn held_least(&self) -> u64
+        ensures { result ≡ least_stamp NO_STAMP (held_of (map (λ p. p.done) self.now.items)) }
+    {
+        self.carried.held_least().min(self.news.held_least())
+    }
+
+    /// Carries all news. Takes no memory.
+    pub fn carry_all(&mut self)
+        ensures same { IsSameProcessed self.old self.new }
+        ensures news { self.new.news ≡ [] }
+        ensures chained { self.new.chained ≡ [] }
+    {
+        carry_from(
+            &mut self.news,
+            &mut self.places,
+            &mut self.cells,
+            &mut self.carried,
+            0,
+        );
+        self.news.tells();
+        self.news.forget();
+        self.idle = 0;
+    }
+
+    /// Carries the news if an event of this key can't come behind them.
+    fn make_ready(&mut self, key: &Key)
+        ensures same { IsSameProcessed self.old self.new }
+        ensures can { CanJoin key.now self.new }
+        ensures homed { (homes : List ℕ) → AreHomed homes self.old.chained → AreHomed homes self.new.chained }
+    {
+        if !self.news.takes(key) {
+            self.carry_all();
+        }
+    }
+
+    /// Processes an event at an object that stands at a place. Answers the least stamp that it sends, or `NO_STAMP`. The sheet is
+    /// written over. Memory is taken only for what the lists and the pool lack; if none is left, the event comes back.
+    pub fn process<M: SimulationModel>(
+        &mut self,
+        alloc: Global,
+        model: &M,
+        homes: &[u32],
+        sheet: &mut Effect,
+        object: &mut Object,
+        place: u32,
+        event: Cell<Event>,
+    ) -> Result<u64, (OutOfMemory, Cell<Event>)>
+        requires object { object.old.object < (M.meaning model.now).objects }
+        requires lawful { IsTrue ((M.meaning model.now).lawful object.old.object object.old.cells.contents) }
+        requires dest { event.key.dest ≡ object.old.object }
+        requires time { time_part event.key.stamp < 2 ^ 46 }
+        requires sent { object.old.sent < 2 ^ 60 }
+        requires new { times placed_key event.key self.old.items ≡ 0 }
+        requires known { length homes.now ≡ (M.meaning model.now).objects }
+        requires homes { AllByRecursion (λ home. home < self.old.nodes) homes.now }
+        ensures ok { IfOk result (λ least. HasCome (M.meaning model.now) event place object.old object.new self.old self.new least) }
+        ensures err { OnErr result (IsSameProcessed self.old self.new) }
+        ensures same { OnErr result (IsSameObject object.old object.new) }
+        ensures back { IfErr result (λ refused. refused.1 ≡ event) }
+        ensures nodes { self.new.nodes ≡ self.old.nodes }
+        ensures homed { AreHomed homes.now self.old.chained → AreHomed homes.now self.new.chained }
+    {
+        self.make_ready(&event.get().key);
+        self.join(alloc, model, homes, sheet, object, place, event)
+    }
+
+    /// Processes an event that can come behind the news.
+    fn join<M: SimulationModel>(
+        &mut self,
+        alloc: Global,
+        model: &M,
+        homes: &[u32],
+        sheet: &mut Effect,
+        object: &mut Object,
+        place: u32,
+        event: Cell<Event>,
+    ) -> Result<u64, (OutOfMemory, Cell<Event>)>
+        requires can { CanJoin event.key self.old }
+        requires object { object.old.object < (M.meaning model.now).objects }
+        requires lawful { IsTrue ((M.meaning model.now).lawful object.old.object object.old.cells.contents) }
+        requires dest { event.key.dest ≡ object.old.object }
+        requires time { time_part event.key.stamp < 2 ^ 46 }
+        requires sent { object.old.sent < 2 ^ 60 }
+        requires new { times placed_key event.key self.old.items ≡ 0 }
+        requires known { length homes.now ≡ (M.meaning model.now).objects }
+        requires homes { AllByRecursion (λ home. home < self.old.nodes) homes.now }
+        ensures ok { IfOk result (λ least. HasCome (M.meaning model.now) event place object.old object.new self.old self.new least) }
+        ensures err { OnErr result (self.new ≡ self.old) }
+        ensures same { OnErr result (IsSameObject object.old object.new) }
+        ensures back { IfErr result (λ refused. refused.1 ≡ event) }
+        ensures nodes { self.new.nodes ≡ self.old.nodes }
+        ensures homed { AreHomed homes.now self.old.chained → AreHomed homes.now self.new.chained }
+    {
+        let news = self.news.len();
+        let room = make_room(
+            alloc,
+            &mut self.carried,
+            &mut self.places,
+            &mut self.cells,
+            news,
+            self.idle,
+        );
+        let Ok(()) = room else {
+            return Err((OutOfMemory, event));
+        };
+        let sent = self.news.sent();
+        match self
+            .news
+            .process(alloc, model, homes, sheet, &mut self.cells, object, event)
+        {
+            Ok(least) => {
+                self.places.push_reserved(place);
+                self.idle = idle_after(self.idle, self.news.sent() - sent);
+                Ok(least)
+            }
+            Err(refused) => Err(refused),
+        }
+    }
+
+    /// The key of the event at a place of the list, and the place of its object.
+    pub fn at(&self, index: usize) -> (Key, u32)
+        requires news { self.now.news ≡ [] }
+        requires index { index < length self.now.items }
+        ensures { (p : Placed) × (slice_get self.now.items index ≡ Some p) × (result.0 ≡ placed_key p) × (result.1 ≡ p.place) }
+    {
+        self.carried.at(index)
+    }
+
+    /// Takes the event at a place of the list out. It moves the shorter side.
+    pub fn take(&mut self, index: usize) -> Kept
+        requires news { self.old.news ≡ [] }
+        requires index { index < length self.old.items }
+        ensures left { self.new.items ≡ remove self.old.items index }
+        ensures value { (p : Placed) × (slice_get self.old.items index ≡ Some p) × (result ≡ p.done) }
+        ensures same { self.new ≡ record self.old { items = self.new.items } }
+    {
+        self.carried.take(index)
+    }
+
+    /// Takes an event back that was taken out, at its object, which fired it last of those that it has not taken back.
+    pub fn undo(&mut self, done: Kept, object: &mut Object) -> Cell<Event>
+        requires news { self.old.news ≡ [] }
+        requires newest { IsNewest object.old done }
+        ensures undone { HasUndone object.old object.new done }
+        ensures event { result ≡ done.event }
+        ensures same { self.new ≡ self.old }
+    {
+        done.undo(object, &mut self.cells)
+    }
+}
+
+/// Carries the news from a place on, the last one first.
+fn carry_from(
+    news: &mut News,
+    places: &mut Vec<u32>,
+    cells: &mut CellPool<Event>,
+    carried: &mut Carried,
+    from: usize,
+)
+    requires can { CanCarry places.old.items news.old carried.old cells.old }
+    requires from { from ≤ length news.old.done }
+    ensures same { merged news.new.done places.new.items carried.new.items ≡ merged news.old.done places.old.items carried.old.items }
+    ensures can { CanCarry places.new.items news.new carried.new cells.new }
+    ensures done { news.new.done ≡ take from news.old.done }
+    ensures sent { (own : List (ℕ × Event)) × (news.old.sent ≡ news.new.sent ++ own) }
+    ensures nodes { news.new.nodes ≡ news.old.nodes }
+{
+    while news.len() > from {
+        let done = news.pop(cells);
+        let place = places.pop().unwrap();
+        carried.insert(done, place);
+    }
+}
+
+/// Makes room for one event more, where so many are news and at most so many of them send nothing.
+fn make_room(
+    alloc: Global,
+    carried: &mut Carried,
+    places: &mut Vec<u32>,
+    cells: &mut CellPool<Event>,
+    news: usize,
+    idle: usize,
+) -> Result<(), OutOfMemory>
+    requires few { news + 8 < 2 ^ 60 }
+    requires idle { idle ≤ news }
+    ensures items { carried.new.items ≡ carried.old.items }
+    ensures room_kept { carried.old.room ≤ carried.new.room }
+    ensures places { places.new.items ≡ places.old.items }
+    ensures cells_kept { cells.old ≤ cells.new }
+    ensures room { OnOk result (news + 1 ≤ carried.new.room) }
+    ensures places_room { OnOk result (vec_len places.new + 1 ≤ vec_capacity places.new) }
+    ensures cells { OnOk result (idle + 8 ≤ cells.new) }
+{
+    carried.reserve(news + 1)?;
+    places.reserve(1)?;
+    cells.reserve(alloc, idle + 8)
+}
+
+/// How many events send nothing, with one more that sends so many messages.
+fn idle_after(idle: usize, sends: usize) -> usize
+    requires { idle < 2 ^ 60 }
+    ensures some { 0 < sends → result ≡ idle }
+    ensures none { sends ≡ 0 → result ≡ idle + 1 }
+{
+    match sends {
+        0 => idle + 1,
+        _ => idle,
+    }
+}
