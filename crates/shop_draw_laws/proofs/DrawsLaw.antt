@@ -59,6 +59,7 @@ use Rattle.shop_laws.proofs.After.{one_less}
 use Rattle.shop_laws.proofs.Cases.{StationDoes, rests, goes_on, frees, takes, waits, loses, passes, begins, ends, puts_off, reneges, shifts, stands, works, IsAtStep}
 use Rattle.shop_laws.proofs.ClassCases.{ClassDoes, idles, makes_none, makes, holds, branches, leaves}
 use Rattle.shop_laws.proofs.Fine.{named_of}
+use Rattle.shop_laws.proofs.Moves.{call_each, shift_each}
 use Rattle.shop_laws.proofs.Serving.{serving, station_step, class_step}
 use Rattle.shop_laws.proofs.Steps.{IsShopStep, shop_step, cells_here, cells_elsewhere, station_at_start, class_at_start, class_cells_lawful}
 use Rattle.shop_draw_laws.specs.DrawLaws.{PlacesFollow, value_at, brought, AreDrawn, ValuesAreDrawn}
@@ -165,30 +166,16 @@ module _ (p : ShopParts) (cells : CellData) (e : Event) where
 
   -- events that draw no delay
   call_none : (most : ℕ) (counts : Counts) → Each NoLaw (call_sent most site counts)
-  unfolding call_sent delay_law
-  call_none most counts = by (nat_lt 0 counts.waiting && nat_lt 0 (spare_of most counts))
-    where
-      by : (calls : Bool) → Each NoLaw (if calls then to_self site 0 CALL 0 0 ∷ [] else [])
-      by true = (refl, tt)
-      by false = tt
+  unfolding delay_law
+  call_none most counts = call_each NoLaw most site counts refl
 
   moved_none : (job : Job) (b step delay : ℕ) → StaysNot (step_come routes e) → NoLaw (moved routes job b step delay)
   unfolding moved delay_law
   moved_none job b step delay stays = stays.stay
 
-  again_none : (number : ℕ) (period : Option ℕ) → Each NoLaw (shift_again site station number period)
-  unfolding delay_law
-  again_none number None = tt
-  again_none number (Some period) = (refl, tt)
-
   shift_none : (number : ℕ) → Each NoLaw (shift_sent site station number)
-  unfolding shift_sent delay_law
-  shift_none number = by (nat_lt (number + 1) (length station.shifts))
-    where
-      by : (more : Bool) → Each NoLaw
-          (if more then to_self site ((shift_at station (number + 1)).at - (shift_at station number).at) SHIFT (number + 1) 0 ∷ [] else shift_again site station number station.period)
-      by true = (refl, tt)
-      by false = again_none number station.period
+  unfolding delay_law
+  shift_none number = shift_each NoLaw site station number (λ delay a b. refl)
 
   -- a service that begins
   record Begins (visit : AVisit) (s : Send) : Type 0 where

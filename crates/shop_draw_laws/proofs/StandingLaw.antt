@@ -57,9 +57,8 @@ use Rattle.shop_laws.proofs.After.{one_less, readings_after, reads_after}
 use Rattle.shop_laws.proofs.Cases.{StationDoes, rests, goes_on, frees, takes, waits, loses, passes, begins, ends, puts_off, reneges, shifts, stands, works, late_by, calls_at, called_within}
 use Rattle.shop_laws.proofs.ClassCases.{class_sends_each}
 use Rattle.shop_laws.proofs.Fine.{named_of, IsFine}
-use Rattle.shop_laws.proofs.FlowLaw.{began_lag}
-use Rattle.shop_laws.proofs.Moves.{AtStationOf, some_free, next_below}
-use Rattle.shop_laws.proofs.Readings.{readings_of, went_out}
+use Rattle.shop_laws.proofs.Moves.{AtStationOf, some_free, next_below, call_each, tire_each, shift_each}
+use Rattle.shop_laws.proofs.Readings.{readings_of, went_out, began_lag}
 use Rattle.shop_laws.proofs.Serving.{IsStationStep, serving, station_step, class_step}
 use Rattle.shop_laws.proofs.ServersLaw.{servers_law}
 use Rattle.shop_laws.proofs.Starts.{pending_start}
@@ -125,34 +124,11 @@ plain_moved : (routes : Routes) (job : Job) (b step delay : ℕ) → Plain (move
 unfolding moved
 plain_moved routes job b step delay = a_plain COME (λ e. absurd (omega arith)) (λ e. absurd (omega arith)) (λ e. absurd (omega arith))
 
-abbrev plain_call_kind : Plain CALL
-plain_call_kind = a_plain CALL (λ e. absurd (omega arith)) (λ e. absurd (omega arith)) (λ e. absurd (omega arith))
+plain_other : (kind : ℕ) → CALL ≤ kind → kind ≤ SHIFT → Plain kind
+plain_other kind from to = a_plain kind (λ e. absurd (omega arith)) (λ e. absurd (omega arith)) (λ e. absurd (omega arith))
 
-module _ (site : Site) where
-  plain_call : (most : ℕ) (counts : Counts) → Each (λ (s : Send). Plain s.kind) (call_sent most site counts)
-  unfolding call_sent
-  plain_call most counts = by (nat_lt 0 counts.waiting && nat_lt 0 (spare_of most counts))
-    where
-      by : (calls : Bool) → Each (λ (s : Send). Plain s.kind) (if calls then to_self site 0 CALL 0 0 ∷ [] else [])
-      by true = (plain_call_kind, tt)
-      by false = tt
-
-  plain_tire : (cells : CellData) (level : ℕ) (patience : Option DelayLaw) → Each (λ (s : Send). Plain s.kind) (tire_sent site cells level patience)
-  plain_tire cells level None = tt
-  plain_tire cells level (Some law) = (a_plain TIRE (λ e. absurd (omega arith)) (λ e. absurd (omega arith)) (λ e. absurd (omega arith)), tt)
-
-  plain_again : (station : Station) (number : ℕ) (period : Option ℕ) → Each (λ (s : Send). Plain s.kind) (shift_again site station number period)
-  plain_again station number None = tt
-  plain_again station number (Some period) = (a_plain SHIFT (λ e. absurd (omega arith)) (λ e. absurd (omega arith)) (λ e. absurd (omega arith)), tt)
-
-  plain_shift : (station : Station) (number : ℕ) → Each (λ (s : Send). Plain s.kind) (shift_sent site station number)
-  unfolding shift_sent
-  plain_shift station number = by (nat_lt (number + 1) (length station.shifts))
-    where
-      by : (more : Bool) → Each (λ (s : Send). Plain s.kind)
-          (if more then to_self site ((shift_at station (number + 1)).at - (shift_at station number).at) SHIFT (number + 1) 0 ∷ [] else shift_again site station number station.period)
-      by true = (a_plain SHIFT (λ e. absurd (omega arith)) (λ e. absurd (omega arith)) (λ e. absurd (omega arith)), tt)
-      by false = plain_again station number station.period
+plain_call : (site : Site) (most : ℕ) (counts : Counts) → Each (λ (s : Send). Plain s.kind) (call_sent most site counts)
+plain_call site most counts = call_each (λ (s : Send). Plain s.kind) most site counts (plain_other CALL (omega arith) (omega arith))
 
 -- an event at a station
 module _ (p : ShopParts) (cells : CellData) (e : Event) (begun more : List Service) (fine : IsShop p) (at_station : AtStationOf p (site_of p e.key.dest e) cells) where
@@ -410,9 +386,9 @@ module _ (p : ShopParts) (cells : CellData) (e : Event) (begun more : List Servi
                 (next_below p site cells e at_station (some_free p site cells e at_station spare)) (λ law is. news law is refl),
             tt,
           )
-      goods turned x (waits job visit level at visits below busy) news = plain_goods x x.sends (plain_tire site cells level visit.patience)
+      goods turned x (waits job visit level at visits below busy) news = plain_goods x x.sends (tire_each (λ (s : Send). Plain s.kind) site cells level visit.patience (λ delay a b. plain_other TIRE (omega arith) (omega arith)))
       goods turned x (loses job visit at visits) news = plain_goods x x.sends (plain_moved routes job e.b visit.full 0, tt)
-      goods turned x (passes level calls empty) news = plain_goods x x.sends (plain_call_kind, tt)
+      goods turned x (passes level calls empty) news = plain_goods x x.sends (plain_other CALL (omega arith) (omega arith), tt)
       goods turned x (begins level job visit calls there) news =
           let place = calls_at station cells level in
           let within : place < length (line_of cells (jobs_line level)) = called_within station cells level calls.some in
@@ -431,7 +407,7 @@ module _ (p : ShopParts) (cells : CellData) (e : Event) (begun more : List Servi
           (put_off_good x at.kind below (min (late_by station cells e) LONGEST) (omega arith) refl (lag_read x (puts_off job at served below late)), tt)
       goods turned x (reneges level place job visit kind below within now there) news = plain_goods x x.sends (plain_moved routes job _ visit.away 0, tt)
       goods turned x (shifts kind within) news =
-          plain_goods x x.sends (Each-append (λ (s : Send). Plain s.kind) (shift_sent site station e.a) _ (plain_shift site station e.a) (plain_call site station.most _))
+          plain_goods x x.sends (Each-append (λ (s : Send). Plain s.kind) (shift_sent site station e.a) _ (shift_each (λ (s : Send). Plain s.kind) site station e.a (λ delay a b. plain_other SHIFT (omega arith) (omega arith))) (plain_call site station.most _))
       goods turned x (stands breakdowns kind has up) news =
           let lag = still_lag x breakdowns has (lag_read x (stands breakdowns kind has up)) in
           let before = turned (inl kind) in

@@ -184,7 +184,7 @@ pub record VisitsHere (routes : Routes) (object a : ℕ) : Type 0 where
   pub found : job_of routes a ≡ Some job
   pub visits : step_at routes job.class job.step ≡ Some (Visit visit)
 
-entry_visits : (routes : Routes) (object a : ℕ) → a < EMPTY → is_entry object routes a ≡ true → VisitsHere routes object a
+pub entry_visits : (routes : Routes) (object a : ℕ) → a < EMPTY → is_entry object routes a ≡ true → VisitsHere routes object a
 unfolding is_entry visit_at
 entry_visits routes object a small entry =
     let low : min a (2 ^ 64 - 1 - a) ≡ a = omega arith in

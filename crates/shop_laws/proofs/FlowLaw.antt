@@ -44,7 +44,7 @@ use Rattle.shop_laws.specs.Told.{cells_at}
 use Rattle.shop_laws.proofs.After.{readings_after, reads_after, one_less}
 use Rattle.shop_laws.proofs.Cases.{StationDoes, rests, goes_on, frees, takes, waits, loses, passes, begins, ends, puts_off, reneges, shifts, stands, works, entry_at}
 use Rattle.shop_laws.proofs.Moves.{AtStationOf, some_free}
-use Rattle.shop_laws.proofs.Readings.{Readings, Reads, readings_of, went_out, began}
+use Rattle.shop_laws.proofs.Readings.{Readings, Reads, readings_of, went_out, began, began_keeps, began_lag, began_waiting, began_down}
 use Rattle.shop_laws.proofs.Serving.{Serving, serving, station_step}
 use Rattle.shop_laws.proofs.Steps.{IsShopStep, shop_step, cells_here, cells_elsewhere, station_at_start}
 
@@ -62,19 +62,14 @@ pub record BeganAs (most : ℕ) (visit : AVisit) (counts : Counts) (r : Readings
 pub began_as : (most : ℕ) (visit : AVisit) (counts : Counts) (r : Readings) → counts.held ≡ r.held → 0 < length r.idle → length r.idle ≤ most → BeganAs most visit counts r
 began_as most visit counts r held some few = record {
   busy = by (is_none visit.service);
-  waiting = number (λ r. r.waiting) (λ v. refl) (λ xs. refl) (is_none visit.service);
-  opened = number (λ r. r.opened) (λ v. refl) (λ xs. refl) (is_none visit.service);
-  down = number (λ r. r.down) (λ v. refl) (λ xs. refl) (is_none visit.service);
+  waiting = began_waiting visit counts r;
+  opened = began_keeps (λ r. r.opened) visit counts r (λ held. refl) (λ idle. refl);
+  down = began_down visit counts r;
 }
   where
     by : (takes : Bool) → busy_in most (if takes then record r { held = counts.held + 1 } else record r { idle = take (length r.idle - 1) r.idle }) ≡ busy_in most r + 1
     by true = omega arith
     by false = omega (arith, length-take-le (length r.idle - 1) r.idle (omega arith))
-
-    number : (f : Readings → ℕ) → ((v : ℕ) → f (record r { held = v }) ≡ f r) → ((xs : List ℕ) → f (record r { idle = xs }) ≡ f r) → (takes : Bool)
-        → f (if takes then record r { held = counts.held + 1 } else record r { idle = take (length r.idle - 1) r.idle }) ≡ f r
-    number f a b true = a (counts.held + 1)
-    number f a b false = b (take (length r.idle - 1) r.idle)
 
 -- a job waits where one stands in the line
 some_waits : (object : ℕ) (routes : Routes) (station : Station) (cells : CellData) (level place : ℕ) → IsLawful object routes station cells → level < station.levels
@@ -147,13 +142,6 @@ module _ (p : ShopParts) (site : Site) (cells : CellData) (e : Event) (is : AtSt
   tells x (works breakdowns kind has) = record { came = omega arith; begun = omega arith; busy = refl; waiting = refl; opened = refl; down = refl }
 
 -- the lag grows by the standstills that are told
-pub began_lag : (visit : AVisit) (counts : Counts) (r : Readings) → (began visit counts r).lag ≡ r.lag
-began_lag visit counts r = by (is_none visit.service)
-  where
-    by : (takes_it : Bool) → (if takes_it then record r { held = counts.held + 1 } else record r { idle = take (length r.idle - 1) r.idle }).lag ≡ r.lag
-    by true = refl
-    by false = refl
-
 lags : (site : Site) (routes : Routes) (station : Station) (cells : CellData) (e : Event) (x : Effect) (does_so : StationDoes site routes station cells e x) (time n : ℕ)
     → slice_index cells.words LAG ≡ n % 2 ^ 64 → (readings_after site routes station cells e x (readings_of cells) does_so).lag ≡ (n + standstills (parts_at time x.note)) % 2 ^ 64
 unfolding take_effect wait_effect lose_effect begin_effect pass_effect renege_effect still_effect works_effect

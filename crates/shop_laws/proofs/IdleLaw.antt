@@ -42,7 +42,7 @@ use Rattle.shop_laws.specs.Told.{cells_at}
 use Rattle.shop_laws.proofs.After.{readings_after, reads_after, one_less}
 use Rattle.shop_laws.proofs.Cases.{StationDoes, rests, goes_on, frees, takes, waits, loses, passes, begins, ends, puts_off, reneges, shifts, stands, works}
 use Rattle.shop_laws.proofs.Moves.{job_sent, others_sent, sends_are, some_free}
-use Rattle.shop_laws.proofs.Readings.{Readings, Reads, readings_of, went_out, began}
+use Rattle.shop_laws.proofs.Readings.{Readings, Reads, readings_of, went_out, began, began_waiting}
 use Rattle.shop_laws.proofs.Serving.{serving, station_step}
 use Rattle.shop_laws.proofs.Steps.{AllBy, IsShopStep, shop_step, cells_here, cells_elsewhere, station_at_start}
 
@@ -97,13 +97,6 @@ begun_counts visit counts r same some = by (is_none visit.service)
 spare_same : (most : ℕ) (counts : Counts) (waiting : ℕ) → spare_of most (record counts { waiting = waiting }) ≡ spare_of most counts
 unfolding spare_of
 spare_same most counts waiting = refl
-
-began_waiting : (visit : AVisit) (counts : Counts) (r : Readings) → (began visit counts r).waiting ≡ r.waiting
-began_waiting visit counts r = by (is_none visit.service)
-  where
-    by : (takes_it : Bool) → (if takes_it then record r { held = counts.held + 1 } else record r { idle = take (length r.idle - 1) r.idle }).waiting ≡ r.waiting
-    by true = refl
-    by false = refl
 
 module _ (site : Site) (routes : Routes) (station : Station) (cells : CellData) (e : Event) (free : 0 < spare_of station.most (counts_of cells) → 0 < length (line_of cells 0)) where
   abbrev the_call : Send

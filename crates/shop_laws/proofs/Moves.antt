@@ -14,7 +14,7 @@ use Rattle.random_streams.specs.declared.delay_law.DelayLaw.{DelayLaw}
 use Rattle.shop_model.specs.declared.counts.Counts.{Counts}
 use Rattle.shop_model.specs.declared.done.TheConstants.{LONGEST}
 use Rattle.shop_model.specs.declared.job.Job.{Job}
-use Rattle.shop_model.specs.declared.kinds.TheConstants.{COME, DONE, CALL, SHIFT, BREAK, MEND}
+use Rattle.shop_model.specs.declared.kinds.TheConstants.{COME, DONE, CALL, TIRE, SHIFT, BREAK, MEND}
 use Rattle.shop_model.specs.declared.levels.TheConstants.{EMPTY}
 use Rattle.shop_model.specs.declared.routes.Routes.{Routes}
 use Rattle.shop_model.specs.declared.site.Site.{Site}
@@ -98,30 +98,37 @@ sends_are site routes station cells e x (works breakdowns kind has) = refl
 abbrev pub NoJob : Send → Type 0
 NoJob s = (s.kind ≢ COME) × (s.kind ≢ DONE)
 
-pub call_no_job : (most : ℕ) (site : Site) (counts : Counts) → Each NoJob (call_sent most site counts)
+-- what holds of a call holds of each that is sent, and so of the end of a patience and of shifts
+pub call_each : (P : Send → Type 0) (most : ℕ) (site : Site) (counts : Counts) → P (to_self site 0 CALL 0 0) → Each P (call_sent most site counts)
 unfolding call_sent
-call_no_job most site counts = by (nat_lt 0 counts.waiting && nat_lt 0 (spare_of most counts))
+call_each P most site counts is = by (nat_lt 0 counts.waiting && nat_lt 0 (spare_of most counts))
   where
-    by : (calls : Bool) → Each NoJob (if calls then to_self site 0 CALL 0 0 ∷ [] else [])
-    by true = (((λ e. absurd (omega arith)), (λ e. absurd (omega arith))), tt)
+    by : (calls : Bool) → Each P (if calls then to_self site 0 CALL 0 0 ∷ [] else [])
+    by true = (is, tt)
     by false = tt
 
-tire_no_job : (site : Site) (cells : CellData) (level : ℕ) (patience : Option DelayLaw) → Each NoJob (tire_sent site cells level patience)
-tire_no_job site cells level None = tt
-tire_no_job site cells level (Some law) = (((λ e. absurd (omega arith)), (λ e. absurd (omega arith))), tt)
+pub tire_each : (P : Send → Type 0) (site : Site) (cells : CellData) (level : ℕ) (patience : Option DelayLaw) → ((delay a b : ℕ) → P (to_self site delay TIRE a b))
+    → Each P (tire_sent site cells level patience)
+tire_each P site cells level None is = tt
+tire_each P site cells level (Some law) is = (is _ _ _, tt)
 
-again_no_job : (site : Site) (station : Station) (number : ℕ) (period : Option ℕ) → Each NoJob (shift_again site station number period)
-again_no_job site station number None = tt
-again_no_job site station number (Some period) = (((λ e. absurd (omega arith)), (λ e. absurd (omega arith))), tt)
+again_each : (P : Send → Type 0) (site : Site) (station : Station) (number : ℕ) (period : Option ℕ) → ((delay a b : ℕ) → P (to_self site delay SHIFT a b))
+    → Each P (shift_again site station number period)
+again_each P site station number None is = tt
+again_each P site station number (Some period) is = (is _ _ _, tt)
 
-shift_no_job : (site : Site) (station : Station) (number : ℕ) → Each NoJob (shift_sent site station number)
+pub shift_each : (P : Send → Type 0) (site : Site) (station : Station) (number : ℕ) → ((delay a b : ℕ) → P (to_self site delay SHIFT a b))
+    → Each P (shift_sent site station number)
 unfolding shift_sent
-shift_no_job site station number = by (nat_lt (number + 1) (length station.shifts))
+shift_each P site station number is = by (nat_lt (number + 1) (length station.shifts))
   where
-    by : (more : Bool) → Each NoJob
+    by : (more : Bool) → Each P
         (if more then to_self site ((shift_at station (number + 1)).at - (shift_at station number).at) SHIFT (number + 1) 0 ∷ [] else shift_again site station number station.period)
-    by true = (((λ e. absurd (omega arith)), (λ e. absurd (omega arith))), tt)
-    by false = again_no_job site station number station.period
+    by true = (is _ _ _, tt)
+    by false = again_each P site station number station.period is
+
+pub call_no_job : (most : ℕ) (site : Site) (counts : Counts) → Each NoJob (call_sent most site counts)
+call_no_job most site counts = call_each NoJob most site counts ((λ e. absurd (omega arith)), (λ e. absurd (omega arith)))
 
 pub others_no_job : (site : Site) (routes : Routes) (station : Station) (cells : CellData) (e : Event) (x : Effect) (does_so : StationDoes site routes station cells e x)
     → Each NoJob (others_sent site routes station cells e x does_so)
@@ -129,7 +136,8 @@ others_no_job site routes station cells e x (rests no_come no_done no_call no_tu
 others_no_job site routes station cells e x (goes_on job at) = tt
 others_no_job site routes station cells e x (frees job at some) = call_no_job station.most site _
 others_no_job site routes station cells e x (takes job visit at visits nobody spare) = tt
-others_no_job site routes station cells e x (waits job visit level at visits below busy) = tire_no_job site cells level visit.patience
+others_no_job site routes station cells e x (waits job visit level at visits below busy) =
+    tire_each NoJob site cells level visit.patience (λ delay a b. ((λ e. absurd (omega arith)), (λ e. absurd (omega arith))))
 others_no_job site routes station cells e x (loses job visit at visits) = tt
 others_no_job site routes station cells e x (passes level calls empty) = (((λ e. absurd (omega arith)), (λ e. absurd (omega arith))), tt)
 others_no_job site routes station cells e x (begins level job visit calls there) = call_no_job station.most site _
@@ -138,7 +146,7 @@ others_no_job site routes station cells e x (puts_off job at served below late) 
 others_no_job site routes station cells e x (reneges level place job visit kind below within now there) = tt
 others_no_job site routes station cells e x (shifts kind within) =
     Each-append NoJob (shift_sent site station e.a) (call_sent station.most site (record (counts_of cells) { opened = (shift_at station e.a).servers }))
-    (shift_no_job site station e.a) (call_no_job station.most site _)
+    (shift_each NoJob site station e.a (λ delay a b. ((λ e. absurd (omega arith)), (λ e. absurd (omega arith))))) (call_no_job station.most site _)
 others_no_job site routes station cells e x (stands breakdowns kind has up) = (((λ e. absurd (omega arith)), (λ e. absurd (omega arith))), tt)
 others_no_job site routes station cells e x (works breakdowns kind has) = (((λ e. absurd (omega arith)), (λ e. absurd (omega arith))), call_no_job station.most site _)
 

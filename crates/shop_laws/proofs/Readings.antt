@@ -296,10 +296,23 @@ reads_began r station from visit counts cells is = by (is_none visit.service)
         (λ e. absurd (omega arith)) (λ e. absurd (omega arith)) (λ e. absurd (omega arith)) (λ e. absurd (omega arith)) (λ e. absurd (omega arith))
         (subst (λ xs. Reads c (record r { idle = take (length xs - 1) xs })) is.idle idle)
 
--- the other lines stay
-pub began_line : (visit : AVisit) (counts : Counts) (r : Readings) → (began visit counts r).line ≡ r.line
-began_line visit counts r = by (is_none visit.service)
+-- what is read otherwise stays where a server begins
+pub began_keeps : {A : Type 0} (f : Readings → A) (visit : AVisit) (counts : Counts) (r : Readings) → ((held : ℕ) → f (record r { held = held }) ≡ f r)
+    → ((idle : List ℕ) → f (record r { idle = idle }) ≡ f r) → f (began visit counts r) ≡ f r
+began_keeps f visit counts r held idle = by (is_none visit.service)
   where
-    by : (takes : Bool) → (if takes then record r { held = counts.held + 1 } else record r { idle = take (length r.idle - 1) r.idle }).line ≡ r.line
-    by true = refl
-    by false = refl
+    by : (takes : Bool) → f (if takes then record r { held = counts.held + 1 } else record r { idle = take (length r.idle - 1) r.idle }) ≡ f r
+    by true = held (counts.held + 1)
+    by false = idle (take (length r.idle - 1) r.idle)
+
+pub began_line : (visit : AVisit) (counts : Counts) (r : Readings) → (began visit counts r).line ≡ r.line
+began_line visit counts r = began_keeps (λ r. r.line) visit counts r (λ held. refl) (λ idle. refl)
+
+pub began_lag : (visit : AVisit) (counts : Counts) (r : Readings) → (began visit counts r).lag ≡ r.lag
+began_lag visit counts r = began_keeps (λ r. r.lag) visit counts r (λ held. refl) (λ idle. refl)
+
+pub began_waiting : (visit : AVisit) (counts : Counts) (r : Readings) → (began visit counts r).waiting ≡ r.waiting
+began_waiting visit counts r = began_keeps (λ r. r.waiting) visit counts r (λ held. refl) (λ idle. refl)
+
+pub began_down : (visit : AVisit) (counts : Counts) (r : Readings) → (began visit counts r).down ≡ r.down
+began_down visit counts r = began_keeps (λ r. r.down) visit counts r (λ held. refl) (λ idle. refl)

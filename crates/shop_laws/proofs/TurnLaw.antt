@@ -47,8 +47,8 @@ use Rattle.shop_laws.proofs.After.{readings_after, reads_after, one_less}
 use Rattle.shop_laws.proofs.Cases.{StationDoes, rests, goes_on, frees, takes, waits, loses, passes, begins, ends, puts_off, reneges, shifts, stands, works}
 use Rattle.shop_laws.proofs.ClassCases.{class_sends_each}
 use Rattle.shop_laws.proofs.Fine.{sum_emissions}
-use Rattle.shop_laws.proofs.Moves.{job_sent, others_sent, sends_are, one_sum}
-use Rattle.shop_laws.proofs.Readings.{Readings, readings_of, went_out, began}
+use Rattle.shop_laws.proofs.Moves.{job_sent, others_sent, sends_are, one_sum, call_each, tire_each, shift_each}
+use Rattle.shop_laws.proofs.Readings.{Readings, readings_of, went_out, began, began_down}
 use Rattle.shop_laws.proofs.Serving.{Serving, serving, station_step, class_step}
 use Rattle.shop_laws.proofs.Steps.{IsShopStep, shop_step, cells_here, cells_elsewhere, station_at_start, sum_before, sum_after}
 
@@ -125,29 +125,7 @@ plain_begin site routes cells visit service birth job = by (is_none visit.servic
     by false = plain_kind DONE (omega arith)
 
 plain_call : (most : ℕ) (site : Site) (counts : Counts) → Each (λ (s : Send). Plain s.kind) (call_sent most site counts)
-unfolding call_sent
-plain_call most site counts = by (nat_lt 0 counts.waiting && nat_lt 0 (spare_of most counts))
-  where
-    by : (calls : Bool) → Each (λ (s : Send). Plain s.kind) (if calls then to_self site 0 CALL 0 0 ∷ [] else [])
-    by true = (plain_kind CALL (omega arith), tt)
-    by false = tt
-
-plain_tire : (site : Site) (cells : CellData) (level : ℕ) (patience : Option DelayLaw) → Each (λ (s : Send). Plain s.kind) (tire_sent site cells level patience)
-plain_tire site cells level None = tt
-plain_tire site cells level (Some law) = (plain_kind TIRE (omega arith), tt)
-
-plain_again : (site : Site) (station : Station) (number : ℕ) (period : Option ℕ) → Each (λ (s : Send). Plain s.kind) (shift_again site station number period)
-plain_again site station number None = tt
-plain_again site station number (Some period) = (plain_kind SHIFT (omega arith), tt)
-
-plain_shift : (site : Site) (station : Station) (number : ℕ) → Each (λ (s : Send). Plain s.kind) (shift_sent site station number)
-unfolding shift_sent
-plain_shift site station number = by (nat_lt (number + 1) (length station.shifts))
-  where
-    by : (more : Bool) → Each (λ (s : Send). Plain s.kind)
-        (if more then to_self site ((shift_at station (number + 1)).at - (shift_at station number).at) SHIFT (number + 1) 0 ∷ [] else shift_again site station number station.period)
-    by true = (plain_kind SHIFT (omega arith), tt)
-    by false = plain_again site station number station.period
+plain_call most site counts = call_each (λ (s : Send). Plain s.kind) most site counts (plain_kind CALL (omega arith))
 
 -- what an event at a station does to its turns
 module _ (site : Site) (routes : Routes) (station : Station) (cells : CellData) (e : Event) where
@@ -167,13 +145,6 @@ module _ (site : Site) (routes : Routes) (station : Station) (cells : CellData) 
   stays_so : (sends : List Send) (r : Readings) → Each (λ (s : Send). Plain s.kind) sends → r.down ≡ (counts_of cells).down → Plain e.kind → TurnsOn sends r
   stays_so sends r plain down kind = stays (λ i. sums_plain i sends plain) down (λ is. absurd (kind.no_break is)) (λ is. absurd (kind.no_mend is))
 
-  began_down : (visit : AVisit) (counts : Counts) (r : Readings) → (began visit counts r).down ≡ r.down
-  began_down visit counts r = by (is_none visit.service)
-    where
-      by : (takes_it : Bool) → (if takes_it then record r { held = counts.held + 1 } else record r { idle = take (length r.idle - 1) r.idle }).down ≡ r.down
-      by true = refl
-      by false = refl
-
   kind_is : (k : ℕ) → e.kind ≡ k → k < BREAK → Plain e.kind
   kind_is k is below = plain_kind e.kind (omega arith)
 
@@ -184,7 +155,7 @@ module _ (site : Site) (routes : Routes) (station : Station) (cells : CellData) 
   turns_on x (frees job at some) = stays_so _ _ (plain_moved routes job e.b (job.step + 1) 0, plain_call station.most site _) refl (kind_is COME at.kind (omega arith))
   turns_on x (takes job visit at visits nobody spare) =
       stays_so _ _ (plain_begin site routes cells visit (service_drawn site cells visit).0 (birth_of e.b) job, tt) (began_down visit (counts_of cells) (readings_of cells)) (kind_is COME at.kind (omega arith))
-  turns_on x (waits job visit level at visits below busy) = stays_so _ _ (plain_tire site cells level visit.patience) refl (kind_is COME at.kind (omega arith))
+  turns_on x (waits job visit level at visits below busy) = stays_so _ _ (tire_each (λ (s : Send). Plain s.kind) site cells level visit.patience (λ delay a b. plain_kind TIRE (omega arith))) refl (kind_is COME at.kind (omega arith))
   turns_on x (loses job visit at visits) = stays_so _ _ (plain_moved routes job e.b visit.full 0, tt) refl (kind_is COME at.kind (omega arith))
   turns_on x (passes level calls empty) = stays_so _ _ (plain_kind CALL (omega arith), tt) refl (kind_is CALL calls.kind (omega arith))
   turns_on x (begins level job visit calls there) =
@@ -193,7 +164,7 @@ module _ (site : Site) (routes : Routes) (station : Station) (cells : CellData) 
   turns_on x (puts_off job at served below late) = stays_so _ _ (plain_kind DONE (omega arith), tt) refl (kind_is DONE at.kind (omega arith))
   turns_on x (reneges level place job visit kind below within now there) = stays_so _ _ (plain_moved routes job _ visit.away 0, tt) refl (kind_is TIRE kind (omega arith))
   turns_on x (shifts kind within) =
-      stays_so _ _ (Each-append (λ (s : Send). Plain s.kind) (shift_sent site station e.a) _ (plain_shift site station e.a) (plain_call station.most site _)) refl (kind_is SHIFT kind (omega arith))
+      stays_so _ _ (Each-append (λ (s : Send). Plain s.kind) (shift_sent site station e.a) _ (shift_each (λ (s : Send). Plain s.kind) site station e.a (λ delay a b. plain_kind SHIFT (omega arith))) (plain_call station.most site _)) refl (kind_is SHIFT kind (omega arith))
   turns_on x (stands breakdowns kind has up) =
       breaks kind (λ i. one_sum (turn_sent i) (to_self site (drawn_at site (place_of cells) breakdowns.down).0 MEND 0 0))
       (λ i. one_sum (break_sent i) (to_self site (drawn_at site (place_of cells) breakdowns.down).0 MEND 0 0))
