@@ -52,8 +52,8 @@ use Rattle.shop_model.specs.ModelLaws.{effect_class}
 use Rattle.shop_model.specs.Routes.{step_at, job_of, stands_at, object_at, moved}
 use Rattle.shop_model.specs.ShopParts.{ShopParts, IsShop, routes_of, station_at}
 use Rattle.shop_model.specs.Sites.{to_self, place_of, words_at, drawn_at, drawn_or}
-use Rattle.shop_model.specs.StationEffects.{take_effect, tire_sent, wait_effect, lose_effect, out_changes, begin_effect, pass_effect, renege_effect, shift_at, shift_sent, shift_again, still_effect, works_effect}
-use Rattle.shop_model.specs.Stations.{counts_of, call_sent, spare_of, first_station_cells}
+use Rattle.shop_model.specs.StationEffects.{take_effect, tire_sent, wait_effect, lose_effect, out_changes, begin_effect, pass_effect, renege_effect, shift_sent, still_effect, works_effect}
+use Rattle.shop_model.specs.Stations.{counts_of, call_sent, first_station_cells}
 use Rattle.shop_laws.specs.Told.{cells_at}
 use Rattle.shop_laws.proofs.After.{one_less}
 use Rattle.shop_laws.proofs.Cases.{StationDoes, rests, goes_on, frees, takes, waits, loses, passes, begins, ends, puts_off, reneges, shifts, stands, works, IsAtStep}

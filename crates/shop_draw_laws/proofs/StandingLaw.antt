@@ -1,6 +1,6 @@
 -- A service takes the ticks that were drawn, and those for which the station stands still in between.
 use Rattle.std.proofs.Common.{◌≡◌, ◌≢◌, ◌⊎◌, ℕ, suc, ◌+◌, ◌-◌, ◌%◌, ◌^◌, ◌<◌, ◌≤◌, Bool, true, false, cond, List, [], ◌∷◌, ◌++◌, length, map, inl, inr, refl, sym, ap, ◌∙◌, subst, ⊎_elim, arith, append-nil, eq-eqb, get_or-set_same}
-use Rattle.std.specs.Prelude.{if◌then◌else◌, ◌==◌, ◌&&◌, ◌||◌, min, is_none, nat_lt, slice_index, slice_set, Contains, count_by, Option, None, Some}
+use Rattle.std.specs.Prelude.{if◌then◌else◌, ◌==◌, ◌||◌, min, is_none, slice_index, slice_set, Contains, count_by, Option, None, Some}
 use Rattle.std.specs.List.{AllByRecursion as Each}
 use Rattle.std.proofs.lemmas.Bool.{cases_eq, cases_lt, and_from, eqb-false, ltb-true}
 use Rattle.std.proofs.lemmas.List.{get_or-replicate}
@@ -47,7 +47,7 @@ use Rattle.shop_model.specs.ModelLaws.{station_fine}
 use Rattle.shop_model.specs.Routes.{moved}
 use Rattle.shop_model.specs.ShopParts.{ShopParts, IsShop, routes_of, station_at}
 use Rattle.shop_model.specs.Sites.{to_self, place_of, words_at, drawn_at, drawn_or}
-use Rattle.shop_model.specs.StationEffects.{take_effect, tire_sent, wait_effect, lose_effect, out_changes, begin_effect, pass_effect, renege_effect, shift_at, shift_sent, shift_again, still_effect, works_effect}
+use Rattle.shop_model.specs.StationEffects.{take_effect, wait_effect, lose_effect, out_changes, begin_effect, pass_effect, renege_effect, shift_sent, still_effect, works_effect}
 use Rattle.shop_model.specs.Stations.{counts_of, call_sent, spare_of, first_station_cells, mark_word, jobs_line, births_line}
 use Rattle.shop_totals.specs.Flows.{is_beginning}
 use Rattle.shop_laws.specs.ServerLaws.{ends_by, AreServers}

@@ -39,8 +39,8 @@ use Rattle.shop_model.specs.ShopParts.{ShopParts, IsShop, routes_of, station_at,
 use Rattle.shop_model.specs.Sites.{to_self, place_of, drawn_at}
 use Rattle.shop_model.specs.StartLaws.{starts_more-station, starts_more-class}
 use Rattle.shop_model.specs.Starts.{start_at, first_shift, first_work, station_starts, first_arrival, class_starts, starts_below, starts_of}
-use Rattle.shop_model.specs.StationEffects.{tire_sent, shift_again, shift_sent, shift_at}
-use Rattle.shop_model.specs.Stations.{counts_of, spare_of, call_sent, first_station_cells}
+use Rattle.shop_model.specs.StationEffects.{shift_sent}
+use Rattle.shop_model.specs.Stations.{counts_of, call_sent, first_station_cells}
 use Rattle.shop_laws.specs.Told.{cells_at}
 use Rattle.shop_laws.specs.TurnLaws.{BreaksInTurn}
 use Rattle.shop_laws.proofs.After.{readings_after, reads_after, one_less}
@@ -48,7 +48,7 @@ use Rattle.shop_laws.proofs.Cases.{StationDoes, rests, goes_on, frees, takes, wa
 use Rattle.shop_laws.proofs.ClassCases.{class_sends_each}
 use Rattle.shop_laws.proofs.Fine.{sum_emissions}
 use Rattle.shop_laws.proofs.Moves.{job_sent, others_sent, sends_are, one_sum, call_each, tire_each, shift_each}
-use Rattle.shop_laws.proofs.Readings.{Readings, readings_of, went_out, began, began_down}
+use Rattle.shop_laws.proofs.Readings.{Readings, readings_of, went_out, began_down}
 use Rattle.shop_laws.proofs.Serving.{Serving, serving, station_step, class_step}
 use Rattle.shop_laws.proofs.Steps.{IsShopStep, shop_step, cells_here, cells_elsewhere, station_at_start, sum_before, sum_after}
 
