@@ -3,13 +3,12 @@ use Rattle.std.specs.Prelude.{◌≡◌, ◌≤◌, None}
 use Rattle.model_core.specs.declared.limits.TheConstants.{MOST_NODES}
 use Rattle.cycle_core.specs.Starts.{ArePlacedBy}
 use Rattle.node_team.specs.Handings.{AreWorkers}
-use Rattle.node_team.specs.Teams.{TeamView}
 use Rattle.sim_io.specs.declared.words.TheConstants.{DEFAULT_AHEAD, DEFAULT_NODES}
 use Rattle.sim_spec.specs.declared.placement.Placement.{Placement}
 use Rattle.model_runs.specs.declared.machine.Machine.{Machine}
 use Rattle.model_runs.specs.declared.machine.Machine.TheVariants.{OneThread, Nodes}
 use Rattle.model_runs.specs.declared.machine.Spread.{Spread}
-use Rattle.model_runs.specs.declared.moving.Moving.{Moving}
+use Rattle.model_runs.specs.declared.team_run.TeamRun.{TeamRun}
 
 -- 1 to 64 nodes, and 1 to 64 workers if any
 abbrev pub IsSpread : Spread → Type 0
@@ -23,10 +22,11 @@ IsMachine (Nodes spread) = IsSpread spread
 abbrev pub default_spread : Spread
 default_spread = record { nodes = DEFAULT_NODES; ahead = DEFAULT_AHEAD; placement = Placement.Round; workers = None; moves = None }
 
--- a team has as many nodes as are set, with the objects placed on them as is set, which work as far ahead, and what moves is
--- what is set
-pub record IsSpreadAs {M : Type 0} (team : TeamView M) (moving : Moving) (spread : Spread) : Type 0 where
-  pub nodes : team.world.homes.nodes ≡ spread.nodes
-  pub placed : ArePlacedBy spread.placement team.world.homes
-  pub ahead : team.ahead ≡ spread.ahead
-  pub moves : moving ≡ record { moves = spread.moves; cycles = 0 }
+-- a run has as many nodes as are set, with the objects placed on them as is set, which work as far ahead; as many workers
+-- take their turns, if any do; and what moves is what is set
+pub record IsSpreadAs {M : Type 0} (run : TeamRun M) (spread : Spread) : Type 0 where
+  pub nodes : run.team.world.homes.nodes ≡ spread.nodes
+  pub placed : ArePlacedBy spread.placement run.team.world.homes
+  pub ahead : run.team.ahead ≡ spread.ahead
+  pub workers : run.workers ≡ spread.workers
+  pub moves : run.moving ≡ record { moves = spread.moves; cycles = 0 }

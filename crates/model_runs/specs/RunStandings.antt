@@ -7,6 +7,7 @@ use Rattle.sim_spec.specs.declared.terms.Terms.{Terms}
 use Rattle.sim_spec.specs.Standing.{Standing, ended, IsCountAt, DoesCycles}
 use Rattle.sim_text.specs.LineCycles.{WritesCycle}
 use Rattle.cycle_core.specs.Standings.{WorldStandsAt}
+use Rattle.node_team.specs.Handings.{AreWorkers}
 use Rattle.model_runs.specs.declared.one_thread_run.OneThreadRun.{OneThreadRun}
 use Rattle.model_runs.specs.declared.team_run.TeamRun.{TeamRun}
 use Rattle.model_runs.specs.declared.told.Told.{Told}
@@ -28,9 +29,9 @@ module _ {M : Type 0} (meaning_of : M → Meaning) where
   abbrev pub OneWrites : OneThreadRun M → Result (Unit {0}) OutOfMemory → OneThreadRun M → List ℕ → Type 0
   OneWrites = WritesCycle (λ (run : OneThreadRun M). meaning_of run.engine.model) (λ (run : OneThreadRun M). run.engine.terms) OneStandsAt
 
-  -- so it is with the nodes of a team
+  -- so it is with the nodes of a team, of which there can be so many workers
   abbrev pub TeamStandsAt : TeamRun M → Standing → Type 0
-  TeamStandsAt run at = WorldStandsAt meaning_of run.team.world at × TellsOf (meaning_of run.team.world.model) run.team.world.terms at run.told
+  TeamStandsAt run at = WorldStandsAt meaning_of run.team.world at × TellsOf (meaning_of run.team.world.model) run.team.world.terms at run.told × AreWorkers run.workers
 
   abbrev pub TeamCycles : TeamRun M → Result Bucket OutOfMemory → TeamRun M → Type 0
   TeamCycles = DoesCycles (λ (run : TeamRun M). meaning_of run.team.world.model) (λ (run : TeamRun M). run.team.world.terms) TeamStandsAt

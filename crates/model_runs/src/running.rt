@@ -2,7 +2,6 @@
 ghost use Rattle.std.specs.Prelude.{◌≡◌, ◌≤◌, [], IfOk, None, false};
 ghost use Rattle.std.specs.Arc.{arc_value};
 ghost use Rattle.std.specs.Thread.{IsSend, IsSync};
-ghost use Rattle.model_core.specs.declared.limits.TheConstants.{MOST_NODES};
 ghost use Rattle.sim_spec.specs.Standing.{ended, stands};
 ghost use Rattle.sim_spec.specs.State.{initial_state};
 ghost use Rattle.run_tally.specs.Tallies.{TotalsOf};
@@ -55,12 +54,11 @@ pub(crate) fn on_nodes<M: Model>(
     terms: Terms,
     spread: Spread,
 ) -> Result<(Arc<M>, TeamRun<M>), OutOfMemory>
-    requires low { 1 ≤ spread.nodes }
-    requires high { spread.nodes ≤ MOST_NODES }
+    requires { IsSpread spread }
     ensures named { IfOk result (λ both. arc_value both.0 ≡ model) }
     ensures model { IfOk result (λ both. both.1.team.world.model ≡ model) }
     ensures terms { IfOk result (λ both. both.1.team.world.terms ≡ terms) }
-    ensures spread { IfOk result (λ both. IsSpreadAs both.1.team both.1.moving spread) }
+    ensures spread { IfOk result (λ both. IsSpreadAs both.1 spread) }
     ensures begins { IfOk result (λ both. TeamStandsAt M.meaning both.1 (stands (initial_state (M.meaning model)) None)) }
 {
     let model = Arc::new(alloc, model)?;
@@ -125,11 +123,10 @@ fn run_on_nodes<R: Threads + Sync, G: Gate, M: Model, L: Tally<M>, K: Sink>(
     let Stage { rt, alloc, gate } = stage;
     let (model, mut run) = on_nodes(alloc, model, terms, spread)?;
     law_initial(&*model, &terms);
-    let workers = spread.workers;
     let cycle = |run: &mut TeamRun<M>, alloc: Global, _out: &K| -> Result<Bucket, OutOfMemory>
-        requires { IsSync R.row × IsSync G.row × IsSend M.row × IsSync M.row × AreWorkers workers × GoesOn M.meaning run.old.team.world }
+        requires { IsSync R.row × IsSync G.row × IsSend M.row × IsSync M.row × AreWorkers run.old.workers × GoesOn M.meaning run.old.team.world }
         ensures { TeamCycles M.meaning run.old result run.new }
-    { run.cycle(rt, alloc, workers, gate) };
+    { run.cycle(rt, alloc, gate) };
     simulate::<M, L, _, _, K>(alloc, &*model, &terms, &mut run, &cycle, telling, out)
 }
 

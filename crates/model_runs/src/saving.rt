@@ -2,7 +2,6 @@
 ghost use Rattle.std.specs.Prelude.{◌≡◌, ◌≤◌, IfOk, None, false};
 ghost use Rattle.std.specs.Arc.{arc_value};
 ghost use Rattle.std.specs.Thread.{IsSend, IsSync};
-ghost use Rattle.model_core.specs.declared.limits.TheConstants.{MOST_NODES};
 ghost use Rattle.sim_spec.specs.Standing.{stands};
 ghost use Rattle.sim_spec.specs.State.{Lawful};
 ghost use Rattle.run_tally.specs.Tallies.{no_totals};
@@ -41,13 +40,12 @@ fn at_state<M: Model>(
     spread: Spread,
     state: State,
 ) -> Result<(Arc<M>, TeamRun<M>), OutOfMemory>
-    requires low { 1 ≤ spread.nodes }
-    requires high { spread.nodes ≤ MOST_NODES }
+    requires spread { IsSpread spread }
     requires lawful { Lawful (M.meaning model) terms state }
     ensures named { IfOk result (λ both. arc_value both.0 ≡ model) }
     ensures model { IfOk result (λ both. both.1.team.world.model ≡ model) }
     ensures terms { IfOk result (λ both. both.1.team.world.terms ≡ terms) }
-    ensures spread { IfOk result (λ both. IsSpreadAs both.1.team both.1.moving spread) }
+    ensures spread { IfOk result (λ both. IsSpreadAs both.1 spread) }
     ensures begins { IfOk result (λ both. TeamStandsAt M.meaning both.1 (stands state None)) }
 {
     let model = Arc::new(alloc, model)?;
@@ -70,11 +68,10 @@ fn save_after<R: Threads + Sync, G: Gate, M: Model, K: Sink>(
     let Stage { rt, alloc, gate } = stage;
     let (model, mut run) = on_nodes(alloc, model, terms, spread)?;
     law_initial(&*model, &terms);
-    let workers = spread.workers;
     let cycle = |run: &mut TeamRun<M>, alloc: Global, _out: &K| -> Result<Bucket, OutOfMemory>
-        requires { IsSync R.row × IsSync G.row × IsSend M.row × IsSync M.row × AreWorkers workers × GoesOn M.meaning run.old.team.world }
+        requires { IsSync R.row × IsSync G.row × IsSend M.row × IsSync M.row × AreWorkers run.old.workers × GoesOn M.meaning run.old.team.world }
         ensures { TeamCycles M.meaning run.old result run.new }
-    { run.cycle(rt, alloc, workers, gate) };
+    { run.cycle(rt, alloc, gate) };
     simulate_first(alloc, &*model, &terms, &mut run, &cycle, cycles, out)?;
     Ok(run.team.snapshot(alloc)?)
 }
@@ -112,11 +109,10 @@ fn resume_at<R: Threads + Sync, G: Gate, M: Model, K: Sink>(
 {
     let Stage { rt, alloc, gate } = stage;
     let (model, mut run) = at_state(alloc, model, terms, spread, state)?;
-    let workers = spread.workers;
     let cycle = |run: &mut TeamRun<M>, alloc: Global, _out: &K| -> Result<Bucket, OutOfMemory>
-        requires { IsSync R.row × IsSync G.row × IsSend M.row × IsSync M.row × AreWorkers workers × GoesOn M.meaning run.old.team.world }
+        requires { IsSync R.row × IsSync G.row × IsSend M.row × IsSync M.row × AreWorkers run.old.workers × GoesOn M.meaning run.old.team.world }
         ensures { TeamCycles M.meaning run.old result run.new }
-    { run.cycle(rt, alloc, workers, gate) };
+    { run.cycle(rt, alloc, gate) };
     let telling = Telling::Lines { cycles: false };
     simulate::<M, NoTally, _, _, K>(alloc, &*model, &terms, &mut run, &cycle, telling, out)
 }

@@ -1,13 +1,12 @@
 //! The engine on nodes, on any model.
 ghost use Rattle.std.specs.Prelude.{◌≡◌, ◌≤◌, ◌+◌, ◌-◌, ◌^◌, min, true, false, IfOk, OnOk, OnErr, None};
 ghost use Rattle.std.specs.Arc.{arc_value};
-ghost use Rattle.model_core.specs.declared.limits.TheConstants.{MOST_NODES};
 ghost use Rattle.sim_spec.specs.State.{Lawful, initial_state};
 ghost use Rattle.sim_spec.specs.Standing.{Standing, stands};
 ghost use Rattle.cycle_core.specs.Standings.{GoesOn, HasCycled, WorldStandsAt};
 ghost use Rattle.cycle_core.specs.Starts.{ArePlacedBy};
 ghost use Rattle.node_team.specs.Handings.{AreWorkers};
-ghost use Rattle.model_runs.specs.Machines.{IsSpreadAs};
+ghost use Rattle.model_runs.specs.Machines.{IsSpread, IsSpreadAs};
 ghost use Rattle.model_runs.specs.Plans.{HasMoved};
 ghost use Rattle.model_runs.specs.RunStandings.{TeamCycles, TeamStandsAt};
 
@@ -29,6 +28,8 @@ use std::thread::Threads;
 pub struct TeamRun<M: Model> {
     pub team: Team<M, RingLanes>,
     pub moving: Moving,
+    /// How many workers take turns of nodes and steal them from each other, 1 to 64, where they do.
+    pub workers: Option<u32>,
     pub told: Told,
 }
 
@@ -40,11 +41,10 @@ impl<M: Model> TeamRun<M> {
         terms: Terms,
         spread: Spread,
     ) -> Result<TeamRun<M>, OutOfMemory>
-        requires low { 1 ≤ spread.nodes }
-        requires high { spread.nodes ≤ MOST_NODES }
+        requires { IsSpread spread }
         ensures model { IfOk result (λ run. run.team.world.model ≡ arc_value model) }
         ensures terms { IfOk result (λ run. run.team.world.terms ≡ terms) }
-        ensures spread { IfOk result (λ run. IsSpreadAs run.team run.moving spread) }
+        ensures spread { IfOk result (λ run. IsSpreadAs run spread) }
         ensures begins { IfOk result (λ run. TeamStandsAt M.meaning run (stands (initial_state (M.meaning (arc_value model))) None)) }
     {
         let world = World::begin(alloc, model, terms, spread.nodes, spread.placement)?;
@@ -59,12 +59,11 @@ impl<M: Model> TeamRun<M> {
         spread: Spread,
         state: State,
     ) -> Result<TeamRun<M>, OutOfMemory>
-        requires low { 1 ≤ spread.nodes }
-        requires high { spread.nodes ≤ MOST_NODES }
+        requires spread { IsSpread spread }
         requires lawful { Lawful (M.meaning (arc_value model)) terms state }
         ensures model { IfOk result (λ run. run.team.world.model ≡ arc_value model) }
         ensures terms { IfOk result (λ run. run.team.world.terms ≡ terms) }
-        ensures spread { IfOk result (λ run. IsSpreadAs run.team run.moving spread) }
+        ensures spread { IfOk result (λ run. IsSpreadAs run spread) }
         ensures begins { IfOk result (λ run. TeamStandsAt M.meaning run (stands state None)) }
     {
         let world = World::from_state(alloc, model, terms, spread.nodes, spread.placement, state)?;
@@ -75,10 +74,9 @@ impl<M: Model> TeamRun<M> {
     fn of(alloc: Global, world: World<M>, spread: Spread) -> Result<TeamRun<M>, OutOfMemory>
         requires nodes { world.homes.nodes ≡ spread.nodes }
         requires placed { ArePlacedBy spread.placement world.homes }
-        requires low { 1 ≤ spread.nodes }
-        requires high { spread.nodes ≤ MOST_NODES }
+        requires spread { IsSpread spread }
         ensures world { IfOk result (λ run. run.team.world ≡ world) }
-        ensures spread { IfOk result (λ run. IsSpreadAs run.team run.moving spread) }
+        ensures spread { IfOk result (λ run. IsSpreadAs run spread) }
         ensures told { IfOk result (λ run. (at : Standing) → WorldStandsAt M.meaning world at → TeamStandsAt M.meaning run at) }
     {
         let lanes = RingLanes::new(alloc, spread.nodes)?;
@@ -87,6 +85,7 @@ impl<M: Model> TeamRun<M> {
         Ok(TeamRun {
             team,
             moving: Moving::new(spread.moves),
+            workers: spread.workers,
             told,
         })
     }
@@ -98,6 +97,7 @@ impl<M: Model> TeamRun<M> {
         ensures moved { OnOk result (self.old.team.world.is_spent ≡ false
             → HasMoved self.old.moving.moves self.old.moving.cycles self.old.team.world self.new.team.world) }
         ensures moving { self.new.moving ≡ self.old.moving }
+        ensures workers { self.new.workers ≡ self.old.workers }
         ensures spent { OnErr result (self.new.team.world.is_spent ≡ true) }
         ensures model { self.new.team.world.model ≡ self.old.team.world.model }
         ensures terms { self.new.team.world.terms ≡ self.old.team.world.terms }
@@ -114,47 +114,48 @@ impl<M: Model> TeamRun<M> {
         }
     }
 
-    /// One cycle of the team, by so many workers where there are some.
+    /// One cycle of the team, by its workers where it has some.
     fn cycle_team<R: Threads + Sync, G: Gate>(
         &mut self,
         rt: &R,
         alloc: Global,
-        workers: Option<u32>,
         gate: &G,
     ) -> Result<Bucket, OutOfMemory>
-        requires workers { AreWorkers workers }
+        requires workers { AreWorkers self.old.workers }
         requires goes_on { GoesOn M.meaning self.old.team.world }
         ensures cycled { HasCycled M.meaning self.old.team.world result self.new.team.world }
         ensures moving { self.new.moving ≡ self.old.moving }
+        ensures workers { self.new.workers ≡ self.old.workers }
     {
-        match workers {
+        match self.workers {
             Some(workers) => self.team.cycle_by(rt, alloc, workers, gate),
             None => self.team.cycle(rt, alloc, gate),
         }
     }
 
-    /// One cycle, by so many workers where there are some, after the moves that come before it: nothing moves after the last.
+    /// One cycle, after the moves that come before it: nothing moves after the last.
     fn move_and_cycle<R: Threads + Sync, G: Gate>(
         &mut self,
         rt: &R,
         alloc: Global,
-        workers: Option<u32>,
         gate: &G,
     ) -> Result<Bucket, OutOfMemory>
-        requires workers { AreWorkers workers }
+        requires workers { AreWorkers self.old.workers }
         requires goes_on { GoesOn M.meaning self.old.team.world }
         ensures cycled { HasCycled M.meaning self.old.team.world result self.new.team.world }
         ensures moving { OnOk result (self.new.moving ≡ record { moves = self.old.moving.moves; cycles = min (self.old.moving.cycles + 1) (2 ^ 64 - 1) }) }
+        ensures workers { self.new.workers ≡ self.old.workers }
     {
         self.make_moves(alloc)?;
         self.moving = self.moving.after();
-        self.cycle_team(rt, alloc, workers, gate)
+        self.cycle_team(rt, alloc, gate)
     }
 
     /// Hands the team the records that were given back, whose room the next cycle takes.
     fn reuse_room(&mut self)
         ensures team { self.new.team ≡ self.old.team }
         ensures moving { self.new.moving ≡ self.old.moving }
+        ensures workers { self.new.workers ≡ self.old.workers }
     {
         if let Some(records) = self.told.spare.take() {
             self.team.give_back(records);
@@ -166,16 +167,16 @@ impl<M: Model> TeamRun<M> {
         &mut self,
         rt: &R,
         alloc: Global,
-        workers: Option<u32>,
         gate: &G,
     ) -> Result<Bucket, OutOfMemory>
-        requires workers { AreWorkers workers }
+        requires workers { AreWorkers self.old.workers }
         requires goes_on { GoesOn M.meaning self.old.team.world }
         ensures cycled { TeamCycles M.meaning self.old result self.new }
         ensures moving { OnOk result (self.new.moving ≡ record { moves = self.old.moving.moves; cycles = min (self.old.moving.cycles + 1) (2 ^ 64 - 1) }) }
+        ensures workers { self.new.workers ≡ self.old.workers }
     {
         self.reuse_room();
-        let bucket = self.move_and_cycle(rt, alloc, workers, gate);
+        let bucket = self.move_and_cycle(rt, alloc, gate);
         self.told = Told::new(self.team.ended(), self.team.count());
         bucket
     }

@@ -1,6 +1,7 @@
 -- What is answered over adapters of a process's streams is answered over the streams.
 use Rattle.std.proofs.Common.{◌≡◌, ◌⊎◌, inl, inr, ℕ, List, [], drop, Option, Some, None, Result, Ok, Err, refl, sym, ap, ◌∙◌, subst, append-nil}
-use Rattle.std.specs.Prelude.{IfErr, IfOk, IfSome}
+use Rattle.std.specs.Prelude.{IfErr, IfOk, IfSome, String}
+use Rattle.std.specs.declared.alloc.Global.{Global}
 use Rattle.std.specs.declared.io.ErrorKind.{ErrorKind}
 use Rattle.std.specs.Io.KnownBytes.{Appends, Keeps, append_known}
 use Rattle.std.proofs.KnownBytes.{Keeps-refl}
@@ -12,7 +13,7 @@ use Rattle.sim_io.specs.Transfers.{AppendsPrefix}
 use Rattle.program_answers.specs.Answer.{Asked, words_line, IsInput, HandsOnPrefix, WritesOutput}
 use Rattle.program_answers.specs.Answered.{Answers, AnswersNoWords, Streams}
 use Rattle.program_answers.specs.Endings.{noted_line}
-use Rattle.program_answers.specs.Process.{AnswersStreams, LeavesStreams, NotesStreams}
+use Rattle.program_answers.specs.Process.{AnswersStreams, EndsProcess, LeavesStreams, NotesStreams}
 
 -- what follows from what holds of a value, or of an error
 pub ok_map : {T E : Type 0} {P Q : T → Type 0} (r : Result T E) → ((x : T) → P x → Q x) → IfOk r P → IfOk r Q
@@ -88,3 +89,18 @@ module _ {S K L I O N : Type 0} (source : Source S) (sink : Sink K) (notes : Sin
       unread = sym after.left ∙ ap source.left answers.unread ∙ before.left;
       unwritten = sym after.handed ∙ ap sink.handed answers.unwritten ∙ before.handed;
     }
+
+-- a process whose words were read has answered to them, and one whose words couldn't be read to none
+module _ {I O N W : Type 0} (remaining : I → Option (List ℕ)) (contents : O → Option (List ℕ)) (noted : N → Option (List ℕ)) (asked_by : List (String Global) → Asked) (items : W → List (String Global))
+    (status note_faults : ℕ) (old new : Streams I O N) where
+  some_words : (words : Result W ErrorKind) → IfOk words (λ list. AnswersStreams remaining contents noted status note_faults old new (asked_by (items list)))
+      → IfErr words (LeavesStreams remaining contents noted status note_faults old new)
+      → ((words : List (String Global)) × AnswersStreams remaining contents noted status note_faults old new (asked_by words)) ⊎ ((kind : ErrorKind) × LeavesStreams remaining contents noted status note_faults old new kind)
+  some_words (Ok list) read unread = inl (items list, read)
+  some_words (Err kind) read unread = inr (kind, unread)
+
+  pub process_ends : (told : ℕ) (words : Result W ErrorKind) → told ≡ status → IfOk words (λ list. AnswersStreams remaining contents noted status note_faults old new (asked_by (items list)))
+      → IfErr words (LeavesStreams remaining contents noted status note_faults old new) → EndsProcess remaining contents noted told old asked_by
+  process_ends told words same read unread =
+      let Ends : ℕ → Type 0 = λ n. EndsProcess remaining contents noted n old asked_by in
+      subst Ends (sym same) record { new = new; note_faults = note_faults; answers = some_words words read unread }

@@ -1,6 +1,7 @@
 -- What a program does over the streams of a process, in terms of what the standard library tells of them.
-use Rattle.std.specs.Prelude.{◌≡◌, ◌≢◌, ◌≤◌, ◌⊎◌, ◌↔◌, ℕ, true, false, List, drop, Option, Some, IfSome}
+use Rattle.std.specs.Prelude.{◌≡◌, ◌≢◌, ◌≤◌, ◌⊎◌, ◌↔◌, ℕ, true, false, List, drop, Option, Some, IfSome, String}
 use Rattle.std.specs.Io.KnownBytes.{Appends}
+use Rattle.std.specs.declared.alloc.Global.{Global}
 use Rattle.std.specs.declared.io.ErrorKind.{ErrorKind}
 use Rattle.sim_io.specs.declared.words.WordFault.TheVariants.{BadValue}
 use Rattle.sim_io.specs.Causes.{Rose}
@@ -38,3 +39,11 @@ module _ {I O N : Type 0} (remaining : I → Option (List ℕ)) (contents : O �
     pub notes : NotesStreams (words_line BadValue)
     pub unread : remaining new.source ≡ remaining old.source
     pub unwritten : contents new.out ≡ contents old.out
+
+module _ {I O N : Type 0} (remaining : I → Option (List ℕ)) (contents : O → Option (List ℕ)) (noted : N → Option (List ℕ)) (status : ℕ) (old : Streams I O N) where
+  -- a process ended with this status: it answered to some words, or couldn't read them
+  pub record EndsProcess (asked_by : List (String Global) → Asked) : Type 0 where
+    pub new : Streams I O N
+    pub note_faults : ℕ
+    pub answers : ((words : List (String Global)) × AnswersStreams remaining contents noted status note_faults old new (asked_by words))
+        ⊎ ((kind : ErrorKind) × LeavesStreams remaining contents noted status note_faults old new kind)
