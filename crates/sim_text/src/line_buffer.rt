@@ -46,7 +46,7 @@ fn put_note<M: SimulationModel>(
     ensures { OnOk result (into.new.items ≡ into.old.items ++ event_lines (M.meaning model.now) key.now note.now) }
 {
     for i in 0..note.len() {
-        writer.put_done(alloc, model, key, &[note.at(i)], into)?;
+        writer.put_line(alloc, model, key, note.at(i), into)?;
     }
     Ok(())
 }

@@ -65,9 +65,10 @@ impl LineWriter {
         Ok(())
     }
 
-    /// Appends a line. Its parts are written at their places, behind a copy of the head.
+    /// Appends the line of one part. Its own parts are written at their places, behind a copy of the head. A refusal may leave some
+    /// of them.
     #[tactic(auto, unfolding(crate::specs::Texts::part_line, crate::specs::Texts::place_text, crate::specs::Texts::part_text))]
-    fn put_line<M: Model>(
+    pub fn put_line<M: Model>(
         &mut self,
         alloc: Global,
         model: &M,
