@@ -58,7 +58,15 @@ impl Object {
         self.sent
     }
 
+    /// Reads a word at its beginning and two in its middle, and answers a number that says nothing: who reads an object ahead of
+    /// its events wants its lines in a cache.
+    #[inline(always)]
+    pub fn touch(&self) -> u64 {
+        u64::from(self.cells.words()) ^ self.sent ^ self.words.place()
+    }
+
     /// Does the changes of an event that sends so many events, or nothing where no memory is left.
+    #[inline(always)]
     pub fn take_effect(&mut self, changes: &[Change], sends: u64) -> Result<(), OutOfMemory>
         requires fits { AllFit changes.now self.old.cells }
         requires sends { self.old.sent + sends < 2 ^ 64 }
@@ -74,6 +82,7 @@ impl Object {
     }
 
     /// What an event comes to here. The object stays as it is but for the words that it has at hand.
+    #[inline(always)]
     fn settle<M: SimulationModel>(
         &mut self,
         model: &M,
@@ -91,6 +100,7 @@ impl Object {
     }
 
     /// Fires an event at this object: what it sends and tells stands in the sheet. After a refusal the object is as it was.
+    #[inline(always)]
     pub fn fire<M: SimulationModel>(
         &mut self,
         model: &M,
@@ -115,6 +125,7 @@ impl Object {
 }
 
 /// Whether a change puts a value in at a line.
+#[inline(always)]
 fn puts_in(change: &Change) -> bool
     ensures { OnFalse result ((line : ℕ) → puts_in_at change.now line ≡ false) }
 {

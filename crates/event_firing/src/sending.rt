@@ -8,6 +8,7 @@ use model_core::{Event, Send};
 
 /// Whether something is sent without delay from the last step of a tick, as a chain of events does that never leaves it.
 #[tactic(auto, unfolding(sim_spec::specs::Firing::has_endless_chain, event_key::specs::Stamps::has_no_step))]
+#[inline(always)]
 pub fn has_endless_chain(stamp: u64, sends: &[Send]) -> bool
     ensures { result ≡ has_endless_chain stamp sends.now }
 {
@@ -17,6 +18,7 @@ pub fn has_endless_chain(stamp: u64, sends: &[Send]) -> bool
 }
 
 /// The event that an event sends, with its serial.
+#[inline(always)]
 pub fn sent_event(cause: &Key, serial: u64, send: &Send) -> Event
     requires time { time_part cause.now.stamp < 2 ^ 46 }
     requires delay { send.now.delay ≤ 2 ^ 40 }

@@ -61,7 +61,6 @@ impl ReadAhead {
             return;
         }
         let (object, next) = (&objects[at], &objects[at + 1]);
-        self.sum ^= object.sent() ^ u64::from(object.cells().words());
-        self.sum ^= u64::from(next.cells().words());
+        self.sum ^= object.touch() ^ u64::from(next.cells().words());
     }
 }
