@@ -6,7 +6,6 @@ use Rattle.std.proofs.lemmas.List.{get_or-drop, get_or-take, get_or_append_left,
 use Rattle.delta_exchange.specs.Changes.{CellData, line_of, flipped, with_flipped}
 use Rattle.model_core.specs.declared.effect.Effect.{Effect}
 use Rattle.model_core.specs.declared.event.Event.{Event}
-use Rattle.model_core.specs.declared.note.Note.{Note}
 use Rattle.model_core.specs.declared.words.TheConstants.{WAITING_WORD}
 use Rattle.shop_model.specs.declared.job.Job.{Job}
 use Rattle.shop_model.specs.declared.kinds.TheConstants.{COME}
@@ -22,7 +21,7 @@ use Rattle.shop_model.specs.EntrySteps.{out_of}
 use Rattle.shop_model.specs.Jobs.{job_at, birth_of}
 use Rattle.shop_model.specs.Lawful.{IsLawful}
 use Rattle.shop_model.specs.Routes.{step_at}
-use Rattle.shop_model.specs.StationEffects.{until_of, wait_effect}
+use Rattle.shop_model.specs.StationEffects.{until_of, tire_sent, wait_effect}
 use Rattle.shop_model.specs.Stations.{counts_of, jobs_line, births_line, since_line, until_line}
 use Rattle.shop_laws.specs.Told.{word_told, first_told}
 use Rattle.shop_laws.proofs.After.{readings_after, push, one_less}
@@ -100,35 +99,36 @@ module _ (site : Site) (routes : Routes) (station : Station) (cells : CellData) 
   ups x (works breakdowns kind has) level = 0
 
   -- a job joins a level by the event
-  pub record Joins (note : Note) (level place a since until : ℕ) : Type 0 where
+  pub record Joins (x : Effect) (level place a since until : ℕ) : Type 0 where
     pub job : Job
     pub visit : AVisit
     pub at : IsAtStep site routes e COME job
     pub visits : step_at routes job.class job.step ≡ Some (Visit visit)
-    pub word : word_told note ≡ WAITING_WORD
-    pub told : first_told note ≡ job.id
+    pub word : word_told x.note ≡ WAITING_WORD
+    pub told : first_told x.note ≡ job.id
+    pub sends : x.sends ≡ tire_sent site cells level visit.patience
     pub last : place ≡ length (line_of cells (jobs_line level))
     pub named : a ≡ job_at job.step job.id
     pub now : since ≡ site.tick
     pub ends : until ≡ until_of site cells visit.patience
 
   -- a job that waits stood in line before, or joins now
-  pub data Came (note : Note) (ups level place a since until : ℕ) : Type 0 where
-    stood : Stands (λ k. line_of cells k) level (place + ups) a since until → Came note ups level place a since until
-    joins : Joins note level place a since until → Came note ups level place a since until
+  pub data Came (x : Effect) (ups level place a since until : ℕ) : Type 0 where
+    stood : Stands (λ k. line_of cells k) level (place + ups) a since until → Came x ups level place a since until
+    joins : Joins x level place a since until → Came x ups level place a since until
 
-  same_place : (note : Note) (level place a since until : ℕ) → Stands (λ k. line_of cells k) level place a since until → Came note 0 level place a since until
-  same_place note level place a since until there =
+  same_place : (x : Effect) (level place a since until : ℕ) → Stands (λ k. line_of cells k) level place a since until → Came x 0 level place a since until
+  same_place x level place a since until there =
       stood (subst (λ k. Stands (λ k. line_of cells k) level k a since until) (let e : place ≡ place + 0 = omega arith in e) there)
 
   -- a place that is flipped is empty
-  empty_place : (a : ℕ) → a < EMPTY → EMPTY ≤ flipped a
+  pub empty_place : (a : ℕ) → a < EMPTY → EMPTY ≤ flipped a
   unfolding flipped
   empty_place a small = let e : (if nat_lt a (2 ^ 64) then 2 ^ 64 - 1 - a else a) ≡ 2 ^ 64 - 1 - a = ap (λ b. if b then 2 ^ 64 - 1 - a else a) (lt-ltb a (2 ^ 64) (omega arith)) in omega (arith, e)
 
-  left : (note : Note) (from gone level place a since until : ℕ) → slice_index (line_of cells (jobs_line from)) gone < EMPTY → gone < length (line_of cells (jobs_line from)) → a < EMPTY
-      → Stands (put (jobs_line from) (with_flipped (line_of cells (jobs_line from)) gone) (λ k. line_of cells k)) level place a since until → Came note 0 level place a since until
-  left note from gone level place a since until was inside small there =
+  left : (x : Effect) (from gone level place a since until : ℕ) → slice_index (line_of cells (jobs_line from)) gone < EMPTY → gone < length (line_of cells (jobs_line from)) → a < EMPTY
+      → Stands (put (jobs_line from) (with_flipped (line_of cells (jobs_line from)) gone) (λ k. line_of cells k)) level place a since until → Came x 0 level place a since until
+  left x from gone level place a since until was inside small there =
       let l : ℕ → List ℕ = λ k. line_of cells k in
       let jobs : List ℕ = with_flipped (l (jobs_line from)) gone in
       let since_is : put (jobs_line from) jobs l (since_line level) ≡ l (since_line level) = put_other (jobs_line from) (since_line level) jobs l (λ e. absurd (omega arith)) in
@@ -146,8 +146,8 @@ module _ (site : Site) (routes : Routes) (station : Station) (cells : CellData) 
       omega (arith, small, a_is, empty_place (slice_index (l (jobs_line from)) gone) was)
       ))
       (λ (other : place ≢ gone).
-      subst (λ k. Came note 0 k place a since until) (sym same)
-      (same_place note from place a since until (record {
+      subst (λ k. Came x 0 k place a since until) (sym same)
+      (same_place x from place a since until (record {
         within = omega (arith, within, length-set (l (jobs_line from)) gone value);
         job = sym (get_or-set_other (l (jobs_line from)) gone place value 0 other) ∙ job_is;
         since_is = subst (λ xs. slice_index xs place ≡ since) (put_other (jobs_line from) (since_line from) jobs l (λ e. absurd (omega arith))) now.since_is;
@@ -155,16 +155,16 @@ module _ (site : Site) (routes : Routes) (station : Station) (cells : CellData) 
       })))
       (cases_eq place gone))
       (λ (other : level ≢ from).
-      same_place note level place a since until
+      same_place x level place a since until
       (stands_as (put (jobs_line from) jobs l) l level place a since until (put_other (jobs_line from) (jobs_line level) jobs l (λ e. other (omega arith))) since_is until_is there))
       (cases_eq level from)
 
   module _ (is : IsLawful site.object routes station cells) where
-    went : (note : Note) (from level place a since until : ℕ) → level < station.levels → Stands (went_out station.order from (readings_of cells)).line level place a since until
-        → Came note (if level == from then moves_up station.order else 0) level place a since until
-    went note from level place a since until below there = by (level == from) refl
+    went : (x : Effect) (from level place a since until : ℕ) → level < station.levels → Stands (went_out station.order from (readings_of cells)).line level place a since until
+        → Came x (if level == from then moves_up station.order else 0) level place a since until
+    went x from level place a since until below there = by (level == from) refl
       where
-        by : (here : Bool) → (level == from) ≡ here → Came note (if here then moves_up station.order else 0) level place a since until
+        by : (here : Bool) → (level == from) ≡ here → Came x (if here then moves_up station.order else 0) level place a since until
         by true here =
             let same : from ≡ level = sym (eqb-true level from here) in
             let now : Stands (four_put (out_of station.order) (out_of station.order) (out_of station.order) (out_of station.order) level (λ k. line_of cells k)) level place a since until =
@@ -187,7 +187,7 @@ module _ (site : Site) (routes : Routes) (station : Station) (cells : CellData) 
             let o : List ℕ → List ℕ = out_of station.order in
             let l : ℕ → List ℕ = λ k. line_of cells k in
             let other : level ≢ from = eqb-false level from apart in
-            same_place note level place a since until
+            same_place x level place a since until
             (stands_as (four_put o o o o from l) l level place a since until
             (four_elsewhere o o o o from l (jobs_line level) (λ e. other (omega arith)) (λ e. absurd (omega arith)) (λ e. absurd (omega arith)) (λ e. absurd (omega arith)))
             (four_elsewhere o o o o from l (since_line level) (λ e. absurd (omega arith)) (λ e. absurd (omega arith)) (λ e. other (omega arith)) (λ e. absurd (omega arith)))
@@ -195,13 +195,14 @@ module _ (site : Site) (routes : Routes) (station : Station) (cells : CellData) 
             there)
 
     -- a job that joins stands behind those of its level
-    joined : (note : Note) (job : Job) (visit : AVisit) (from : ℕ) → word_told note ≡ WAITING_WORD → first_told note ≡ job.id → IsAtStep site routes e COME job → step_at routes job.class job.step ≡ Some (Visit visit)
+    joined : (x : Effect) (job : Job) (visit : AVisit) (from : ℕ) → word_told x.note ≡ WAITING_WORD → first_told x.note ≡ job.id
+        → x.sends ≡ tire_sent site cells from visit.patience → IsAtStep site routes e COME job → step_at routes job.class job.step ≡ Some (Visit visit)
         → (level place a since until : ℕ) → level < station.levels
         → Stands (four_put (push (job_at job.step job.id)) (push (birth_of e.b)) (push site.tick) (push (until_of site cells visit.patience)) from (λ k. line_of cells k)) level place a since until
-        → Came note 0 level place a since until
-    joined note job visit from word told at visits level place a since until below there = ⊎_elim here elsewhere (cases_eq level from)
+        → Came x 0 level place a since until
+    joined x job visit from word told sends at visits level place a since until below there = ⊎_elim here elsewhere (cases_eq level from)
       where
-        here : level ≡ from → Came note 0 level place a since until
+        here : level ≡ from → Came x 0 level place a since until
         here same =
             let f : List ℕ → List ℕ = push (job_at job.step job.id) in
             let g : List ℕ → List ℕ = push (birth_of e.b) in
@@ -218,7 +219,7 @@ module _ (site : Site) (routes : Routes) (station : Station) (cells : CellData) 
             let levels = is.levels level below in
             ⊎_elim
             (λ (before : place < length jobs).
-            same_place note level place a since until (record {
+            same_place x level place a since until (record {
               within = before;
               job = sym (get_or_append_left jobs (job_at job.step job.id ∷ []) 0 place before) ∙ job_is;
               since_is = sym (get_or_append_left (l (since_line level)) (site.tick ∷ []) 0 place (omega (arith, before, levels.since))) ∙ since_is;
@@ -233,6 +234,7 @@ module _ (site : Site) (routes : Routes) (station : Station) (cells : CellData) 
               visits = visits;
               word = word;
               told = told;
+              sends = subst (λ k. x.sends ≡ tire_sent site cells k visit.patience) (sym same) sends;
               last = sym last;
               named = sym job_is ∙ get_or_push jobs (job_at job.step job.id) 0 place last;
               now = sym since_is ∙ get_or_push (l (since_line level)) site.tick 0 place (levels.since ∙ last);
@@ -240,14 +242,14 @@ module _ (site : Site) (routes : Routes) (station : Station) (cells : CellData) 
             }))
             (cases_lt place (length jobs))
 
-        elsewhere : level ≢ from → Came note 0 level place a since until
+        elsewhere : level ≢ from → Came x 0 level place a since until
         elsewhere other =
             let f : List ℕ → List ℕ = push (job_at job.step job.id) in
             let g : List ℕ → List ℕ = push (birth_of e.b) in
             let h : List ℕ → List ℕ = push site.tick in
             let i : List ℕ → List ℕ = push (until_of site cells visit.patience) in
             let l : ℕ → List ℕ = λ k. line_of cells k in
-            same_place note level place a since until
+            same_place x level place a since until
             (stands_as (four_put f g h i from l) l level place a since until
             (four_elsewhere f g h i from l (jobs_line level) (λ e. other (omega arith)) (λ e. absurd (omega arith)) (λ e. absurd (omega arith)) (λ e. absurd (omega arith)))
             (four_elsewhere f g h i from l (since_line level) (λ e. absurd (omega arith)) (λ e. absurd (omega arith)) (λ e. other (omega arith)) (λ e. absurd (omega arith)))
@@ -255,25 +257,25 @@ module _ (site : Site) (routes : Routes) (station : Station) (cells : CellData) 
             there)
 
     pub came : (x : Effect) (does_so : StationDoes site routes station cells e x) (level place a since until : ℕ) → level < station.levels → a < EMPTY
-        → Stands (readings_after site routes station cells e x (readings_of cells) does_so).line level place a since until → Came x.note (ups x does_so level) level place a since until
+        → Stands (readings_after site routes station cells e x (readings_of cells) does_so).line level place a since until → Came x (ups x does_so level) level place a since until
     unfolding wait_effect
-    came x (rests no_come no_done no_call no_turn) level place a since until below small there = same_place x.note level place a since until there
-    came x (goes_on job at) level place a since until below small there = same_place x.note level place a since until there
-    came x (frees job at some) level place a since until below small there = same_place x.note level place a since until there
+    came x (rests no_come no_done no_call no_turn) level place a since until below small there = same_place x level place a since until there
+    came x (goes_on job at) level place a since until below small there = same_place x level place a since until there
+    came x (frees job at some) level place a since until below small there = same_place x level place a since until there
     came x (takes job visit at visits nobody spare) level place a since until below small there =
-        same_place x.note level place a since until
+        same_place x level place a since until
         (subst (λ (l : ℕ → List ℕ). Stands l level place a since until) (began_line visit (counts_of cells) (readings_of cells)) there)
-    came x (waits job visit from at visits below_from busy) level place a since until below small there = joined x.note job visit from refl refl at visits level place a since until below there
-    came x (loses job visit at visits) level place a since until below small there = same_place x.note level place a since until there
-    came x (passes from calls empty) level place a since until below small there = went x.note from level place a since until below there
+    came x (waits job visit from at visits below_from busy) level place a since until below small there = joined x job visit from refl refl refl at visits level place a since until below there
+    came x (loses job visit at visits) level place a since until below small there = same_place x level place a since until there
+    came x (passes from calls empty) level place a since until below small there = went x from level place a since until below there
     came x (begins from job visit calls waits_there) level place a since until below small there =
-        went x.note from level place a since until below
+        went x from level place a since until below
         (subst (λ (l : ℕ → List ℕ). Stands l level place a since until)
         (began_line visit (one_less cells) (went_out station.order from (record (readings_of cells) { waiting = (counts_of cells).waiting - 1 }))) there)
-    came x (ends job at below_most some on_time) level place a since until below small there = same_place x.note level place a since until there
-    came x (puts_off job at served below_most late) level place a since until below small there = same_place x.note level place a since until there
+    came x (ends job at below_most some on_time) level place a since until below small there = same_place x level place a since until there
+    came x (puts_off job at served below_most late) level place a since until below small there = same_place x level place a since until there
     came x (reneges from gone job visit kind below_from within now waits_there) level place a since until below small there =
-        left x.note from gone level place a since until waits_there.small within small there
-    came x (shifts kind within) level place a since until below small there = same_place x.note level place a since until there
-    came x (stands breakdowns kind has up) level place a since until below small there = same_place x.note level place a since until there
-    came x (works breakdowns kind has) level place a since until below small there = same_place x.note level place a since until there
+        left x from gone level place a since until waits_there.small within small there
+    came x (shifts kind within) level place a since until below small there = same_place x level place a since until there
+    came x (stands breakdowns kind has up) level place a since until below small there = same_place x level place a since until there
+    came x (works breakdowns kind has) level place a since until below small there = same_place x level place a since until there

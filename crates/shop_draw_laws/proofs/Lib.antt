@@ -8,3 +8,4 @@ pub mod Sending
 pub mod ShiftsLaw
 pub mod SmallDraws
 pub mod StandingLaw
+pub mod TiringLaw

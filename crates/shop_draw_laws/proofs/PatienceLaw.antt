@@ -2,6 +2,7 @@
 use Rattle.std.proofs.Common.{◌≡◌, ◌≢◌, ◌⊎◌, ℕ, suc, ◌+◌, ◌-◌, ◌^◌, ◌<◌, List, [], ◌∷◌, ◌++◌, length, map, inl, inr, refl, sym, ap, ◌∙◌, subst, ⊎_elim, arith, append-nil, eq-eqb}
 use Rattle.std.specs.Prelude.{if◌then◌else◌, ◌==◌, slice_index, Contains, Option, None, Some}
 use Rattle.std.specs.List.{flat_map}
+use Rattle.std.specs.Option.{option_and_then}
 use Rattle.std.proofs.lemmas.Bool.{cases_eq, and_from}
 use Rattle.std.proofs.lemmas.List.Elements.{Contains-append_left, Contains-append_right}
 use Rattle.event_key.specs.declared.key.Key.{Key}
@@ -27,8 +28,10 @@ use Rattle.shop_model.specs.declared.levels.TheConstants.{EMPTY, NEVER}
 use Rattle.shop_model.specs.declared.routes.Routes.{Routes}
 use Rattle.shop_model.specs.declared.site.Site.{Site}
 use Rattle.shop_model.specs.declared.station.Station.{Station}
+use Rattle.shop_model.specs.declared.step.Step.TheVariants.{Visit}
 use Rattle.shop_model.specs.Jobs.{id_of}
 use Rattle.shop_model.specs.Meaning.{shop_meaning, site_of}
+use Rattle.shop_model.specs.Routes.{step_at}
 use Rattle.shop_model.specs.ShopParts.{ShopParts, IsShop, routes_of, station_at}
 use Rattle.shop_model.specs.Sites.{place_of}
 use Rattle.shop_model.specs.StationEffects.{until_of, take_effect, wait_effect, lose_effect, begin_effect, pass_effect, renege_effect, still_effect, works_effect}
@@ -42,41 +45,43 @@ use Rattle.shop_laws.proofs.Readings.{Readings, Reads, readings_of}
 use Rattle.shop_laws.proofs.Serving.{serving, station_step}
 use Rattle.shop_laws.proofs.Steps.{IsShopStep, shop_step, cells_here, cells_elsewhere, station_at_start}
 use Rattle.shop_draw_laws.specs.DrawLaws.{value_at}
-use Rattle.shop_draw_laws.specs.Draws.{laws_of, patience_at, step_come}
+use Rattle.shop_draw_laws.specs.Draws.{laws_of, patience_at, step_named, step_come}
 use Rattle.shop_draw_laws.specs.Patience.{Waiter, joins_next, joined}
 use Rattle.shop_draw_laws.specs.PatienceLaws.{LosesPatience, PatienceIsDrawn}
 use Rattle.shop_draw_laws.proofs.DrawsLaw.{come_step}
 use Rattle.shop_draw_laws.proofs.EntriesAfter.{Stands, Came, stood, joins, came, ups}
 
 -- a job that waits is among those that joined, until its patience ends, or it has none
-abbrev IsWaiter : List Waiter → ℕ → ℕ → ℕ → Type 0
-IsWaiter waiters id since until = (until ≡ NEVER) ⊎ ((patience : ℕ) × (until ≡ since + patience) × Contains waiters (record { id = id; since = since; patience = patience }))
+abbrev pub IsWaiter : Routes → List Waiter → ℕ → ℕ → ℕ → Type 0
+IsWaiter routes waiters a since until =
+    ((until ≡ NEVER) × (patience_at (step_named routes a) ≡ None))
+    ⊎ ((patience : ℕ) × (until ≡ since + patience) × Contains waiters (record { id = id_of a; since = since; patience = patience }))
 
-waiter_more : (waiters more : List Waiter) (id since until : ℕ) → IsWaiter waiters id since until → IsWaiter (waiters ++ more) id since until
-waiter_more waiters more id since until is = ⊎_elim
-    (λ (never : until ≡ NEVER). inl never)
-    (λ (waits : (patience : ℕ) × (until ≡ since + patience) × Contains waiters (record { id = id; since = since; patience = patience })).
-    inr (waits.0, waits.1, Contains-append_left waiters more (record { id = id; since = since; patience = waits.0 }) waits.2))
+waiter_more : (routes : Routes) (waiters more : List Waiter) (a since until : ℕ) → IsWaiter routes waiters a since until → IsWaiter routes (waiters ++ more) a since until
+waiter_more routes waiters more a since until is = ⊎_elim
+    (λ (never : (until ≡ NEVER) × (patience_at (step_named routes a) ≡ None)). inl never)
+    (λ (waits : (patience : ℕ) × (until ≡ since + patience) × Contains waiters (record { id = id_of a; since = since; patience = patience })).
+    inr (waits.0, waits.1, Contains-append_left waiters more (record { id = id_of a; since = since; patience = waits.0 }) waits.2))
     is
 
-waiter_later : (waiters more : List Waiter) (id since until : ℕ) → IsWaiter more id since until → IsWaiter (waiters ++ more) id since until
-waiter_later waiters more id since until is = ⊎_elim
-    (λ (never : until ≡ NEVER). inl never)
-    (λ (waits : (patience : ℕ) × (until ≡ since + patience) × Contains more (record { id = id; since = since; patience = patience })).
-    inr (waits.0, waits.1, Contains-append_right waiters more (record { id = id; since = since; patience = waits.0 }) waits.2))
+waiter_later : (routes : Routes) (waiters more : List Waiter) (a since until : ℕ) → IsWaiter routes more a since until → IsWaiter routes (waiters ++ more) a since until
+waiter_later routes waiters more a since until is = ⊎_elim
+    (λ (never : (until ≡ NEVER) × (patience_at (step_named routes a) ≡ None)). inl never)
+    (λ (waits : (patience : ℕ) × (until ≡ since + patience) × Contains more (record { id = id_of a; since = since; patience = patience })).
+    inr (waits.0, waits.1, Contains-append_right waiters more (record { id = id_of a; since = since; patience = waits.0 }) waits.2))
     is
 
 -- each job that waits at a station is one of these
-abbrev AreWaiters : Station → (ℕ → List ℕ) → List Waiter → Type 0
-AreWaiters station line waiters =
-    (level place a since until : ℕ) → level < station.levels → a < EMPTY → Stands line level place a since until → IsWaiter waiters (id_of a) since until
+abbrev pub AreWaiters : Routes → Station → (ℕ → List ℕ) → List Waiter → Type 0
+AreWaiters routes station line waiters =
+    (level place a since until : ℕ) → level < station.levels → a < EMPTY → Stands line level place a since until → IsWaiter routes waiters a since until
 
 module _ (p : ShopParts) (t : Terms) (fine : IsShop p) (i : ℕ) (exists : i < length p.stations) where
   abbrev m : Meaning
   m = shop_meaning p
 
   abbrev Waiting : State → List Waiter → Type 0
-  Waiting s waiters = AreWaiters (station_at p.stations i) (λ k. line_of (cells_at s i) k) waiters
+  Waiting s waiters = AreWaiters (routes_of p) (station_at p.stations i) (λ k. line_of (cells_at s i) k) waiters
 
   module _ (n : ℕ) (told : Key × Note) (after : State) (is_next : next m t (after_events n m t) ≡ does told after) where
     abbrev s : State
@@ -93,7 +98,7 @@ module _ (p : ShopParts) (t : Terms) (fine : IsShop p) (i : ℕ) (exists : i < l
 
     elsewhere : (waiters more : List Waiter) → i ≢ step.step.event.key.dest → Waiting s waiters → Waiting after (waiters ++ more)
     elsewhere waiters more apart before level place a since until below small there =
-        waiter_more waiters more (id_of a) since until
+        waiter_more (routes_of p) waiters more a since until
         (before level place a since until below small
         (subst (λ (c : CellData). Stands (λ k. line_of c k) level place a since until) (cells_elsewhere p t s told after step i apart) there))
 
@@ -101,8 +106,10 @@ module _ (p : ShopParts) (t : Terms) (fine : IsShop p) (i : ℕ) (exists : i < l
     who_joins : (job : Job) (until : ℕ) → (at : event.kind ≡ COME) → told.0.dest ≡ dest → word_told told.1 ≡ WAITING_WORD → first_told told.1 ≡ job.id
         → (patience : Option DelayLaw) → patience_at (step_come (routes_of p) event) ≡ patience
         → until ≡ until_of (site_of p dest event) (cells_at s dest) patience
-        → IsWaiter (joins_next p dest s (does told after)) job.id (time_part event.key.stamp) until
-    who_joins job until at there word id None is until_is = inl until_is
+        → ((until ≡ NEVER) × (patience ≡ None))
+        ⊎ ((drawn : ℕ) × (until ≡ time_part event.key.stamp + drawn)
+        × Contains (joins_next p dest s (does told after)) (record { id = job.id; since = time_part event.key.stamp; patience = drawn }))
+    who_joins job until at there word id None is until_is = inl (until_is, refl)
     who_joins job until at there word id (Some law) is until_is =
         let now : ℕ = time_part event.key.stamp in
         let drawn : ℕ = value_at p dest (place_of (cells_at s dest)) law in
@@ -126,8 +133,8 @@ module _ (p : ShopParts) (t : Terms) (fine : IsShop p) (i : ℕ) (exists : i < l
     note_is : told.1 ≡ step.step.effect.note
     note_is = ap (λ (r : Key × Note). r.1) step.step.tells
 
-    here : dest < length p.stations → (waiters : List Waiter) → AreWaiters (station_at p.stations dest) (λ k. line_of (cells_at s dest) k) waiters
-        → AreWaiters (station_at p.stations dest) (λ k. line_of (cells_at after dest) k) (waiters ++ joins_next p dest s (does told after))
+    here : dest < length p.stations → (waiters : List Waiter) → AreWaiters (routes_of p) (station_at p.stations dest) (λ k. line_of (cells_at s dest) k) waiters
+        → AreWaiters (routes_of p) (station_at p.stations dest) (λ k. line_of (cells_at after dest) k) (waiters ++ joins_next p dest s (does told after))
     here early waiters before level place a since until below small there =
         let st = station_step p t s told after fine step (serving p t s fine (n, refl)) early in
         let site : Site = site_of p dest event in
@@ -149,27 +156,36 @@ module _ (p : ShopParts) (t : Terms) (fine : IsShop p) (i : ℕ) (exists : i < l
       where
         by : (x : Effect) (does_so : StationDoes (site_of p dest event) (routes_of p) (station_at p.stations dest) (cells_at s dest) event x) (level place a since until : ℕ)
             → level < (station_at p.stations dest).levels
-            → Came (site_of p dest event) (routes_of p) (station_at p.stations dest) (cells_at s dest) event x.note (ups (site_of p dest event) (routes_of p) (station_at p.stations dest) (cells_at s dest) event x does_so level) level place a since until
-            → told.1 ≡ x.note → a < EMPTY → IsWaiter (waiters ++ joins_next p dest s (does told after)) (id_of a) since until
+            → Came (site_of p dest event) (routes_of p) (station_at p.stations dest) (cells_at s dest) event x (ups (site_of p dest event) (routes_of p) (station_at p.stations dest) (cells_at s dest) event x does_so level) level place a since until
+            → told.1 ≡ x.note → a < EMPTY → IsWaiter (routes_of p) (waiters ++ joins_next p dest s (does told after)) a since until
         by x does_so level place a since until below (stood was) note small =
-            waiter_more waiters (joins_next p dest s (does told after)) (id_of a) since until (before level _ a since until below small was)
+            waiter_more (routes_of p) waiters (joins_next p dest s (does told after)) a since until (before level _ a since until below small was)
         by x does_so level place a since until below (joins one) note small =
-            let A : ℕ → ℕ → Type 0 = λ id since. IsWaiter (joins_next p dest s (does told after)) id since until in
+            let more : List Waiter = joins_next p dest s (does told after) in
             let id : id_of a ≡ one.job.id = ap (λ k. id_of k) (one.named ∙ one.at.here.names.named) ∙ (named_of (routes_of p) event.a one.job one.at.here.is).1 in
-            let now : IsWaiter (joins_next p dest s (does told after)) one.job.id (time_part event.key.stamp) until =
-            who_joins one.job until one.at.kind (ap (λ (r : Key × Note). r.0.dest) step.step.tells)
+            let stands_at_it : step_named (routes_of p) a ≡ Some (Visit one.visit) =
+            ap (λ k. step_named (routes_of p) k) (one.named ∙ one.at.here.names.named)
+            ∙ ap (λ found. option_and_then (λ (job : Job). step_at (routes_of p) job.class job.step) found) one.at.here.is ∙ one.visits in
+            waiter_later (routes_of p) waiters more a since until
+            (⊎_elim
+            (λ (never : (until ≡ NEVER) × (one.visit.patience ≡ None)). inl (never.0, ap patience_at stands_at_it ∙ never.1))
+            (λ (drawn : (d : ℕ) × (until ≡ time_part event.key.stamp + d) × Contains more (record { id = one.job.id; since = time_part event.key.stamp; patience = d })).
+            inr (
+              drawn.0,
+              omega (arith, drawn.1, one.now),
+              subst (λ k. Contains more (record { id = k; since = since; patience = drawn.0 })) (sym id)
+                  (subst (λ k. Contains more (record { id = one.job.id; since = k; patience = drawn.0 })) (sym one.now) drawn.2),
+            ))
+            (who_joins one.job until one.at.kind (ap (λ (r : Key × Note). r.0.dest) step.step.tells)
             (ap (λ (note : Note). word_told note) note ∙ one.word) (ap (λ (note : Note). first_told note) note ∙ one.told)
-            one.visit.patience (ap patience_at (come_step p (cells_at s dest) event one.job one.at.kind one.at.here.is ∙ one.visits)) one.ends in
-            waiter_later waiters (joins_next p dest s (does told after)) (id_of a) since until
-            (subst (λ k. IsWaiter (joins_next p dest s (does told after)) k since until) (sym id)
-            (subst (λ k. IsWaiter (joins_next p dest s (does told after)) one.job.id k until) (sym one.now) now))
+            one.visit.patience (ap patience_at (come_step p (cells_at s dest) event one.job one.at.kind one.at.here.is ∙ one.visits)) one.ends))
 
     -- an event at a class adds none to those of a station, and what joins elsewhere none
     waiting_on : (waiters : List Waiter) → Waiting s waiters → Waiting after (waiters ++ joins_next p i s (does told after))
     waiting_on waiters before = ⊎_elim
         (λ (same : i ≡ step.step.event.key.dest).
-        let W : ℕ → Type 0 = λ k. AreWaiters (station_at p.stations k) (λ j. line_of (cells_at after k) j) (waiters ++ joins_next p k s (does told after)) in
-        let B : ℕ → Type 0 = λ k. AreWaiters (station_at p.stations k) (λ j. line_of (cells_at s k) j) waiters in
+        let W : ℕ → Type 0 = λ k. AreWaiters (routes_of p) (station_at p.stations k) (λ j. line_of (cells_at after k) j) (waiters ++ joins_next p k s (does told after)) in
+        let B : ℕ → Type 0 = λ k. AreWaiters (routes_of p) (station_at p.stations k) (λ j. line_of (cells_at s k) j) waiters in
         subst W (sym same) (here (omega (arith, exists, same)) waiters (subst B same before)))
         (λ (apart : i ≢ step.step.event.key.dest). elsewhere waiters (joins_next p i s (does told after)) apart before)
         (cases_eq i step.step.event.key.dest)
@@ -180,7 +196,7 @@ module _ (p : ShopParts) (t : Terms) (fine : IsShop p) (i : ℕ) (exists : i < l
       ap (λ (c : CellData). line_of c (jobs_line level)) (station_at_start p i exists) ∙ empty_line (station_at p.stations i) (jobs_line level) (λ e. absurd (omega arith)) in
       absurd (let no = there.within in let zero : length (line_of (cells_at (initial_state m) i) (jobs_line level)) ≡ 0 = ap (λ (xs : List ℕ). length xs) none in omega arith)
 
-  all_wait : (n : ℕ) → Waiting (after_events n m t) (joined p t i n)
+  pub all_wait : (n : ℕ) → Waiting (after_events n m t) (joined p t i n)
   unfolding after_events gathered
   all_wait =
       each_number m t (λ n. Waiting (after_events n m t) (joined p t i n))
@@ -246,11 +262,11 @@ patience_is_drawn p t n told after fine is_next early word =
     let one = who_reneges _ _ _ _ _ x (station_step p t s told after fine step (serving p t s fine (n, refl)) exists).does_so is in
     let a : ℕ = slice_index (line_of (cells_at s dest) (jobs_line one.level)) one.place in
     let since : ℕ = slice_index (line_of (cells_at s dest) (since_line one.level)) one.place in
-    let waits : IsWaiter (joined p t dest n) (id_of a) since now =
+    let waits : IsWaiter (routes_of p) (joined p t dest n) a since now =
     all_wait p t fine dest exists n one.level one.place a since now one.below one.small (record { within = one.within; job = refl; since_is = refl; until_is = one.now }) in
     let tick : now < 2 ^ 46 = time_early t step.step.event.key.stamp step.step.due in
     ⊎_elim
-    (λ (never : now ≡ NEVER). absurd (omega arith))
+    (λ (never : (now ≡ NEVER) × (patience_at (step_named (routes_of p) a) ≡ None)). absurd (let until = never.0 in omega arith))
     (λ (drawn : (patience : ℕ) × (now ≡ since + patience) × Contains (joined p t dest n) (record { id = id_of a; since = since; patience = patience })).
     let waited : second_told x.note ≡ drawn.0 = one.waited ∙ (let e : now - since ≡ drawn.0 = omega (arith, drawn.1) in e) in
     record {

@@ -1,8 +1,10 @@
 //! Shops: who waits, and loses patience.
-ghost use Rattle.shop_draw_laws.specs.PatienceLaws.{PatienceIsDrawn};
+ghost use Rattle.shop_draw_laws.specs.PatienceLaws.{NobodyOutwaits, PatienceIsDrawn};
 
 /// If the next event of a run of a shop tells `renege`, then a job of that id stands in line until then, and has waited for
-/// so many ticks as are told: that is the patience which was drawn as it joined.
+/// so many ticks as are told: that is the patience which was drawn as it joined. And as any event happens, whoever stands in
+/// line with a patience has waited for no longer than it: so nobody is called later than that.
 pub fn law_patience()
-    ensures { PatienceIsDrawn }
+    ensures reneges { PatienceIsDrawn }
+    ensures waits { NobodyOutwaits }
 {}
