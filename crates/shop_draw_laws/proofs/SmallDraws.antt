@@ -1,14 +1,17 @@
 -- Draws, patience and services, computed, with fixed laws, whose values can be seen: the desk, the saw, and a till of which a
 -- shift closes one of two servers in use.
-use Rattle.std.proofs.Common.{◌≡◌, ℕ, refl, List, [], ◌∷◌}
+use Rattle.std.proofs.Common.{◌≡◌, ℕ, refl, List, [], ◌∷◌, map}
 use Rattle.std.specs.Prelude.{None, Some}
 use Rattle.event_key.specs.declared.key.Key.{Key}
-use Rattle.event_key.specs.Stamps.{stamp_at}
+use Rattle.event_key.specs.Stamps.{stamp_at, time_part}
+use Rattle.delta_exchange.specs.Changes.{line_of}
+use Rattle.model_core.specs.declared.event.Event.{Event}
 use Rattle.model_core.specs.declared.note.Note.{Note}
 use Rattle.random_streams.specs.declared.delay_law.DelayLaw.{DelayLaw}
 use Rattle.random_streams.specs.declared.delay_law.DelayLaw.TheVariants.{Plain}
 use Rattle.random_streams.specs.declared.law.Law.TheVariants.{Fixed}
 use Rattle.run_laws.specs.Reached.{after_events}
+use Rattle.run_laws.specs.Sent.{first_of}
 use Rattle.sim_spec.specs.Run.{does, next}
 use Rattle.sim_spec.specs.State.{State}
 use Rattle.shop_model.specs.declared.class.Class.{Class}
@@ -17,7 +20,7 @@ use Rattle.shop_model.specs.declared.station.Station.{Station}
 use Rattle.shop_model.specs.declared.step.Step.TheVariants.{Visit}
 use Rattle.shop_model.specs.Meaning.{shop_meaning}
 use Rattle.shop_model.specs.ShopParts.{ShopParts}
-use Rattle.shop_model.specs.Stations.{counts_of}
+use Rattle.shop_model.specs.Stations.{counts_of, until_line}
 use Rattle.shop_laws.specs.ServerLaws.{busy_at}
 use Rattle.shop_laws.specs.Told.{cells_at}
 use Rattle.shop_laws.proofs.SmallDesk.{shop, desk, callers, to_fifty, desk_run}
@@ -35,6 +38,14 @@ laws_seen = refl
 joined_seen : ◌≡◌ {A = List Waiter} (joined shop to_fifty 0 7) (record { id = 2; since = 1; patience = 3 } ∷ record { id = 3; since = 2; patience = 3 } ∷ [])
 unfolding shop desk callers to_fifty desk_run
 joined_seen = refl
+
+-- after six events, at tick 4, both are in line, until ticks 4 and 5 at most
+six : State
+six = after_events 6 (shop_meaning shop) to_fifty
+
+until_seen : ◌≡◌ {A = List ℕ × List ℕ} (line_of (cells_at six 0) (until_line 0), map (λ (e : Event). time_part e.key.stamp) (first_of six.pending)) (4 ∷ 5 ∷ [], 4 ∷ [])
+unfolding six shop desk callers to_fifty desk_run
+until_seen = refl
 
 -- the eighth event tells that the first of them has waited for three ticks, at tick 4
 eighth : Key × Note
