@@ -8,8 +8,6 @@ mod change;
 mod laws;
 mod line;
 mod memory;
-#[cfg(test)]
-mod tests;
 mod words;
 
 pub use cells::Cells;

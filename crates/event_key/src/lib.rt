@@ -6,6 +6,3 @@ mod stamp;
 
 pub use key::{INITIAL, Key, MOST_RANK};
 pub use stamp::{LAST_TICK, NO_STAMP, STEPS, end_bound, later, stamp_of, step_of, time_of};
-
-#[cfg(test)]
-mod tests;

@@ -4,8 +4,6 @@
 mod law;
 mod note;
 mod rule;
-#[cfg(test)]
-mod tests;
 mod word;
 
 pub use law::law_word_rule;

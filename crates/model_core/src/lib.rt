@@ -40,6 +40,3 @@ pub use words::{
     WENT_WORD, fault_word, record_word, write_record_word,
 };
 pub use writing::{write_byte, write_first};
-
-#[cfg(test)]
-mod tests;

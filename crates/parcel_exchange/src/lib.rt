@@ -8,6 +8,3 @@ mod posting;
 pub use inbox::{Inbox, receive_all};
 pub use model_core::OutOfMemory;
 pub use posting::post_all;
-
-#[cfg(test)]
-mod tests;

@@ -26,6 +26,3 @@ pub use shares::{MOST_SHARES, Shares, are_shares};
 pub use stream::Stream;
 pub use values::Values;
 pub use weights::{MOST_WEIGHT, MOST_WEIGHTS, Weights, total_weight};
-
-#[cfg(test)]
-mod tests;

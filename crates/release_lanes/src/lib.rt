@@ -11,6 +11,3 @@ pub use model_core::OutOfMemory;
 pub use parcel::Parcel;
 pub use plain::{PlainEnd, PlainLanes};
 pub use rings::{RingEnd, RingLanes};
-
-#[cfg(test)]
-mod tests;

@@ -20,6 +20,3 @@ mod threads;
 pub use delta_exchange::OutOfMemory;
 pub use least::lesser;
 pub use queue::Queue;
-
-#[cfg(test)]
-mod tests;

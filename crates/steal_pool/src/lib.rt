@@ -19,6 +19,3 @@ pub use each::run_each;
 pub use running::run_turns;
 pub use turn::Turn;
 pub use worker::MOST_WORKERS;
-
-#[cfg(test)]
-mod tests;

@@ -1,4 +1,3 @@
-pub mod CountedLemmas
 pub mod DigitLemmas
 pub mod FirstLemmas
 pub mod LevelLemmas

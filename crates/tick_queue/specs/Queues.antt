@@ -5,7 +5,6 @@ use Rattle.event_key.specs.Stamps.{time_part}
 use Rattle.model_core.specs.declared.event.Event.{Event}
 use Rattle.key_order.specs.Ascending.{IsAscending, AllAfter}
 use Rattle.key_order.specs.Keys.{KeysDiffer}
-use Rattle.key_order.specs.Serials.{SerialsBelow}
 
 -- all events in the order of their keys, how many of the first ones are at hand, and the least stamp of the fresh ones
 pub record QueueView : Type 0 where
@@ -24,9 +23,3 @@ pub record AreInOrder (near : List Event) (tick : ℕ) (later : List Event) : Ty
   pub before : AllByRecursion (λ e. AllAfter e.key later) near
   pub distinct : KeysDiffer (near ++ later)
   pub few : length near + length later < 2 ^ 60
-
--- no event has a serial from this one on, and there are no more events than serials: a caller that counts its events
--- knows by this that a key is new
-pub record HasSerialsBelow (serial : ℕ) (q : QueueView) : Type 0 where
-  pub below : SerialsBelow 0 serial q.pending
-  pub few : length q.pending ≤ serial

@@ -18,6 +18,3 @@ mod threads;
 
 pub use delta_exchange::OutOfMemory;
 pub use queue::TickQueue;
-
-#[cfg(test)]
-mod tests;

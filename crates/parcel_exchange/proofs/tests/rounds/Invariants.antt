@@ -1,5 +1,0 @@
-use Rattle.std.proofs.Common.{◌≡◌}
-use Rattle.parcel_exchange.proofs.tests.rounds.Given as goal
-
-abbrev pub invariant-loop : goal.invariant-loop
-invariant-loop g l = g.L.Lanes.are_at_rest l.lanes × (g.L.Lanes.nodes l.lanes ≡ 2)

@@ -1,5 +1,0 @@
-use Rattle.tick_queue.proofs.CountedLemmas.{counted_none}
-use Rattle.tick_queue.proofs.tests.Counted.new.Goals as goal
-
-pub invariant_of-result : goal.invariant_of-result
-invariant_of-result c = counted_none c.in_ok-new.field-0 c.in_ok-new.ensures.pending
