@@ -17,6 +17,7 @@ use Rattle.sim_spec.specs.HorizonLaws.{BucketLaw}
 use Rattle.sim_spec.specs.Laws.{NextLawful}
 use Rattle.sim_spec.specs.Standing.{Standing, stands, ended, end_or_limit, IsCycle}
 use Rattle.sim_io.specs.Texts.{record_lines}
+use Rattle.sim_io.specs.Transfers.{AppendsPrefix}
 use Rattle.sim_io.proofs.TextLemmas.{record_lines-append}
 use Rattle.sim_text.specs.Rest.{AllAtObjects, StandsAtState}
 use Rattle.sim_text.specs.SoFar.{HasToldFirst}
@@ -82,11 +83,6 @@ rest-ended n m t s None stop is_stop =
     stopped-for n m t s stop (ap end_or_limit (sym is_next) ∙ is_stop) is_next
 rest-ended n m t s (Some f) stop is_stop = (refl, refl)
 
-rest-none : (m : Meaning) (t : Terms) (s : State) (fault : Option (Key × ℕ)) → ((rest_for 0 m t s fault).buckets ≡ []) × ((rest_for 0 m t s fault).last ≡ s)
-unfolding rest_for cycles_for
-rest-none m t s None = (refl, refl)
-rest-none m t s (Some f) = (refl, refl)
-
 -- where the engine stands after these cycles, and that they are the first ones
 pub record AreFirst (m : Meaning) (t : Terms) (from : State) (standing : Standing) (so_far : List Bucket) : Type 0 where
   pub state : State
@@ -120,6 +116,10 @@ module _ (m : Meaning) (t : Terms) (from : State) (standing : Standing) (so_far 
     record_lines m (records_of_buckets (rest_for (most - length so_far) m t are.state are.fault).buckets),
     ap (λ n. first_lines m t n from) (omega (arith, few)) ∙ first-lines (most - length so_far),
   )
+
+  -- so it is a prefix of them
+  pub lines-prefix : (old new : Option (List ℕ)) (most : ℕ) → length so_far ≤ most → Appends old new (record_lines m (records_of_buckets so_far)) → AppendsPrefix old new (first_lines m t most from)
+  lines-prefix old new most few told = let begins = lines-begin most few in (record_lines m (records_of_buckets so_far), begins.0, begins.1, told)
 
   -- where no cycle comes any more, they are all that is told, and the engine stands at the state after them
   pub record AreAll (most : ℕ) : Type 0 where
@@ -155,7 +155,7 @@ module _ (m : Meaning) (t : Terms) (from : State) (standing : Standing) (so_far 
 
   -- and where so many cycles are done
   pub all-done : (most : ℕ) → length so_far ≡ most → AreAll most
-  all-done most full = subst AreAll (omega (arith, full)) (all-so_far 0 (rest-none m t are.state are.fault))
+  all-done most full = subst AreAll (omega (arith, full)) (all-so_far 0 (none_yet m t are.state are.fault))
 
   module _ (buckets : BucketLaw m t) (bucket : Bucket) (new : Standing) (not_ended : ended m t standing ≡ None) (cycle : IsCycle m t standing bucket new) where
     -- a cycle begins where the engine stands

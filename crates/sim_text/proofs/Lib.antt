@@ -1,3 +1,4 @@
+pub mod EarlyEnds
 pub mod First
 pub mod GoesOnLaw
 pub mod RecordLemmas

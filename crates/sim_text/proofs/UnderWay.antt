@@ -21,16 +21,17 @@ use Rattle.sim_spec.specs.Cut.{cut, after}
 use Rattle.sim_spec.specs.Cycles.{cycles, records_of_buckets}
 use Rattle.sim_spec.specs.Laws.{NextLawful}
 use Rattle.sim_spec.specs.HorizonLaws.{BucketLaw, EndsLaw, MovesLaw, CyclesLaw}
-use Rattle.sim_spec.specs.Standing.{Standing, stands, ended, end_or_limit, IsCycle, CycleGives, DoesCycle, IsCountAt}
+use Rattle.sim_spec.specs.Standing.{Standing, stands, ended, end_or_limit, IsCycle, CycleGives, DoesCycles, IsCountAt}
 use Rattle.sim_spec.proofs.CyclesLaw.{after-count}
 use Rattle.sim_spec.proofs.LawfulLemmas.{next-placed, IsPlaced}
 use Rattle.sim_spec.proofs.RunLemmas.{run-stops}
+use Rattle.run_laws.specs.RunLaws.{RecordsAscend, StatesAreTheRuns}
 use Rattle.run_tally.specs.Tallies.{IsInTime, last_time, AreOfRun}
 use Rattle.run_tally.proofs.InTime.{in_time-ascending, in_time-behind, in_time-front}
 use Rattle.sim_io.specs.Texts.{IsAtObject}
 use Rattle.sim_text.specs.declared.telling.Telling.{Telling}
 use Rattle.sim_text.specs.Reports.{CanGoOn}
-use Rattle.sim_text.specs.Rest.{AllAtObjects}
+use Rattle.sim_text.specs.Rest.{AllAtObjects, BeginsAt}
 use Rattle.sim_text.specs.SoFar.{HasToldSoFar, lines_so_far}
 use Rattle.sim_text.proofs.Told.{EndsSo}
 use Rattle.sim_text.proofs.SummaryLemmas.{records_of_buckets-append, records_of_buckets-first, records_of_buckets-more}
@@ -267,19 +268,24 @@ cycle-same m m' t t' old new bucket same_meaning same_terms cycle =
     let Q : Terms → Type 0 = λ x. IsCycle m x old bucket new in
     subst Q same_terms (subst P same_meaning cycle)
 
--- an engine has answered a bucket by a cycle of the model, and stands after it
+-- an engine that had not ended has answered a bucket by a cycle of the model, and stands after it
 pub record HasDone (m : Meaning) (t : Terms) {E : Type 0} (meaning : E → Meaning) (terms : E → Terms) (StandsIn : E → Standing → Type 0) (at : Standing) (bucket : Bucket) (new : E) : Type 0 where
+  pub not_ended : ended m t at ≡ None
   pub left : Standing
   pub stands : StandsIn new left
   pub cycle : IsCycle m t at bucket left
   pub meaning_is : meaning new ≡ m
   pub terms_is : terms new ≡ t
 
-pub has_done : (m : Meaning) (t : Terms) {E : Type 0} (meaning : E → Meaning) (terms : E → Terms) (StandsIn : E → Standing → Type 0) (old : E) (at : Standing) (answer : Result Bucket OutOfMemory) (bucket : Bucket) (new : E)
-    → meaning old ≡ m → terms old ≡ t → answer ≡ Ok bucket → DoesCycle meaning terms StandsIn old at answer new → HasDone m t meaning terms StandsIn at bucket new
-has_done m t meaning terms StandsIn old at answer bucket new same_meaning same_terms is_ok made =
+pub has_done : (m : Meaning) (t : Terms) {E : Type 0} (meaning : E → Meaning) (terms : E → Terms) (StandsIn : E → Standing → Type 0) (old : E) (at : Standing) (stop : Option Stop) (answer : Result Bucket OutOfMemory)
+    (bucket : Bucket) (new : E) → meaning old ≡ m → terms old ≡ t → StandsIn old at → stop ≡ ended (meaning old) (terms old) at → stop ≡ None → answer ≡ Ok bucket
+    → DoesCycles meaning terms StandsIn old answer new → HasDone m t meaning terms StandsIn at bucket new
+has_done m t meaning terms StandsIn old at stop answer bucket new same_meaning same_terms there is_stop none is_ok do_so =
+    let own_none : ended (meaning old) (terms old) at ≡ None = sym is_stop ∙ none in
+    let made = do_so at there own_none in
     let P : Result Bucket OutOfMemory → Type 0 = λ r. CycleGives (meaning old) (terms old) at r made.left in
     record {
+      not_ended = ended-same m (meaning old) t (terms old) at None same_meaning same_terms (sym own_none);
       left = made.left;
       stands = made.stands;
       cycle = cycle-same m (meaning old) t (terms old) at made.left bucket same_meaning same_terms (subst P is_ok made.gives);
@@ -307,6 +313,31 @@ begins m t from lawful = record {
 pub counted-here : (m : Meaning) (t : Terms) (from : State) (standing : Standing) (so_far : List Bucket) (way : IsUnderWay m t from standing so_far) (count : ℕ) → IsCountAt standing count → count ≡ way.state.count
 unfolding IsCountAt
 counted-here m t from standing so_far way count counted = let P : Standing → Type 0 = λ s. IsCountAt s count in subst P way.at_state counted
+
+-- an engine that has ended: the whole run has the buckets so far, and ends so
+pub ends_here : (m : Meaning) (t : Terms) (from : State) {E : Type 0} (StandsIn : E → Standing → Type 0) (engine : E) (so_far : List Bucket) (r : RunsOn m t StandsIn engine so_far from) (m' : Meaning) (t' : Terms)
+    (stop : Stop) (count : ℕ) → m' ≡ m → t' ≡ t → Some stop ≡ ended m' t' r.at → IsCountAt r.at count → (ended m t r.at ≡ Some stop) × EndsSo m t from so_far count stop
+ends_here m t from StandsIn engine so_far r m' t' stop count same_meaning same_terms is_ended counts =
+    let here : ended m t r.at ≡ Some stop = ended-same m m' t t' r.at (Some stop) same_meaning same_terms is_ended in
+    (here, ends_so m t from r.laws r.at so_far r.way stop count here (counted-here m t from r.at so_far r.way count counts))
+
+-- the laws of a model, and an engine that begins at a state of it
+pub simulation_laws : (m : Meaning) (t : Terms) (from : State) → NextLawful m t → BucketLaw m t → CyclesLaw m t → MovesLaw m t → EndsLaw m t → StatesAreTheRuns m t → RecordsAscend m t → Lawful m t from
+    → SimulationLaws m t from
+simulation_laws m t from next buckets cycles moves ends states ascend lawful =
+    let Ascends : List (Key × Note) → Type 0 = AllPairs (λ (earlier later : Key × Note). key_lt earlier.0 later.0 ≡ true) in
+    record {
+      next = next;
+      buckets = buckets;
+      cycles = cycles;
+      moves = moves;
+      ends = ends;
+      begins = lawful;
+      ascend = subst Ascends states.run.1.records (ascend states.run.0);
+    }
+
+pub runs_from : (m : Meaning) (t : Terms) (from : State) {E : Type 0} (StandsIn : E → Standing → Type 0) (engine : E) → SimulationLaws m t from → BeginsAt m t StandsIn engine from → RunsOn m t StandsIn engine [] from
+runs_from m t from StandsIn engine laws starts = record { laws = laws; at = stands from None; stands = starts.stands; way = begins m t from starts.lawful }
 
 -- what a buffer that was empty holds, once lines were put into it
 pub held : (before after slice lines : List ℕ) → before ≡ [] → after ≡ before ++ lines → slice ≡ after → slice ≡ lines

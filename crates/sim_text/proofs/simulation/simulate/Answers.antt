@@ -1,16 +1,12 @@
 -- Each turn tells of one bucket; the last one tells what was kept of all, and why the simulation stopped.
-use Rattle.std.proofs.Common.{◌≡◌, ℕ, ◌+◌, ◌++◌, ◌∷◌, [], true, List, length-append, refl, sym, ap, ◌∙◌, subst, arith}
+use Rattle.std.proofs.Common.{ℕ, ◌+◌, ◌++◌, ◌∷◌, [], List, length-append, refl, sym, ap, ◌∙◌, subst, arith}
 use Rattle.std.proofs.KnownBytes.{Appends-nil}
 use Rattle.std.specs.Io.KnownBytes.{Appends}
-use Rattle.std.specs.List.{AllPairs}
-use Rattle.std.specs.Prelude.{None}
-use Rattle.event_key.specs.declared.key.Key.{Key}
-use Rattle.event_key.specs.Keys.{key_lt}
-use Rattle.model_core.specs.declared.note.Note.{Note}
-use Rattle.sim_spec.specs.Standing.{stands}
+use Rattle.sim_spec.specs.State.{State}
 use Rattle.sim_io.specs.Transfers.{AppendsPrefix}
-use Rattle.sim_text.proofs.Told.{none_so_far, told-prefix, bucket-prefix, bucket-told, end-prefix, end-told}
-use Rattle.sim_text.proofs.UnderWay.{told_so_far, begins, counted-here, held, held_both, none_of, ended-same, has_done, stop-at_object, stop-of_run, all-of_run, ends_so, can_go_on, all-with_bucket, goes_on, few_cycles}
+use Rattle.sim_text.proofs.Told.{none_so_far, bucket-prefix, bucket-told, end-prefix, end-told}
+use Rattle.sim_text.proofs.EarlyEnds.{simulated_early}
+use Rattle.sim_text.proofs.UnderWay.{RunsOn, HasDone, told_so_far, runs_from, simulation_laws, held, held_both, none_of, ended-same, has_done, stop-at_object, stop-of_run, all-of_run, ends_here, can_go_on, all-with_bucket, goes_on, few_cycles}
 use Rattle.sim_text.proofs.WrittenLemmas.{no_prefix, rose_after, all_written, simulated_before, simulated_failed}
 use Rattle.sim_text.proofs.simulation.simulate.Goals as goal
 
@@ -18,26 +14,11 @@ pub loop-stop-init : goal.loop-stop-init
 loop-stop-init g c =
     let m = g.M.Model.meaning c.args.model.now in
     let t = c.args.terms.now in
-    let Ascends : List (Key × Note) → Type 0 = AllPairs (λ (earlier later : Key × Note). key_lt earlier.0 later.0 ≡ true) in
-    let whole = c.law_reached.ensures.run in
     record {
       meaning = c.requires.meaning;
       terms = c.requires.terms;
       so_far = [];
-      runs = λ from starts can. record {
-        laws = record {
-          next = c.law_next.ensures;
-          buckets = c.law_bucket.ensures.next_of_run;
-          cycles = c.law_bucket.ensures.whole_run;
-          moves = c.law_moves.ensures.moves;
-          ends = c.law_moves.ensures.ends;
-          begins = starts.lawful;
-          ascend = subst Ascends whole.1.records (c.law_order.ensures whole.0);
-        };
-        at = stands from None;
-        stands = starts.stands;
-        way = begins m t from starts.lawful;
-      };
+      runs = λ from starts can. runs_from m t from g.E.Engine.stands_at c.args.engine.now (simulation_laws m t from c.law_next.ensures c.law_bucket.ensures.next_of_run c.law_bucket.ensures.whole_run c.law_moves.ensures.moves c.law_moves.ensures.ends c.law_reached.ensures c.law_order.ensures starts.lawful) starts;
       numbered = refl;
       kept = c.in_ok-report.ensures;
       told = subst (Appends (g.K.Sink.told c.args.sink.now) (g.K.Sink.told c.args.sink.now)) (sym (none_so_far m c.args.telling)) (Appends-nil (g.K.Sink.told c.args.sink.now));
@@ -60,9 +41,7 @@ put-requires-after_bounds g c κs within =
 
 pub returns-in_err-put : goal.returns-in_err-put
 returns-in_err-put g c = λ from starts can.
-    let i = c.loop-stop.invariant in
-    let r = i.runs from starts can in
-    simulated_before _ _ _ _ _ _ _ _ _ c.from_residual-in_err-put.ensures.1 (told-prefix _ _ _ _ c.args.telling _ _ i.so_far i.told _ r.way.buckets) i.quiet
+    simulated_early _ _ _ _ _ _ _ _ _ _ _ _ (c.loop-stop.invariant.runs from starts can) c.from_residual-in_err-put.ensures.1 c.loop-stop.invariant.told c.loop-stop.invariant.quiet
 
 pub put_stop-requires-after_bounds : goal.put_stop-requires-after_bounds
 put_stop-requires-after_bounds g c κs within =
@@ -73,39 +52,33 @@ put_stop-requires-after_bounds g c κs within =
 
 pub returns-in_err-put_stop : goal.returns-in_err-put_stop
 returns-in_err-put_stop g c = λ from starts can.
-    let i = c.loop-stop.invariant in
-    let r = i.runs from starts can in
-    simulated_before _ _ _ _ _ _ _ _ _ c.from_residual-in_err-put_stop.ensures.1 (told-prefix _ _ _ _ c.args.telling _ _ i.so_far i.told _ r.way.buckets) i.quiet
+    simulated_early _ _ _ _ _ _ _ _ _ _ _ _ (c.loop-stop.invariant.runs from starts can) c.from_residual-in_err-put_stop.ensures.1 c.loop-stop.invariant.told c.loop-stop.invariant.quiet
 
 pub returns-in_err-write_all : goal.returns-in_err-write_all
 returns-in_err-write_all g c = λ from starts can.
     let i = c.loop-stop.invariant in
     let r = i.runs from starts can in
-    let ended = ended-same _ _ _ _ _ _ i.meaning i.terms (sym c.in-Some.is ∙ c.ended.ensures r.at r.stands) in
-    let counted = counted-here _ _ _ _ i.so_far r.way _ (c.count-count.ensures r.at r.stands) in
-    let ends = ends_so _ _ _ r.laws _ i.so_far r.way c.in-Some.stop c.count-count.result ended counted in
-    let put = c.in_ok-put.ensures c.args.telling i.so_far i.kept (λ totals. all-of_run _ _ _ r.laws _ i.so_far r.way c.in-Some.stop ended (can totals)) in
+    let ends = ends_here _ _ _ _ _ i.so_far r _ _ c.in-Some.stop c.count-count.result i.meaning i.terms (sym c.in-Some.is ∙ c.ended.ensures r.at r.stands) (c.count-count.ensures r.at r.stands) in
+    let put = c.in_ok-put.ensures c.args.telling i.so_far i.kept (λ totals. all-of_run _ _ _ r.laws _ i.so_far r.way c.in-Some.stop ends.0 (can totals)) in
     let P : List ℕ → Type 0 = AppendsPrefix (g.K.Sink.told c.loop-stop.sink) (g.K.Sink.told c.write_all.new.sink) in
     let lines = held_both _ _ _ _ _ _ c.clear.ensures.items put c.in_ok-put_stop.ensures.ok c.as_slice.ensures.value in
     simulated_failed _ _ _ _ _ _ _ _ _ c.from_residual-in_err-write_all.ensures.1
-    (end-prefix _ _ _ _ c.args.telling _ _ i.so_far i.told c.count-count.result c.in-Some.stop ends _ (subst P lines c.in_err-write_all.ensures.prefix))
+    (end-prefix _ _ _ _ c.args.telling _ _ i.so_far i.told c.count-count.result c.in-Some.stop ends.1 _ (subst P lines c.in_err-write_all.ensures.prefix))
     (omega (arith, i.later, c.in_err-write_all.ensures.cause.later)) (rose_after _ _ _ i.quiet c.in_err-write_all.ensures.cause.failed)
 
 pub returns-in-Some : goal.returns-in-Some
 returns-in-Some g c = λ from starts can.
     let i = c.loop-stop.invariant in
     let r = i.runs from starts can in
-    let ended = ended-same _ _ _ _ _ _ i.meaning i.terms (sym c.in-Some.is ∙ c.ended.ensures r.at r.stands) in
-    let counted = counted-here _ _ _ _ i.so_far r.way _ (c.count-count.ensures r.at r.stands) in
-    let ends = ends_so _ _ _ r.laws _ i.so_far r.way c.in-Some.stop c.count-count.result ended counted in
-    let put = c.in_ok-put.ensures c.args.telling i.so_far i.kept (λ totals. all-of_run _ _ _ r.laws _ i.so_far r.way c.in-Some.stop ended (can totals)) in
+    let ends = ends_here _ _ _ _ _ i.so_far r _ _ c.in-Some.stop c.count-count.result i.meaning i.terms (sym c.in-Some.is ∙ c.ended.ensures r.at r.stands) (c.count-count.ensures r.at r.stands) in
+    let put = c.in_ok-put.ensures c.args.telling i.so_far i.kept (λ totals. all-of_run _ _ _ r.laws _ i.so_far r.way c.in-Some.stop ends.0 (can totals)) in
     let P : List ℕ → Type 0 = Appends (g.K.Sink.told c.loop-stop.sink) (g.K.Sink.told c.write_all.new.sink) in
     let lines = held_both _ _ _ _ _ _ c.clear.ensures.items put c.in_ok-put_stop.ensures.ok c.as_slice.ensures.value in
     record {
       written = all_written _ _ _ _ c.in-Some.stop
-          (end-told _ _ _ _ c.args.telling _ _ i.so_far i.told c.count-count.result c.in-Some.stop ends _ (subst P lines c.in_ok-write_all.ensures.all))
+          (end-told _ _ _ _ c.args.telling _ _ i.so_far i.told c.count-count.result c.in-Some.stop ends.1 _ (subst P lines c.in_ok-write_all.ensures.all))
           (c.in_ok-write_all.ensures.quiet ∙ i.quiet);
-      stop = sym (stop-of_run _ _ _ r.laws _ i.so_far r.way c.in-Some.stop ended);
+      stop = sym (stop-of_run _ _ _ r.laws _ i.so_far r.way c.in-Some.stop ends.0);
     }
 
 pub cycle-requires : goal.cycle-requires
@@ -117,35 +90,27 @@ cycle-requires g c =
 
 pub returns-in_err-bucket : goal.returns-in_err-bucket
 returns-in_err-bucket g c = λ from starts can.
-    let i = c.loop-stop.invariant in
-    let r = i.runs from starts can in
-    simulated_before _ _ _ _ _ _ _ _ _ c.from_residual-in_err-bucket.ensures.1 (told-prefix _ _ _ _ c.args.telling _ _ i.so_far i.told _ r.way.buckets) i.quiet
+    simulated_early _ _ _ _ _ _ _ _ _ _ _ _ (c.loop-stop.invariant.runs from starts can) c.from_residual-in_err-bucket.ensures.1 c.loop-stop.invariant.told c.loop-stop.invariant.quiet
 
 pub add-requires-after_bounds : goal.add-requires-after_bounds
 add-requires-after_bounds g c κs within =
     let i = c.loop-stop.invariant in
     let r = i.runs c.requires.begins.0 c.requires.begins.1 c.requires.begins.2 in
-    let own_none = sym (c.ended.ensures r.at r.stands) ∙ none_of _ c.in_default.not-Some in
-    let not_ended = ended-same _ _ _ _ _ _ i.meaning i.terms (sym own_none) in
-    let done = has_done (g.M.Model.meaning c.args.model.now) c.args.terms.now g.E.Engine.meaning g.E.Engine.terms g.E.Engine.stands_at c.loop-stop.engine r.at c.cycle.result c.in_ok-bucket.bucket c.cycle.new.arg2 i.meaning i.terms c.in_ok-bucket.was
-    (c.requires.does _ _ c.cycle.result _ c.cycle.ensures r.at r.stands own_none) in
-    (c.args.telling, i.so_far, i.kept, can_go_on _ _ _ r.laws _ i.so_far r.way c.args.telling c.in_ok-bucket.bucket _ not_ended done.cycle c.requires.begins.2)
+    let done = has_done (g.M.Model.meaning c.args.model.now) c.args.terms.now g.E.Engine.meaning g.E.Engine.terms g.E.Engine.stands_at c.loop-stop.engine r.at _ c.cycle.result c.in_ok-bucket.bucket c.cycle.new.arg2 i.meaning i.terms r.stands
+    (c.ended.ensures r.at r.stands) (none_of _ c.in_default.not-Some) c.in_ok-bucket.was (c.requires.does _ _ c.cycle.result _ c.cycle.ensures) in
+    (c.args.telling, i.so_far, i.kept, can_go_on _ _ _ r.laws _ i.so_far r.way c.args.telling c.in_ok-bucket.bucket _ done.not_ended done.cycle c.requires.begins.2)
 
 pub returns-in_err-add : goal.returns-in_err-add
 returns-in_err-add g c = λ from starts can.
-    let i = c.loop-stop.invariant in
-    let r = i.runs from starts can in
-    simulated_before _ _ _ _ _ _ _ _ _ c.from_residual-in_err-add.ensures.1 (told-prefix _ _ _ _ c.args.telling _ _ i.so_far i.told _ r.way.buckets) i.quiet
+    simulated_early _ _ _ _ _ _ _ _ _ _ _ _ (c.loop-stop.invariant.runs from starts can) c.from_residual-in_err-add.ensures.1 c.loop-stop.invariant.told c.loop-stop.invariant.quiet
 
 pub returns-in_err-write_all-2 : goal.returns-in_err-write_all-2
 returns-in_err-write_all-2 g c = λ from starts can.
     let i = c.loop-stop.invariant in
     let r = i.runs from starts can in
-    let own_none = sym (c.ended.ensures r.at r.stands) ∙ none_of _ c.in_default.not-Some in
-    let not_ended = ended-same _ _ _ _ _ _ i.meaning i.terms (sym own_none) in
-    let done = has_done (g.M.Model.meaning c.args.model.now) c.args.terms.now g.E.Engine.meaning g.E.Engine.terms g.E.Engine.stands_at c.loop-stop.engine r.at c.cycle.result c.in_ok-bucket.bucket c.cycle.new.arg2 i.meaning i.terms c.in_ok-bucket.was
-    (c.requires.does _ _ c.cycle.result _ c.cycle.ensures r.at r.stands own_none) in
-    let all = all-with_bucket _ _ _ r.laws _ i.so_far r.way _ _ not_ended done.cycle in
+    let done = has_done (g.M.Model.meaning c.args.model.now) c.args.terms.now g.E.Engine.meaning g.E.Engine.terms g.E.Engine.stands_at c.loop-stop.engine r.at _ c.cycle.result c.in_ok-bucket.bucket c.cycle.new.arg2 i.meaning i.terms r.stands
+    (c.ended.ensures r.at r.stands) (none_of _ c.in_default.not-Some) c.in_ok-bucket.was (c.requires.does _ _ c.cycle.result _ c.cycle.ensures) in
+    let all = all-with_bucket _ _ _ r.laws _ i.so_far r.way _ _ done.not_ended done.cycle in
     let P : List ℕ → Type 0 = AppendsPrefix (g.K.Sink.told c.loop-stop.sink) (g.K.Sink.told c.write_all-in-loop-stop.new.sink) in
     let lines = held _ _ _ _ c.clear.ensures.items (c.in_ok-add.ensures.told c.args.telling i.so_far i.kept) c.as_slice-in-loop-stop.ensures.value in
     simulated_failed _ _ _ _ _ _ _ _ _ c.from_residual-in_err-write_all-2.ensures.1
@@ -166,10 +131,10 @@ loop-stop-preserved g c =
     let t = c.args.terms.now in
     let b = c.in_ok-bucket.bucket in
     let some = i.runs c.requires.begins.0 c.requires.begins.1 c.requires.begins.2 in
-    let some_none = sym (c.ended.ensures some.at some.stands) ∙ none_of _ c.in_default.not-Some in
-    let some_not_ended = ended-same _ _ _ _ _ _ i.meaning i.terms (sym some_none) in
-    let some_done = has_done m t g.E.Engine.meaning g.E.Engine.terms g.E.Engine.stands_at c.loop-stop.engine some.at c.cycle.result b c.cycle.new.arg2 i.meaning i.terms c.in_ok-bucket.was
-    (c.requires.does _ _ c.cycle.result _ c.cycle.ensures some.at some.stands some_none) in
+    let done_from : (from : State) (r : RunsOn m t g.E.Engine.stands_at c.loop-stop.engine i.so_far from) → HasDone m t g.E.Engine.meaning g.E.Engine.terms g.E.Engine.stands_at r.at b c.cycle.new.arg2 = λ from r.
+    has_done m t g.E.Engine.meaning g.E.Engine.terms g.E.Engine.stands_at c.loop-stop.engine r.at _ c.cycle.result b c.cycle.new.arg2 i.meaning i.terms r.stands
+    (c.ended.ensures r.at r.stands) (none_of _ c.in_default.not-Some) c.in_ok-bucket.was (c.requires.does _ _ c.cycle.result _ c.cycle.ensures) in
+    let some_done = done_from c.requires.begins.0 some in
     let P : List ℕ → Type 0 = Appends (g.K.Sink.told c.loop-stop.sink) (g.K.Sink.told c.write_all-in-loop-stop.new.sink) in
     let lines = held _ _ _ _ c.clear.ensures.items (c.in_ok-add.ensures.told c.args.telling i.so_far i.kept) c.as_slice-in-loop-stop.ensures.value in
     record {
@@ -178,13 +143,10 @@ loop-stop-preserved g c =
       so_far = i.so_far ++ b ∷ [];
       runs = λ from starts can.
           let r = i.runs from starts can in
-          let own_none = sym (c.ended.ensures r.at r.stands) ∙ none_of _ c.in_default.not-Some in
-          let not_ended = ended-same _ _ _ _ _ _ i.meaning i.terms (sym own_none) in
-          let done = has_done m t g.E.Engine.meaning g.E.Engine.terms g.E.Engine.stands_at c.loop-stop.engine r.at c.cycle.result b c.cycle.new.arg2 i.meaning i.terms c.in_ok-bucket.was
-          (c.requires.does _ _ c.cycle.result _ c.cycle.ensures r.at r.stands own_none) in
-          record { laws = r.laws; at = done.left; stands = c.give_back.ensures.stands done.left done.stands; way = goes_on _ _ _ r.laws _ i.so_far r.way b _ not_ended done.cycle };
+          let done = done_from from r in
+          record { laws = r.laws; at = done.left; stands = c.give_back.ensures.stands done.left done.stands; way = goes_on _ _ _ r.laws _ i.so_far r.way b _ done.not_ended done.cycle };
       numbered = ap (λ n. n + 1) (i.numbered ∙ sym (length-append i.so_far (b ∷ [])));
-      kept = c.add.ensures.kept c.args.telling i.so_far i.kept (can_go_on _ _ _ some.laws _ i.so_far some.way c.args.telling b _ some_not_ended some_done.cycle c.requires.begins.2);
+      kept = c.add.ensures.kept c.args.telling i.so_far i.kept (can_go_on _ _ _ some.laws _ i.so_far some.way c.args.telling b _ some_done.not_ended some_done.cycle c.requires.begins.2);
       told = bucket-told _ t (g.L.Tally.lines c.args.model.now t) c.requires.begins.0 c.args.telling _ _ i.so_far i.told b c.loop-stop.number _ i.numbered (subst P lines c.in_ok-write_all-2.ensures.all);
       later = omega (arith, i.later, c.in_ok-write_all-2.ensures.cause.later);
       quiet = c.in_ok-write_all-2.ensures.quiet ∙ i.quiet;
