@@ -1,13 +1,11 @@
 -- The totals with one record more, and their lines with one object more.
-use Rattle.std.proofs.Common.{◌≡◌, ◌≢◌, ℕ, ◌+◌, ◌<◌, ◌≤◌, Bool, true, false, List, [], ◌∷◌, ◌++◌, length, map, take, refl, sym, ap, ◌∙◌, arith, length-append, eqb-true, eq-eqb, ne_eqb, get_or, cond, eqb, subst, append-nil, append_assoc, length-take, replicate}
-use Rattle.std.specs.Prelude.{◌==◌, All}
-use Rattle.std.specs.List.{filter, flat_map, range_with_len}
+use Rattle.std.proofs.Common.{◌≡◌, ◌≢◌, ℕ, ◌+◌, ◌<◌, ◌≤◌, Bool, true, false, List, [], ◌∷◌, ◌++◌, length, map, take, refl, sym, ap, ◌∙◌, arith, length-append, eqb-true, eq-eqb, get_or, eqb, subst, append-nil, append_assoc, length-take, replicate}
+use Rattle.std.specs.Prelude.{All}
+use Rattle.std.specs.List.{range_with_len}
 use Rattle.std.proofs.Math.ListN.{set}
 use Rattle.std.proofs.lemmas.List.{length-set, get_or-set_other, get_or-replicate, length-replicate}
 use Rattle.std.proofs.lemmas.Grind.{get_or-set_at}
-use Rattle.std.proofs.lemmas.Grind.{flat_map-append}
 use Rattle.std.proofs.lemmas.List.{ext_get_or, take_more, take_all}
-use Rattle.std.proofs.lemmas.List.Elements.{filter-append}
 use Rattle.std.proofs.lemmas.List.FromFn.{length-map-range_with_len, get_or-map-range_with_len}
 use Rattle.event_key.specs.declared.key.Key.{Key}
 use Rattle.event_key.specs.Stamps.{time_part}
@@ -15,33 +13,20 @@ use Rattle.model_core.specs.declared.note.Note.{Note}
 use Rattle.model_core.specs.Meaning.{Meaning}
 use Rattle.run_tally.specs.Tallies.{last_time}
 use Rattle.run_tally.proofs.InTime.{last_time-more}
+use Rattle.run_tally.proofs.ToldLemmas.{told-here, told-elsewhere}
 use Rattle.sim_stats.specs.declared.sums.Sums.{Sums}
 use Rattle.sim_stats.specs.Occupancies.{after_words, intervals}
 use Rattle.sim_stats.specs.Sums.{last_told, sums_of, sums_text, IsWithin}
 use Rattle.sim_stats.specs.Totals.{Summed, totals_of, lines_of_sums}
 use Rattle.sim_stats.specs.Words.{TimedWord, timed_words, words_told}
 
-words_told-more : (object : ℕ) (records : List (Key × Note)) (told : Key × Note)
-    → words_told object (records ++ told ∷ []) ≡ words_told object records ++ words_told object (told ∷ [])
-unfolding words_told
-words_told-more object records told =
-    let here : Key × Note → Bool = λ told. told.0.dest == object in
-    ap (λ (xs : List (Key × Note)). flat_map timed_words xs) (filter-append here records (told ∷ []))
-    ∙ flat_map-append timed_words (filter here records) (filter here (told ∷ []))
-
 pub words_told-here : (records : List (Key × Note)) (told : Key × Note) → words_told told.0.dest (records ++ told ∷ []) ≡ words_told told.0.dest records ++ timed_words told
 unfolding words_told
-words_told-here records told =
-    let its_own : words_told told.0.dest (told ∷ []) ≡ timed_words told =
-    ap (λ b. flat_map timed_words (cond b (told ∷ []) [])) (eq-eqb told.0.dest told.0.dest refl) ∙ append-nil (timed_words told) in
-    words_told-more told.0.dest records told ∙ ap (λ (words : List TimedWord). words_told told.0.dest records ++ words) its_own
+words_told-here records told = told-here timed_words records told
 
 pub words_told-elsewhere : (object : ℕ) (records : List (Key × Note)) (told : Key × Note) → object ≢ told.0.dest → words_told object (records ++ told ∷ []) ≡ words_told object records
 unfolding words_told
-words_told-elsewhere object records told apart =
-    let none : words_told object (told ∷ []) ≡ [] =
-    ap (λ b. flat_map timed_words (cond b (told ∷ []) [])) (ne_eqb told.0.dest object (λ same. apart (sym same))) in
-    words_told-more object records told ∙ ap (λ (words : List TimedWord). words_told object records ++ words) none ∙ append-nil (words_told object records)
+words_told-elsewhere object records told apart = told-elsewhere timed_words object records told apart
 
 -- a list of what is so at each place, where that changes at one place
 pub map-range-set : {X : Type 0} (f g : ℕ → X) (n place : ℕ) (new : X) → new ≡ g place → ((i : ℕ) → i ≢ place → g i ≡ f i) → set (map f (range_with_len 0 n)) place new ≡ map g (range_with_len 0 n)

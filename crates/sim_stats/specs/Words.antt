@@ -1,11 +1,11 @@
 -- The words that are told of an object, each with its time, and what they count for.
 use Rattle.std.specs.Prelude.{ℕ, Bool, ◌==◌, ◌||◌, List, map}
-use Rattle.std.specs.List.{filter, flat_map}
 use Rattle.event_key.specs.declared.key.Key.{Key}
 use Rattle.event_key.specs.Stamps.{time_part}
 use Rattle.model_core.specs.declared.note.Note.{Note}
 use Rattle.model_core.specs.declared.note.Part.{Part}
 use Rattle.model_core.specs.declared.words.TheConstants.{HOP_WORD, MADE_WORD, TAKEN_WORD, WAITING_WORD, LOST_WORD, DONE_WORD, HELD_WORD, ROUTED_WORD, LEFT_WORD}
+use Rattle.run_tally.specs.Told.{told_of_object}
 
 -- something comes to the object
 abbrev pub is_arrival : ℕ → Bool
@@ -34,4 +34,4 @@ timed_words told = words_at (time_part told.0.stamp) told.1
 
 -- the words told of an object
 unfoldable pub words_told : ℕ → List (Key × Note) → List TimedWord
-words_told object records = flat_map timed_words (filter (λ (told : Key × Note). told.0.dest == object) records)
+words_told object records = told_of_object timed_words object records

@@ -1,7 +1,7 @@
-use Rattle.std.proofs.Common.{ℕ, ◌+◌, ◌^◌, ◌∙◌, ◌++◌, List, take, ap, sym, arith, append_assoc}
+use Rattle.std.proofs.Common.{ℕ, ◌+◌, ◌^◌, ◌∙◌, ◌++◌, List, take, ap, arith}
 use Rattle.sim_stats.specs.Sums.{sums_of}
 use Rattle.sim_stats.specs.Words.{TimedWord, words_at}
-use Rattle.std.proofs.lemmas.List.{map_more}
+use Rattle.run_tally.proofs.ToldLemmas.{told-further}
 use Rattle.model_core.specs.declared.note.Part.{Part}
 use Rattle.sim_stats.proofs.SumsLemmas.{IsWithin-more}
 use Rattle.sim_stats.proofs.sums.Sums.add.Goals as goal
@@ -15,13 +15,10 @@ add_word-requires-clause-room c = IsWithin-more (2 ^ 32 + c.loop-part.part-index
 pub loop-part-preserved : goal.loop-part-preserved
 loop-part-preserved c =
     let i = c.loop-part.part-index in
-    let note = c.args.parts.now in
-    let seen = words_at c.args.time (take i note) in
     record {
       sums = λ told summed.
-          c.add_word.ensures.sums (told ++ seen) (c.loop-part.invariant.sums told summed)
-          ∙ ap (λ (words : List TimedWord). sums_of words)
-          (append_assoc told seen _ ∙ ap (λ (words : List TimedWord). told ++ words) (sym (map_more (timed_at c.args.time) note i _ c.loop-part-test.true)));
+          c.add_word.ensures.sums (told ++ words_at c.args.time (take i c.args.parts.now)) (c.loop-part.invariant.sums told summed)
+          ∙ ap (λ (words : List TimedWord). sums_of words) (told-further (timed_at c.args.time) told c.args.parts.now i _ c.loop-part-test.true);
       last = omega arith;
       within = λ words within. IsWithin-more (words + i + 1) (words + (i + 1)) c.add_word.new.self (omega arith) (c.add_word.ensures.within (words + i) (c.loop-part.invariant.within words within));
     }
