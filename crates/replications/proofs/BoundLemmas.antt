@@ -12,7 +12,7 @@ use Rattle.replications.specs.declared.words.Choice.TheVariants.{First, From, Wo
 use Rattle.replications.specs.declared.words.Given.{Given}
 use Rattle.replications.specs.declared.words.WindowStart.{WindowStart}
 use Rattle.replications.specs.declared.words.TheConstants.{LAST_SEED, MOST_WORKERS}
-use Rattle.replications.specs.ReplicateWords.{with_number, given_with, chosen, walked, IsGivenWithin, AreGivenInBounds}
+use Rattle.replications.specs.ReplicateWords.{value_of, with_number, given_with, chosen, walked, IsGivenWithin, AreGivenInBounds}
 
 pub number_within-bounds : (least most : ℕ) (word : List ℕ) (n : ℕ) → number_within least most word ≡ Ok n → (least ≤ n) × (n ≤ most)
 number_within-bounds least most word n is = by (is_number word && nat_le least (digits_value 10 word) && nat_le (digits_value 10 word) most) refl is
@@ -28,29 +28,31 @@ number_within-bounds least most word n is = by (is_number word && nat_le least (
         subst (λ n. (least ≤ n) × (n ≤ most)) same (low, high)
     by false tested gives = absurd (cc)
 
+-- the bounds of an option's number
+abbrev IsNumberOf : Choice → ℕ → Type 0
+IsNumberOf First n = (0 ≤ n) × (n ≤ LAST_SEED)
+IsNumberOf From n = (0 ≤ n) × (n ≤ LAST_TICK)
+IsNumberOf Workers n = (1 ≤ n) × (n ≤ MOST_WORKERS)
+
+value-bounds : (choice : Choice) (word : List ℕ) (n : ℕ) → value_of choice word ≡ Ok n → IsNumberOf choice n
+value-bounds First word n read = number_within-bounds 0 LAST_SEED word n read
+value-bounds From word n read = number_within-bounds 0 LAST_TICK word n read
+value-bounds Workers word n read = number_within-bounds 1 MOST_WORKERS word n read
+
+with-bounds : (given : Given) (choice : Choice) (n : ℕ) → AreGivenInBounds given → IsNumberOf choice n → AreGivenInBounds (with_number given choice n)
+with-bounds given First n fine is = record { first = is; from = fine.from; workers = fine.workers }
+with-bounds given From n fine is = record { first = fine.first; from = is; workers = fine.workers }
+with-bounds given Workers n fine is = record { first = fine.first; from = fine.from; workers = is }
+
 -- one option more
 given-bounds : (given next : Given) (choice : Choice) (word : List ℕ) → given_with given choice word ≡ Ok next → AreGivenInBounds given → AreGivenInBounds next
-given-bounds given next First word is fine = by (number_within 0 LAST_SEED word) refl is
+given-bounds given next choice word is fine = by (value_of choice word) refl is
   where
-    by : (r : Result ℕ WordFault) → number_within 0 LAST_SEED word ≡ r → and_then r (λ n. Ok (with_number given First n)) ≡ Ok next → AreGivenInBounds next
+    by : (r : Result ℕ WordFault) → value_of choice word ≡ r → and_then r (λ n. Ok (with_number given choice n)) ≡ Ok next → AreGivenInBounds next
     by (Err fault) read gives = absurd (cc)
     by (Ok n) read gives =
-        let same : with_number given First n ≡ next = cc in
-        subst AreGivenInBounds same (record { first = number_within-bounds 0 LAST_SEED word n read; from = fine.from; workers = fine.workers })
-given-bounds given next From word is fine = by (number_within 0 LAST_TICK word) refl is
-  where
-    by : (r : Result ℕ WordFault) → number_within 0 LAST_TICK word ≡ r → and_then r (λ n. Ok (with_number given From n)) ≡ Ok next → AreGivenInBounds next
-    by (Err fault) read gives = absurd (cc)
-    by (Ok n) read gives =
-        let same : with_number given From n ≡ next = cc in
-        subst AreGivenInBounds same (record { first = fine.first; from = number_within-bounds 0 LAST_TICK word n read; workers = fine.workers })
-given-bounds given next Workers word is fine = by (number_within 1 MOST_WORKERS word) refl is
-  where
-    by : (r : Result ℕ WordFault) → number_within 1 MOST_WORKERS word ≡ r → and_then r (λ n. Ok (with_number given Workers n)) ≡ Ok next → AreGivenInBounds next
-    by (Err fault) read gives = absurd (cc)
-    by (Ok n) read gives =
-        let same : with_number given Workers n ≡ next = cc in
-        subst AreGivenInBounds same (record { first = fine.first; from = fine.from; workers = number_within-bounds 1 MOST_WORKERS word n read })
+        let same : with_number given choice n ≡ next = cc in
+        subst AreGivenInBounds same (with-bounds given choice n fine (value-bounds choice word n read))
 
 -- what comes behind an option and its value
 behind : (start : WindowStart) (out given : Given) (choice : Choice) (value : List ℕ) (rest : List (List ℕ)) → AreGivenInBounds given

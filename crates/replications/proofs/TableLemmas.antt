@@ -1,48 +1,26 @@
 -- What is known of each object, with one record more.
-use Rattle.std.proofs.Common.{◌≡◌, ◌≢◌, ℕ, ◌+◌, ◌*◌, ◌<◌, Bool, List, [], ◌∷◌, ◌++◌, length, map, refl, sym, ap, ◌∙◌, arith, length-append, eq-eqb, ne_eqb, get_or, cond, subst, append-nil, replicate}
-use Rattle.std.specs.Prelude.{◌==◌, All}
-use Rattle.std.specs.List.{filter, flat_map, range_with_len}
+use Rattle.std.proofs.Common.{◌≡◌, ℕ, ◌+◌, ◌*◌, ◌<◌, List, [], ◌∷◌, ◌++◌, length, map, refl, sym, ap, ◌∙◌, arith, length-append, get_or, subst, replicate}
+use Rattle.std.specs.Prelude.{All}
+use Rattle.std.specs.List.{range_with_len}
 use Rattle.std.proofs.Math.ListN.{set}
 use Rattle.std.proofs.lemmas.List.{get_or-replicate, length-replicate}
-use Rattle.std.proofs.lemmas.Grind.{flat_map-append}
 use Rattle.std.proofs.lemmas.List.{ext_get_or}
-use Rattle.std.proofs.lemmas.List.Elements.{All-set, filter-append}
+use Rattle.std.proofs.lemmas.List.Elements.{All-set}
 use Rattle.std.proofs.lemmas.List.FromFn.{length-map-range_with_len, get_or-map-range_with_len}
 use Rattle.event_key.specs.declared.key.Key.{Key}
 use Rattle.event_key.specs.Stamps.{time_part}
 use Rattle.model_core.specs.declared.note.Note.{Note}
 use Rattle.run_tally.specs.Tallies.{last_time}
 use Rattle.run_tally.proofs.InTime.{last_time-more}
+use Rattle.run_tally.proofs.ToldLemmas.{told-here, told-elsewhere}
 use Rattle.sim_stats.proofs.TotalsLemmas.{map-range-set}
 use Rattle.replications.specs.declared.window.Window.{Window}
-use Rattle.replications.specs.Parts.{TimedPart, timed_parts, parts_told}
+use Rattle.replications.specs.Parts.{timed_parts, parts_told}
 use Rattle.replications.specs.Stays.{lefts_after, last_left, stays, spent}
 use Rattle.replications.specs.Parts.{from_tick}
 use Rattle.replications.specs.Windows.{line_before, greatest, longest_from, window_of, IsWithin}
 use Rattle.replications.specs.Tables.{WindowsView, windows_of}
 use Rattle.replications.proofs.WindowLemmas.{IsWithin-more}
-
-parts_told-more : (object : ℕ) (records : List (Key × Note)) (told : Key × Note)
-    → parts_told object (records ++ told ∷ []) ≡ parts_told object records ++ parts_told object (told ∷ [])
-unfolding parts_told
-parts_told-more object records told =
-    let here : Key × Note → Bool = λ told. told.0.dest == object in
-    ap (λ (xs : List (Key × Note)). flat_map timed_parts xs) (filter-append here records (told ∷ []))
-    ∙ flat_map-append timed_parts (filter here records) (filter here (told ∷ []))
-
-pub parts_told-here : (records : List (Key × Note)) (told : Key × Note) → parts_told told.0.dest (records ++ told ∷ []) ≡ parts_told told.0.dest records ++ timed_parts told
-unfolding parts_told
-parts_told-here records told =
-    let its_own : parts_told told.0.dest (told ∷ []) ≡ timed_parts told =
-    ap (λ b. flat_map timed_parts (cond b (told ∷ []) [])) (eq-eqb told.0.dest told.0.dest refl) ∙ append-nil (timed_parts told) in
-    parts_told-more told.0.dest records told ∙ ap (λ (parts : List TimedPart). parts_told told.0.dest records ++ parts) its_own
-
-pub parts_told-elsewhere : (object : ℕ) (records : List (Key × Note)) (told : Key × Note) → object ≢ told.0.dest → parts_told object (records ++ told ∷ []) ≡ parts_told object records
-unfolding parts_told
-parts_told-elsewhere object records told apart =
-    let none : parts_told object (told ∷ []) ≡ [] =
-    ap (λ b. flat_map timed_parts (cond b (told ∷ []) [])) (ne_eqb told.0.dest object (λ same. apart (sym same))) in
-    parts_told-more object records told ∙ ap (λ (parts : List TimedPart). parts_told object records ++ parts) none ∙ append-nil (parts_told object records)
 
 window_at : ℕ → List (Key × Note) → ℕ → Window
 window_at first records object = window_of first (parts_told object records)
@@ -50,12 +28,12 @@ window_at first records object = window_of first (parts_told object records)
 pub windows_of-more : (first objects : ℕ) (records : List (Key × Note)) (told : Key × Note) (now : Window) → now ≡ window_of first (parts_told told.0.dest records ++ timed_parts told)
     → record { objects = set (windows_of first objects records).objects told.0.dest now; first = first; records = (windows_of first objects records).records + 1; last = time_part told.0.stamp }
     ≡ windows_of first objects (records ++ told ∷ [])
-unfolding windows_of window_at
+unfolding windows_of window_at parts_told
 windows_of-more first objects records told now here =
     let changed : set (map (window_at first records) (range_with_len 0 objects)) told.0.dest now ≡ map (window_at first (records ++ told ∷ [])) (range_with_len 0 objects) =
     map-range-set (window_at first records) (window_at first (records ++ told ∷ [])) objects told.0.dest now
-    (here ∙ ap (window_of first) (sym (parts_told-here records told)))
-    (λ i apart. ap (window_of first) (parts_told-elsewhere i records told apart)) in
+    (here ∙ ap (window_of first) (sym (told-here timed_parts records told)))
+    (λ i apart. ap (window_of first) (told-elsewhere timed_parts i records told apart)) in
     let count : length records + 1 ≡ length (records ++ told ∷ []) = sym (length-append records (told ∷ [])) in
     let last : time_part told.0.stamp ≡ last_time 0 (records ++ told ∷ []) = sym (last_time-more 0 records told) in
     let with_last : List Window → ℕ → ℕ → WindowsView = λ objects records last. record { objects = objects; first = first; records = records; last = last } in

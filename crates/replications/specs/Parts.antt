@@ -1,11 +1,12 @@
 -- What is told of an object, part by part, each at its time.
 use Rattle.std.specs.Prelude.{ℕ, ◌==◌, nat_le, if◌then◌else◌, List, map}
-use Rattle.std.specs.List.{filter, flat_map}
+use Rattle.std.specs.List.{filter}
 use Rattle.event_key.specs.declared.key.Key.{Key}
 use Rattle.event_key.specs.Stamps.{time_part}
 use Rattle.model_core.specs.declared.note.Note.{Note}
 use Rattle.model_core.specs.declared.note.Part.{Part}
 use Rattle.model_core.specs.declared.words.TheConstants.{LEFT_WORD}
+use Rattle.run_tally.specs.Told.{told_of_object}
 
 -- a part that is told at a time, in ticks
 pub record TimedPart : Type 0 where
@@ -22,7 +23,7 @@ timed_parts told = parts_at (time_part told.0.stamp) told.1
 
 -- the parts told of an object
 unfoldable pub parts_told : ℕ → List (Key × Note) → List TimedPart
-parts_told object records = flat_map timed_parts (filter (λ (told : Key × Note). told.0.dest == object) records)
+parts_told object records = told_of_object timed_parts object records
 
 -- those at this tick or later
 unfoldable pub from_tick : ℕ → List TimedPart → List TimedPart

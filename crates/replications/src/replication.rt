@@ -41,7 +41,7 @@ fn run_to_stop<M: SimulationModel, W: Rows<M>>(
     law_reached(model, terms);
     law_order(model, terms);
     let mut cycles = 0u64;
-    'cycles: loop {
+    loop {
         if let Some(stop) = engine.ended() {
             let events = engine.count();
             return Ok(RunEnd { seed, events, stop });

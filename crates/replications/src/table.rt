@@ -82,7 +82,7 @@ fn write_batches<R: Threads + Sync, M: SimulationModel, W: Rows<M>, S: Seeds<M, 
     let size = batch_size(table.study.row_bytes, table.workers);
     let mut worst = Stop::End;
     let mut done = 0u64;
-    'batches: while done < table.count {
+    while done < table.count {
         let until = table.count.min(done + size);
         let jobs = run_batch::<R, M, W, S>(
             table.rt,

@@ -45,10 +45,7 @@ impl WindowStart {
     fn is_in_words(self) -> bool
         ensures { result ≡ is_in_words self }
     {
-        match self {
-            WindowStart::Words => true,
-            WindowStart::Model => false,
-        }
+        matches!(self, WindowStart::Words)
     }
 }
 

@@ -1,8 +1,6 @@
 -- Each turn takes note of one bucket; the last one sees why the simulation stopped.
-use Rattle.std.proofs.Common.{◌≡◌, ℕ, ◌+◌, ◌<◌, ◌++◌, ◌∷◌, [], true, List, length, length-append, refl, sym, ap, ◌∙◌, subst, arith}
-use Rattle.std.specs.List.{AllPairs}
+use Rattle.std.proofs.Common.{ℕ, ◌+◌, ◌++◌, ◌∷◌, [], List, length-append, refl, sym, ap, ◌∙◌, subst, arith}
 use Rattle.event_key.specs.declared.key.Key.{Key}
-use Rattle.event_key.specs.Keys.{key_lt}
 use Rattle.model_core.specs.declared.note.Note.{Note}
 use Rattle.sim_spec.specs.declared.stop.Stop.{Stop}
 use Rattle.one_thread.specs.Engines.{EngineView}
@@ -11,33 +9,23 @@ use Rattle.sim_spec.specs.Run.{run}
 use Rattle.sim_spec.specs.State.{initial_state}
 use Rattle.sim_spec.specs.Standing.{Standing}
 use Rattle.sim_text.proofs.SummaryLemmas.{records_of_buckets-more}
-use Rattle.sim_text.proofs.UnderWay.{IsUnderWay, begins, none_of, ended-same, cycle-same, ends_so, goes_on, few_cycles}
+use Rattle.sim_text.proofs.UnderWay.{IsUnderWay, simulation_laws, begins, none_of, ended-same, cycle-same, ends_so, goes_on, few_cycles}
 use Rattle.replications.specs.declared.rows.RunEnd.{RunEnd}
 use Rattle.run_tally.specs.Tallies.{CanAllCome}
 use Rattle.replications.proofs.ComingLemmas.{bucket-can_come}
 use Rattle.replications.proofs.replication.run_to_stop.Goals as goal
 
-pub cycles-init : goal.cycles-init
+pub loop-stop-init : goal.loop-stop-init
 unfolding records_of_buckets
-cycles-init g c =
+loop-stop-init g c =
     let m = g.M.Model.meaning c.args.model.now in
     let t = c.args.terms.now in
-    let Ascends : List (Key × Note) → Type 0 = AllPairs (λ (earlier later : Key × Note). key_lt earlier.0 later.0 ≡ true) in
-    let whole = c.law_reached.ensures.run in
     let Way : Standing → Type 0 = λ at. IsUnderWay m t (initial_state m) at [] in
     record {
       model = c.requires.model;
       terms = c.requires.terms;
       so_far = [];
-      laws = record {
-        next = c.law_next.ensures;
-        buckets = c.law_bucket.ensures.next_of_run;
-        cycles = c.law_bucket.ensures.whole_run;
-        moves = c.law_moves.ensures.moves;
-        ends = c.law_moves.ensures.ends;
-        begins = c.law_initial.ensures;
-        ascend = subst Ascends whole.1.records (c.law_order.ensures whole.0);
-      };
+      laws = simulation_laws m t (initial_state m) c.law_next.ensures c.law_bucket.ensures.next_of_run c.law_bucket.ensures.whole_run c.law_moves.ensures.moves c.law_moves.ensures.ends c.law_reached.ensures c.law_order.ensures c.law_initial.ensures;
       way = subst Way (sym c.requires.begins) (begins m t (initial_state m) c.law_initial.ensures);
       numbered = refl;
       kept = λ first none. none;
@@ -45,15 +33,15 @@ cycles-init g c =
 
 pub returns-in-Some-clause-rows : goal.returns-in-Some-clause-rows
 returns-in-Some-clause-rows g c first none =
-    let i = c.cycles.invariant in
+    let i = c.loop-stop.invariant in
     let ended = ended-same _ _ _ _ _ _ (ap g.M.Model.meaning i.model) i.terms (sym c.in-Some.is ∙ c.ended.ensures) in
     let counted = c.count-events.ensures.standing i.way.state i.way.fault i.way.at_state in
     let ends = ends_so _ _ _ i.laws _ i.so_far i.way c.in-Some.stop c.count-events.result ended counted in
-    subst (g.W.Rows.sums_up c.args.model.now first c.cycles.rows) (sym ends.records) (i.kept first none)
+    subst (g.W.Rows.sums_up c.args.model.now first c.loop-stop.rows) (sym ends.records) (i.kept first none)
 
 pub returns-in-Some-clause-end : goal.returns-in-Some-clause-end
 returns-in-Some-clause-end g c =
-    let i = c.cycles.invariant in
+    let i = c.loop-stop.invariant in
     let ended = ended-same _ _ _ _ _ _ (ap g.M.Model.meaning i.model) i.terms (sym c.in-Some.is ∙ c.ended.ensures) in
     let counted = c.count-events.ensures.standing i.way.state i.way.fault i.way.at_state in
     let ends = ends_so _ _ _ i.laws _ i.so_far i.way c.in-Some.stop c.count-events.result ended counted in
@@ -65,7 +53,7 @@ bucket-requires-after_bounds g c κs within = sym c.ended.ensures ∙ none_of _ 
 
 pub add_all-requires-after_bounds : goal.add_all-requires-after_bounds
 add_all-requires-after_bounds g c κs within =
-    let i = c.cycles.invariant in
+    let i = c.loop-stop.invariant in
     let m = g.M.Model.meaning c.args.model.now in
     let first = c.requires.rows.0 in
     let same = ap g.M.Model.meaning i.model in
@@ -78,15 +66,15 @@ add_all-requires-after_bounds g c κs within =
       subst (CanAllCome m (records_of_buckets i.so_far)) (sym c.as_buffer.ensures) (bucket-can_come _ _ i.laws _ i.so_far i.way _ _ not_ended cycle),
     )
 
-pub cycles-smaller : goal.cycles-smaller
-cycles-smaller g c =
-    let i = c.cycles.invariant in
+pub loop-stop-smaller : goal.loop-stop-smaller
+loop-stop-smaller g c =
+    let i = c.loop-stop.invariant in
     let few = few_cycles _ _ _ i.laws _ i.so_far i.way in
     omega (arith, few, i.numbered)
 
-pub cycles-preserved : goal.cycles-preserved
-cycles-preserved g c =
-    let i = c.cycles.invariant in
+pub loop-stop-preserved : goal.loop-stop-preserved
+loop-stop-preserved g c =
+    let i = c.loop-stop.invariant in
     let m = g.M.Model.meaning c.args.model.now in
     let t = c.args.terms.now in
     let b = c.in_ok-bucket.bucket in

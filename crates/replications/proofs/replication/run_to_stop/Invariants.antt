@@ -5,8 +5,8 @@ use Rattle.sim_spec.specs.State.{initial_state}
 use Rattle.sim_text.proofs.UnderWay.{IsUnderWay, SimulationLaws}
 use Rattle.replications.proofs.replication.run_to_stop.Given as goal
 
-abbrev pub invariant-cycles : goal.invariant-cycles
-invariant-cycles g l =
+abbrev pub invariant-loop-stop : goal.invariant-loop-stop
+invariant-loop-stop g l =
     let m = g.M.Model.meaning l.model in
     record {
       model : l.engine.model ≡ l.model;
@@ -18,5 +18,5 @@ invariant-cycles g l =
       kept : (first : ℕ) → g.W.Rows.sums_up l.model first l.fn.rows [] → g.W.Rows.sums_up l.model first l.rows (records_of_buckets so_far);
     }
 
-abbrev pub decreases-cycles : goal.decreases-cycles
-decreases-cycles g l = (l.terms.limit + 3) - l.cycles
+abbrev pub decreases-loop-stop : goal.decreases-loop-stop
+decreases-loop-stop g l = (l.terms.limit + 3) - l.cycles

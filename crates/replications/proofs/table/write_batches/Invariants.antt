@@ -4,8 +4,8 @@ use Rattle.replications.specs.Families.{study_of}
 use Rattle.replications.specs.Studies.{rows_between, stops_between, gravest}
 use Rattle.replications.proofs.table.write_batches.Given as goal
 
-abbrev pub invariant-batches : goal.invariant-batches
-invariant-batches g l =
+abbrev pub invariant-loop-done : goal.invariant-loop-done
+invariant-loop-done g l =
     let s = study_of g.S.Seeds.seeded g.S.Seeds.rows l.table.study.now in
     record {
       within : l.done ≤ l.table.count;
@@ -15,5 +15,5 @@ invariant-batches g l =
       quiet : g.K.Sink.faults l.out ≡ g.K.Sink.faults l.fn.out;
     }
 
-abbrev pub decreases-batches : goal.decreases-batches
-decreases-batches g l = l.table.count - l.done
+abbrev pub decreases-loop-done : goal.decreases-loop-done
+decreases-loop-done g l = l.table.count - l.done

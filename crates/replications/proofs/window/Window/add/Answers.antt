@@ -1,6 +1,6 @@
-use Rattle.std.proofs.Common.{ℕ, ◌+◌, ◌^◌, ◌∙◌, ◌++◌, List, take, ap, sym, arith, append_assoc}
-use Rattle.std.proofs.lemmas.List.{map_more}
+use Rattle.std.proofs.Common.{ℕ, ◌+◌, ◌^◌, ◌∙◌, ◌++◌, take, ap, arith}
 use Rattle.model_core.specs.declared.note.Part.{Part}
+use Rattle.run_tally.proofs.ToldLemmas.{told-further}
 use Rattle.replications.specs.Parts.{TimedPart, parts_at}
 use Rattle.replications.specs.Windows.{window_of}
 use Rattle.replications.proofs.WindowLemmas.{IsWithin-more}
@@ -15,13 +15,10 @@ add_part-requires-clause-room c = IsWithin-more (2 ^ 32 + c.loop-part.part-index
 pub loop-part-preserved : goal.loop-part-preserved
 loop-part-preserved c =
     let i = c.loop-part.part-index in
-    let note = c.args.parts.now in
-    let seen = parts_at c.args.time (take i note) in
     record {
       sums = λ told summed.
-          c.add_part.ensures.sums (told ++ seen) (c.loop-part.invariant.sums told summed)
-          ∙ ap (window_of c.args.first)
-          (append_assoc told seen _ ∙ ap (λ (parts : List TimedPart). told ++ parts) (sym (map_more (timed_at c.args.time) note i _ c.loop-part-test.true)));
+          c.add_part.ensures.sums (told ++ parts_at c.args.time (take i c.args.parts.now)) (c.loop-part.invariant.sums told summed)
+          ∙ ap (window_of c.args.first) (told-further (timed_at c.args.time) told c.args.parts.now i _ c.loop-part-test.true);
       within = λ parts within. IsWithin-more (parts + i + 1) (parts + (i + 1)) c.add_part.new.self (omega arith) (c.add_part.ensures.within (parts + i) (c.loop-part.invariant.within parts within));
     }
 
