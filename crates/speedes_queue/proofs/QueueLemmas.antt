@@ -53,6 +53,14 @@ pub record Gives (run primary fresh : List Event) (spare : ℕ) : Type 0 where
   pub new_keys : All (λ e. IsNewKey e.key (primary ++ fresh)) run
   pub room : length run + length primary + length fresh < 2 ^ 60
 
+-- what is given to a queue that is seen so
+pub gives : (run primary fresh : List Event) (spare : ℕ) (q : QueueView) → view primary fresh spare ≡ q → IsOrderly (view primary fresh spare) → IsAscending run
+    → All (λ e. IsNewKey e.key (q.primary ++ q.fresh)) run → length run + length q.primary + length q.fresh < 2 ^ 60 → Gives run primary fresh spare
+gives run primary fresh spare q is orderly ascending new_keys room =
+    let P : QueueView → Type 0 = λ q. All (λ (e : Event). IsNewKey e.key (q.primary ++ q.fresh)) run in
+    let Q : QueueView → Type 0 = λ q. length run + length q.primary + length q.fresh < 2 ^ 60 in
+    record { orderly = orderly; ascending = ascending; new_keys = subst P (sym is) new_keys; room = subst Q (sym is) room }
+
 all_apart : (run primary fresh : List Event) (spare : ℕ) → Gives run primary fresh spare → KeysDiffer ((run ++ primary) ++ fresh)
 all_apart run primary fresh spare g =
     subst KeysDiffer (sym (append_assoc run primary fresh))
