@@ -1,3 +1,4 @@
+pub mod CommitFacts
 pub mod DueFacts
 pub mod ItemLemmas
 pub mod JoinFacts

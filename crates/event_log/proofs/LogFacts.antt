@@ -1,9 +1,15 @@
 -- One event more in the log of a node.
-use Rattle.std.proofs.Common.{◌≡◌, ℕ, ◌<◌, true, List, [], ◌∷◌, length, get_or, sym, ap, ◌∙◌, subst}
-use Rattle.std.specs.Prelude.{Result, Ok, Err, IfOk, OnErr, slice_set}
+use Rattle.std.proofs.Common.{◌≡◌, ℕ, ◌<◌, Bool, true, false, not, arith, refl, List, [], ◌∷◌, length, get_or, sym, ap, ◌∙◌, subst}
+use Rattle.std.specs.Prelude.{Option, Result, Ok, Err, IfOk, OnErr, filter, slice_set}
 use Rattle.std.specs.List.{AllByRecursion as Each}
+use Rattle.event_key.specs.declared.key.Key.{Key}
 use Rattle.event_key.specs.Keys.{key_lt}
+use Rattle.key_order.specs.Due.{is_due}
 use Rattle.key_order.specs.Keys.{times}
+use Rattle.key_order.proofs.AscendingLemmas.{Ascends-filter, Ascends-map}
+use Rattle.key_order.proofs.EachLemmas.{Each-filter, Each-map}
+use Rattle.key_order.proofs.FilterLemmas.{length-filter_le}
+use Rattle.model_core.specs.declared.note.Note.{Note}
 use Rattle.model_core.specs.declared.event.Event.{Event}
 use Rattle.model_core.specs.Meaning.{Meaning}
 use Rattle.object_log.specs.Carrying.{Placed, placed_key}
@@ -13,11 +19,18 @@ use Rattle.object_log.specs.EventCalls.{HasProcessed}
 use Rattle.object_log.specs.EventLogs.{done_key, dones_at}
 use Rattle.object_log.specs.Logs.{keys_of}
 use Rattle.object_log.specs.Objects.{IsSameObject, KeptObject}
-use Rattle.object_log.specs.Whole.{IsEventLog, dones_in, log_view}
+use Rattle.object_log.specs.Keeping.{Keeps}
+use Rattle.object_log.specs.Parts.{due_of, left_of}
+use Rattle.object_log.specs.Whole.{IsEventLog, StandsAt, dones_in, log_view}
 use Rattle.object_log.proofs.CarriedLemmas.{times-map}
+use Rattle.object_log.proofs.CellLemmas.{keeps-left}
+use Rattle.object_log.proofs.OwnLemmas.{left-at, own-ascends}
+use Rattle.object_log.proofs.PrefixLemmas.{due-front}
 use Rattle.object_log.proofs.EventLogLemmas.{IsFiring, processed-one, same-log, same-view, still-log}
 use Rattle.object_log.proofs.JoinLemmas.{new-key}
-use Rattle.event_log.specs.Processing.{HasCome, IsSameProcessed, ProcessedView}
+use Rattle.event_log.specs.NodeLogs.{Commits, node_log_view}
+use Rattle.event_log.specs.Processing.{CommitsNews, HasCome, IsSameProcessed, ProcessedView}
+use Rattle.event_log.proofs.CommitFacts.{dones-left}
 
 pub ok-more : {T E : Type 0} (r : Result T E) (P Q : T → Type 0) → ((t : T) → P t → Q t) → IfOk r P → IfOk r Q
 ok-more (Ok t) P Q more holds = more t holds
@@ -63,3 +76,44 @@ module _ (m : Meaning) (objects : List KeptObject) (place : ℕ) (o later : Kept
 
     pub kept-view : log_view (slice_set objects place later) new.items ≡ log_view objects old.items
     kept-view = ap (log_view (slice_set objects place later)) same.items ∙ same-view objects old.items place o later log within at is
+
+-- what isn't due is a log
+pub committed-log : (horizon : ℕ) (cut : Option Key) (objects : List KeptObject) (items : List Placed) → IsEventLog objects items → IsEventLog objects (filter (λ (p : Placed). not (is_due horizon cut (placed_key p))) items)
+committed-log horizon cut objects items log =
+    let stays = λ (p : Placed). not (is_due horizon cut (placed_key p)) in
+    let less = length-filter_le stays items in
+    let few = log.few in
+    record {
+      apart = log.apart;
+      keeps = Each-map (λ (o : KeptObject). Keeps o.cells o.sent (dones_at o.object (dones_in items))) (λ (o : KeptObject). Keeps o.cells o.sent (dones_at o.object (dones_in (filter stays items)))) objects (λ o k. keeps_on o k) log.keeps;
+      places = Each-filter (λ (p : Placed). StandsAt objects p.place p.done.event.key.dest) stays items log.places;
+      ordered = Ascends-filter placed_key stays items log.ordered;
+      few = omega arith;
+    }
+  where
+    keeps_on : (o : KeptObject) → Keeps o.cells o.sent (dones_at o.object (dones_in items)) → Keeps o.cells o.sent (dones_at o.object (dones_in (filter (λ (p : Placed). not (is_due horizon cut (placed_key p))) items)))
+    keeps_on o k =
+        let own = dones_at o.object (dones_in items) in
+        let up = own-ascends o.object (dones_in items) (Ascends-map done_key (λ (p : Placed). p.done) items log.ordered) in
+        let K : List Done → Type 0 = Keeps o.cells o.sent in
+        subst K (sym (ap (dones_at o.object) (dones-left horizon cut items) ∙ left-at o.object horizon cut (dones_in items)))
+        (keeps-left o.cells o.sent (due_of horizon cut own) (left_of horizon cut own) (subst K (due-front horizon cut own up) k))
+
+module _ (horizon : ℕ) (cut : Option Key) (objects : List KeptObject) (old new : ProcessedView) (told : List (Key × Note)) (out : List (List Event)) where
+  pub commits-log : (b : Bool) → CommitsNews b horizon cut old new told out → IsEventLog objects old.items → IsEventLog objects new.items
+  commits-log true h log = subst (IsEventLog objects) (sym h.items) (committed-log horizon cut objects old.items log)
+  commits-log false h log = let L : ProcessedView → Type 0 = λ v. IsEventLog objects v.items in subst L (sym h.0) log
+
+  pub commits : (b : Bool) → CommitsNews b horizon cut old new told out → Commits b horizon cut (node_log_view objects old) (node_log_view objects new) told out
+  commits true h = record {
+    objects = refl;
+    done = ap dones_in h.items ∙ dones-left horizon cut old.items;
+    told_is = h.told_is;
+    parcels = h.parcels;
+    carried = record { news = h.news; chained = h.chained };
+  }
+  commits false h = (ap (node_log_view objects) h.0, h.1, h.2)
+
+pub ok-either : {T E : Type 0} (r : Result T E) (P : T → Type 0) (Q X : Type 0) → IfOk r P → OnErr r Q → ((t : T) → P t → X) → (Q → X) → X
+ok-either (Ok t) P Q X ok err one other = one t ok
+ok-either (Err e) P Q X ok err one other = other err

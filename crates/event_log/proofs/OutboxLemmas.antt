@@ -33,7 +33,7 @@ dealt-is (s ∷ ss) chains lie =
     by_node node true h own = ap rest_of own ∙ ap (λ n. lying n ss) (sym (eqb-true node s.0 h))
     by_node node false h own = lie node ∙ lying-there node s ss (λ same. eqb-false node s.0 h (sym same))
 
-map-reverse : {X Y : Type 0} (f : X → Y) (xs : List X) → reverse (map f xs) ≡ map f (reverse xs)
+pub map-reverse : {X Y : Type 0} (f : X → Y) (xs : List X) → reverse (map f xs) ≡ map f (reverse xs)
 map-reverse f [] = refl
 map-reverse f (x ∷ xs) =
     reverse-append (f x ∷ []) (map f xs)

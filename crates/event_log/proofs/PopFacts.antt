@@ -1,7 +1,6 @@
 -- The last of the news is taken back.
 use Rattle.std.proofs.Common.{◌≡◌, ℕ, zero, suc, ◌+◌, ◌<◌, min, Some, List, [], ◌∷◌, ◌++◌, length, map, take, drop, get_or, refl, sym, ap, ◌∙◌, subst, arith, append_assoc, length-append}
 use Rattle.std.proofs.lemmas.List.{drop_at, length-map, map-append, same_from_push, take_all, take_at, take_more}
-use Rattle.std.specs.List.{AllByRecursion as Each}
 use Rattle.std.specs.Prelude.{Option, None, IfNone, IfSome, slice_get}
 use Rattle.event_key.specs.declared.key.Key.{Key}
 use Rattle.event_key.specs.declared.stamp.TheConstants.{NO_STAMP}
@@ -51,12 +50,8 @@ get-at [] ys x (suc n) long = absurd (omega arith)
 get-at (y ∷ xs) ys x zero long = absurd (omega arith)
 get-at (y ∷ xs) ys x (suc n) long = get-at xs ys x n (omega arith)
 
-pub each-last : {X : Type 0} (P : X → Type 0) (xs : List X) (x : X) → Each P (xs ++ x ∷ []) → P x
-each-last P [] x all = all.0
-each-last P (y ∷ xs) x all = each-last P xs x all.1
-
 -- lists whose ends are as long have the same parts
-same-ends : {X : Type 0} (us vs xs ys : List X) → length xs ≡ length ys → us ++ xs ≡ vs ++ ys → (us ≡ vs) × (xs ≡ ys)
+pub same-ends : {X : Type 0} (us vs xs ys : List X) → length xs ≡ length ys → us ++ xs ≡ vs ++ ys → (us ≡ vs) × (xs ≡ ys)
 same-ends us vs xs ys long is =
     let one = length-append us xs in
     let two = length-append vs ys in

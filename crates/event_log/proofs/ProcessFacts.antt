@@ -29,7 +29,7 @@ use Rattle.event_log.proofs.NewsFacts.{seen, view-gone, view-is}
 abbrev Told : Type 0
 Told = List (Key × Note)
 
-same-messages : (homes : List ℕ) (es : List Event) → map message (map (homed homes) es) ≡ es
+pub same-messages : (homes : List ℕ) (es : List Event) → map message (map (homed homes) es) ≡ es
 same-messages homes [] = refl
 same-messages homes (e ∷ es) = ap (λ fs. e ∷ fs) (same-messages homes es)
 

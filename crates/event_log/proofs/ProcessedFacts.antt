@@ -5,6 +5,7 @@ use Rattle.std.proofs.lemmas.List.Sorted.{length_permutation}
 use Rattle.std.specs.List.{AllByRecursion as Each}
 use Rattle.event_key.specs.Keys.{key_lt}
 use Rattle.event_key.specs.declared.stamp.TheConstants.{NO_STAMP}
+use Rattle.key_order.proofs.EachLemmas.{Each-append, Each-front}
 use Rattle.key_order.specs.Ascending.{Ascends}
 use Rattle.key_order.specs.Keys.{times}
 use Rattle.key_order.specs.Stamps.{least_stamp}
@@ -86,14 +87,6 @@ merged-held ds places items long =
     held-weave (placed_all ds places) items
     ∙ ap (λ xs. min (least_stamp NO_STAMP (held_of (dones_in items))) (least_stamp NO_STAMP (held_of xs))) (placed-dones ds places long)
 
-each-front : {X : Type 0} (P : X → Type 0) (xs ys : List X) → Each P (xs ++ ys) → Each P xs
-each-front P [] ys all = tt
-each-front P (x ∷ xs) ys all = (all.0, each-front P xs ys all.1)
-
-pub each-push : {X : Type 0} (P : X → Type 0) (xs : List X) (x : X) → Each P xs → P x → Each P (xs ++ x ∷ [])
-each-push P [] x all one = (one, tt)
-each-push P (y ∷ xs) x all one = (all.0, each-push P xs x all.1 one)
-
 -- the last of the news is carried
 module _ (places places' : List ℕ) (place : ℕ) (v v' : NewsView) (c c' : CarriedView) (d : Done) (cells cells' : ℕ) (can : CanCarry places v c cells) (place_is : places ≡ places' ++ place ∷ []) (done_is : v.done ≡ v'.done ++ d ∷ []) where
   abbrev p : Placed
@@ -130,7 +123,7 @@ module _ (places places' : List ℕ) (place : ℕ) (v v' : NewsView) (c c' : Car
         ordered = subst (Ascends placed_key) (sym (carry-same items_are)) can.ordered;
         long = shorter;
         room = omega arith;
-        few = each-front F v'.done (d ∷ []) (subst (Each F) done_is can.few);
+        few = Each-front F v'.done (d ∷ []) (subst (Each F) done_is can.few);
         cells_are = cells_are;
       }
 
@@ -164,7 +157,7 @@ module _ (places : List ℕ) (place : ℕ) (v v' : NewsView) (c c' : CarriedView
         ordered = subst (Ascends placed_key) (sym joined-items) (insert-ascends placed_key (record { done = d; place = place }) (merged v.done places c.items) fresh p.ordered);
         long = omega arith;
         room = omega arith;
-        few = subst (Each F) (sym done_is) (each-push F v.done d p.few few_changes);
+        few = subst (Each F) (sym done_is) (Each-append F v.done (d ∷ []) p.few (few_changes, tt));
         zeros_are = subst Z (sym done_is) z.0;
         idle_most = omega arith;
         cells_are = z.1;
@@ -231,14 +224,15 @@ idle-carried places v c cells cells' can none gone =
       whole = gone;
     }
 
-pub none-processed : (places : List ℕ) (v : NewsView) (c : CarriedView) (cells : ℕ) → places ≡ [] → v.done ≡ [] → v.gone ≡ [] → c.items ≡ [] → IsProcessed places v c 0 cells
-unfolding Ascends zeros
-none-processed places v c cells no_places none gone no_items =
+-- where all news are handed out
+pub handed-processed : (places : List ℕ) (v : NewsView) (c : CarriedView) (cells : ℕ) → places ≡ [] → v.done ≡ [] → v.gone ≡ [] → Ascends placed_key c.items → IsProcessed places v c 0 cells
+unfolding zeros
+handed-processed places v c cells no_places none gone up =
     let Z : List Done → Type 0 = λ ds. zeros ds ≤ 0 in
     let F : List Done → Type 0 = Each (λ (x : Done). length x.undo ≤ 16) in
     let long = ap length none in
     record {
-      ordered = subst (Ascends placed_key) (sym (merged-none v.done places c.items none ∙ no_items)) tt;
+      ordered = subst (Ascends placed_key) (sym (merged-none v.done places c.items none)) up;
       long = ap length no_places ∙ sym long;
       room = omega arith;
       few = subst F (sym none) tt;
@@ -247,3 +241,7 @@ none-processed places v c cells no_places none gone no_items =
       cells_are = omega arith;
       whole = gone;
     }
+
+pub none-processed : (places : List ℕ) (v : NewsView) (c : CarriedView) (cells : ℕ) → places ≡ [] → v.done ≡ [] → v.gone ≡ [] → c.items ≡ [] → IsProcessed places v c 0 cells
+unfolding Ascends
+none-processed places v c cells no_places none gone no_items = handed-processed places v c cells no_places none gone (subst (Ascends placed_key) (sym no_items) tt)

@@ -1,5 +1,5 @@
 //! A processed event that is carried.
-ghost use Rattle.std.specs.Prelude.{◌≡◌, ◌+◌, ◌≤◌, length};
+ghost use Rattle.std.specs.Prelude.{◌≡◌, ◌+◌, ◌≤◌};
 ghost use Rattle.event_key.specs.declared.stamp.TheConstants.{NO_STAMP};
 ghost use Rattle.key_order.specs.Stamps.{least_stamp};
 ghost use Rattle.object_log.specs.Flat.{none_in};

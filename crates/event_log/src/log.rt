@@ -1,5 +1,5 @@
 //! The log of a node.
-ghost use Rattle.std.specs.Prelude.{◌≡◌, ◌<◌, ◌≤◌, ◌+◌, ◌^◌, [], ◌∷◌, ◌++◌, length, slice_get, IfOk, IfErr, IfSome, IfNone, OnOk, OnErr, IsTrue, Some, None, is_some, false, true, nat_lt};
+ghost use Rattle.std.specs.Prelude.{◌≡◌, ◌<◌, ◌+◌, ◌^◌, [], ◌∷◌, ◌++◌, length, slice_get, IfOk, IfErr, IfSome, OnOk, OnErr, IsTrue, Some, None, is_some, false, true, nat_lt};
 ghost use Rattle.std.specs.List.{AllByRecursion};
 ghost use Rattle.event_key.specs.Keys.{key_lt};
 ghost use Rattle.event_key.specs.Stamps.{time_part};
@@ -8,11 +8,12 @@ ghost use Rattle.model_core.specs.Meaning.{Meaning};
 ghost use Rattle.key_order.specs.Ascending.{Ascends};
 ghost use Rattle.key_order.specs.Stamps.{least_stamp};
 ghost use Rattle.object_log.specs.EventCalls.{HasGoneBack, HasProcessed, HasUndoneFrom};
-ghost use Rattle.object_log.specs.EventLogs.{done_key, dones_at, state_in};
+ghost use Rattle.object_log.specs.EventLogs.{ObjectView, done_key, dones_at, state_in};
 ghost use Rattle.object_log.specs.Logs.{fault_of, held_of, keys_of};
 ghost use Rattle.object_log.specs.Objects.{IsPlaced};
+ghost use Rattle.object_log.specs.Parts.{due_of};
 ghost use Rattle.object_log.specs.Undoings.{HasUndoneAt, IsNewestAt, LastIsFrom};
-ghost use Rattle.event_log.specs.NodeLogs.{IsCarried, IsStillCarried};
+ghost use Rattle.event_log.specs.NodeLogs.{Commits, HasReleased, IsCarried, IsStillCarried};
 ghost use Rattle.event_log.specs.Outboxes.{AreBlank};
 ghost use Rattle.event_log.specs.Processing.{AreHomed};
 
@@ -20,8 +21,8 @@ use crate::processed::Processed;
 use event_chain::{Cell, Chain};
 use event_key::Key;
 use model_core::model::Model as SimulationModel;
-use model_core::{Cells, Effect, Event, OutOfMemory};
-use object_log::Object;
+use model_core::{Cells, Effect, Event, OutOfMemory, RecordBuffer};
+use object_log::{Object, Released};
 use std::alloc::Global;
 use std::marker::Model;
 
@@ -72,6 +73,22 @@ impl NodeLog {
         self.objects.reserve(1)?;
         self.objects.push_reserved(Object::new(number, cells, sent));
         Ok(())
+    }
+
+    /// The cells of the object at a place, after all that it has processed.
+    pub fn cells(&self, place: u32) -> &Cells
+        requires { place < length self.now.log.objects }
+        ensures { (o : ObjectView) × (slice_get self.now.log.objects place ≡ Some o) × (result.now.contents ≡ o.state.cells) }
+    {
+        self.objects[place as usize].cells()
+    }
+
+    /// How many events the object at a place has sent, held ones among them.
+    pub fn sent(&self, place: u32) -> u64
+        requires { place < length self.now.log.objects }
+        ensures { (o : ObjectView) × (slice_get self.now.log.objects place ≡ Some o) × (result ≡ o.state.sent) }
+    {
+        self.objects[place as usize].sent()
     }
 
     /// How many events are processed.
@@ -243,5 +260,39 @@ impl NodeLog {
             count += 1;
         }
         count
+    }
+
+    /// Commits the news that are due, if nothing carried is, and answers whether it did. The other news are carried. As a rule
+    /// all are due, and no event is touched then. `told` and `out` take what is told of the events and their messages.
+    pub fn commit_news(
+        &mut self,
+        horizon: u64,
+        cut: &Option<Key>,
+        told: &mut RecordBuffer,
+        out: &mut Vec<Chain<Event>>,
+    ) -> Result<bool, OutOfMemory>
+        requires went { fault_of (due_of horizon cut.now self.old.log.done) ≡ None }
+        requires told { told.old.items ≡ [] }
+        requires blank { AreBlank out.old.items }
+        requires long { length out.old.items ≡ self.old.nodes }
+        ensures ok { IfOk result (λ done. Commits done horizon cut.now self.old self.new told.new.items out.new.items) }
+        ensures err { OnErr result (self.new ≡ self.old) }
+        ensures told { OnErr result (told.new.items ≡ []) }
+        ensures blank { OnErr result (AreBlank out.new.items) }
+        ensures long { length out.new.items ≡ self.old.nodes }
+        ensures nodes { self.new.nodes ≡ self.old.nodes }
+    {
+        self.events.commit_news(horizon, cut, told, out)
+    }
+
+    /// Takes the event of the least key out, which stays done, and takes it apart. In constant time.
+    pub fn commit_first(&mut self) -> Released
+        requires carried { IsCarried self.old }
+        requires some { 0 < length self.old.log.done }
+        ensures released { HasReleased self.old self.new result }
+        ensures carried { IsStillCarried self.old self.new }
+    {
+        let done = self.events.take(0);
+        self.events.release(done)
     }
 }

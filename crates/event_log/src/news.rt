@@ -169,24 +169,17 @@ impl News {
         match ending {
             Ending::Fails(code) => {
                 self.fault = Some(code);
-                self.rows.push_reserved(Row {
-                    event,
-                    least: before,
-                    changes: 0,
-                    sends: 0,
-                });
+                let row = Row::new(event, before, 0, 0);
+                self.rows.push_reserved(row);
                 Ok(NO_STAMP)
             }
             Ending::Goes => {
                 let sends = sheet.sends.as_slice();
                 let least = hold_all(&mut self.outbox, pool, homes, &event.key, serial, sends);
                 self.told.push_reserved(&event.key, &sheet.note);
-                self.rows.push_reserved(Row {
-                    event,
-                    least: before.min(least),
-                    changes: (self.undo.len() - from) as u32,
-                    sends: sends.len() as u32,
-                });
+                let changes = (self.undo.len() - from) as u32;
+                let row = Row::new(event, before.min(least), changes, sends.len() as u32);
+                self.rows.push_reserved(row);
                 Ok(least)
             }
         }

@@ -1,18 +1,21 @@
 //! All that is processed: what is carried, and the news.
-ghost use Rattle.std.specs.Prelude.{◌≡◌, ℕ, List, ◌<◌, ◌≤◌, ◌+◌, ◌^◌, [], ◌∷◌, ◌++◌, length, map, min, take, slice_get, vec_len, vec_capacity, IfOk, IfErr, OnOk, OnErr, IsTrue, Some, None, true, false};
+ghost use Rattle.std.specs.Prelude.{◌≡◌, ℕ, List, ◌<◌, ◌≤◌, ◌+◌, ◌^◌, [], ◌++◌, length, map, take, slice_get, vec_len, vec_capacity, IfOk, IfErr, OnOk, OnErr, IsTrue, Some, None, true, false};
 ghost use Rattle.std.specs.List.{AllByRecursion, remove};
 ghost use Rattle.event_key.specs.Stamps.{time_part};
 ghost use Rattle.event_key.specs.declared.stamp.TheConstants.{NO_STAMP};
 ghost use Rattle.key_order.specs.Ascending.{Ascends};
+ghost use Rattle.key_order.specs.Due.{is_due};
 ghost use Rattle.key_order.specs.Keys.{times};
 ghost use Rattle.key_order.specs.Stamps.{least_stamp};
 ghost use Rattle.model_core.specs.Meaning.{Meaning};
 ghost use Rattle.object_log.specs.Carrying.{Placed, placed_key};
-ghost use Rattle.object_log.specs.Logs.{held_of};
+ghost use Rattle.object_log.specs.Logs.{fault_of, held_of};
 ghost use Rattle.model_core.specs.declared.event.Event.{Event};
 ghost use Rattle.object_log.specs.Objects.{HasUndone, IsNewest, IsSameObject};
+ghost use Rattle.object_log.specs.Parts.{due_of};
+ghost use Rattle.object_log.specs.Whole.{dones_in};
 ghost use Rattle.event_log.specs.Outboxes.{AreBlank};
-ghost use Rattle.event_log.specs.Processing.{AreHomed, CanCarry, CanJoin, HasCome, IsSameProcessed, merged};
+ghost use Rattle.event_log.specs.Processing.{AreHomed, CanCarry, CanJoin, CommitsNews, HasCome, HasHanded, IsSameProcessed, merged};
 
 use crate::carried::Carried;
 use crate::kept::Kept;
@@ -20,8 +23,8 @@ use crate::news::News;
 use event_chain::{Cell, CellPool, Chain};
 use event_key::Key;
 use model_core::model::Model as SimulationModel;
-use model_core::{Effect, Event, OutOfMemory};
-use object_log::Object;
+use model_core::{Effect, Event, OutOfMemory, RecordBuffer};
+use object_log::{Object, Released, is_due_at};
 use std::alloc::Global;
 use std::marker::Model;
 
@@ -199,6 +202,45 @@ impl Processed {
         }
     }
 
+    /// Commits the news that are due, if nothing carried is, and answers whether it did. The other news are carried. As a rule
+    /// all news are due, and no event is touched then.
+    pub fn commit_news(
+        &mut self,
+        horizon: u64,
+        cut: &Option<Key>,
+        told: &mut RecordBuffer,
+        out: &mut Vec<Chain<Event>>,
+    ) -> Result<bool, OutOfMemory>
+        requires went { fault_of (due_of horizon cut.now (dones_in self.old.items)) ≡ None }
+        requires told { told.old.items ≡ [] }
+        requires blank { AreBlank out.old.items }
+        requires long { length out.old.items ≡ self.old.nodes }
+        ensures ok { IfOk result (λ done. CommitsNews done horizon cut.now self.old self.new told.new.items out.new.items) }
+        ensures err { OnErr result (self.new ≡ self.old) }
+        ensures told { OnErr result (told.new.items ≡ []) }
+        ensures blank { OnErr result (AreBlank out.new.items) }
+        ensures long { length out.new.items ≡ self.old.nodes }
+        ensures nodes { self.new.nodes ≡ self.old.nodes }
+    {
+        if is_first_due(&self.carried, horizon, cut) {
+            return Ok(false);
+        }
+        self.news.tells();
+        let due = self.news.due(horizon, cut);
+        hand_out(
+            &mut self.news,
+            &mut self.places,
+            &mut self.cells,
+            &mut self.carried,
+            due,
+            told,
+            out,
+        )?;
+        self.places.clear();
+        self.idle = 0;
+        Ok(true)
+    }
+
     /// The key of the event at a place of the list, and the place of its object.
     pub fn at(&self, index: usize) -> (Key, u32)
         requires news { self.now.news ≡ [] }
@@ -228,6 +270,17 @@ impl Processed {
         ensures same { self.new ≡ self.old }
     {
         done.undo(object, &mut self.cells)
+    }
+
+    /// Takes a committed event apart that was taken out. Its cell is kept.
+    pub fn release(&mut self, done: Kept) -> Released
+        requires { self.old.news ≡ [] }
+        ensures event { result.event ≡ done.event }
+        ensures sends { result.sends ≡ done.sends }
+        ensures verdict { result.verdict ≡ done.verdict }
+        ensures same { self.new ≡ self.old }
+    {
+        done.release(&mut self.cells)
     }
 }
 
@@ -287,5 +340,59 @@ fn idle_after(idle: usize, sends: usize) -> usize
     match sends {
         0 => idle + 1,
         _ => idle,
+    }
+}
+
+/// Hands out the news up to a place, and carries the others.
+fn hand_out(
+    news: &mut News,
+    places: &mut Vec<u32>,
+    cells: &mut CellPool<Event>,
+    carried: &mut Carried,
+    due: usize,
+    told: &mut RecordBuffer,
+    out: &mut Vec<Chain<Event>>,
+) -> Result<(), OutOfMemory>
+    requires can { CanCarry places.old.items news.old carried.old cells.old }
+    requires whole { news.old.gone ≡ [] }
+    requires due { due ≤ length news.old.done }
+    requires went { fault_of (take due news.old.done) ≡ None }
+    requires told { told.old.items ≡ [] }
+    requires blank { AreBlank out.old.items }
+    requires long { length out.old.items ≡ news.old.nodes }
+    ensures ok { OnOk result (HasHanded due places.old.items news.old carried.old.items carried.new.items told.new.items out.new.items) }
+    ensures ordered { OnOk result (Ascends placed_key carried.new.items) }
+    ensures done { OnOk result (news.new.done ≡ []) }
+    ensures sent { OnOk result (news.new.sent ≡ []) }
+    ensures gone { OnOk result (news.new.gone ≡ []) }
+    ensures nodes { news.new.nodes ≡ news.old.nodes }
+    ensures long { length out.new.items ≡ news.old.nodes }
+    ensures news { OnErr result (news.new ≡ news.old) }
+    ensures places { OnErr result (places.new.items ≡ places.old.items) }
+    ensures carried { OnErr result (carried.new ≡ carried.old) }
+    ensures cells { OnErr result (cells.new ≡ cells.old) }
+    ensures told { OnErr result (told.new.items ≡ []) }
+    ensures blank { OnErr result (AreBlank out.new.items) }
+{
+    if due == news.len() {
+        news.tells();
+        news.hand_out(told, out);
+        return Ok(());
+    }
+    told.reserve(due)?;
+    carry_from(news, places, cells, carried, due);
+    news.tells();
+    news.copy_out(told, out);
+    Ok(())
+}
+
+/// Whether the first of what is carried is due.
+fn is_first_due(carried: &Carried, horizon: u64, cut: &Option<Key>) -> bool
+    ensures { result ≡ false → AllByRecursion (λ p. is_due horizon cut.now (placed_key p) ≡ false) carried.now.items }
+{
+    carried.tells();
+    match carried.first() {
+        Some(key) => is_due_at(horizon, cut, &key),
+        None => false,
     }
 }

@@ -3,6 +3,7 @@ use Rattle.std.proofs.Common.{◌≡◌, ◌≤◌, ◌+◌, ◌-◌, List, [], 
 use Rattle.std.proofs.lemmas.Slice.{between_to_end}
 use Rattle.std.specs.List.{AllByRecursion as Each}
 use Rattle.delta_exchange.specs.declared.change.Change.{Change}
+use Rattle.key_order.proofs.EachLemmas.{Each-back}
 use Rattle.object_log.specs.Dones.{Done}
 use Rattle.object_log.specs.Flat.{changes_of, none_in, zeros}
 use Rattle.object_log.specs.Tellings.{told_of}
@@ -11,7 +12,7 @@ use Rattle.event_log.specs.declared.row.Row.{Row}
 use Rattle.event_log.specs.News.{HoldsNews, IsNews, NewsView, news_view}
 use Rattle.event_log.specs.Popping.{HasPopped}
 use Rattle.event_log.proofs.NewsFacts.{seen, view-gone, view-is, view-long}
-use Rattle.event_log.proofs.PopFacts.{IsEnd, each-last, ends-news, event-own, holds-front, rows-left, sends-enough, sends-own, told-there, undo-enough, undo-left, verdict-is}
+use Rattle.event_log.proofs.PopFacts.{IsEnd, ends-news, event-own, holds-front, rows-left, sends-enough, sends-own, told-there, undo-enough, undo-left, verdict-is}
 use Rattle.event_log.proofs.news.News.pop.Goals as goal
 use Rattle.event_log.proofs.news.News.pop.Goals.{After-index-row, After-len-last, After-new}
 
@@ -77,7 +78,7 @@ of-undo-requires c =
     let e = last at.After-index-row (some-row at.After-len-last) in
     let same = seen h.0 h.1 n.told.items n.rows.items n.undo.items n.outbox.sent n.fault h.2 c.args.self.now n.outbox.nodes c.self.view_is in
     let F : Done → Type 0 = λ x. length x.undo ≤ 16 in
-    let few : length e.d.undo ≤ 16 = each-last F e.front e.d (subst (Each F) (sym same ∙ e.is) c.requires.few) in
+    let few : length e.d.undo ≤ 16 = (Each-back F e.front (e.d ∷ []) (subst (Each F) (sym same ∙ e.is) c.requires.few)).0 in
     let enough = undo-enough h.0 h.1 n.told.items n.rows.items n.undo.items n.outbox.sent n.fault r h.2 e in
     let from = c.len.result - r.changes in
     let from_is : from + r.changes ≡ length n.undo.items = omega (arith, c.len.ensures, n.undo.ok.0) in

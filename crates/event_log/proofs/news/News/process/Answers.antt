@@ -45,7 +45,8 @@ invariant_of-self-in-Fails g c =
     let told = c.make_room-room.new.told.items in
     let rows = c.push_reserved.new.self.items in
     let sent = c.make_room-room.new.outbox.sent in
-    let rows_is = c.push_reserved.ensures.items ∙ (λ i. made.rows i ++ (record { event = value i; least = before_is i; changes = 0; sends = 0 }) ∷ []) in
+    let row_is : c.new-row.result ≡ record { event = e; least = least_after NO_STAMP n.rows.items; changes = 0; sends = 0 } = c.new-row.ensures ∙ (λ i. record { event = value i; least = before_is i; changes = 0; sends = 0 }) in
+    let rows_is = c.push_reserved.ensures.items ∙ (λ i. made.rows i ++ row_is i ∷ []) in
     let p = pushed-failed c.args.self.now n.told.items n.rows.items n.undo.items n.outbox.sent n.fault n.outbox.nodes c.self.invariant c.self.view_is e fault undo told rows sent (fired.0 ∙ made.undo) made.told made.sent rows_is in
     (c.self.invariant.0 ++ d ∷ [], c.self.invariant.1, joins-news c.args.self.now n.told.items n.rows.items n.undo.items n.outbox.sent n.fault n.outbox.nodes c.self.invariant c.self.view_is told rows undo sent (Some fault) d c.requires.whole c.requires.went c.requires.above p)
 
@@ -70,7 +71,8 @@ returns-in-Fails-clause-ok g c =
     let told = c.make_room-room.new.told.items in
     let rows = c.push_reserved.new.self.items in
     let sent = c.make_room-room.new.outbox.sent in
-    let rows_is = c.push_reserved.ensures.items ∙ (λ i. made.rows i ++ (record { event = value i; least = before_is i; changes = 0; sends = 0 }) ∷ []) in
+    let row_is : c.new-row.result ≡ record { event = e; least = least_after NO_STAMP n.rows.items; changes = 0; sends = 0 } = c.new-row.ensures ∙ (λ i. record { event = value i; least = before_is i; changes = 0; sends = 0 }) in
+    let rows_is = c.push_reserved.ensures.items ∙ (λ i. made.rows i ++ row_is i ∷ []) in
     let p = pushed-failed c.args.self.now n.told.items n.rows.items n.undo.items n.outbox.sent n.fault n.outbox.nodes c.self.invariant c.self.view_is e fault undo told rows sent (fired.0 ∙ made.undo) made.told made.sent rows_is in
     joined c.args.self.now n.told.items n.rows.items n.undo.items n.outbox.sent n.fault n.outbox.nodes c.self.invariant c.self.view_is told rows undo sent (Some fault) d c.requires.whole c.requires.went c.requires.above p m homes e old new NO_STAMP c.make_room-room.new.outbox.nodes
     (subst F c.get.ensures fired.1) (made.sent ∙ sym (append-nil n.outbox.sent)) made.nodes (least-start [] refl) (omega arith) (omega arith)
@@ -104,7 +106,8 @@ invariant_of-self-in-Goes g c =
     let count : changes + length n.undo.items ≡ length undo = omega (arith, c.len.ensures, c.len-from.ensures, c.fire_into-fired.new.undo.ok.0, c.make_room-room.new.undo.ok.0) in
     let least_is = c.hold_all-least.ensures.least ∙ (λ i. least_stamp NO_STAMP (emissions (value i).key.stamp (value i).key.dest (c.sent-serial.ensures i) (c.as_slice-sends.ensures i))) in
     let low = c.min.ensures ∙ ap (λ k. min k least) before_is in
-    let rows_is = c.push_reserved-in-Goes-2.ensures.items ∙ (λ i. made.rows i ++ (record { event = value i; least = low i; changes = changes; sends = length (c.as_slice-sends.ensures i) }) ∷ []) in
+    let row_is = c.new-row-in-Goes.ensures ∙ (λ i. record { event = value i; least = low i; changes = changes; sends = length (c.as_slice-sends.ensures i) }) in
+    let rows_is = c.push_reserved-in-Goes-2.ensures.items ∙ (λ i. made.rows i ++ row_is i ∷ []) in
     let told_is = c.push_reserved-in-Goes.ensures.items ∙ (λ i. made.told i ++ ((value i).key, x.note) ∷ []) in
     let sent_is = c.hold_all-least.ensures.sent ∙ (λ i. made.sent i ++ map (homed homes) (emissions (value i).key.stamp (value i).key.dest (c.sent-serial.ensures i) (c.as_slice-sends.ensures i))) in
     let none = code-none c.args.self.now n.told.items n.rows.items n.undo.items n.outbox.sent n.fault n.outbox.nodes c.self.invariant c.self.view_is c.requires.went in
@@ -140,7 +143,8 @@ returns-in-Goes-clause-ok g c =
     let count : changes + length n.undo.items ≡ length undo = omega (arith, c.len.ensures, c.len-from.ensures, c.fire_into-fired.new.undo.ok.0, c.make_room-room.new.undo.ok.0) in
     let least_is = c.hold_all-least.ensures.least ∙ (λ i. least_stamp NO_STAMP (emissions (value i).key.stamp (value i).key.dest (c.sent-serial.ensures i) (c.as_slice-sends.ensures i))) in
     let low = c.min.ensures ∙ ap (λ k. min k least) before_is in
-    let rows_is = c.push_reserved-in-Goes-2.ensures.items ∙ (λ i. made.rows i ++ (record { event = value i; least = low i; changes = changes; sends = length (c.as_slice-sends.ensures i) }) ∷ []) in
+    let row_is = c.new-row-in-Goes.ensures ∙ (λ i. record { event = value i; least = low i; changes = changes; sends = length (c.as_slice-sends.ensures i) }) in
+    let rows_is = c.push_reserved-in-Goes-2.ensures.items ∙ (λ i. made.rows i ++ row_is i ∷ []) in
     let told_is = c.push_reserved-in-Goes.ensures.items ∙ (λ i. made.told i ++ ((value i).key, x.note) ∷ []) in
     let sent_is = c.hold_all-least.ensures.sent ∙ (λ i. made.sent i ++ map (homed homes) (emissions (value i).key.stamp (value i).key.dest (c.sent-serial.ensures i) (c.as_slice-sends.ensures i))) in
     let none = code-none c.args.self.now n.told.items n.rows.items n.undo.items n.outbox.sent n.fault n.outbox.nodes c.self.invariant c.self.view_is c.requires.went in
