@@ -24,6 +24,7 @@ use random_streams::Stream;
 
 impl Visit {
     /// How long its service takes, or 0 where the job takes the server along. What it draws is the first change.
+    #[inline(always)]
     pub(crate) fn service(
         &self,
         words: &mut Stream,
@@ -50,6 +51,7 @@ impl Visit {
 impl StationEvent<'_> {
     /// Begins a job, whose service takes so long, and answers the counts after that.
     #[tactic(auto, unfolding(crate::specs::Beginnings::begin_changes, crate::specs::Beginnings::begin_sent, crate::specs::Beginnings::counts_begun))]
+    #[inline(always)]
     pub(crate) fn begin(
         &self,
         visit: &Visit,

@@ -84,6 +84,7 @@ impl StationEvent<'_> {
     }
 
     /// The entry that is called goes out.
+    #[inline(always)]
     fn go_out(&self, level: u32, sheet: &mut Effect)
         requires level { level < self.now.station.now.levels }
         requires room { length sheet.old.changes ≤ 2 }
@@ -151,6 +152,7 @@ impl StationEvent<'_> {
 }
 
 /// The last entry of a level goes out.
+#[inline(always)]
 fn push_out_last(level: u32, sheet: &mut Effect)
     requires level { level < 8 }
     requires room { length sheet.old.changes ≤ 2 }
@@ -168,6 +170,7 @@ fn push_out_last(level: u32, sheet: &mut Effect)
 }
 
 /// The first entry of a level goes out, which this word counts.
+#[inline(always)]
 fn push_out_first(level: u32, cells: &Cells, word: u32, sheet: &mut Effect)
     requires level { level < 8 }
     requires word { word < length cells.now.contents.words }

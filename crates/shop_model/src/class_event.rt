@@ -30,6 +30,7 @@ pub struct ClassEvent<'a> {
 impl ClassEvent<'_> {
     /// What the event does, written into a blank sheet.
     #[tactic(auto, unfolding(crate::specs::Meaning::class_effect))]
+    #[inline(always)]
     pub(crate) fn react(&self, words: &mut Stream, sheet: &mut Effect)
         requires { sheet.old ≡ blank }
         ensures { let at = self.now in

@@ -33,6 +33,7 @@ impl Site {
     }
 
     /// Draws by a law, before anything else is changed.
+    #[inline(always)]
     pub fn draw(&self, words: &mut Stream, cells: &Cells, law: &DelayLaw, sheet: &mut Effect) -> u64
         requires law { IsTrue (is_delay_law law.now) }
         requires cells { 0 < length cells.now.contents.words }

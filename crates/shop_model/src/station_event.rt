@@ -31,6 +31,7 @@ pub struct StationEvent<'a> {
 impl StationEvent<'_> {
     /// What the event does, written into a blank sheet.
     #[tactic(auto, unfolding(crate::specs::Meaning::station_effect))]
+    #[inline(always)]
     pub(crate) fn react(&self, words: &mut Stream, sheet: &mut Effect)
         requires { sheet.old ≡ blank }
         ensures { let at = self.now in
