@@ -196,7 +196,7 @@ module _ {M : Type 0} (meaning_of : M → Meaning) (bound : ℕ) (nodes : List (
         none j x at (subst H (sym is.model_is) (home-there m x model terms homes j is object there))));
   }
 
-none-kept : (ds : List Done) → keys_of ds ≡ [] → ds ≡ []
+pub none-kept : (ds : List Done) → keys_of ds ≡ [] → ds ≡ []
 none-kept [] none = refl
 none-kept (d ∷ ds) none = absurd (cc)
 
@@ -215,16 +215,6 @@ fault-none meaning_of bound n keys none x may =
 pub lesser-none : {X : Type 0} (key : X → Key) (found : Option X) → lesser_by key found None ≡ found
 lesser-none key None = refl
 lesser-none key (Some x) = refl
-
--- the lesser of two keys is the one whose key is the lesser
-pub lesser-itself : (found next : Option Key) → lesser found next ≡ lesser_by itself found next
-lesser-itself None next = refl
-lesser-itself (Some x) None = refl
-lesser-itself (Some x) (Some y) = by_test (key_lt y x)
-  where
-    by_test : (t : Bool) → Some (cond t y x) ≡ cond t (Some y) (Some x)
-    by_test true = refl
-    by_test false = refl
 
 module _ {N X : Type 0} (key : X → Key) (Has May : N → X → Type 0) where
   pub least-more : (place : ℕ) (nodes : List N) (n : N) (found next : Option X) → slice_get nodes place ≡ Some n → IsLeastUpto key Has May place nodes found → IsLeastAt key Has May n next

@@ -1,21 +1,24 @@
--- Where a world stands in a simulation, by the least key of its nodes.
-use Rattle.std.proofs.Common.{◌≡◌, ℕ, ◌<◌, true, false, List, [], ◌∷◌, ◌++◌, length, refl, sym, ap, ◌∙◌, subst, inl, inr, arith, eq-eqb}
+-- Where a world stands in a simulation, by the keys of its nodes.
+use Rattle.std.proofs.Common.{◌≡◌, ◌≢◌, ℕ, ◌<◌, ◌≤◌, Bool, true, false, ltb, ltb-true, ltb-false, List, [], ◌∷◌, ◌++◌, length, refl, sym, ap, ◌∙◌, subst, inl, inr, arith, eq-eqb}
 use Rattle.std.specs.Prelude.{slice_get, Option, Some, None, Contains, filter, ◌==◌, Ok, Err}
 use Rattle.std.proofs.lemmas.Option.{slice_get_within}
 use Rattle.event_key.specs.declared.key.Key.{Key}
 use Rattle.event_key.specs.Keys.{key_lt}
+use Rattle.event_key.specs.Stamps.{end_stamp}
+use Rattle.event_key.proofs.Order.{key_lt-stamp, stamp-le}
 use Rattle.model_core.specs.Meaning.{Meaning}
 use Rattle.model_core.specs.declared.event.Event.{Event}
 use Rattle.delta_exchange.specs.declared.memory.OutOfMemory.{OutOfMemory}
 use Rattle.sim_spec.specs.declared.bucket.Bucket.{Bucket}
 use Rattle.sim_spec.specs.Cut.{after, cut}
 use Rattle.sim_spec.specs.declared.stop.Stop.{Stop}
-use Rattle.sim_spec.specs.declared.stop.Stop.TheVariants.{Fault}
+use Rattle.sim_spec.specs.declared.stop.Stop.TheVariants.{End, Fault, Limit}
 use Rattle.sim_spec.specs.Firing.{ObjectState}
 use Rattle.sim_spec.specs.Replay.{events_at}
 use Rattle.sim_spec.specs.Run.{next}
 use Rattle.sim_spec.specs.Standing.{Standing, stands, spent, ended, end_or_limit, CycleGives, IsCountAt}
 use Rattle.sim_spec.specs.State.{State, AllSound}
+use Rattle.sim_spec.proofs.NextLemmas.{goes-on, stops-full, stops-late, stops-none}
 use Rattle.key_order.specs.Ascending.{Ascends, key_of}
 use Rattle.key_order.specs.Keys.{first_key}
 use Rattle.key_order.proofs.MemberLemmas.{each-contains, filter-contains, first-or-later, is-first, none-in, contains-filter}
@@ -26,8 +29,7 @@ use Rattle.node_core.specs.Calls.{IsLeastKeyOf}
 use Rattle.node_core.specs.Homes.{home_of}
 use Rattle.node_core.specs.Nodes.{NodeView, home, log_at, pending_at}
 use Rattle.node_core.specs.Shares.{AreProcessedKeys}
-use Rattle.cycle_core.specs.Gathered.{HasKeyOf, MayKeyOf, itself}
-use Rattle.cycle_core.specs.Leasts.{IsLeastAt, IsLeastUpto}
+use Rattle.cycle_core.specs.Gathered.{HasKeyOf, MayKeyOf, HaveEventBefore, HaveNoneBefore}
 use Rattle.cycle_core.specs.Standings.{HasCycled, WorldStandsAt}
 use Rattle.cycle_core.specs.Worlds.{IsSameWorld, WorldView, StandsAt}
 use Rattle.cycle_core.proofs.PlaceLemmas.{at-some}
@@ -38,10 +40,19 @@ no_done [] none = refl
 no_done (d ∷ ds) none = absurd (cc)
 
 module _ {M : Type 0} (meaning_of : M → Meaning) (n : NodeView M) where
-  pub key-here : (key : Key) → IsLeastKeyOf (meaning_of n.model) n (Some key) → IsLeastAt itself (HasKeyOf meaning_of) (MayKeyOf meaning_of) n (Some key)
-  key-here key is = (is.0, λ k may. let P : Key → Type 0 = λ j. key_lt j key ≡ false in subst P may.4 (is.1 may.0 may.1 may.2 may.3))
+  -- if the least key isn't before a bound, no event is
+  pub none-before : (bound : ℕ) (key : Key) → IsLeastKeyOf (meaning_of n.model) n (Some key) → bound ≤ key.stamp → (k : Key) → MayKeyOf meaning_of n k → bound ≤ k.stamp
+  none-before bound key is late k may = by_test (ltb k.stamp key.stamp) refl
+    where
+      later : key_lt k key ≡ false
+      later = let P : Key → Type 0 = λ j. key_lt j key ≡ false in subst P may.4 (is.1 may.0 may.1 may.2 may.3)
 
-  pub key-none : AreProcessedKeys (meaning_of n.model) n → IsLeastKeyOf (meaning_of n.model) n None → IsLeastAt itself (HasKeyOf meaning_of) (MayKeyOf meaning_of) n None
+      by_test : (b : Bool) → ltb k.stamp key.stamp ≡ b → bound ≤ k.stamp
+      by_test true h = absurd (let yes = key_lt-stamp k key (ltb-true k.stamp key.stamp h) in let no = later in cc)
+      by_test false h = let from = ltb-false k.stamp key.stamp h in omega arith
+
+  -- a node without events has none
+  pub key-none : AreProcessedKeys (meaning_of n.model) n → IsLeastKeyOf (meaning_of n.model) n None → (k : Key) → MayKeyOf meaning_of n k → ⊥
   unfolding events_at
   key-none keys is k may =
       let object = may.0 in
@@ -49,10 +60,6 @@ module _ {M : Type 0} (meaning_of : M → Meaning) (n : NodeView M) where
       let done : (log_at n.logs object).done ≡ [] = no_done (log_at n.logs object).done (sym (keys.parts object) ∙ ap (filter p) is.0) in
       let none : pending_at n.logs n.waiting object ≡ [] = ap (λ ds. events_of ds ++ events_at object n.waiting) done ∙ ap (events_at object) is.1 in
       none-in may.2 (subst (λ es. Contains es may.2) none may.3)
-
-  pub key-at : AreProcessedKeys (meaning_of n.model) n → (key : Option Key) → IsLeastKeyOf (meaning_of n.model) n key → IsLeastAt itself (HasKeyOf meaning_of) (MayKeyOf meaning_of) n key
-  key-at keys None is = key-none keys is
-  key-at keys (Some key) is = key-here key is
 
 sound-dest : (m : Meaning) (objects : List ObjectState) (es : List Event) (e : Event) → AllSound m objects es → Contains es e → e.key.dest < m.objects
 unfolding AllSound
@@ -97,30 +104,33 @@ module _ {M : Type 0} (meaning_of : M → Meaning) (w : WorldView M) (s : State)
       let in_share = filter-contains (λ (x : Event). x.key.dest == key.dest) e (stands_so.shares number).pending at_object in
       (e, filter-contains (is_at (home_of w.homes) number) e s.pending (subst (λ es. Contains es e) own.pending in_share), has.3)
 
-  pub least-first : (least : Option Key) → IsLeastUpto itself (HasKeyOf meaning_of) (MayKeyOf meaning_of) (length w.nodes) w.nodes least → least ≡ first_key s.pending
+  -- the first event that is pending is below a bound if some node has one that is
+  pub first-before : (bound : ℕ) → HaveEventBefore meaning_of bound w.nodes → (k : Key) × (Some k ≡ first_key s.pending) × (k.stamp < bound)
   unfolding Ascends
-  least-first None none = by_list s.pending refl
+  first-before bound have = by_list s.pending refl (is_pending have.0 have.1 have.2 have.3.0 have.3.1)
     where
-      by_list : (es : List Event) → s.pending ≡ es → None ≡ first_key es
-      by_list [] is = refl
-      by_list (x ∷ rest) is =
-          let there = some_node x (subst (λ es. Contains es x) (sym is) (is-first x x rest refl)) in
-          absurd (none there.0 there.1 there.2 there.3 x.key there.4)
-  least-first (Some key) least = by_list s.pending refl (is_pending least.0.0 least.0.1 least.0.3 key least.0.4)
-    where
-      by_list : (es : List Event) → s.pending ≡ es → (e : Event) × Contains s.pending e × (e.key ≡ key) → Some key ≡ first_key es
+      by_list : (es : List Event) → s.pending ≡ es → (e : Event) × Contains s.pending e × (e.key ≡ have.3.0) → (k : Key) × (Some k ≡ first_key es) × (k.stamp < bound)
       by_list [] is found = none-in found.0 (subst (λ es. Contains es found.0) is found.1)
       by_list (x ∷ rest) is found =
-          let there = some_node x (subst (λ es. Contains es x) (sym is) (is-first x x rest refl)) in
-          let no : key_lt x.key key ≡ false = least.1 there.0 there.1 there.2 there.3 x.key there.4 in
           let up : Ascends key_of (x ∷ rest) = subst (Ascends key_of) is stands_so.stands.lawful.ordered in
+          let same : found.0.key.stamp ≡ have.3.0.stamp = ap (λ (k : Key). k.stamp) found.2 in
+          let below = have.3.2 in
+          let first : x.key.stamp ≤ found.0.key.stamp =
           elim (first-or-later found.0 x rest (subst (λ es. Contains es found.0) is found.1)) [
-            | inl same ↦ ap Some (sym found.2) ∙ ap (λ (v : Event). Some v.key) (sym same)
-            | inr later ↦ (
-                let before : key_lt x.key found.0.key ≡ true = each-contains (λ (v : Event). key_lt x.key v.key ≡ true) found.0 rest up.0 later in
-                let yes : key_lt x.key key ≡ true = ap (key_lt x.key) (sym found.2) ∙ before in
-                absurd (cc))
-          ]
+            | inl one ↦ (let one_stamp : x.key.stamp ≡ found.0.key.stamp = ap (λ (v : Event). v.key.stamp) one in omega arith)
+            | inr later ↦ stamp-le x.key found.0.key (each-contains (λ (v : Event). key_lt x.key v.key ≡ true) found.0 rest up.0 later)
+          ] in
+          (x.key, refl, omega arith)
+
+  -- and if none has one, the end has come
+  pub ends-late : HaveNoneBefore meaning_of (end_stamp w.terms.end) w.nodes → Some End ≡ end_or_limit (next m w.terms s)
+  ends-late none = by_list s.pending refl
+    where
+      by_list : (es : List Event) → s.pending ≡ es → Some End ≡ end_or_limit (next m w.terms s)
+      by_list [] is = stops-none m w.terms s (sym (ap first_key is))
+      by_list (x ∷ rest) is =
+          let there = some_node x (subst (λ es. Contains es x) (sym is) (is-first x x rest refl)) in
+          stops-late m w.terms s x.key (sym (ap first_key is)) (none there.0 there.1 there.3 x.key there.4)
 
 module _ {M : Type 0} (meaning_of : M → Meaning) (w : WorldView M) where
   pub spent-ended : w.is_spent ≡ true → (at : Standing) → WorldStandsAt meaning_of w at → None ≡ ended (meaning_of w.model) w.terms at
@@ -150,11 +160,23 @@ module _ {M : Type 0} (meaning_of : M → Meaning) (w : WorldView M) where
   taken-ended stop awake none (stands s fault) there = absurd (let some = there.0.has.nodes.some in let long = ap length none in omega arith)
   taken-ended stop awake none spent there = absurd (cc)
 
-  -- the least key of the nodes tells what comes next
-  pub next-told : (least : Option Key) (stop : Option Stop) → w.is_spent ≡ false → w.fault ≡ None → IsLeastUpto itself (HasKeyOf meaning_of) (MayKeyOf meaning_of) (length w.nodes) w.nodes least
-      → ((s : State) → least ≡ first_key s.pending → w.count ≡ s.count → stop ≡ end_or_limit (next (meaning_of w.model) w.terms s))
-      → (at : Standing) → WorldStandsAt meaning_of w at → stop ≡ ended (meaning_of w.model) w.terms at
-  next-told least stop awake none is tells = rest-ended stop awake none (λ s there. tells s (least-first meaning_of w s there least is) there.stands.count)
+  -- what comes next, by what is before the end
+  pub end-told : w.is_spent ≡ false → w.fault ≡ None → HaveNoneBefore meaning_of (end_stamp w.terms.end) w.nodes → (at : Standing) → WorldStandsAt meaning_of w at → Some End ≡ ended (meaning_of w.model) w.terms at
+  end-told awake whole none = rest-ended (Some End) awake whole (λ s there. ends-late meaning_of w s there none)
+
+  pub limit-told : w.is_spent ≡ false → w.fault ≡ None → HaveEventBefore meaning_of (end_stamp w.terms.end) w.nodes → w.count ≡ w.terms.limit → (at : Standing) → WorldStandsAt meaning_of w at
+      → Some Limit ≡ ended (meaning_of w.model) w.terms at
+  limit-told awake whole some full =
+      rest-ended (Some Limit) awake whole
+      (λ s there. let first = first-before meaning_of w s there (end_stamp w.terms.end) some in
+      stops-full (meaning_of w.model) w.terms s first.0 first.1 first.2 (sym there.stands.count ∙ full))
+
+  pub more-told : w.is_spent ≡ false → w.fault ≡ None → HaveEventBefore meaning_of (end_stamp w.terms.end) w.nodes → w.count ≢ w.terms.limit → (at : Standing) → WorldStandsAt meaning_of w at
+      → None ≡ ended (meaning_of w.model) w.terms at
+  more-told awake whole some free =
+      rest-ended None awake whole
+      (λ s there. let first = first-before meaning_of w s there (end_stamp w.terms.end) some in
+      goes-on (meaning_of w.model) w.terms s first.0 first.1 first.2 (λ full. free (there.stands.count ∙ full)))
 
 module _ {M : Type 0} (meaning_of : M → Meaning) (old new : WorldView M) (same : IsSameWorld old new) where
   -- a refusal leaves a world that is spent

@@ -1,11 +1,12 @@
 -- What nodes have processed, one node after another, and their faults.
-use Rattle.std.specs.Prelude.{◌≡◌, ℕ, ◌+◌, ◌<◌, List, [], ◌∷◌, ◌++◌, length, filter, nat_lt, Some, Contains}
+use Rattle.std.specs.Prelude.{◌≡◌, ℕ, ◌+◌, ◌<◌, ◌≤◌, List, [], ◌∷◌, ◌++◌, length, filter, nat_lt, slice_get, Some, Contains}
 use Rattle.event_key.specs.declared.key.Key.{Key}
 use Rattle.model_core.specs.Meaning.{Meaning}
 use Rattle.world_spec.specs.Share.{IsHome}
 use Rattle.model_core.specs.declared.event.Event.{Event}
 use Rattle.node_core.specs.Calls.{HasKey}
 use Rattle.node_core.specs.Nodes.{NodeView, home, data_of, pending_at}
+use Rattle.cycle_core.specs.Places.{AtEach}
 
 abbrev pub itself : Key → Key
 itself k = k
@@ -44,3 +45,19 @@ module _ {M : Type 0} (meaning_of : M → Meaning) where
   MayKeyOf n key =
       (object : ℕ) × IsHome (meaning_of n.model) (home n) n.number object
       × (e : Event) × Contains (pending_at n.logs n.waiting object) e × (e.key ≡ key)
+
+  -- the node has an event whose stamp is below the bound
+  abbrev pub HasEventBefore : ℕ → NodeView M → Type 0
+  HasEventBefore bound n = (key : Key) × HasKeyOf n key × (key.stamp < bound)
+
+  -- it has none
+  abbrev pub HasNoneBefore : ℕ → NodeView M → Type 0
+  HasNoneBefore bound n = (key : Key) → MayKeyOf n key → bound ≤ key.stamp
+
+  -- some node has one
+  abbrev pub HaveEventBefore : ℕ → List (NodeView M) → Type 0
+  HaveEventBefore bound nodes = (number : ℕ) × (n : NodeView M) × (slice_get nodes number ≡ Some n) × HasEventBefore bound n
+
+  -- no node has one
+  abbrev pub HaveNoneBefore : ℕ → List (NodeView M) → Type 0
+  HaveNoneBefore bound = AtEach (λ number n. HasNoneBefore bound n)

@@ -3,8 +3,10 @@ ghost use Rattle.std.specs.Prelude.{◌≡◌, ◌<◌, ◌≤◌, ◌^◌, IfOk
 ghost use Rattle.event_key.specs.Stamps.{end_stamp};
 ghost use Rattle.node_core.specs.Nodes.{IsAsBefore};
 ghost use Rattle.node_core.specs.Steps.{HasStepped};
+ghost use Rattle.cycle_core.specs.Busy.{NamesBusy};
 ghost use Rattle.cycle_core.specs.Works.{IsSmall, WorksOn, IsHeldFrom, IsSettled, IsOpened, AreIdle, AllWorkOn, AreSmall, HaveTerms};
 
+use crate::knowing::know_all;
 use model_core::OutOfMemory;
 use model_core::model::Model as SimulationModel;
 use node_core::{Node, Step};
@@ -46,6 +48,22 @@ pub fn settle<M: SimulationModel>(
             Step::Idle => return Ok(fallen),
         }
     }
+}
+
+/// The least stamp of the messages that nodes hold, or the end if none is below it, of which these may hold any.
+pub fn open_busy<M: SimulationModel>(nodes: &mut [Node<M>], busy: &[usize], end: u64) -> u64
+    requires end { end < 2 ^ 63 }
+    requires busy { NamesBusy nodes.old busy.now }
+    ensures same { nodes.new ≡ nodes.old }
+    ensures opened { IsOpened M.meaning end nodes.old result }
+{
+    know_all(nodes);
+    let mut bound = end;
+    for k in 0..busy.len() {
+        let place = busy[k];
+        bound = bound.min(nodes[place].open_cycle());
+    }
+    bound
 }
 
 /// The least stamp of the messages that nodes hold, or the end where none is below it.

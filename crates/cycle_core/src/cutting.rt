@@ -4,6 +4,7 @@ ghost use Rattle.event_key.specs.declared.key.Key.{Key};
 ghost use Rattle.key_order.specs.Ascending.{Ascends};
 ghost use Rattle.key_order.specs.Keys.{Differ};
 ghost use Rattle.world_spec.specs.Answer.{cut_of};
+ghost use Rattle.cycle_core.specs.Busy.{NamesBusy};
 ghost use Rattle.cycle_core.specs.Cuts.{AreOneWorld, IsCutAt, cut_data};
 ghost use Rattle.cycle_core.specs.Gathered.{IsFaultBelow, MayFaultBelow, fault_key, itself, keys_in, processed_in};
 ghost use Rattle.cycle_core.specs.Known.{AreKnown};
@@ -39,27 +40,32 @@ fn fault_below<M: SimulationModel>(node: &Node<M>, bound: u64) -> Option<(Key, u
 }
 
 /// The least fault of these nodes that is below the bound.
-fn least_fault<M: SimulationModel>(nodes: &[Node<M>], bound: u64) -> Option<(Key, u32)>
-    requires { AreKnown M.meaning nodes.now }
+fn least_fault<M: SimulationModel>(
+    nodes: &[Node<M>],
+    busy: &[usize],
+    bound: u64,
+) -> Option<(Key, u32)>
+    requires known { AreKnown M.meaning nodes.now }
+    requires busy { NamesBusy nodes.now busy.now }
     ensures { IsLeastUpto fault_key (IsFaultBelow M.meaning bound) (MayFaultBelow M.meaning bound) (length nodes.now) nodes.now result }
 {
     let mut least = None;
-    for node in nodes {
-        if node.pending() == 0 {
-            continue;
-        }
-        least = lesser_fault(least, fault_below(node, bound));
+    for k in 0..busy.len() {
+        let place = busy[k];
+        least = lesser_fault(least, fault_below(&nodes[place], bound));
     }
     least
 }
 
 /// Whether these nodes have processed at most so many events that aren't committed.
-fn are_within<M: SimulationModel>(nodes: &[Node<M>], left: u64) -> bool
+fn are_within<M: SimulationModel>(nodes: &[Node<M>], busy: &[usize], left: u64) -> bool
+    requires { NamesBusy nodes.now busy.now }
     ensures { IsTrue result → processed_in nodes.now ≤ left }
 {
     let mut left = left;
-    for node in nodes {
-        let processed = node.tallies().left;
+    for k in 0..busy.len() {
+        let place = busy[k];
+        let processed = nodes[place].tallies().left;
         if processed > left {
             return false;
         }
@@ -114,19 +120,21 @@ fn cut_keys(left: u64, keys: &[Key], fault: Option<(Key, u32)>) -> Cut
 }
 
 /// Where the processed events of these nodes below the bound are cut, when so many events are left. It gathers no keys
-/// where there is no fault and all that is processed fits.
+/// if there is no fault and all that is processed fits, and then looks at those nodes alone that have events.
 pub fn cut_nodes<M: SimulationModel>(
     alloc: Global,
     nodes: &[Node<M>],
+    busy: &[usize],
     bound: u64,
     left: u64,
 ) -> Result<Cut, OutOfMemory>
-    requires { AreOneWorld nodes.now }
+    requires world { AreOneWorld nodes.now }
+    requires busy { NamesBusy nodes.now busy.now }
     ensures { IfOk result (IsCutAt M.meaning left nodes.now bound) }
 {
     know_all(nodes);
-    let fault = least_fault(nodes, bound);
-    if fault.is_none() && are_within(nodes, left) {
+    let fault = least_fault(nodes, busy, bound);
+    if fault.is_none() && are_within(nodes, busy, left) {
         return Ok(Cut {
             below: None,
             fault: None,

@@ -1,24 +1,34 @@
 //! Where nodes stand in a simulation.
-ghost use Rattle.std.specs.Prelude.{◌≡◌, length};
-ghost use Rattle.cycle_core.specs.Gathered.{itself, HasKeyOf, MayKeyOf};
-ghost use Rattle.cycle_core.specs.Leasts.{IsLeastUpto};
+ghost use Rattle.std.specs.Prelude.{◌≡◌, true, false};
+ghost use Rattle.cycle_core.specs.Gathered.{HasEventBefore, HasNoneBefore, HaveEventBefore, HaveNoneBefore};
 
-use event_key::Key;
 use model_core::model::Model as SimulationModel;
 use node_core::Node;
-use speedes_queue::lesser;
 
-/// The least key of all events of these nodes.
-pub fn least_key<M: SimulationModel>(nodes: &[Node<M>]) -> Option<Key>
-    ensures { IsLeastUpto itself (HasKeyOf M.meaning) (MayKeyOf M.meaning) (length nodes.now) nodes.now result }
+/// Whether a node has an event whose stamp is below a bound.
+fn is_before<M: SimulationModel>(node: &Node<M>, bound: u64) -> bool
+    ensures some { result ≡ true → HasEventBefore M.meaning bound node.now }
+    ensures none { result ≡ false → HasNoneBefore M.meaning bound node.now }
 {
-    let mut least = None;
-    for node in nodes {
-        node.tells_keys();
-        if node.pending() == 0 {
-            continue;
-        }
-        least = lesser(least, node.least());
+    node.tells_keys();
+    if node.pending() == 0 {
+        return false;
     }
-    least
+    match node.least() {
+        Some(key) => key.stamp < bound,
+        None => false,
+    }
+}
+
+/// Whether these nodes have an event whose stamp is below a bound. It looks no further than the first node that has.
+pub fn has_event_before<M: SimulationModel>(nodes: &[Node<M>], bound: u64) -> bool
+    ensures some { result ≡ true → HaveEventBefore M.meaning bound nodes.now }
+    ensures none { result ≡ false → HaveNoneBefore M.meaning bound nodes.now }
+{
+    for node in nodes {
+        if is_before(node, bound) {
+            return true;
+        }
+    }
+    false
 }

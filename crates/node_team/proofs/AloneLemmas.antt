@@ -1,18 +1,25 @@
 -- A node that advances on its own, below a plain bound.
-use Rattle.std.proofs.Common.{◌≡◌, ◌⊎◌, ℕ, ◌≤◌, List, [], min, sym, subst, arith}
+use Rattle.std.proofs.Common.{◌≡◌, ◌⊎◌, inl, inr, ℕ, suc, ◌≤◌, List, [], min, refl, sym, ◌∙◌, subst, arith}
+use Rattle.std.specs.Prelude.{slice_get, Some}
 use Rattle.std.specs.List.{AllByRecursion as Each}
 use Rattle.event_key.specs.declared.key.Key.{Key}
 use Rattle.event_key.specs.Stamps.{end_stamp}
 use Rattle.model_core.specs.Meaning.{Meaning}
 use Rattle.model_core.specs.declared.event.Event.{Event}
+use Rattle.sim_spec.specs.declared.terms.Terms.{Terms}
 use Rattle.world_spec.specs.Moves.{IsPastFaultOf}
 use Rattle.node_core.specs.Nodes.{NodeView, data_of, home}
 use Rattle.node_core.specs.Steps.{HasProcessed, IsLeftIdle}
+use Rattle.cycle_core.specs.Busy.{IsQuiet}
 use Rattle.cycle_core.specs.Known.{IsKnown}
 use Rattle.cycle_core.specs.Works.{IsSettled}
-use Rattle.cycle_core.proofs.WorkLemmas.{IsSettling, settling-more}
+use Rattle.cycle_core.proofs.ClosingLemmas.{AreSettling, settling-next}
+use Rattle.cycle_core.proofs.PlaceLemmas.{at-same, upto-more}
+use Rattle.cycle_core.proofs.WorkLemmas.{IsSettling, as_before, settling-more, works-none}
 use Rattle.node_team.specs.Advances.{IsIdleBelow}
+use Rattle.node_team.specs.Forks.{HasRun}
 use Rattle.node_team.proofs.AdvanceLemmas.{idle-after}
+use Rattle.node_team.proofs.RunningLemmas.{AreRunning}
 
 -- a node that has settled below what the bound fell to, and may go on past it
 pub record IsPast {M : Type 0} (m : Meaning) (first : NodeView M) (bound fallen : ℕ) (n : NodeView M) : Type 0 where
@@ -50,3 +57,26 @@ module _ {M : Type 0} (meaning_of : M → Meaning) (first : NodeView M) (bound f
         settling = settling-more meaning_of first bound fallen below least key n new far past.settling did;
         idle = idle-after m below n new key least (subst K same known) (subst D same did) (min fallen least) fallen (omega arith) past.idle;
       }
+
+-- nodes that advance one after another, as far as they have
+pub record AreAdvancing {M : Type 0} (meaning_of : M → Meaning) (terms : Terms) (ahead : ℕ) (first now : List (NodeView M)) (fallen : ℕ) (place : ℕ) : Type 0 where
+  pub settling : AreSettling meaning_of terms place first now fallen
+  pub running : AreRunning meaning_of ahead place first now
+
+-- a node without events has done so
+pub advancing-over : {M : Type 0} (meaning_of : M → Meaning) (terms : Terms) (ahead : ℕ) (first now : List (NodeView M)) (fallen : ℕ) → (place : ℕ) (n : NodeView M) → slice_get first place ≡ Some n → IsQuiet n
+    → AreAdvancing meaning_of terms ahead first now fallen place → AreAdvancing meaning_of terms ahead first now fallen (suc place)
+advancing-over meaning_of terms ahead first now fallen place n at quiet so_far =
+    let m = meaning_of n.model in
+    let here = so_far.settling.upto.rest place (omega arith) ∙ at in
+    let works = works-none m n n (as_before m n) in
+    let same = at-same now place n here in
+    let S : List (NodeView _) → Type 0 = λ ns. AreSettling meaning_of terms (suc place) first ns fallen in
+    let R : List (NodeView _) → Type 0 = λ ns. AreRunning meaning_of ahead (suc place) first ns in
+    record {
+      settling = subst S same
+          (settling-next meaning_of terms place first now fallen fallen n n so_far.settling here works
+          (record { from = so_far.settling.opened.from place n here; within = omega arith; reached = inl refl; idle = idle-none m n fallen quiet.1 }));
+      running = subst R same
+          (upto-more (λ old new. HasRun (meaning_of old.model) ahead old new) place first now n n so_far.running here (record { works = works; deep = inr (idle-none m n (end_stamp n.terms.end) quiet.1) }));
+    }

@@ -4,6 +4,7 @@ ghost use Rattle.event_key.specs.Stamps.{end_stamp};
 ghost use Rattle.sim_spec.specs.State.{State};
 ghost use Rattle.node_core.specs.Nodes.{IsAsBefore};
 ghost use Rattle.node_core.specs.Steps.{HasStepped};
+ghost use Rattle.cycle_core.specs.Busy.{NamesBusy};
 ghost use Rattle.cycle_core.specs.Works.{AreIdle, AreSmall, HaveTerms, IsHeldFrom, IsOpened, IsSettled, IsSmall, WorksOn};
 ghost use Rattle.cycle_core.specs.Worlds.{IsSameWorld, StandsAt};
 ghost use Rattle.node_team.specs.Advances.{HasTold, IsDeep};
@@ -12,7 +13,7 @@ ghost use Rattle.node_team.specs.Forks.{AllHaveRun};
 
 use crate::gate::Gate;
 use crate::setting::Setting;
-use cycle_core::{World, know, know_all, open_all, step_small};
+use cycle_core::{World, know, know_all, open_busy, step_small};
 use event_key::end_bound;
 use model_core::OutOfMemory;
 use model_core::model::Model as SimulationModel;
@@ -44,8 +45,7 @@ fn step_told<M: SimulationModel, G: Gate>(
 }
 
 /// Advances a node on its own: processes its events below a bound, which falls to what they send, until none is left, and
-/// goes on in the order of their keys until `ahead` events were processed in all, or it has none left. Answers the bound. A
-/// node without events is passed over at once.
+/// goes on in the order of their keys until `ahead` events were processed in all, or it has none left. Answers the bound.
 pub fn advance_alone<M: SimulationModel, G: Gate>(
     alloc: Global,
     node: &mut Node<M>,
@@ -63,9 +63,6 @@ pub fn advance_alone<M: SimulationModel, G: Gate>(
     ensures told { HasTold (G.was_told gate.now node.old.number) node.old node.new }
 {
     gate.enter(node.number());
-    if node.pending() == 0 {
-        return Ok(bound);
-    }
     let end = end_bound(node.terms().end);
     let mut fallen = bound;
     let mut left = ahead;
@@ -86,45 +83,60 @@ pub fn advance_alone<M: SimulationModel, G: Gate>(
     Ok(fallen)
 }
 
-/// Advances nodes one after another. A node that is idle below the bound stays so as the bound falls.
+/// Advances nodes one after another, of which these have events. A node that is idle below the bound stays so as the bound
+/// falls.
 fn advance_each<R, M: SimulationModel, G: Gate>(
     setting: &Setting<R, G>,
     nodes: &mut [Node<M>],
+    busy: &[usize],
     terms: Terms,
     bound: u64,
 ) -> Result<u64, OutOfMemory>
     requires small { AreSmall M.meaning nodes.old }
     requires terms { HaveTerms terms nodes.old }
     requires opened { IsOpened M.meaning (end_stamp terms.end) nodes.old bound }
+    requires busy { NamesBusy nodes.old busy.now }
     ensures opened { IfOk result (λ fallen. IsOpened M.meaning (end_stamp terms.end) nodes.new fallen) }
     ensures idle { IfOk result (λ fallen. AreIdle M.meaning fallen nodes.new) }
     ensures run { OnOk result (AllHaveRun M.meaning setting.now.ahead nodes.old nodes.new) }
 {
     let mut fallen = bound;
-    for node in nodes.iter_mut() {
-        fallen = advance_alone(setting.alloc, node, fallen, setting.ahead, setting.gate)?;
+    for k in 0..busy.len() {
+        let place = busy[k];
+        fallen = advance_alone(
+            setting.alloc,
+            &mut nodes[place],
+            fallen,
+            setting.ahead,
+            setting.gate,
+        )?;
     }
     Ok(fallen)
 }
 
-/// Advances each node of a world and closes the cycle, on the calling thread, without a word that is shared. Answers the
-/// bound at which it is closed. After a refusal the world has lost its nodes.
+/// Advances each node of a world and closes the cycle, on the calling thread, without a word that is shared. Finds the
+/// nodes that have events, and passes over all others. Answers the bound at which it is closed. After a refusal the world has
+/// lost its nodes.
 pub fn close_alone<R, M: SimulationModel, G: Gate>(
     setting: &Setting<R, G>,
     world: &mut World<M>,
+    busy: &mut Vec<usize>,
 ) -> Result<u64, OutOfMemory>
     requires { (s : State) × StandsAt (M.meaning world.old.model) world.old s }
     ensures closed { IfOk result (HasClosed M.meaning setting.now.ahead world.old world.new) }
+    ensures busy { OnOk result (NamesBusy world.new.nodes busy.new.items) }
     ensures made { IsSameWorld world.old world.new }
 {
     let terms = world.terms();
     law_world(world.model(), &terms);
     let end = end_bound(terms.end);
+    world.find_busy(busy)?;
+    let named = busy.as_slice();
     let mut nodes = world.take_nodes();
     let all = nodes.as_mut_slice();
     know_all(all);
-    let opened = open_all(all, end);
-    let bound = advance_each(setting, all, terms, opened)?;
+    let opened = open_busy(all, named, end);
+    let bound = advance_each(setting, all, named, terms, opened)?;
     world.put_nodes(nodes);
     Ok(bound)
 }

@@ -1,6 +1,7 @@
 //! How a cycle is closed: the nodes advance, in threads where that pays.
-ghost use Rattle.std.specs.Prelude.{IfOk};
+ghost use Rattle.std.specs.Prelude.{IfOk, OnOk};
 ghost use Rattle.sim_spec.specs.State.{State};
+ghost use Rattle.cycle_core.specs.Busy.{NamesBusy};
 ghost use Rattle.cycle_core.specs.Worlds.{IsSameWorld, StandsAt};
 ghost use Rattle.node_team.specs.Closes.{HasClosed};
 ghost use Rattle.node_team.specs.Handings.{AreWorkers};
@@ -23,32 +24,38 @@ fn close_together<R: Threads + Sync, M: SimulationModel, G: Gate>(
     world: &mut World<M>,
     load: &Load,
     seats: &mut Vec<WordSeat>,
+    busy: &mut Vec<usize>,
 ) -> Result<u64, OutOfMemory>
     requires workers { AreWorkers setting.now.workers }
     requires stands { (s : State) × StandsAt (M.meaning world.old.model) world.old s }
     ensures closed { IfOk result (HasClosed M.meaning setting.now.ahead world.old world.new) }
+    ensures busy { OnOk result (NamesBusy world.new.nodes busy.new.items) }
     ensures made { IsSameWorld world.old world.new }
 {
     let handing = Handing::of(load.advance_threads(), setting.workers);
     advance_world(setting, world, handing, seats)?;
-    world.close_cycle(setting.alloc)
+    let bound = world.close_cycle(setting.alloc)?;
+    world.find_busy(busy)?;
+    Ok(bound)
 }
 
 /// Advances each node of a world and closes the cycle. Where no fork pays, no seat is made. Answers the bound at which it is
-/// closed. After a refusal the world has lost its nodes.
+/// closed, and finds the nodes that have events. After a refusal the world has lost its nodes.
 pub fn close_world<R: Threads + Sync, M: SimulationModel, G: Gate>(
     setting: &Setting<R, G>,
     world: &mut World<M>,
     load: &Load,
     seats: &mut Vec<WordSeat>,
+    busy: &mut Vec<usize>,
 ) -> Result<u64, OutOfMemory>
     requires workers { AreWorkers setting.now.workers }
     requires stands { (s : State) × StandsAt (M.meaning world.old.model) world.old s }
     ensures closed { IfOk result (HasClosed M.meaning setting.now.ahead world.old world.new) }
+    ensures busy { OnOk result (NamesBusy world.new.nodes busy.new.items) }
     ensures made { IsSameWorld world.old world.new }
 {
     if load.forks_nothing() {
-        return close_alone(setting, world);
+        return close_alone(setting, world, busy);
     }
-    close_together(setting, world, load, seats)
+    close_together(setting, world, load, seats, busy)
 }

@@ -37,8 +37,8 @@ fn run_cycle<R: Threads + Sync, M: SimulationModel, L: Lanes, G: Gate>(
     ensures fault { IfOk result (λ bucket. world.new.fault ≡ bucket.fault) }
     ensures ready { OnOk result (IsReady L.nodes L.are_at_rest world.old.homes.nodes kept.new) }
 {
-    let bound = close_world(setting, world, &kept.load, &mut kept.seats)?;
-    let cut = world.commit_cut(setting.alloc, bound)?;
+    let bound = close_world(setting, world, &kept.load, &mut kept.seats, &mut kept.busy)?;
+    let cut = world.commit_cut_among(setting.alloc, bound, kept.busy.as_slice())?;
     let total = processed_by(world);
     let records = end_world(setting, world, kept, bound, &cut)?;
     world.finish(&cut, records.len() as u64);

@@ -3,6 +3,7 @@ ghost use Rattle.std.specs.Prelude.{◌≡◌, ◌<◌, ◌^◌, length, IfOk, O
 ghost use Rattle.model_core.specs.Meaning.{MeaningLaws};
 ghost use Rattle.sim_spec.specs.State.{State};
 ghost use Rattle.cycle_core.specs.Blank.{AreBlankLists};
+ghost use Rattle.cycle_core.specs.Busy.{NamesBusy};
 ghost use Rattle.cycle_core.specs.Cuts.{CanEnd, HaveEnded, IsCutOf};
 ghost use Rattle.cycle_core.specs.Cycled.{IsClosedAt};
 ghost use Rattle.cycle_core.specs.Known.{AreKnown};
@@ -113,6 +114,7 @@ pub fn end_world<R: Threads + Sync, M: SimulationModel, L: Lanes, G>(
     requires closed { IsClosedAt M.meaning world.old world.old.nodes bound }
     requires cut { IsCutOf M.meaning world.old bound cut.now }
     requires ready { IsReady L.nodes L.are_at_rest world.old.homes.nodes kept.old }
+    requires busy { NamesBusy world.old.nodes kept.old.busy.items }
     ensures ended { IfOk result (λ records. HaveEnded M.meaning bound cut.now.below world.old.nodes world.new.nodes records.items) }
     ensures known { OnOk result (AreKnown M.meaning world.old.nodes) }
     ensures known_now { OnOk result (AreKnown M.meaning world.new.nodes) }
@@ -122,7 +124,7 @@ pub fn end_world<R: Threads + Sync, M: SimulationModel, L: Lanes, G>(
     ensures ready { OnOk result (IsReady L.nodes L.are_at_rest world.old.homes.nodes kept.new) }
 {
     if kept.load.forks_nothing() {
-        return world.end_cycle(setting.alloc, bound, cut);
+        return world.end_cycle(setting.alloc, bound, cut, kept.busy.as_slice());
     }
     release_world(setting, world, kept, bound, cut)
 }

@@ -9,14 +9,16 @@ use parcel_exchange::Inbox;
 use release_lanes::Lanes;
 use std::alloc::Global;
 
-/// The lanes between the nodes, an inbox for each, and a list for their seats, whose memory serves cycle after cycle; and
-/// what the last cycle did.
+/// The lanes between the nodes, an inbox for each, and lists for their seats and for those that have events, whose memory
+/// serves cycle after cycle; and what the last cycle did.
 #[derive(Drop)]
 pub struct Kept<L: Lanes> {
     pub lanes: L,
     pub inboxes: Vec<Inbox>,
     /// Nothing is said of what is in it between cycles.
     pub seats: Vec<WordSeat>,
+    /// The places of the nodes that have events, as the last cycle found them. Nothing is said of them between cycles.
+    pub busy: Vec<usize>,
     pub load: Load,
 }
 
@@ -35,6 +37,7 @@ impl<L: Lanes + Drop> Kept<L> {
             lanes,
             inboxes,
             seats: Vec::with_capacity(alloc, nodes as usize)?,
+            busy: Vec::with_capacity(alloc, nodes as usize)?,
             load: Load::unknown(),
         })
     }

@@ -22,15 +22,15 @@ returns-then-are_within g c =
     let long = length_permutation all (sorted all) (sorted-moves all) in
     record {
       keys = sorted all;
-      keys_are = are-keys of c.args.bound nodes c.requires.model c.requires.terms c.requires.homes c.requires.are c.know_all.ensures (sorted all) (sorted-moves all)
-          (sorted-up all (keys-differ of c.args.bound nodes c.requires.model c.requires.terms c.requires.homes c.requires.are c.know_all.ensures));
+      keys_are = are-keys of c.args.bound nodes c.requires.world.model c.requires.world.terms c.requires.world.homes c.requires.world.are c.know_all.ensures (sorted all) (sorted-moves all)
+          (sorted-up all (keys-differ of c.args.bound nodes c.requires.world.model c.requires.world.terms c.requires.world.homes c.requires.world.are c.know_all.ensures));
       fault = None;
       fault_is = least-faults of c.args.bound nodes None (subst (IsLeastUpto fault_key (IsFaultBelow of c.args.bound) (MayFaultBelow of c.args.bound) (length nodes) nodes) none c.least_fault-fault.ensures);
       is = cut-whole c.args.left (sorted all) (omega arith) ∙ ap (λ ks. cut_of c.args.left ks None) (sym (all-uncut (sorted all)));
     }
 
 pub sorted_keys-requires-after_bounds : goal.sorted_keys-requires-after_bounds
-sorted_keys-requires-after_bounds g c κs within = keys-differ (g.M.Model.meaning) c.args.bound c.args.nodes.now c.requires.model c.requires.terms c.requires.homes c.requires.are c.know_all.ensures
+sorted_keys-requires-after_bounds g c κs within = keys-differ (g.M.Model.meaning) c.args.bound c.args.nodes.now c.requires.world.model c.requires.world.terms c.requires.world.homes c.requires.world.are c.know_all.ensures
 
 pub returns : goal.returns
 returns g c =
@@ -45,7 +45,7 @@ returns g c =
     ] in
     record {
       keys = keys;
-      keys_are = are-keys of c.args.bound nodes c.requires.model c.requires.terms c.requires.homes c.requires.are c.know_all.ensures keys c.in_ok-keys.ensures.permutes c.in_ok-keys.ensures.ordered;
+      keys_are = are-keys of c.args.bound nodes c.requires.world.model c.requires.world.terms c.requires.world.homes c.requires.world.are c.know_all.ensures keys c.in_ok-keys.ensures.permutes c.in_ok-keys.ensures.ordered;
       fault = fault;
       fault_is = least-faults of c.args.bound nodes fault c.least_fault-fault.ensures;
       is = c.cut_keys.ensures ∙ ap (λ ks. cut_of c.args.left ks fault) (c.as_slice.ensures.value ∙ left_over);

@@ -1,35 +1,51 @@
-use Rattle.std.proofs.Common.{◌≡◌, ◌+◌, length, refl, arith, subst}
-use Rattle.std.specs.Prelude.{None}
-use Rattle.std.proofs.lemmas.List.{nil_from_length}
-use Rattle.std.proofs.lemmas.Option.{slice_get_read}
+use Rattle.std.proofs.Common.{◌≡◌, ℕ, suc, length, refl, arith, add-one, get_or, rules}
+use Rattle.std.proofs.lemmas.Option.{slice_get-get_or, slice_get_read}
+use Rattle.cycle_core.specs.Busy.{IsQuiet}
 use Rattle.cycle_core.specs.Gathered.{IsFaultBelow, MayFaultBelow, fault_key}
-use Rattle.cycle_core.specs.Leasts.{IsLeastUpto}
-use Rattle.cycle_core.proofs.CutLemmas.{fault-none, least-more, lesser-none}
+use Rattle.cycle_core.specs.Leasts.{IsLeastUpto, lesser_by}
+use Rattle.cycle_core.proofs.BusyLemmas.{pass-at, pass-end}
+use Rattle.cycle_core.proofs.CutLemmas.{least-more}
+use Rattle.cycle_core.proofs.PassLemmas.{fault-over, next-place}
 use Rattle.cycle_core.proofs.cutting.least_fault.Goals as goal
 
-pub loop-node-preserved-then-pending-eq0 : goal.loop-node-preserved-then-pending-eq0
-loop-node-preserved-then-pending-eq0 g c =
-    let of = g.M.Model.meaning in
-    let F = IsFaultBelow of c.args.bound in
-    let G = MayFaultBelow of c.args.bound in
-    let n = c.node-item.result in
-    let i = c.loop-node.node-index in
-    let nodes = c.args.nodes.now in
-    let at = slice_get_read nodes (length nodes) i n refl (omega arith) c.node-item.is in
-    let sum = c.pending.ensures in
-    let none = fault-none of c.args.bound n (c.requires i n at).keys (nil_from_length n.processed (omega arith)) in
-    subst (λ l. IsLeastUpto fault_key F G (i + 1) nodes l) (lesser-none fault_key c.loop-node.least) (least-more fault_key F G i nodes n c.loop-node.least None at c.loop-node.invariant none)
+pub loop-k-init : goal.loop-k-init
+loop-k-init g c = record { from = 0; left = c.requires.busy; done = λ number n below at x may. absurd (omega arith) }
 
-pub loop-node-preserved : goal.loop-node-preserved
-loop-node-preserved g c =
-    let F = IsFaultBelow (g.M.Model.meaning) c.args.bound in
-    let G = MayFaultBelow (g.M.Model.meaning) c.args.bound in
-    let at = slice_get_read c.args.nodes.now (length c.args.nodes.now) c.loop-node.node-index c.node-item.result refl (omega arith) c.node-item.is in
-    rw c.lesser_fault-least.ensures (least-more fault_key F G c.loop-node.node-index c.args.nodes.now c.node-item.result c.loop-node.least c.fault_below.result at c.loop-node.invariant c.fault_below.ensures)
+pub bounds-nodes-place : goal.bounds-nodes-place
+bounds-nodes-place g c =
+    let nodes = c.args.nodes.now in
+    let busy = c.args.busy.now in
+    let L : ℕ → Type 0 = λ place. IsLeastUpto fault_key (IsFaultBelow g.M.Model.meaning c.args.bound) (MayFaultBelow g.M.Model.meaning c.args.bound) place nodes c.loop-k.least in
+    (pass-at IsQuiet nodes L (fault-over g.M.Model.meaning c.args.bound nodes c.loop-k.least (λ place x at. c.requires.known place x at)) busy c.loop-k.k (get_or busy c.loop-k.k 0) (length nodes) (omega arith)
+    (slice_get-get_or busy c.loop-k.k 0 (omega arith)) c.loop-k.invariant).within
+
+pub offset_bounds-nodes-place : goal.offset_bounds-nodes-place
+offset_bounds-nodes-place g c =
+    let nodes = c.args.nodes.now in
+    let busy = c.args.busy.now in
+    let L : ℕ → Type 0 = λ place. IsLeastUpto fault_key (IsFaultBelow g.M.Model.meaning c.args.bound) (MayFaultBelow g.M.Model.meaning c.args.bound) place nodes c.loop-k.least in
+    let within = (pass-at IsQuiet nodes L (fault-over g.M.Model.meaning c.args.bound nodes c.loop-k.least (λ place x at. c.requires.known place x at)) busy c.loop-k.k (get_or busy c.loop-k.k 0) (length nodes) (omega arith)
+    (slice_get-get_or busy c.loop-k.k 0 (omega arith)) c.loop-k.invariant).within in
+    search rules
+
+pub loop-k-preserved : goal.loop-k-preserved
+loop-k-preserved g c =
+    let nodes = c.args.nodes.now in
+    let busy = c.args.busy.now in
+    let place = get_or busy c.loop-k.k 0 in
+    let F = IsFaultBelow g.M.Model.meaning c.args.bound in
+    let G = MayFaultBelow g.M.Model.meaning c.args.bound in
+    let L : ℕ → Type 0 = λ place. IsLeastUpto fault_key F G place nodes c.loop-k.least in
+    let here =
+    pass-at IsQuiet nodes L (fault-over g.M.Model.meaning c.args.bound nodes c.loop-k.least (λ place x at. c.requires.known place x at)) busy c.loop-k.k place (length nodes) (omega arith)
+    (slice_get-get_or busy c.loop-k.k 0 (omega arith)) c.loop-k.invariant in
+    let at = slice_get_read nodes (length nodes) place c.index-nodes-place.result refl here.within c.index-nodes-place.is in
+    let more = least-more fault_key F G place nodes c.index-nodes-place.result c.loop-k.least c.fault_below.result at here.done c.fault_below.ensures in
+    rw (add-one, c.lesser_fault-least.ensures) (record { from = suc place; left = here.left; done = next-place (λ k. IsLeastUpto fault_key F G k nodes (lesser_by fault_key c.loop-k.least c.fault_below.result)) place more })
 
 pub returns : goal.returns
 returns g c =
-    let F = IsFaultBelow (g.M.Model.meaning) c.args.bound in
-    let G = MayFaultBelow (g.M.Model.meaning) c.args.bound in
-    let all : c.loop-node.node-index ≡ length c.args.nodes.now = omega arith in
-    subst (λ k. IsLeastUpto fault_key F G k c.args.nodes.now c.loop-node.least) all c.loop-node.invariant
+    let nodes = c.args.nodes.now in
+    let busy = c.args.busy.now in
+    let L : ℕ → Type 0 = λ place. IsLeastUpto fault_key (IsFaultBelow g.M.Model.meaning c.args.bound) (MayFaultBelow g.M.Model.meaning c.args.bound) place nodes c.loop-k.least in
+    pass-end IsQuiet nodes L (fault-over g.M.Model.meaning c.args.bound nodes c.loop-k.least (λ place x at. c.requires.known place x at)) busy c.loop-k.k (length nodes) (omega arith) (omega arith) c.loop-k.invariant

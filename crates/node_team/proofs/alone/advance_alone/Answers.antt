@@ -8,29 +8,6 @@ use Rattle.node_team.proofs.AdvanceLemmas.{told-none, told-on}
 use Rattle.node_team.proofs.AloneLemmas.{idle-none, past-first, past-more, past-settled}
 use Rattle.node_team.proofs.alone.advance_alone.Goals as goal
 
-pub returns-then-pending-eq0-clause-settled : goal.returns-then-pending-eq0-clause-settled
-returns-then-pending-eq0-clause-settled g c =
-    let n = c.args.node.now in
-    let m = g.M.Model.meaning n.model in
-    let sum = c.pending.ensures in
-    record { from = c.requires.from; within = omega arith; reached = inl refl; idle = idle-none m n c.args.bound (nil_from_length n.waiting (omega arith)) }
-
-pub returns-then-pending-eq0-clause-deep : goal.returns-then-pending-eq0-clause-deep
-returns-then-pending-eq0-clause-deep g c =
-    let n = c.args.node.now in
-    let m = g.M.Model.meaning n.model in
-    let sum = c.pending.ensures in
-    inr (idle-none m n (end_stamp n.terms.end) (nil_from_length n.waiting (omega arith)))
-
-pub returns-then-pending-eq0-clause-works : goal.returns-then-pending-eq0-clause-works
-returns-then-pending-eq0-clause-works g c =
-    let n = c.args.node.now in
-    let m = g.M.Model.meaning n.model in
-    works-none m n n (as_before m n)
-
-pub returns-then-pending-eq0-clause-told : goal.returns-then-pending-eq0-clause-told
-returns-then-pending-eq0-clause-told g c = told-none (g.G.Gate.was_told c.args.gate.now c.args.node.now.number) c.args.node.now c.args.node.now refl
-
 pub near-init : goal.near-init
 near-init g c = (
   settling-first g.M.Model.meaning c.args.node.now c.args.bound c.requires.from,

@@ -1,33 +1,52 @@
-use Rattle.std.proofs.Common.{◌≡◌, ap, sym, ◌∙◌, subst, length}
+use Rattle.std.proofs.Common.{◌≡◌, ℕ, List, ap, sym, ◌∙◌, subst, length}
 use Rattle.std.proofs.lemmas.List.{with_items_is}
 use Rattle.event_key.specs.Stamps.{end_stamp}
+use Rattle.node_core.specs.Nodes.{NodeView}
+use Rattle.cycle_core.specs.Busy.{NamesBusy}
 use Rattle.cycle_core.specs.Known.{AreKnown}
 use Rattle.cycle_core.specs.Works.{AreSmall, HaveTerms, IsOpened}
 use Rattle.cycle_core.specs.Worlds.{AreNodesOf, WorldView}
+use Rattle.cycle_core.proofs.PassLemmas.{busy-on}
 use Rattle.cycle_core.proofs.WorldLemmas.{all-small}
 use Rattle.node_team.specs.Closes.{HasClosed}
 use Rattle.node_team.specs.Forks.{AllHaveRun}
 use Rattle.node_team.proofs.CycleLemmas.{closed-one}
-use Rattle.node_team.proofs.RunningLemmas.{run-nodes}
+use Rattle.node_team.proofs.RunningLemmas.{run-nodes, run-works}
 use Rattle.node_team.proofs.alone.close_alone.Goals as goal
+
+pub open_busy-opened-requires-clause-busy : goal.open_busy-opened-requires-clause-busy
+open_busy-opened-requires-clause-busy g c lifetimes outlives =
+    let w = c.args.world.now in
+    let slice : c.as_mut_slice-all.result.now ≡ w.nodes = c.as_mut_slice-all.ensures.value ∙ c.take_nodes-nodes.ensures.nodes in
+    let B : List (NodeView _) → Type 0 = λ ns. NamesBusy ns c.as_slice-named.result.now in
+    let P : List ℕ → Type 0 = NamesBusy w.nodes in
+    subst B (sym slice) (subst P (sym c.as_slice-named.ensures.value) c.in_ok-find_busy.ensures)
+
+pub advance_each-requires-clause-busy : goal.advance_each-requires-clause-busy
+advance_each-requires-clause-busy g c lifetimes outlives =
+    let w = c.args.world.now in
+    let slice : c.open_busy-opened.new.nodes ≡ w.nodes = c.open_busy-opened.ensures.same ∙ c.as_mut_slice-all.ensures.value ∙ c.take_nodes-nodes.ensures.nodes in
+    let B : List (NodeView _) → Type 0 = λ ns. NamesBusy ns c.as_slice-named.result.now in
+    let P : List ℕ → Type 0 = NamesBusy w.nodes in
+    subst B (sym slice) (subst P (sym c.as_slice-named.ensures.value) c.in_ok-find_busy.ensures)
 
 pub advance_each-requires-clause-small : goal.advance_each-requires-clause-small
 advance_each-requires-clause-small g c lifetimes outlives =
     let w = c.args.world.now in
     let slice : c.as_mut_slice-all.result.now ≡ w.nodes = c.as_mut_slice-all.ensures.value ∙ c.take_nodes-nodes.ensures.nodes in
     let known = subst (AreKnown g.M.Model.meaning) slice (λ place x at. c.know_all.ensures place x at) in
-    subst (AreSmall g.M.Model.meaning) (sym (c.open_all-opened.ensures.same ∙ slice)) (all-small g.M.Model.meaning w c.requires.0 c.requires.1 known)
+    subst (AreSmall g.M.Model.meaning) (sym (c.open_busy-opened.ensures.same ∙ slice)) (all-small g.M.Model.meaning w c.requires.0 c.requires.1 known)
 
 pub advance_each-requires-clause-terms : goal.advance_each-requires-clause-terms
 advance_each-requires-clause-terms g c lifetimes outlives =
     let w = c.args.world.now in
     let slice : c.as_mut_slice-all.result.now ≡ w.nodes = c.as_mut_slice-all.ensures.value ∙ c.take_nodes-nodes.ensures.nodes in
-    subst (HaveTerms c.terms-terms.result) (sym (c.open_all-opened.ensures.same ∙ slice)) (λ place n at. (c.requires.1.has.nodes.each place n at).terms_is ∙ sym c.terms-terms.ensures)
+    subst (HaveTerms c.terms-terms.result) (sym (c.open_busy-opened.ensures.same ∙ slice)) (λ place n at. (c.requires.1.has.nodes.each place n at).terms_is ∙ sym c.terms-terms.ensures)
 
 pub put_nodes-requires-clause-nodes : goal.put_nodes-requires-clause-nodes
 put_nodes-requires-clause-nodes g c lifetimes outlives =
     let w = c.args.world.now in
-    let slice : c.open_all-opened.new.nodes ≡ w.nodes = c.open_all-opened.ensures.same ∙ c.as_mut_slice-all.ensures.value ∙ c.take_nodes-nodes.ensures.nodes in
+    let slice : c.open_busy-opened.new.nodes ≡ w.nodes = c.open_busy-opened.ensures.same ∙ c.as_mut_slice-all.ensures.value ∙ c.take_nodes-nodes.ensures.nodes in
     let now = c.advance_each.new.nodes in
     let run = subst (λ ns. AllHaveRun g.M.Model.meaning c.args.setting.now.ahead ns now) slice c.in_ok-bound.ensures.run in
     let over = with_items_is c.take_nodes-nodes.result now (run.many ∙ ap length (sym c.take_nodes-nodes.ensures.nodes) ∙ sym c.take_nodes-nodes.result.ok.0) in
@@ -37,7 +56,7 @@ put_nodes-requires-clause-nodes g c lifetimes outlives =
 pub returns-clause-closed : goal.returns-clause-closed
 returns-clause-closed g c =
     let w = c.args.world.now in
-    let slice : c.open_all-opened.new.nodes ≡ w.nodes = c.open_all-opened.ensures.same ∙ c.as_mut_slice-all.ensures.value ∙ c.take_nodes-nodes.ensures.nodes in
+    let slice : c.open_busy-opened.new.nodes ≡ w.nodes = c.open_busy-opened.ensures.same ∙ c.as_mut_slice-all.ensures.value ∙ c.take_nodes-nodes.ensures.nodes in
     let now = c.advance_each.new.nodes in
     let run = subst (λ ns. AllHaveRun g.M.Model.meaning c.args.setting.now.ahead ns now) slice c.in_ok-bound.ensures.run in
     let over = with_items_is c.take_nodes-nodes.result now (run.many ∙ ap length (sym c.take_nodes-nodes.ensures.nodes) ∙ sym c.take_nodes-nodes.result.ok.0) in
@@ -48,3 +67,14 @@ returns-clause-closed g c =
     let opened = subst (λ t. IsOpened g.M.Model.meaning (end_stamp t.end) now c.in_ok-bound.bound) c.terms-terms.ensures c.in_ok-bound.ensures.opened in
     subst (λ v. HasClosed g.M.Model.meaning c.args.setting.now.ahead w v c.in_ok-bound.bound) (sym world)
     (closed-one g.M.Model.meaning c.args.setting.now.ahead w now c.in_ok-bound.bound c.requires.0 c.requires.1 law run opened (λ place n at. c.in_ok-bound.ensures.idle place n at))
+
+pub returns-clause-busy : goal.returns-clause-busy
+returns-clause-busy g c =
+    let w = c.args.world.now in
+    let slice : c.open_busy-opened.new.nodes ≡ w.nodes = c.open_busy-opened.ensures.same ∙ c.as_mut_slice-all.ensures.value ∙ c.take_nodes-nodes.ensures.nodes in
+    let now = c.advance_each.new.nodes in
+    let run = subst (λ ns. AllHaveRun g.M.Model.meaning c.args.setting.now.ahead ns now) slice c.in_ok-bound.ensures.run in
+    let over = with_items_is c.take_nodes-nodes.result now (run.many ∙ ap length (sym c.take_nodes-nodes.ensures.nodes) ∙ sym c.take_nodes-nodes.result.ok.0) in
+    let nodes = ap (λ v. v.nodes) c.put_nodes.ensures.world ∙ over in
+    let B : List (NodeView _) → Type 0 = λ ns. NamesBusy ns c.find_busy.new.busy.items in
+    subst B (sym nodes) (busy-on g.M.Model.meaning w.nodes now c.find_busy.new.busy.items (run-works g.M.Model.meaning c.args.setting.now.ahead w.nodes now run) c.in_ok-find_busy.ensures)

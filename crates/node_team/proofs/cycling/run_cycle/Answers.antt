@@ -1,12 +1,18 @@
-use Rattle.std.proofs.Common.{◌≡◌, ◌+◌, ℕ, length, sym, ◌∙◌, subst, arith}
+use Rattle.std.proofs.Common.{◌≡◌, ◌+◌, ℕ, List, length, sym, ◌∙◌, subst, arith}
 use Rattle.sim_spec.specs.Cut.{after}
+use Rattle.cycle_core.specs.Busy.{NamesBusy}
 use Rattle.cycle_core.specs.Worlds.{StandsAt}
 use Rattle.node_team.proofs.CycleLemmas.{closed-cycle, closed-here}
 use Rattle.node_team.proofs.RiseLemmas.{all-rise}
 use Rattle.node_team.proofs.cycling.run_cycle.Goals as goal
 
-pub commit_cut-requires-after_bounds : goal.commit_cut-requires-after_bounds
-commit_cut-requires-after_bounds g c lifetimes outlives = (c.in_ok-bound.ensures.closed.stands c.requires.stands.0 c.requires.stands.1).has
+pub commit_cut_among-requires-clause-nodes : goal.commit_cut_among-requires-clause-nodes
+commit_cut_among-requires-clause-nodes g c lifetimes outlives = (c.in_ok-bound.ensures.closed.stands c.requires.stands.0 c.requires.stands.1).has
+
+pub commit_cut_among-requires-clause-busy : goal.commit_cut_among-requires-clause-busy
+commit_cut_among-requires-clause-busy g c lifetimes outlives =
+    let B : List ℕ → Type 0 = NamesBusy c.close_world.new.world.nodes in
+    subst B (sym c.as_slice.ensures.value) c.in_ok-bound.ensures.busy
 
 pub processed_by-total-requires-after_bounds : goal.processed_by-total-requires-after_bounds
 processed_by-total-requires-after_bounds g c lifetimes outlives = (c.in_ok-bound.ensures.closed.stands c.requires.stands.0 c.requires.stands.1).has

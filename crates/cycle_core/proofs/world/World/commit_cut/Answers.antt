@@ -1,10 +1,8 @@
-use Rattle.std.proofs.Common.{◌≡◌, ◌∙◌, ap, sym, subst}
-use Rattle.cycle_core.specs.Inside.{nodes_in}
-use Rattle.cycle_core.specs.Worlds.{AreNodesOf}
+use Rattle.std.proofs.Common.{ℕ, List, sym, subst}
+use Rattle.cycle_core.specs.Busy.{NamesBusy}
 use Rattle.cycle_core.proofs.world.World.commit_cut.Goals as goal
 
-pub cut_nodes-requires-after_bounds : goal.cut_nodes-requires-after_bounds
-cut_nodes-requires-after_bounds g c κs within =
-    let w = c.args.self.now in
-    let slice : w.nodes ≡ c.as_slice.result.now = ap (λ v. v.nodes) (sym c.self.view_is) ∙ ap nodes_in c.in-Some.is ∙ sym c.as_slice.ensures.value in
-    record { model = w.model; terms = w.terms; homes = w.homes; are = subst (AreNodesOf w.model w.terms w.homes) slice c.requires.nodes }
+pub commit_cut_among-requires-clause-busy : goal.commit_cut_among-requires-clause-busy
+commit_cut_among-requires-clause-busy g c lifetimes outlives =
+    let B : List ℕ → Type 0 = NamesBusy c.args.self.now.nodes in
+    subst B (sym c.as_slice.ensures.value) c.in_ok-find_busy.ensures

@@ -1,0 +1,145 @@
+-- What a pass finds at a node without events, and where nothing arrives.
+use Rattle.std.proofs.Common.{◌≡◌, ℕ, suc, ◌+◌, ◌<◌, ◌≤◌, ◌^◌, min, List, [], ◌∷◌, length, drop, refl, sym, ap, ◌∙◌, subst, inl, arith, slice_set}
+use Rattle.std.specs.Prelude.{slice_get, filter, ◌==◌, Option, Some, None}
+use Rattle.std.proofs.lemmas.Option.{slice_get_within}
+use Rattle.event_key.specs.declared.key.Key.{Key}
+use Rattle.event_key.specs.declared.stamp.TheConstants.{NO_STAMP}
+use Rattle.model_core.specs.Meaning.{Meaning}
+use Rattle.model_core.specs.declared.event.Event.{Event}
+use Rattle.sim_spec.specs.Cut.{emissions_of}
+use Rattle.sim_spec.specs.Firing.{Firing}
+use Rattle.sim_spec.specs.Replay.{EmitsFrom}
+use Rattle.object_log.specs.Dones.{Done}
+use Rattle.object_log.specs.Logs.{keys_of}
+use Rattle.object_log.specs.Replays.{replay_of}
+use Rattle.node_core.specs.declared.committed.Committed.{Committed}
+use Rattle.node_core.specs.Blank.{IsBlank}
+use Rattle.node_core.specs.Calls.{CommitsNothing, ReceivesNothing, HasCommitted}
+use Rattle.node_core.specs.Nodes.{NodeView, data_of, log_at}
+use Rattle.node_core.specs.Shares.{AreProcessedKeys}
+use Rattle.node_core.specs.Steps.{IsHeldLeast}
+use Rattle.cycle_core.specs.Blank.{AreBlank}
+use Rattle.cycle_core.specs.Busy.{AllBetween, AllBut, IsQuiet, NamesBusy}
+use Rattle.cycle_core.specs.Ends.{AreDueDone, CanReceive, CommitUpto, ReceiveUpto, Receives}
+use Rattle.cycle_core.specs.Gathered.{IsFaultBelow, MayFaultBelow, fault_key, processed_in}
+use Rattle.cycle_core.specs.Known.{AreKnown}
+use Rattle.cycle_core.specs.Leasts.{IsLeastUpto}
+use Rattle.cycle_core.specs.Places.{AtEach}
+use Rattle.cycle_core.specs.Works.{AllWorkOn}
+use Rattle.cycle_core.proofs.ClosingLemmas.{IsOpenedUpto, opened-more}
+use Rattle.cycle_core.proofs.CutLemmas.{fault-none, least-more, lesser-none, none-kept, processed-more}
+use Rattle.cycle_core.proofs.EndingLemmas.{commit-more, receive-more}
+use Rattle.cycle_core.proofs.PlaceLemmas.{at-same, at-some}
+use Rattle.cycle_core.proofs.WorkLemmas.{as_before}
+
+pub next-place : (P : ℕ → Type 0) (place : ℕ) → P (place + 1) → P (suc place)
+next-place P place is = subst P (let same : place + 1 ≡ suc place = omega arith in same) is
+
+module _ {A B : Type 0} (P : A → Type 0) (R : B → Type 0) (xs : List A) (ys : List B) (each : (place : ℕ) (y : B) → slice_get ys place ≡ Some y → (x : A) × (slice_get xs place ≡ Some x) × (P x → R y)) where
+  -- what isn't named is as what stood there
+  pub but-as : (places : List ℕ) (from to : ℕ) → AllBut P xs places from to → AllBut R ys places from to
+  unfolding AllBut
+  but-as [] from to but = (but.0, λ place y low below at. let x = each place y at in x.2 (but.1 place x.0 low below x.1))
+  but-as (next ∷ places) from to but = (but.0, λ place y low below at. (let x = each place y at in x.2 (but.1 place x.0 low below x.1)), but-as places (suc next) to but.2)
+
+-- a node without events has processed nothing
+pub processed-over : {M : Type 0} (nodes : List (NodeView M)) (left first place : ℕ) (n : NodeView M) → slice_get nodes place ≡ Some n → IsQuiet n
+    → processed_in nodes + left ≡ processed_in (drop place nodes) + first → processed_in nodes + left ≡ processed_in (drop (suc place) nodes) + first
+processed-over nodes left first place n at quiet upto =
+    let more = processed-more place nodes n at in
+    let none = ap length quiet.0 in
+    omega arith
+
+module _ {M : Type 0} (meaning_of : M → Meaning) where
+  -- nodes that have worked on are quiet where they were
+  pub busy-on : (old new : List (NodeView M)) (places : List ℕ) → AllWorkOn meaning_of old new → NamesBusy old places → NamesBusy new places
+  busy-on old new places works busy =
+      let B : ℕ → Type 0 = AllBut IsQuiet new places 0 in
+      subst B (sym works.many) (but-as IsQuiet IsQuiet old new (λ place y at. each place y at) places 0 (length old) busy)
+    where
+      nil : {X : Type 0} (xs : List X) → length xs ≡ 0 → xs ≡ []
+      nil [] none = refl
+      nil (x ∷ xs) none = absurd (omega arith)
+
+      each : (place : ℕ) (y : NodeView M) → slice_get new place ≡ Some y → (x : NodeView M) × (slice_get old place ≡ Some x) × (IsQuiet x → IsQuiet y)
+      each place y at =
+          let below = slice_get_within new place y at in
+          let many = works.many in
+          let x = at-some old place (omega arith) in
+          let on = works.pairs place x.0 y x.1 at in (
+            x.0,
+            x.1,
+            λ quiet.
+                let one = on.processed in
+                let two = on.waiting in
+                let none = ap length quiet.0 in
+                let still = ap length quiet.1 in
+                (nil y.processed (omega arith), nil y.waiting (omega arith)),
+          )
+
+  -- it holds nothing
+  held-none : (n : NodeView M) → AreProcessedKeys (meaning_of n.model) n → n.processed ≡ [] → IsHeldLeast (meaning_of n.model) n NO_STAMP
+  unfolding replay_of
+  held-none n keys none = record {
+    from = λ object home.
+        let done = none-kept (log_at n.logs object).done (sym (keys.parts object) ∙ ap (filter (λ (k : Key). k.dest == object)) none) in
+        let E : List (Event × Firing) → Type 0 = EmitsFrom NO_STAMP in
+        subst E (sym (ap (λ ds. (replay_of (log_at n.logs object).state ds).done) done)) tt;
+    reached = inl refl;
+  }
+
+  pub opened-over : (end : ℕ) (nodes : List (NodeView M)) (bound : ℕ) → end < 2 ^ 63 → AreKnown meaning_of nodes → (place : ℕ) (n : NodeView M) → slice_get nodes place ≡ Some n → IsQuiet n
+      → IsOpenedUpto meaning_of end place nodes bound → IsOpenedUpto meaning_of end (suc place) nodes bound
+  opened-over end nodes bound far known place n at quiet opened =
+      let low = opened.within in
+      let O : ℕ → Type 0 = IsOpenedUpto meaning_of end (suc place) nodes in
+      subst O (let same : min bound NO_STAMP ≡ bound = omega arith in same) (opened-more meaning_of end place nodes bound NO_STAMP n (omega arith) opened at (held-none n (known place n at).keys quiet.0))
+
+  -- it met no fault
+  pub fault-over : (bound : ℕ) (nodes : List (NodeView M)) (least : Option (Key × ℕ)) → AreKnown meaning_of nodes → (place : ℕ) (n : NodeView M) → slice_get nodes place ≡ Some n → IsQuiet n
+      → IsLeastUpto fault_key (IsFaultBelow meaning_of bound) (MayFaultBelow meaning_of bound) place nodes least → IsLeastUpto fault_key (IsFaultBelow meaning_of bound) (MayFaultBelow meaning_of bound) (suc place) nodes least
+  fault-over bound nodes least known place n at quiet upto =
+      let F = IsFaultBelow meaning_of bound in
+      let G = MayFaultBelow meaning_of bound in
+      next-place (λ k. IsLeastUpto fault_key F G k nodes least) place
+      (subst (λ l. IsLeastUpto fault_key F G (place + 1) nodes l) (lesser-none fault_key least) (least-more fault_key F G place nodes n least None at upto (fault-none meaning_of bound n (known place n at).keys quiet.0)))
+
+  -- it commits nothing
+  pub commit-over : (bound : ℕ) (cut : Option Key) (old now : List (NodeView M)) (all : List Committed) (place : ℕ) (n : NodeView M) (c : Committed) → slice_get old place ≡ Some n → slice_get all place ≡ Some c
+      → HasCommitted (meaning_of n.model) bound cut n n c.done.items c.out.items → CommitUpto meaning_of bound cut place old now all → CommitUpto meaning_of bound cut (suc place) old now all
+  commit-over bound cut old now all place n c at at_all commits upto =
+      let here = upto.rest place (omega arith) ∙ at in
+      let C : List (NodeView M) → Type 0 = λ ns. CommitUpto meaning_of bound cut (place + 1) old ns all in
+      let D : List Committed → Type 0 = λ cs. CommitUpto meaning_of bound cut (place + 1) old (slice_set now place n) cs in
+      next-place (λ k. CommitUpto meaning_of bound cut k old now all) place
+      (subst C (at-same now place n here) (subst D (at-same all place c at_all) (commit-more meaning_of bound cut place old now all n n c upto here commits)))
+
+  -- it receives nothing
+  pub receive-over : (parcels : List (List Event)) (old now : List (NodeView M)) (place : ℕ) (n : NodeView M) (es : List Event) → slice_get now place ≡ Some n → slice_get parcels place ≡ Some es → es ≡ []
+      → ReceivesNothing (meaning_of n.model) n → CanReceive meaning_of es n → ReceiveUpto meaning_of place parcels old now → ReceiveUpto meaning_of (place + 1) parcels old now
+  receive-over parcels old now place n es here parcel none nothing can upto =
+      let K : List Event → Type 0 = λ xs. CanReceive meaning_of xs n in
+      let R : List Event → Type 0 = λ xs. Receives meaning_of xs n n in
+      let C : List (NodeView M) → Type 0 = λ ns. ReceiveUpto meaning_of (place + 1) parcels old ns in
+      let receives : Receives meaning_of [] n n = record { roomy = n; room = as_before (meaning_of n.model) n; count = 0; receives = nothing (subst K none can).keys } in
+      subst C (at-same now place n here) (receive-more meaning_of place parcels old now es n n upto here parcel (subst R (sym none) receives))
+
+  -- as far as nodes have committed: the lists behind stand as they did before
+  pub record IsCommitting (bound : ℕ) (cut : Option Key) (old now : List (NodeView M)) (before all : List Committed) (place : ℕ) : Type 0 where
+    pub upto : CommitUpto meaning_of bound cut place old now all
+    pub behind : (number : ℕ) → place ≤ number → slice_get all number ≡ slice_get before number
+
+  pub committing-over : (bound : ℕ) (cut : Option Key) (old now : List (NodeView M)) (before all : List Committed) → AreBlank (length old) before → AtEach (λ number n. CommitsNothing (meaning_of n.model) n) old
+      → AreDueDone meaning_of bound cut old → AtEach (λ number n. n.homes.nodes ≡ length old) old
+      → (place : ℕ) (n : NodeView M) → slice_get old place ≡ Some n → IsQuiet n → IsCommitting bound cut old now before all place → IsCommitting bound cut old now before all (suc place)
+  committing-over bound cut old now before all blank idle due wide place n at quiet so_far =
+      let below = slice_get_within old place n at in
+      let many = blank.many in
+      let c = at-some before place (omega arith) in
+      let at_all = so_far.behind place (omega arith) ∙ c.1 in
+      let B : ℕ → Type 0 = λ nodes. IsBlank nodes c.0 in
+      let commits = idle place n at quiet.0 bound cut (due place n at) c.0 (subst B (sym (wide place n at)) (blank.each place c.0 c.1)) in
+      record {
+        upto = commit-over bound cut old now all place n c.0 at at_all commits so_far.upto;
+        behind = λ number from. so_far.behind number (omega arith);
+      }
