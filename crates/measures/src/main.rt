@@ -1,14 +1,17 @@
 //! Measures parts of the simulator: its first word says which, and the numbers after it how much is done. What it prints
-//! is the same however long that takes: another program tells the time, as `time` does.
+//! is the same however long that takes: another program tells the time, as `time` does. It prints random words and draws too,
+//! to be compared with an independent computation.
 #![tactic(auto)]
 
 mod cells;
+mod draws;
 mod lanes;
 mod log;
 mod queue;
 mod stopped;
 
 use crate::cells::sum_after;
+use crate::draws::print_table;
 use crate::lanes::{by_rings, by_slots};
 use crate::log::run;
 use crate::queue::hold;
@@ -52,9 +55,10 @@ const USAGE: &str = "usage: measures cells PUSHES
        measures log OBJECTS ROUNDS BATCH
        measures slots NODES CYCLES
        measures rings NODES CYCLES
+       measures draws
        measures small";
 
-/// A little of each.
+/// A little of each, which `small` does before it prints the table of draws.
 const SMALL: [Measure; 5] = [
     Measure::Cells { pushes: 1_000 },
     Measure::Queue {
@@ -157,7 +161,10 @@ fn main(rt: HostRuntime) -> io::Result<()> {
         for measure in SMALL {
             print_done(&rt, alloc, measure)?;
         }
-        return Ok(());
+        return print_table(&rt, alloc);
+    }
+    if let ["draws"] = words.as_slice() {
+        return print_table(&rt, alloc);
     }
     match measure_of(words.as_slice()) {
         Some(measure) => print_done(&rt, alloc, measure),

@@ -1,10 +1,9 @@
-//! Writes random words and draws at places where the cipher's blocks and counters turn over.
+//! Random words and draws at places where the cipher's blocks and counters turn over.
 //!
-//! What it must write was computed by a ChaCha20 of its own, written in Python from RFC 8439. Each line has a seed,
+//! What must be written was computed by a ChaCha20 of its own, written in Python from RFC 8439. Each line has a seed,
 //! an object and a place, the word there, and for each law its value and the next place.
-#![tactic(auto)]
-
 use random_streams::{Law, Stream, Weights, draw};
+use std::alloc::Global;
 use std::io::{self, Print};
 
 const SEEDS: [u64; 4] = [0, 7, 81985529216486895, 9223372036854775807];
@@ -13,9 +12,10 @@ const OBJECTS: [u32; 3] = [0, 65535, 4294967295];
 
 const PLACES: [u64; 8] = [0, 15, 16, 17, 63, 64, 4294967296, 18446744073709551615];
 
-fn main(rt: HostRuntime) -> io::Result<()> {
-    let even = Weights::new(vec![in rt.alloc(); 9, 1]?);
-    let uneven = Weights::new(vec![in rt.alloc(); 0, 3, 0, 65535, 1]?);
+/// Prints the table.
+pub fn print_table(rt: &impl Print, alloc: Global) -> io::Result<()> {
+    let even = Weights::new(vec![in alloc; 9, 1]?);
+    let uneven = Weights::new(vec![in alloc; 0, 3, 0, 65535, 1]?);
     let laws = [
         Law::Uniform { low: 5, high: 20 },
         Law::Uniform {
@@ -33,7 +33,7 @@ fn main(rt: HostRuntime) -> io::Result<()> {
     for seed in SEEDS {
         for object in OBJECTS {
             for place in PLACES {
-                print_row(&rt, seed, object, place, &laws)?;
+                print_row(rt, seed, object, place, &laws)?;
             }
         }
     }
