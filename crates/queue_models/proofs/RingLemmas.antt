@@ -19,7 +19,7 @@ use Rattle.queue_models.specs.Rings.{ring_station, ring_delay, ring_object, ring
 object_for : ℕ → Bool → ℕ → Item
 object_for n is_station i = if is_station then ring_station i else ring_delay n i
 
-objects-length : (n : ℕ) → length (ring_objects n) ≡ 2 * n
+pub objects-length : (n : ℕ) → length (ring_objects n) ≡ 2 * n
 objects-length n = length-map-range_with_len (ring_object n) 0 (2 * n)
 
 objects-at : (n number : ℕ) (none : Item) → number < 2 * n → get_or (ring_objects n) number none ≡ object_for n (number % 2 == 0) (number / 2)

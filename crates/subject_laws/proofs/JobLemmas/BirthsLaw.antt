@@ -101,6 +101,13 @@ put_is_kept p t s told after n birth (in_line i k) put =
 put_is_kept p t s told after n birth has_left put = tt
 put_is_kept p t s told after n birth was_lost put = tt
 
+-- what the event keeps of births where it happens
+event_keeps : (p : NetworkParts) (t : Terms) (s : State) (told : Key × Note) (after : State) → IsNetwork p → (n : IsNetworkStep p t s told after)
+    → Keeps p n.step.event (cells_at s n.step.event.key.dest) n.step.effect (state_at s.objects n.step.event.key.dest).sent
+event_keeps p t s told after fine n =
+    keeps p n.step.event (cells_at s n.step.event.key.dest) (object_at p.objects n.step.event.key.dest).kind n.step.effect (state_at s.objects n.step.event.key.dest).sent refl
+    (object_fine p fine n.step.event.key.dest n.exists).kind n.cells n.does_so
+
 -- one job's birth, wherever the event moves the job
 kept_on : (p : NetworkParts) (t : Terms) (s : State) (told : Key × Note) (after : State) → IsNetwork p → (n : IsNetworkStep p t s told after) (birth : ℕ) (place : Place) → IsKeptAt p s birth place
     → IsKeptAt p after birth (place_after n.step.event.key (word_told n.step.effect.note) (length (waiting_at s n.step.event.key.dest)) (first_firing s n.step.event n.step.effect).events place)
@@ -115,11 +122,6 @@ kept_on p t s told after fine n birth (at_event k) kept = by (same_key k n.step.
     sent : List Event
     sent = (first_firing s n.step.event n.step.effect).events
 
-    its : Keeps p n.step.event (cells_at s n.step.event.key.dest) n.step.effect (state_at s.objects n.step.event.key.dest).sent
-    its =
-        keeps p n.step.event (cells_at s n.step.event.key.dest) (object_at p.objects n.step.event.key.dest).kind n.step.effect (state_at s.objects n.step.event.key.dest).sent refl
-        (object_fine p fine n.step.event.key.dest n.exists).kind n.cells n.does_so
-
     no_source : is_of_job p n.step.event ≡ true → is_source (object_at p.objects n.step.event.key.dest).kind ≡ false
     no_source of_job = not_true (is_source (object_at p.objects n.step.event.key.dest).kind) of_job
       where
@@ -133,7 +135,7 @@ kept_on p t s told after fine n birth (at_event k) kept = by (same_key k n.step.
         let of_job : is_of_job p e ≡ true = ap (is_of_job p) same ∙ kept.2 in
         let born : e.b ≡ birth = ap (λ (x : Event). x.b) same ∙ kept.4 in
         let B : ℕ → Type 0 = λ b. IsKeptAt p after b (own_place (word_told n.step.effect.note) d (length (waiting_at s d)) sent) in
-        subst B born (put_is_kept p t s told after n e.b _ (its.own (no_source of_job)))
+        subst B born (put_is_kept p t s told after n e.b _ ((event_keeps p t s told after fine n).own (no_source of_job)))
 
     by : (here : Bool) → same_key k n.step.event.key ≡ here
         → IsKeptAt p after birth
@@ -157,11 +159,6 @@ kept_on p t s told after fine n birth (in_line i k) kept = by (eqb i n.step.even
     sent : List Event
     sent = (first_firing s n.step.event n.step.effect).events
 
-    its : Keeps p n.step.event (cells_at s n.step.event.key.dest) n.step.effect (state_at s.objects n.step.event.key.dest).sent
-    its =
-        keeps p n.step.event (cells_at s n.step.event.key.dest) (object_at p.objects n.step.event.key.dest).kind n.step.effect (state_at s.objects n.step.event.key.dest).sent refl
-        (object_fine p fine n.step.event.key.dest n.exists).kind n.cells n.does_so
-
     at_dest : (k < length (births_waiting_at s n.step.event.key.dest)) × (slice_index (births_waiting_at s n.step.event.key.dest) k ≡ birth)
         → IsKeptAt p after birth (if word_told n.step.effect.note == 6 && n.step.event.key.dest == n.step.event.key.dest then moved_up (first_firing s n.step.event n.step.effect).events n.step.event.key.dest k else in_line n.step.event.key.dest k)
     at_dest kept =
@@ -169,7 +166,7 @@ kept_on p t s told after fine n birth (in_line i k) kept = by (eqb i n.step.even
         let B : ℕ → Type 0 = λ b. IsKeptAt p after b (if word == 6 then moved_up sent d k else in_line d k) in
         let T : Bool → Type 0 = λ b. IsKeptAt p after birth (if b then moved_up sent d k else in_line d k) in
         let both : (word == 6) ≡ (word == 6 && d == d) = sym (ap (λ b. word == 6 && b) (eq-eqb d d refl) ∙ and_true (word == 6)) in
-        subst T both (subst B kept.1 (put_is_kept p t s told after n _ _ (its.others k kept.0)))
+        subst T both (subst B kept.1 (put_is_kept p t s told after n _ _ ((event_keeps p t s told after fine n).others k kept.0)))
       where
         and_true : (b : Bool) → (b && true) ≡ b
         and_true true = refl
@@ -215,11 +212,6 @@ new_kept : (p : NetworkParts) (t : Terms) (s : State) (told : Key × Note) (afte
     AreKept p after (newly_made (word_told n.step.effect.note) n.step.event.key.dest number sent) (newly_born (word_told n.step.effect.note) (time_part n.step.event.key.stamp) sent))
 new_kept p t s told after fine n number = by (first_firing s n.step.event n.step.effect).events refl
   where
-    its : Keeps p n.step.event (cells_at s n.step.event.key.dest) n.step.effect (state_at s.objects n.step.event.key.dest).sent
-    its =
-        keeps p n.step.event (cells_at s n.step.event.key.dest) (object_at p.objects n.step.event.key.dest).kind n.step.effect (state_at s.objects n.step.event.key.dest).sent refl
-        (object_fine p fine n.step.event.key.dest n.exists).kind n.cells n.does_so
-
     by : (sent : List Event) → (first_firing s n.step.event n.step.effect).events ≡ sent
         → AreKept p after (newly_made (word_told n.step.effect.note) n.step.event.key.dest number sent) (newly_born (word_told n.step.effect.note) (time_part n.step.event.key.stamp) sent)
     by [] is = tt
@@ -229,7 +221,7 @@ new_kept p t s told after fine n number = by (first_firing s n.step.event n.step
             → AreKept p after (if two then (record { origin = made_by n.step.event.key.dest; number = number }, at_event y.key) ∷ [] else []) (if two then time_part n.step.event.key.stamp ∷ [] else [])
         makes_it false other = tt
         makes_it true two =
-            let made = its.made y ys (eqb-true (word_told n.step.effect.note) 2 two) is in
+            let made = (event_keeps p t s told after fine n).made y ys (eqb-true (word_told n.step.effect.note) 2 two) is in
             let C : List Event → Type 0 = λ es. Contains es y in
             let there : Contains (first_firing s n.step.event n.step.effect).events y = subst C (sym is) (0, (omega arith), refl) in
             ((y, sent-in (plain_meaning p) t s told after y n.step (subst C (sym (sent_next-step (plain_meaning p) t s told after n.step)) there), made.0, refl, made.1), tt)

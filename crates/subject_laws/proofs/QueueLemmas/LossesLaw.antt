@@ -17,6 +17,7 @@ use Rattle.sim_spec.specs.declared.terms.Terms.{Terms}
 use Rattle.sim_spec.specs.Firing.{ObjectState, firing_of, fired_by, fire, goes, fails, has_endless_chain}
 use Rattle.sim_spec.specs.State.{State, object_at as state_at}
 use Rattle.sim_spec.specs.Run.{stops, does, next, next_fired}
+use Rattle.sim_spec.proofs.FiringLemmas.{goes-effect}
 use Rattle.sim_spec.proofs.RunLemmas.{next-fires, state_after}
 use Rattle.queue_models.specs.declared.kind.KindOver.{KindOver}
 use Rattle.queue_models.specs.declared.site.Site.{Site}
@@ -120,9 +121,6 @@ told_by s e rest state (Goes x) told after is = (x, refl, by (has_endless_chain 
 fails_is : (a b : ℕ) → Fails a ≡ Fails b → a ≡ b
 fails_is a b same = cc
 
-goes_is : (x y : Effect) → Goes x ≡ Goes y → x ≡ y
-goes_is x y same = cc
-
 module _ (p : NetworkParts) (t : Terms) (s : State) (e : Event) (station : StationOver ℕ) (fine : IsNetwork p) (reached : Reaches (network_meaning p) t s) (n : IsNext t s e)
     (is : IsStationAt p e.key.dest station) where
   serving : AreServing s e.key.dest station
@@ -158,7 +156,7 @@ module _ (p : NetworkParts) (t : Terms) (s : State) (e : Event) (station : Stati
       → (station.strict ≡ false) × FindsNoRoom s e station
   lost_when o x (lost full loose) same word = (loose, from_full full)
   lost_when o x (failed full strict) same word = absurd (cc)
-  lost_when o x (other room y apart) same word = absurd (apart (ap (λ (z : Effect). word_told z.note) (goes_is y x same) ∙ word))
+  lost_when o x (other room y apart) same word = absurd (apart (ap (λ (z : Effect). word_told z.note) (goes-effect y x same) ∙ word))
 
   failed_when : (o : Outcome) → StationGives station (cells_at s e.key.dest) e o → o ≡ Fails 2 → (station.strict ≡ true) × FindsNoRoom s e station
   failed_when o (lost full loose) same = absurd (cc)

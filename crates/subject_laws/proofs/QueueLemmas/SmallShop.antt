@@ -29,16 +29,20 @@ use Rattle.subject_laws.proofs.Computing.{network_run}
 unfoldable pub counter : StationOver ℕ
 counter = record { servers = 1; service = Fixed 5; line = 2; strict = false; next = 2 }
 
-unfoldable pub shop : NetworkParts
-unfolding counter
-shop = record {
+-- the shop, if its source makes a job every so many ticks
+abbrev pub shop_every : ℕ → NetworkParts
+shop_every ticks = record {
   seed = 7;
-  objects = record { name = 112 ∷ []; kind = Source (record { first = 1; every = (Fixed 2); count = 4; next = 1 }); rank = 0; quiet = false; trace = false }
+  objects = record { name = 112 ∷ []; kind = Source (record { first = 1; every = (Fixed ticks); count = 4; next = 1 }); rank = 0; quiet = false; trace = false }
       ∷ record { name = 113 ∷ []; kind = Station counter; rank = 0; quiet = false; trace = false }
       ∷ record { name = 114 ∷ []; kind = Sink (record { due = None }); rank = 0; quiet = false; trace = false }
       ∷ [];
   jobs = [];
 }
+
+unfoldable pub shop : NetworkParts
+unfolding counter
+shop = shop_every 2
 
 unfoldable pub to_fifty : Terms
 to_fifty = record { end = 50; limit = 100; end_in_range = lit< tt; some_event = lit≤ tt; limit_in_range = lit≤ tt }

@@ -38,10 +38,10 @@ use Rattle.queue_models.specs.Meaning.{plain_meaning, network_meaning, site_of, 
 use Rattle.queue_models.specs.ModelLaws.{object_fine}
 use Rattle.queue_models.specs.Objects.{NetworkParts, object_at, source_numbers}
 use Rattle.queue_models.specs.Parts.{IsNetwork, IsLink}
-use Rattle.queue_models.specs.Rings.{ring_object, ring_objects, ring_jobs, ring_parts, ring_terms}
+use Rattle.queue_models.specs.Rings.{ring_objects, ring_jobs, ring_parts, ring_terms}
 use Rattle.queue_models.specs.Stations.{waiting_jobs, station_effect, take_effect, wait_effect, lose_effect, serve_effect, free_effect}
 use Rattle.queue_models.specs.Starts.{source_numbers-exist}
-use Rattle.queue_models.proofs.RingLemmas.{ring_is_network}
+use Rattle.queue_models.proofs.RingLemmas.{objects-length, ring_is_network}
 use Rattle.run_laws.specs.Reached.{Reaches}
 use Rattle.run_laws.proofs.Induction.{each_reached}
 use Rattle.run_laws.proofs.ReachedLemmas.{run_is_reached}
@@ -85,9 +85,6 @@ part_of_sum f d a (suc m) from upto = by (eqb a d) refl (λ past. part_of_sum f 
         let rest : f d ≤ sum_by f (range_with_len (a + 1) m) = more (omega arith) in
         omega (arith, sum_by-cons f a (range_with_len (a + 1) m))
 
-objects_long : (n : ℕ) → length (ring_objects n) ≡ 2 * n
-objects_long n = length-map-range_with_len (ring_object n) 0 (2 * n)
-
 -- an event of a ring moves one job
 event_moves : (n now : ℕ) (s : State) (told : Key × Note) (after : State) → IsNetwork (ring_parts n) → n ≤ 256 → (step : IsNetworkStep (ring_parts n) ring_terms s told after) → Turns n now s
     → IsTurn now step.step.event → time_part step.step.event.key.stamp ≤ 1000
@@ -95,7 +92,7 @@ event_moves : (n now : ℕ) (s : State) (told : Key × Note) (after : State) →
     (waiting_jobs (cells_after_all step.step.effect.changes (cells_at s step.step.event.key.dest)))
 unfolding plain_meaning network_meaning all_waiting
 event_moves n now s told after fine few step before turn due =
-    by (object_at (ring_objects n) step.step.event.key.dest).kind refl (ring_kind n step.step.event.key.dest (let long = objects_long n in let exists : step.step.event.key.dest < length (ring_objects n) = step.exists in omega arith))
+    by (object_at (ring_objects n) step.step.event.key.dest).kind refl (ring_kind n step.step.event.key.dest (let long = objects-length n in let exists : step.step.event.key.dest < length (ring_objects n) = step.exists in omega arith))
   where
     by : (kind : KindOver ℕ) → (object_at (ring_objects n) step.step.event.key.dest).kind ≡ kind → RingKind step.step.event.key.dest kind
         → Moves step.step.event (first_firing s step.step.event step.step.effect).events (length (waiting_at s step.step.event.key.dest))
@@ -107,7 +104,7 @@ event_moves n now s told after fine few step before turn due =
         let D : KindOver ℕ → Type 0 = λ kind. EventDoes (ring_objects n) (site_of (ring_parts n) d) cells e kind step.step.effect in
         let L : KindOver ℕ → Type 0 = λ kind. IsTrue (is_lawful kind cells) in
         let part : length (waiting_at s d) ≤ all_waiting n s =
-        part_of_sum (λ i. length (waiting_at s i)) d 0 (2 * n) (omega arith) (let long = objects_long n in let exists : d < length (ring_objects n) = step.exists in omega arith) in
+        part_of_sum (λ i. length (waiting_at s i)) d 0 (2 * n) (omega arith) (let long = objects-length n in let exists : d < length (ring_objects n) = step.exists in omega arith) in
         let pending : length s.pending ≡ suc (length step.step.rest) = ap (λ (es : List Event). length es) step.step.pending in
         station_moves (site_of (ring_parts n) d) station cells e step.step.effect (state_at s.objects d).sent ring (station_shape station.servers station.line cells (subst L is step.cells))
         refl even (turn.step even) due (let all = before.jobs in omega arith) (subst D is step.does_so)
@@ -136,7 +133,7 @@ turns_on n now s told after fine few step before =
     let moves = event_moves n now s told after fine few step before turns.0 due in
     let was : length s.pending ≡ suc (length step.step.rest) = ap (λ (es : List Event). length es) step.step.pending in
     let now_long : length after.pending ≡ length sent + length step.step.rest = ap (λ (s : State). length s.pending) step.step.leaves ∙ length-enqueue_all sent step.step.rest in
-    let exists : d < 2 * n = (let long = objects_long n in let there : d < length (ring_objects n) = step.exists in omega arith) in
+    let exists : d < 2 * n = (let long = objects-length n in let there : d < length (ring_objects n) = step.exists in omega arith) in
     let here : length (waiting_at after d) ≡ waiting_jobs (cells_after_all step.step.effect.changes (cells_at s d)) =
     ap (λ (c : CellData). length (line_of c 0)) (cells_here (ring_parts n) ring_terms s told after step) in
     let change : all_waiting n s + length (waiting_at after d) ≡ all_waiting n after + length (waiting_at s d) =
@@ -175,7 +172,7 @@ turns_on n now s told after fine few step before =
 no_sources : (n k : ℕ) → k < length (source_numbers (ring_objects n)) → ⊥
 no_sources n k within =
     by (object_at (ring_objects n) number).kind
-    (ring_kind n number (let long = objects_long n in let exists = source_numbers-exist (ring_objects n) k within in omega arith)) (source_number (ring_parts n) k within)
+    (ring_kind n number (let long = objects-length n in let exists = source_numbers-exist (ring_objects n) k within in omega arith)) (source_number (ring_parts n) k within)
   where
     number : ℕ
     number = slice_index_or (source_numbers (ring_objects n)) k 0
@@ -230,7 +227,7 @@ turns_first n =
     let count : length starts ≡ length (source_numbers (ring_objects n)) + length (ring_jobs n) = length-map-range_with_len (start_event m) 0 m.starts in
     let nobody : all_waiting n (initial_state m) ≡ 0 =
     same_range (λ i. length (waiting_at (initial_state m) i)) (λ i. 0) (2 * n) 0 (2 * n) (omega arith)
-    (λ i within. ap (λ (c : CellData). length (line_of c 0)) (cells_at_start (ring_parts n) i (let long = objects_long n in omega arith)) ∙ ap (λ (xs : List ℕ). length xs) (first_line (object_at (ring_objects n) i).kind))
+    (λ i within. ap (λ (c : CellData). length (line_of c 0)) (cells_at_start (ring_parts n) i (let long = objects-length n in omega arith)) ∙ ap (λ (xs : List ℕ). length xs) (first_line (object_at (ring_objects n) i).kind))
     ∙ sum-zero (range_with_len 0 (2 * n)) in
     record {
       upto = omega arith;
@@ -286,7 +283,7 @@ goes_on : (n now : ℕ) (s : State) (e : Event) (rest : List Event) → IsNetwor
     → (x : Effect) × (effect_at (site_of (ring_parts n) e.key.dest) (object_at (ring_objects n) e.key.dest).kind (cells_at s e.key.dest) e ≡ Goes x) × (has_endless_chain e.key.stamp x.sends ≡ false)
 unfolding plain_meaning network_meaning
 goes_on n now s e rest fine lawful pending turn =
-    by (object_at (ring_objects n) e.key.dest).kind refl (ring_kind n e.key.dest (let long = objects_long n in let there : e.key.dest < length (ring_objects n) = exists in omega arith))
+    by (object_at (ring_objects n) e.key.dest).kind refl (ring_kind n e.key.dest (let long = objects-length n in let there : e.key.dest < length (ring_objects n) = exists in omega arith))
     (effect_at (site_of (ring_parts n) e.key.dest) (object_at (ring_objects n) e.key.dest).kind (cells_at s e.key.dest) e) refl
   where
     exists : e.key.dest < length (ring_objects n)
@@ -358,12 +355,12 @@ only_the_end n now s stop fine few lawful turns is_stop = by s.pending refl
 no_loss : (n now : ℕ) (s : State) (told : Key × Note) (after : State) → n ≤ 256 → (step : IsNetworkStep (ring_parts n) ring_terms s told after) → Turns n now s → word_told step.step.effect.note ≡ 5 → ⊥
 unfolding plain_meaning network_meaning all_waiting take_effect wait_effect lose_effect serve_effect free_effect delay_effect
 no_loss n now s told after few step turns word =
-    by (object_at (ring_objects n) step.step.event.key.dest).kind refl (ring_kind n step.step.event.key.dest (let long = objects_long n in let exists : step.step.event.key.dest < length (ring_objects n) = step.exists in omega arith))
+    by (object_at (ring_objects n) step.step.event.key.dest).kind refl (ring_kind n step.step.event.key.dest (let long = objects-length n in let exists : step.step.event.key.dest < length (ring_objects n) = step.exists in omega arith))
   where
     part : length (waiting_at s step.step.event.key.dest) ≤ all_waiting n s
     part =
         part_of_sum (λ i. length (waiting_at s i)) step.step.event.key.dest 0 (2 * n) (omega arith)
-        (let long = objects_long n in let exists : step.step.event.key.dest < length (ring_objects n) = step.exists in omega arith)
+        (let long = objects-length n in let exists : step.step.event.key.dest < length (ring_objects n) = step.exists in omega arith)
 
     at_a_station : (site : Site) (cells : CellData) (e : Event) (station : StationOver ℕ) (x : Effect) → station.line ≡ 256 → waiting_jobs cells < 256 → StationDoes site cells e station x → word_told x.note ≡ 5 → ⊥
     at_a_station site cells e station x line few (takes apart free) word = absurd (let w : ◌≡◌ {A = ℕ} 3 5 = word in omega arith)
