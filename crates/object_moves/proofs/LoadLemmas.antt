@@ -1,12 +1,16 @@
 -- The first of the best nodes.
 use Rattle.std.proofs.Common.{◌≡◌, inl, inr, ℕ, suc, ◌+◌, ◌<◌, ◌≤◌, ◌≢◌, Bool, true, false, cond, List, [], ◌∷◌, length, get_or, ne_eqb, eqb, eqb-true, refl, sym, ap, ◌∙◌, subst, arith}
 use Rattle.std.proofs.lemmas.Bool.{eqb-false}
+use Rattle.std.specs.List.{AllByRecursion}
 use Rattle.std.proofs.lemmas.Option.{slice_get_within}
 use Rattle.std.specs.Prelude.{filter, slice_get, ◌==◌, Some, None}
 use Rattle.node_core.specs.Homes.{HomesView, IsLeastObject, objects_of}
 use Rattle.node_core.specs.Nodes.{NodeView}
 use Rattle.cycle_core.proofs.PlaceLemmas.{at-some, same-some}
-use Rattle.object_moves.specs.Loads.{IsFirstLoad, Picks, load}
+use Rattle.cycle_core.specs.Worlds.{WorldView}
+use Rattle.object_moves.specs.declared.moves.Move.{Move}
+use Rattle.object_moves.specs.Loads.{IsFirstLoad, IsPlanByLoad, Picks, least_of, load, most_of}
+use Rattle.object_moves.specs.Moves.{Exists}
 
 module _ {M : Type 0} (best : ℕ → ℕ → Type 0) (nodes : List (NodeView M)) where
   -- among the first so many nodes
@@ -86,3 +90,16 @@ home-none (h ∷ hs) number d none =
 -- a node that counts objects has a least one
 pub some-object : (h : HomesView) (number : ℕ) → IsLeastObject h number None → 2 ≤ objects_of h number → ⊥
 some-object h number none some = let zero_is = home-none h.homes number h.nodes none in omega arith
+
+-- no move is planned where none may be
+pub no_plan : {M : Type 0} (w : WorldView M) (full empty : ℕ) (moves : List Move) (full_is : IsFirstLoad most_of w.nodes full) (empty_is : IsFirstLoad least_of w.nodes empty) → moves ≡ []
+    → (load empty_is.node + 2 ≤ load full_is.node → 2 ≤ objects_of w.homes full → ⊥) → IsPlanByLoad w moves
+no_plan w full empty moves full_is empty_is none never = record {
+  full = full;
+  empty = empty;
+  full_is = full_is;
+  empty_is = empty_is;
+  none = λ so. none;
+  one = λ more two. absurd (never more two);
+  exist = (let P : List Move → Type 0 = AllByRecursion (Exists w.homes) in subst P (sym none) tt);
+}

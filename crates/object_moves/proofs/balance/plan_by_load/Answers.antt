@@ -9,7 +9,7 @@ use Rattle.cycle_core.proofs.PlaceLemmas.{same-some}
 use Rattle.object_moves.specs.declared.moves.Move.{Move}
 use Rattle.object_moves.specs.Loads.{load}
 use Rattle.object_moves.specs.Moves.{Exists}
-use Rattle.object_moves.proofs.LoadLemmas.{some-object}
+use Rattle.object_moves.proofs.LoadLemmas.{no_plan, some-object}
 use Rattle.object_moves.proofs.balance.plan_by_load.Goals as goal
 
 pub returns-then-more-lt2 : goal.returns-then-more-lt2
@@ -18,15 +18,7 @@ returns-then-more-lt2 g c =
     let full = ap (λ (n : NodeView g.row.M.Denot). load n) (same-some c.fullest.ensures.node c.node-from.result.now (sym c.fullest.ensures.at ∙ c.node-from.ensures)) in
     let empty = ap (λ (n : NodeView g.row.M.Denot). load n) (same-some c.emptiest-node.ensures.node c.node.result.now (sym c.emptiest-node.ensures.at ∙ c.node.ensures)) in
     let a = c.pending.ensures in let b = c.pending-2.ensures in let d = c.saturating_sub-more.ensures in let low = c.if-more-lt2.true in
-    record {
-      full = c.fullest.result;
-      empty = c.emptiest-node.result;
-      full_is = c.fullest.ensures;
-      empty_is = c.emptiest-node.ensures;
-      none = λ so. c.new.ensures.items;
-      one = λ more two. absurd (omega arith);
-      exist = (let P : List Move → Type 0 = AllByRecursion (Exists w.homes) in subst P (sym c.new.ensures.items) tt);
-    }
+    no_plan w c.fullest.result c.emptiest-node.result c.new.result.items c.fullest.ensures c.emptiest-node.ensures c.new.ensures.items (λ more two. omega arith)
 
 pub returns-then-objects-lt2 : goal.returns-then-objects-lt2
 returns-then-objects-lt2 g c =
@@ -34,15 +26,7 @@ returns-then-objects-lt2 g c =
     let is = c.requires.nodes.each c.fullest.result c.node-from.result.now c.node-from.ensures in
     let at = c.objects.ensures ∙ (λ i. objects_of (is.homes_is i) (is.number_is i)) in
     let low = c.if-objects-lt2.true in
-    record {
-      full = c.fullest.result;
-      empty = c.emptiest-node.result;
-      full_is = c.fullest.ensures;
-      empty_is = c.emptiest-node.ensures;
-      none = λ so. c.new-then-objects-lt2.ensures.items;
-      one = λ more two. absurd (omega arith);
-      exist = (let P : List Move → Type 0 = AllByRecursion (Exists w.homes) in subst P (sym c.new-then-objects-lt2.ensures.items) tt);
-    }
+    no_plan w c.fullest.result c.emptiest-node.result c.new-then-objects-lt2.result.items c.fullest.ensures c.emptiest-node.ensures c.new-then-objects-lt2.ensures.items (λ more two. omega arith)
 
 pub unreachable-requires : goal.unreachable-requires
 unreachable-requires g c =

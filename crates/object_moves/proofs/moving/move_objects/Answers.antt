@@ -11,21 +11,28 @@ use Rattle.object_moves.specs.declared.step.Step.{Step}
 use Rattle.object_moves.specs.Moves.{homes_after}
 use Rattle.object_moves.specs.Steps.{AreSteps, IsStep}
 use Rattle.object_moves.proofs.PreparingLemmas.{at-same, steps-first, steps-last}
+use Rattle.object_moves.proofs.moving.move_objects.Given.{Over}
 use Rattle.object_moves.proofs.moving.move_objects.Goals as goal
+use Rattle.object_moves.proofs.moving.move_objects.Goals.{In-Some}
+
+-- the step that is taken, and those that are left
+taken : (g : Over) (c : In-Some g) → IsStep (processed_in c.args.world.now.nodes) c.loop-step.world.homes c.in-Some.step
+    × AreSteps (processed_in c.args.world.now.nodes) c.in-Some.step.copies.homes c.next.new.self.rest.items (homes_after c.args.world.now.homes c.args.moves.now)
+taken g c =
+    let all = processed_in c.args.world.now.nodes in
+    let end = homes_after c.args.world.now.homes c.args.moves.now in
+    let A : List Step → Type 0 = λ ps. AreSteps all c.loop-step.world.homes ps end in
+    steps-first all c.loop-step.world.homes end c.in-Some.step c.next.new.self.rest.items (subst A c.in-Some.ensures.steps.0 c.loop-step.invariant.steps)
 
 pub make-requires-after_bounds : goal.make-requires-after_bounds
 make-requires-after_bounds g c κs within =
+    let first = taken g (goal.at.make-requires-after_bounds g c).In-Some in
     let world = c.args.world.now in
-    let all = processed_in world.nodes in
-    let end = homes_after world.homes c.args.moves.now in
     let inv = c.loop-step.invariant in
     let homes = c.loop-step.world.homes in
-    let p = c.in-Some.step in
     let slice = c.as_mut_slice.result.now in
-    let A : List Step → Type 0 = λ ps. AreSteps all homes ps end in
-    let first = steps-first all homes end p c.next.new.self.rest.items (subst A c.in-Some.ensures.steps.0 inv.steps) in
     let S : List (NodeView g.row.M.Denot) → Type 0 = λ ns. StandsAt (g.M.Model.meaning world.model) (record world { nodes = ns; homes = homes }) c.requires.stands.0 in
-    let I : ℕ → Type 0 = λ n. IsStep n homes p in
+    let I : ℕ → Type 0 = λ n. IsStep n homes c.in-Some.step in
     record {
       world = record world { nodes = slice; homes = homes };
       state = c.requires.stands.0;
@@ -35,28 +42,17 @@ make-requires-after_bounds g c κs within =
     }
 
 pub set_homes-requires-clause-nodes : goal.set_homes-requires-clause-nodes
-set_homes-requires-clause-nodes g c κs within =
-    let world = c.args.world.now in
-    let all = processed_in world.nodes in
-    let end = homes_after world.homes c.args.moves.now in
-    let homes = c.loop-step.world.homes in
-    let p = c.in-Some.step in
-    let A : List Step → Type 0 = λ ps. AreSteps all homes ps end in
-    let first = steps-first all homes end p c.next.new.self.rest.items (subst A c.in-Some.ensures.steps.0 c.loop-step.invariant.steps) in
-    ap (λ (h : HomesView). h.nodes) (c.make.ensures.homes ∙ first.0.after)
+set_homes-requires-clause-nodes g c κs within = ap (λ (h : HomesView). h.nodes) (c.make.ensures.homes ∙ (taken g (goal.at.set_homes-requires-clause-nodes g c).In-Some).0.after)
 
 pub loop-step-preserved : goal.loop-step-preserved
 loop-step-preserved g c =
+    let first = taken g (goal.at.loop-step-preserved g c).In-Some in
     let world = c.args.world.now in
-    let all = processed_in world.nodes in
-    let end = homes_after world.homes c.args.moves.now in
     let inv = c.loop-step.invariant in
     let homes = c.loop-step.world.homes in
     let p = c.in-Some.step in
     let slice = c.as_mut_slice.result.now in
     let news = c.make.new.nodes in
-    let A : List Step → Type 0 = λ ps. AreSteps all homes ps end in
-    let first = steps-first all homes end p c.next.new.self.rest.items (subst A c.in-Some.ensures.steps.0 inv.steps) in
     let S : List (NodeView g.row.M.Denot) → State → Type 0 = λ ns s. StandsAt (g.M.Model.meaning world.model) (record world { nodes = ns; homes = homes }) s in
     let I : ℕ → Type 0 = λ n. IsStep n homes p in
     let step = subst I (sym inv.processed ∙ ap processed_in (sym c.as_mut_slice.ensures.value)) first.0 in
@@ -69,7 +65,7 @@ loop-step-preserved g c =
     let four = c.loop-step.nodes.ok.0 in
     let whole = with_items_is c.loop-step.nodes news (omega arith) in
     let at : c.set_homes.new.self.homes ≡ p.copies.homes = ap (λ (v : WorldView g.row.M.Denot). v.homes) c.set_homes.ensures ∙ c.make.ensures.homes in
-    let R : HomesView → Type 0 = λ h. AreSteps all h c.next.new.self.rest.items end in
+    let R : HomesView → Type 0 = λ h. AreSteps (processed_in world.nodes) h c.next.new.self.rest.items (homes_after world.homes c.args.moves.now) in
     record {
       world = c.set_homes.ensures ∙ ap (λ (v : WorldView g.row.M.Denot). record v { homes = arc_value c.make.result }) inv.world
           ∙ ap (λ (h : HomesView). record world { nodes = []; homes = h }) (ap (λ (v : WorldView g.row.M.Denot). v.homes) (sym c.set_homes.ensures));
