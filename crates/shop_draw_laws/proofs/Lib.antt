@@ -1,3 +1,4 @@
+pub mod CallsLater
 pub mod ClassLaw
 pub mod DrawsLaw
 pub mod EntriesAfter

@@ -1,5 +1,5 @@
 -- Nobody waits for longer than his patience: its end is pending for as long as he waits.
-use Rattle.std.proofs.Common.{◌≡◌, ◌≢◌, ℕ, suc, ◌+◌, ◌-◌, ◌%◌, ◌^◌, ◌<◌, ◌≤◌, Bool, true, false, List, [], ◌∷◌, ◌++◌, length, refl, sym, ap, ◌∙◌, subst, ⊎_elim, arith, append-nil, append_assoc, get_or-set_same, eq-eqb}
+use Rattle.std.proofs.Common.{◌≡◌, ◌≢◌, ℕ, suc, ◌+◌, ◌-◌, ◌*◌, ◌%◌, ◌^◌, ◌<◌, ◌≤◌, Bool, true, false, List, [], ◌∷◌, ◌++◌, length, refl, sym, ap, ◌∙◌, subst, ⊎_elim, arith, append-nil, append_assoc, get_or-set_same, eq-eqb}
 use Rattle.std.specs.Prelude.{if◌then◌else◌, ◌==◌, ◌&&◌, nat_lt, nat_le, slice_index, slice_set, Contains, Option, None, Some}
 use Rattle.std.specs.List.{AllByRecursion as Each}
 use Rattle.std.proofs.lemmas.Bool.{cases_eq, and_from, eqb-true, eqb-false, lt-ltb, le-leb}
@@ -8,7 +8,7 @@ use Rattle.std.proofs.lemmas.List.Elements.{Contains-append_left, Contains-appen
 use Rattle.std.proofs.lemmas.List.Sorted.{Contains-permutation}
 use Rattle.event_key.specs.declared.key.Key.{Key}
 use Rattle.event_key.specs.Keys.{key_lt}
-use Rattle.event_key.specs.Stamps.{time_part}
+use Rattle.event_key.specs.Stamps.{time_part, step_part, next_stamp}
 use Rattle.event_key.proofs.Order.{stamp-le}
 use Rattle.key_order.specs.Ascending.{IsAscending, Ascends}
 use Rattle.key_order.specs.Pending.{enqueue_all}
@@ -23,6 +23,7 @@ use Rattle.model_core.specs.declared.effect.Effect.{Effect}
 use Rattle.model_core.specs.declared.event.Event.{Event}
 use Rattle.model_core.specs.declared.event.Send.{Send}
 use Rattle.model_core.specs.declared.note.Note.{Note}
+use Rattle.model_core.specs.declared.words.TheConstants.{CALLED_WORD}
 use Rattle.model_core.specs.Effects.{blank}
 use Rattle.model_core.specs.Meaning.{Meaning}
 use Rattle.model_core.specs.Places.{place_changes}
@@ -57,7 +58,7 @@ use Rattle.shop_model.specs.ShopParts.{ShopParts, IsShop, routes_of, station_at}
 use Rattle.shop_model.specs.Sites.{to_self, place_of, words_at, drawn_at, drawn_or}
 use Rattle.shop_model.specs.StationEffects.{take_effect, tire_sent, until_of, wait_effect, lose_effect, out_changes, begin_effect, pass_effect, renege_effect, renege_step, renege_job, tires, tire_effect, call_effect, shift_effect, break_effect, mend_effect, still_effect, works_effect}
 use Rattle.shop_model.specs.Stations.{counts_of, gone_word, jobs_line, births_line, since_line, until_line, is_entry, first_station_cells}
-use Rattle.shop_laws.specs.Told.{cells_at}
+use Rattle.shop_laws.specs.Told.{word_told, cells_at}
 use Rattle.shop_laws.proofs.After.{readings_after, reads_after, push, one_less}
 use Rattle.shop_laws.proofs.Cases.{StationDoes, rests, goes_on, frees, takes, waits, loses, passes, begins, ends, puts_off, reneges, shifts, stands, works, VisitsHere, entry_visits}
 use Rattle.shop_laws.proofs.Entries.{four_jobs, four_elsewhere}
@@ -69,6 +70,7 @@ use Rattle.shop_laws.proofs.Steps.{IsShopStep, shop_step, cells_here, cells_else
 use Rattle.shop_draw_laws.specs.Draws.{patience_at, step_named}
 use Rattle.shop_draw_laws.specs.Patience.{joined}
 use Rattle.shop_draw_laws.specs.PatienceLaws.{NobodyOutwaits}
+use Rattle.shop_draw_laws.proofs.CallsLater.{CallsLater, calls_later, is_call}
 use Rattle.shop_draw_laws.proofs.EntriesAfter.{Stands, Joins, Came, stood, joins, came, ups, moves_up, empty_place}
 use Rattle.shop_draw_laws.proofs.PatienceLaw.{all_wait}
 use Rattle.shop_draw_laws.proofs.Places.{Leaves, word_stays, words_long, placed_leaves, out_leaves, begin_leaves}
@@ -324,8 +326,17 @@ module _ (site : Site) (routes : Routes) (station : Station) (cells : CellData) 
       let read : slice_index (with_flipped line place) place ≡ value = get_or-set_same line place value 0 there.within in
       omega (arith, ap (λ xs. slice_index xs place) now, read, empty_place site routes station cells e (slice_index line place) little)
 
--- the end of the patience of an entry of this number is pending, at its time
-record IsTired (s : State) (i level number until : ℕ) : Type 0 where
+-- what is sent with a delay comes at the first step of its tick
+first_step : (stamp delay : ℕ) → 0 < delay → step_part (next_stamp stamp delay) ≡ 0
+unfolding next_stamp
+first_step stamp delay some = by (delay == 0) refl
+  where
+    by : (none : Bool) → (delay == 0) ≡ none → step_part (if none then stamp + 1 else (time_part stamp + delay) * 65536) ≡ 0
+    by true none = absurd (let zero : delay ≡ 0 = eqb-true delay 0 none in omega arith)
+    by false more = omega arith
+
+-- the end of the patience of an entry of this number is pending, at its time, and if that isn't at once at the first step of its tick
+record IsTired (s : State) (i level number since until : ℕ) : Type 0 where
   pub event : Event
   pub pending : Contains s.pending event
   pub kind : event.kind ≡ TIRE
@@ -333,11 +344,12 @@ record IsTired (s : State) (i level number until : ℕ) : Type 0 where
   pub its : event.b ≡ level
   pub number_is : event.a ≡ number
   pub time : time_part event.key.stamp ≡ until
+  pub soon : since < until → step_part event.key.stamp ≡ 0
 
 -- of a state: each job that waits and has a patience tires, and no more entries have come than events have happened
 record Tiring (p : ShopParts) (s : State) : Type 0 where
   pub tires : (i level place a since until : ℕ) → i < length p.stations → level < (station_at p.stations i).levels → a < EMPTY
-      → Stands (λ k. line_of (cells_at s i) k) level place a since until → until ≢ NEVER → IsTired s i level (gone_of (cells_at s i) level + place) until
+      → Stands (λ k. line_of (cells_at s i) k) level place a since until → until ≢ NEVER → IsTired s i level (gone_of (cells_at s i) level + place) since until
   pub room : (i level : ℕ) → i < length p.stations → level < (station_at p.stations i).levels → gone_of (cells_at s i) level + long_of (cells_at s i) level ≤ s.count
 
 module _ (p : ShopParts) (t : Terms) (fine : IsShop p) (s : State) (told : Key × Note) (after : State) (reached : Reaches (shop_meaning p) t s)
@@ -363,8 +375,8 @@ module _ (p : ShopParts) (t : Terms) (fine : IsShop p) (s : State) (told : Key �
       (Contains-permutation (sent ++ n.step.rest) (enqueue_all sent n.step.rest) e (enqueue_all-permutation sent n.step.rest) there)
 
   -- what was pending and isn't the event still is
-  stays : (i level number until : ℕ) (tired : IsTired s i level number until) → (event ≡ tired.event → ⊥) → IsTired after i level number until
-  stays i level number until tired other =
+  stays : (i level number since until : ℕ) (tired : IsTired s i level number since until) → (event ≡ tired.event → ⊥) → IsTired after i level number since until
+  stays i level number since until tired other =
       let there : Contains (event ∷ n.step.rest) tired.event = subst (λ (es : List Event). Contains es tired.event) n.step.pending tired.pending in
       record {
         event = tired.event;
@@ -377,6 +389,7 @@ module _ (p : ShopParts) (t : Terms) (fine : IsShop p) (s : State) (told : Key �
         its = tired.its;
         number_is = tired.number_is;
         time = tired.time;
+        soon = tired.soon;
       }
 
   counted : after.count ≡ s.count + 1
@@ -430,7 +443,7 @@ module _ (p : ShopParts) (t : Terms) (fine : IsShop p) (s : State) (told : Key �
 
     -- a job that joins
     joins_so : (level place a since until : ℕ) → level < station.levels → until ≢ NEVER → (one : Joins site (routes_of p) station cells event x level place a since until)
-        → (law : Option DelayLaw) → one.visit.patience ≡ law → IsTired after object level (gone_of (cells_at after object) level + place) until
+        → (law : Option DelayLaw) → one.visit.patience ≡ law → IsTired after object level (gone_of (cells_at after object) level + place) since until
     joins_so level place a since until below ending one None is = absurd (ending (one.ends ∙ ap (λ (law : Option DelayLaw). until_of site cells law) is))
     joins_so level place a since until below ending one (Some law) is =
         let d : ℕ = (drawn_at site (place_of cells) law).0 in
@@ -453,10 +466,11 @@ module _ (p : ShopParts) (t : Terms) (fine : IsShop p) (s : State) (told : Key �
           its = refl;
           number_is = omega (arith, small, gone_so level below, none, one.last);
           time = omega (arith, tick, until_is);
+          soon = λ some. let more : 0 < d = omega (arith, until_is, one.now, some) in first_step event.key.stamp d more;
         }
 
     tires_here : (level place a since until : ℕ) → level < station.levels → a < EMPTY → Stands (λ k. line_of (cells_at after object) k) level place a since until → until ≢ NEVER
-        → IsTired after object level (gone_of (cells_at after object) level + place) until
+        → IsTired after object level (gone_of (cells_at after object) level + place) since until
     tires_here level place a since until below small there ending =
         by (came site (routes_of p) station cells event st.at.lawful x st.does_so level place a since until below small read)
       where
@@ -471,14 +485,14 @@ module _ (p : ShopParts) (t : Terms) (fine : IsShop p) (s : State) (told : Key �
           until_is = subst (λ xs. slice_index xs place ≡ until) (reads.line (until_line level) (λ e. absurd (omega arith))) later.until_is;
         }
 
-        by : Came site (routes_of p) station cells event x (ups_at level) level place a since until → IsTired after object level (gone_of (cells_at after object) level + place) until
+        by : Came site (routes_of p) station cells event x (ups_at level) level place a since until → IsTired after object level (gone_of (cells_at after object) level + place) since until
         by (joins one) = joins_so level place a since until below ending one one.visit.patience refl
         by (stood was) =
             let up : ℕ = ups_at level in
-            let tired : IsTired s object level (gone_of cells level + (place + up)) until = before.tires object level (place + up) a since until early below small was ending in
+            let tired : IsTired s object level (gone_of cells level + (place + up)) since until = before.tires object level (place + up) a since until early below small was ending in
             let number : gone_of cells level + (place + up) ≡ gone_of (cells_at after object) level + place = omega (arith, gone_so level below) in
-            subst (λ k. IsTired after object level k until) number
-            (stays object level (gone_of cells level + (place + up)) until tired (λ same. absurd (
+            subst (λ k. IsTired after object level k since until) number
+            (stays object level (gone_of cells level + (place + up)) since until tired (λ same. absurd (
             let kind : event.kind ≡ TIRE = ap (λ (e : Event). e.kind) same ∙ tired.kind in
             let its : event.b ≡ level = ap (λ (e : Event). e.b) same ∙ tired.its in
             let a_is : event.a ≡ gone_of cells level + (place + up) = ap (λ (e : Event). e.a) same ∙ tired.number_is in
@@ -503,13 +517,13 @@ module _ (p : ShopParts) (t : Terms) (fine : IsShop p) (s : State) (told : Key �
   tiring_on = record {
     tires = λ i level place a since until exists below small there ends. ⊎_elim
         (λ (same : n.step.event.key.dest ≡ i).
-        let Q : ℕ → Type 0 = λ k. level < (station_at p.stations k).levels → Stands (λ j. line_of (cells_at after k) j) level place a since until → IsTired after k level (gone_of (cells_at after k) level + place) until in
+        let Q : ℕ → Type 0 = λ k. level < (station_at p.stations k).levels → Stands (λ j. line_of (cells_at after k) j) level place a since until → IsTired after k level (gone_of (cells_at after k) level + place) since until in
         subst Q same (λ below there. tires_here (omega (arith, exists, same)) level place a since until below small there ends) below there)
         (λ (apart : n.step.event.key.dest ≢ i).
         let cells_same : cells_at after i ≡ cells_at s i = cells_elsewhere p t s told after n i (λ eq. apart (sym eq)) in
         let tired = before.tires i level place a since until exists below small (subst (λ (c : CellData). Stands (λ k. line_of c k) level place a since until) cells_same there) ends in
-        subst (λ (c : CellData). IsTired after i level (gone_of c level + place) until) (sym cells_same)
-        (stays i level (gone_of (cells_at s i) level + place) until tired (λ same. apart (ap (λ (e : Event). e.key.dest) same ∙ tired.there))))
+        subst (λ (c : CellData). IsTired after i level (gone_of c level + place) since until) (sym cells_same)
+        (stays i level (gone_of (cells_at s i) level + place) since until tired (λ same. apart (ap (λ (e : Event). e.key.dest) same ∙ tired.there))))
         (cases_eq n.step.event.key.dest i);
     room = λ i level exists below. ⊎_elim
         (λ (same : n.step.event.key.dest ≡ i).
@@ -544,39 +558,55 @@ tiring p t s fine reached =
     each_reached (shop_meaning p) t (Tiring p) (tiring_first p) (λ s told after there is_next before. tiring_on p t fine s told after there is_next before) s reached
 
 -- the first event comes no later than any other
-no_later : (s : State) (first : Event) (rest : List Event) (e : Event) → IsAscending s.pending → s.pending ≡ first ∷ rest → Contains s.pending e → time_part first.key.stamp ≤ time_part e.key.stamp
+no_later : (s : State) (first : Event) (rest : List Event) (e : Event) → IsAscending s.pending → s.pending ≡ first ∷ rest → Contains s.pending e → first.key.stamp ≤ e.key.stamp
 unfolding Ascends
 no_later s first rest e ordered pending there =
     let up : IsAscending (first ∷ rest) = subst IsAscending pending ordered in
     ⊎_elim
-    (λ (is : first ≡ e). let same : time_part first.key.stamp ≡ time_part e.key.stamp = ap (λ (e : Event). time_part e.key.stamp) is in omega (arith, same))
+    (λ (is : first ≡ e). let same : first.key.stamp ≡ e.key.stamp = ap (λ (e : Event). e.key.stamp) is in omega (arith, same))
     (λ (later : Contains rest e).
     let after : key_lt first.key e.key ≡ true = each-contains (λ (e : Event). key_lt first.key e.key ≡ true) e rest up.0 later in
-    let stamps : first.key.stamp ≤ e.key.stamp = stamp-le first.key e.key after in
-    omega arith)
+    stamp-le first.key e.key after)
     (first-or-later e first rest (subst (λ (es : List Event). Contains es e) pending there))
+
+-- a job that waits as an event happens: it has a patience left, or just no more, and as a server calls some if there was any
+record InTime (now since until word : ℕ) : Type 0 where
+  pub upto : now ≤ until
+  pub called : word ≡ CALLED_WORD → since < until → now < until
 
 pub nobody_outwaits : NobodyOutwaits
 nobody_outwaits p t n told after i level place law fine is_next exists below within small has =
     let s : State = after_events n (shop_meaning p) t in
     let step = shop_step p t s told after fine (n, refl) is_next in
+    let event : Event = step.step.event in
     let a : ℕ = slice_index (line_of (cells_at s i) (jobs_line level)) place in
     let since : ℕ = slice_index (line_of (cells_at s i) (since_line level)) place in
     let until : ℕ = slice_index (line_of (cells_at s i) (until_line level)) place in
-    let now : ℕ = time_part step.step.event.key.stamp in
+    let now : ℕ = time_part event.key.stamp in
     let time : time_part told.0.stamp ≡ now = ap (λ (r : Key × Note). time_part r.0.stamp) step.step.tells in
-    let early : now < 2 ^ 46 = time_early t step.step.event.key.stamp step.step.due in
+    let early : now < 2 ^ 46 = time_early t event.key.stamp step.step.due in
     let there : Stands (λ k. line_of (cells_at s i) k) level place a since until = record { within = within; job = refl; since_is = refl; until_is = refl } in
-    let in_time : now ≤ until = ⊎_elim
-    (λ (never : until ≡ NEVER). omega (arith, never, early))
+    let in_time : InTime now since until (word_told told.1) = ⊎_elim
+    (λ (never : until ≡ NEVER). record { upto = omega (arith, never, early); called = λ word some. omega (arith, never, early) })
     (λ (ending : until ≢ NEVER).
     let tired = (tiring p t s fine (n, refl)).tires i level place a since until exists below small there ending in
-    let upto : now ≤ time_part tired.event.key.stamp = no_later s step.step.event step.step.rest tired.event step.lawful.ordered step.step.pending tired.pending in
-    omega (arith, upto, tired.time))
+    let upto : event.key.stamp ≤ tired.event.key.stamp = no_later s event step.step.rest tired.event step.lawful.ordered step.step.pending tired.pending in
+    let all : Each CallsLater (event ∷ step.step.rest) = subst (λ (es : List Event). Each CallsLater es) step.step.pending (calls_later p t s fine (n, refl)) in
+    record {
+      upto = omega (arith, upto, tired.time);
+      called = λ word some.
+          let later : 1 ≤ step_part event.key.stamp = all.0 (is_call p t s told after fine (n, refl) step word) in
+          omega (arith, upto, tired.time, tired.soon some, later);
+    })
     (cases_eq until NEVER) in
     ⊎_elim
     (λ (never : (until ≡ NEVER) × (patience_at (step_named (routes_of p) a) ≡ None)).
     absurd (let none : ◌≡◌ {A = Option DelayLaw} (Some law) None = sym has ∙ never.1 in cc))
     (λ (drawn : (patience : ℕ) × (until ≡ since + patience) × Contains (joined p t i n) (record { id = id_of a; since = since; patience = patience })).
-    record { patience = drawn.0; drawn = drawn.2; in_time = omega (arith, drawn.1, in_time, time) })
+    record {
+      patience = drawn.0;
+      drawn = drawn.2;
+      in_time = omega (arith, drawn.1, in_time.upto, time);
+      called = λ word some. omega (arith, in_time.called word (omega (arith, drawn.1, some)), drawn.1, time);
+    })
     (all_wait p t fine i exists n level place a since until below small there)

@@ -4,7 +4,7 @@ use Rattle.event_key.specs.declared.key.Key.{Key}
 use Rattle.event_key.specs.Stamps.{time_part}
 use Rattle.delta_exchange.specs.Changes.{CellData, line_of}
 use Rattle.model_core.specs.declared.note.Note.{Note}
-use Rattle.model_core.specs.declared.words.TheConstants.{RENEGED_WORD}
+use Rattle.model_core.specs.declared.words.TheConstants.{CALLED_WORD, RENEGED_WORD}
 use Rattle.random_streams.specs.declared.delay_law.DelayLaw.{DelayLaw}
 use Rattle.run_laws.specs.Reached.{after_events}
 use Rattle.shop_model.specs.declared.levels.TheConstants.{EMPTY}
@@ -44,13 +44,15 @@ PatienceIsDrawn =
     → LosesPatience (station_at p.stations told.0.dest) (cells_at (after_events n (shop_meaning p) t) told.0.dest) (joined p t told.0.dest n)
     (first_told told.1) (time_part told.0.stamp) (second_told told.1)
 
--- a job of this id waits since then with a patience that was drawn as it joined, and hasn't waited for longer by now
-pub record HasPatience (waiters : List Waiter) (id since now : ℕ) : Type 0 where
+-- a job of this id waits since then with a patience that was drawn as it joined: by now it hasn't waited for longer, and where a server
+-- calls now for fewer ticks, if its patience is above 0
+pub record HasPatience (waiters : List Waiter) (id since now word : ℕ) : Type 0 where
   pub patience : ℕ
   pub drawn : Contains waiters (record { id = id; since = since; patience = patience })
   pub in_time : now ≤ since + patience
+  pub called : word ≡ CALLED_WORD → 0 < patience → now < since + patience
 
--- as the next event happens, at this station or another, each job that stands in line at a visit with a patience has one left, or just no more
+-- as the next event happens, whoever stands in line at a visit with a patience
 abbrev pub NobodyOutwaits : Type 0
 NobodyOutwaits =
     (p : ShopParts) (t : Terms) (n : ℕ) (told : Key × Note) (after : State) (i level place : ℕ) (law : DelayLaw) → IsShop p
@@ -58,4 +60,4 @@ NobodyOutwaits =
     → (let line : ℕ → List ℕ = λ k. line_of (cells_at (after_events n (shop_meaning p) t) i) k in
     let a : ℕ = slice_index (line (jobs_line level)) place in
     place < length (line (jobs_line level)) → a < EMPTY → patience_at (step_named (routes_of p) a) ≡ Some law
-    → HasPatience (joined p t i n) (id_of a) (slice_index (line (since_line level)) place) (time_part told.0.stamp))
+    → HasPatience (joined p t i n) (id_of a) (slice_index (line (since_line level)) place) (time_part told.0.stamp) (word_told told.1))
