@@ -3,6 +3,7 @@ pub mod ClassLaw
 pub mod DrawsLaw
 pub mod EntriesAfter
 pub mod FromLaw
+pub mod LagLaw
 pub mod PatienceLaw
 pub mod Places
 pub mod Sending

@@ -1,4 +1,4 @@
--- Draws, patience and services, computed, with fixed laws, whose values can be seen: the desk, the saw, and a till of which a
+-- Draws, patience, services and counts, computed, with fixed laws, whose values can be seen: the desk, the saw, and a till of which a
 -- shift closes one of two servers in use.
 use Rattle.std.proofs.Common.{◌≡◌, ℕ, refl, List, [], ◌∷◌, map}
 use Rattle.std.specs.Prelude.{None, Some}
@@ -21,11 +21,17 @@ use Rattle.shop_model.specs.declared.step.Step.TheVariants.{Visit}
 use Rattle.shop_model.specs.Meaning.{shop_meaning}
 use Rattle.shop_model.specs.ShopParts.{ShopParts}
 use Rattle.shop_model.specs.Stations.{counts_of, until_line}
+use Rattle.shop_totals.specs.Flows.{flow_of}
+use Rattle.shop_totals.specs.Records.{of_class}
+use Rattle.shop_totals.specs.Told.{told_from}
+use Rattle.shop_laws.specs.FlowLaws.{told_of}
 use Rattle.shop_laws.specs.ServerLaws.{busy_at}
 use Rattle.shop_laws.specs.Told.{cells_at}
 use Rattle.shop_laws.proofs.SmallDesk.{shop, desk, callers, to_fifty, desk_run}
 use Rattle.shop_laws.proofs.SmallSaw.{yard, saw, logs}
+use Rattle.shop_draw_laws.specs.ClassLaws.{waiting_of}
 use Rattle.shop_draw_laws.specs.Draws.{delay_law, laws_drawn, laws_by}
+use Rattle.shop_draw_laws.specs.FromLaws.{told_before}
 use Rattle.shop_draw_laws.specs.Patience.{Waiter, joined}
 use Rattle.shop_draw_laws.specs.Services.{Service, lag_at, services}
 
@@ -46,6 +52,21 @@ six = after_events 6 (shop_meaning shop) to_fifty
 until_seen : ◌≡◌ {A = List ℕ × List ℕ} (line_of (cells_at six 0) (until_line 0), map (λ (e : Event). time_part e.key.stamp) (first_of six.pending)) (4 ∷ 5 ∷ [], 4 ∷ [])
 unfolding six shop desk callers to_fifty desk_run
 until_seen = refl
+
+-- of their class three came by then, one began, and two wait
+class_seen : ◌≡◌ {A = ℕ × ℕ × ℕ} (
+  (flow_of (of_class 0 (told_of shop to_fifty 6 0))).came,
+  (flow_of (of_class 0 (told_of shop to_fifty 6 0))).begun,
+  waiting_of desk (cells_at six 0) 0,
+)
+    (3, 1, 2)
+unfolding six shop desk callers to_fifty desk_run
+class_seen = refl
+
+-- two of them came before tick 2, and one from then on
+from_seen : ◌≡◌ {A = ℕ × ℕ} ((flow_of (told_before 2 (told_of shop to_fifty 10 0))).came, (flow_of (told_from 2 (told_of shop to_fifty 10 0))).came) (2, 1)
+unfolding shop desk callers to_fifty desk_run
+from_seen = refl
 
 -- the eighth event tells that the first of them has waited for three ticks, at tick 4
 eighth : Key × Note

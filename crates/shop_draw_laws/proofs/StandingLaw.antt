@@ -738,6 +738,10 @@ all_standing p t fine =
     m : Meaning
     m = shop_meaning p
 
+-- no lag comes near 2 ^ 64
+pub lag_bound : (p : ShopParts) (t : Terms) → IsShop p → (n i : ℕ) → i < length p.stations → lag_at (after_events n (shop_meaning p) t) i ≤ 2 ^ 47
+lag_bound p t fine n i exists = (all_standing p t fine n).bound i exists
+
 pub services_stand_still : ServicesStandStill
 services_stand_still p t n told after fine is_next early word =
     let s : State = after_events n (shop_meaning p) t in

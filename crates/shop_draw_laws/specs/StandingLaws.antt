@@ -10,6 +10,7 @@ use Rattle.shop_model.specs.ShopParts.{ShopParts, IsShop}
 use Rattle.sim_spec.specs.declared.terms.Terms.{Terms}
 use Rattle.sim_spec.specs.Run.{does, next}
 use Rattle.sim_spec.specs.State.{State}
+use Rattle.shop_laws.specs.FlowLaws.{told_of, standstills}
 use Rattle.shop_laws.specs.Told.{word_told, first_told}
 use Rattle.shop_draw_laws.specs.Services.{Service, lag_at, services}
 
@@ -27,3 +28,7 @@ ServicesStandStill =
     (p : ShopParts) (t : Terms) (n : ℕ) (told : Key × Note) (after : State) → IsShop p → next (shop_meaning p) t (after_events n (shop_meaning p) t) ≡ does told after
     → told.0.dest < length p.stations → word_told told.1 ≡ DONE_WORD
     → IsOver (services p t told.0.dest n) (first_told told.1) (time_part told.0.stamp) (lag_at (after_events n (shop_meaning p) t) told.0.dest)
+
+-- the lag is the sum of the standstills that were told
+abbrev pub LagIsTold : Type 0
+LagIsTold = (p : ShopParts) (t : Terms) (n i : ℕ) → IsShop p → i < length p.stations → lag_at (after_events n (shop_meaning p) t) i ≡ standstills (told_of p t n i)
