@@ -1,13 +1,13 @@
 -- What each call leaves, from what it read and wrote.
 use Rattle.std.proofs.Common.{◌≡◌, ℕ, zero, suc, ◌+◌, ◌-◌, ◌<◌, ◌≤◌, ◌≢◌, List, [], ◌∷◌, ◌++◌, length, replicate, refl, sym, ap, ◌∙◌, arith, Some, get_or, true, nat_eq, ◌↔◌}
-use Rattle.std.proofs.Math.ListN.{set}
+use Rattle.std.proofs.Math.ListN.{set, length-set}
 use Rattle.std.specs.Prelude.{slice_index, slice_index_or}
 use Rattle.std.specs.List.{slice_get, sum_by}
 use Rattle.std.proofs.lemmas.Bool.Decides.{nat_tests}
-use Rattle.std.proofs.lemmas.List.{length-map}
+use Rattle.std.proofs.lemmas.List.{length-map, get_or-set_same, set-get_or, set-set}
 use Rattle.std.proofs.lemmas.List.Sums.{sum_by-cons}
 use Rattle.std.proofs.lemmas.Option.{slice_get_read, get_or_from_slice_get, slice_get_within}
-use Rattle.event_bags.specs.Views.{BagsView, bags_of, values_from, room_of, TakesFront}
+use Rattle.event_bags.specs.Views.{BagsView, bags_of, values_from, room_of, TakesFront, HasFront, MovesFront}
 use Rattle.event_bags.specs.Chains.{Layout, layout, NO_PLACE, IsChain, AreChains, HoldBags}
 use Rattle.event_bags.proofs.ChainLemmas.{shows, chain_at}
 use Rattle.event_bags.proofs.Moves.{grows, reuses, pops}
@@ -72,6 +72,11 @@ none_if {items = items} {links = links} {heads = heads} {bags = bags} held b at 
     let same = held.same_length in
     let range = held.in_range in
     (ends items links held.owner held.depth (1 + b) at (slice_index_or bags b []) (omega arith) chain, begins items links held.owner held.depth (1 + b) at (slice_index_or bags b []) chain)
+
+-- so a bag that isn't empty has a front
+pub some_if : {T : Type 0} {items : List T} {links heads : List ℕ} {free unused : ℕ} {bags : List (List T)} (held : HoldBags items links heads free unused bags) (b at : ℕ) → b < length heads
+    → at ≡ get_or heads b at → {seen : List (List T)} → seen ≡ bags → slice_index_or seen b [] ≢ [] → at ≢ NO_PLACE
+some_if held b at within read is some = λ none. some (rw is ((none_if held b at within read).0 none))
 
 pub empty_test : {T : Type 0} (values : List T) (at : ℕ) → (at ≡ NO_PLACE → values ≡ []) × (values ≡ [] → at ≡ NO_PLACE) → nat_eq at NO_PLACE ≡ true ↔ values ≡ []
 empty_test values at both = (λ e. both.0 (grind (arith, nat_tests)), λ e. let no = both.1 e in grind (arith, nat_tests))
@@ -171,3 +176,48 @@ begun {T} n no_items no_links none = rw (no_items, no_links, none) (record {
   same_length = refl;
   in_range = omega arith;
 })
+
+-- `front`
+pub fronts : {T : Type 0} {items : List T} {links heads : List ℕ} {free unused : ℕ} {bags : List (List T)} (held : HoldBags items links heads free unused bags) (b at : ℕ) (value : T) → b < length heads
+    → at ≢ NO_PLACE → at ≡ get_or heads b at → value ≡ get_or items at value → HasFront bags b value
+fronts {items = items} {heads = heads} held b at value within some read read_value =
+    let e : slice_index heads b ≡ at = reads heads b at within read in
+    let there = front_within held b at within read some in
+    let popped = pops held b within (rw e some) in
+    let here : slice_get items at ≡ Some popped.value = rw e at popped.here in
+    let value_here : slice_get items at ≡ Some value = slice_get_read items (length items) at value refl there.0 read_value in
+    let same : popped.value ≡ value = cc in
+    (popped.rest, rw same at popped.was)
+
+-- `move_front`
+pub record Moved {T : Type 0} (items : List T) (links2 heads2 : List ℕ) (free unused : ℕ) (bags : List (List T)) (from to : ℕ) : Type 0 where
+  pub value : T
+  pub rest : List T
+  pub was : slice_index_or bags from [] ≡ value ∷ rest
+  pub held : HoldBags items links2 heads2 free unused (set (set bags from rest) to (value ∷ slice_index_or (set bags from rest) to []))
+
+pub moved : {T : Type 0} {items : List T} {links heads : List ℕ} {free unused : ℕ} {bags : List (List T)} (held : HoldBags items links heads free unused bags) (from to at next front : ℕ)
+    → from < length heads → to < length heads → at ≢ NO_PLACE → at ≡ get_or heads from at → next ≡ get_or links at next → front ≡ get_or (set heads from next) to front
+    → Moved items (set links at front) (set (set heads from next) to at) free unused bags from to
+moved {items = items} {links = links} {heads = heads} {free = free} {unused = unused} {bags = bags} held from to at next front within within_to some read read_next read_front =
+    let e : slice_index heads from ≡ at = reads heads from at within read in
+    let there = front_within held from at within read some in
+    let popped = pops held from within (rw e some) in
+    let n : slice_index links at ≡ next = reads links at next there.1 read_next in
+    let out : HoldBags items (set links at free) (set heads from next) at (unused + 1) (set bags from popped.rest) = rw n at (rw e at popped.held) in
+    let still : to < length (set heads from next) = omega (arith, length-set heads from next) in
+    let again : free ≡ get_or (set links at free) at free = sym (get_or-set_same links at free free there.1) in
+    let back = reused out to popped.value front free still some read_front again in
+    let here : slice_get items at ≡ Some popped.value = rw e at popped.here in
+    let stays : set items at popped.value ≡ items = ap (set items at) (sym (get_or_from_slice_get items at popped.value popped.value here)) ∙ set-get_or items at popped.value in
+    let once : set (set links at free) at front ≡ set links at front = set-set links at free front in
+    let count : unused + 1 - 1 ≡ unused = omega arith in
+    record { value = popped.value; rest = popped.rest; was = popped.was; held = rw (stays, once, count) at back }
+
+pub moved_front : {T : Type 0} {items : List T} {links heads : List ℕ} {free unused : ℕ} {bags : List (List T)} {from to : ℕ} (left : Moved items links heads free unused bags from to) (seen : List (List T)) (value : T)
+    → seen ≡ bags → HasFront seen from value → MovesFront seen (bags_of items links heads) from to value
+moved_front {bags = bags} {from = from} {to = to} left seen value is front =
+    let both : value ∷ front.0 ≡ left.value ∷ left.rest = sym front.1 ∙ ap (λ bs. slice_index_or bs from []) is ∙ left.was in
+    let same : left.value ≡ value = cc in
+    let shown = shows left.held in
+    rw (is, ← same) (set bags from left.rest, (left.rest, left.was, refl), shown)

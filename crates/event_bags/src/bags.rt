@@ -1,7 +1,7 @@
 //! Bags of values that share their memory.
-ghost use Rattle.std.specs.Prelude.{◌≡◌, ◌↔◌, true, ◌+◌, ◌<◌, ◌≤◌, [], ◌∷◌, ◌++◌, length, slice_set, slice_index_or, replicate, IfOk, OnOk, OnErr, IfSome, IfNone, OnSome};
+ghost use Rattle.std.specs.Prelude.{◌≡◌, ◌≢◌, ◌↔◌, true, ◌+◌, ◌<◌, ◌≤◌, [], ◌∷◌, ◌++◌, length, slice_set, slice_index_or, replicate, IfOk, OnOk, OnErr, IfSome, IfNone, OnSome};
 ghost use Rattle.std.specs.List.{sum_by};
-ghost use Rattle.event_bags.specs.Views.{BagsView, TakesFront};
+ghost use Rattle.event_bags.specs.Views.{BagsView, TakesFront, HasFront, MovesFront};
 
 use delta_exchange::OutOfMemory;
 use std::alloc::Global;
@@ -84,6 +84,33 @@ impl<T> Bags<T> {
         ensures { result ≡ sum_by length self.now.bags }
     {
         self.links.len() - self.unused
+    }
+
+    /// The value at the front of a bag, if there is one.
+    pub fn front(&self, bag: usize) -> Option<&T>
+        requires { bag < length self.now.bags }
+        ensures some { IfSome result (λ value. HasFront self.now.bags bag value.now) }
+        ensures none { IfNone result (slice_index_or self.now.bags bag [] ≡ []) }
+    {
+        let at = self.heads[bag];
+        if at == NONE {
+            return None;
+        }
+        Some(&self.items[at])
+    }
+
+    /// Moves the value at the front of a bag that isn't empty to the front of another. It stays at its place.
+    pub fn move_front(&mut self, from: usize, to: usize)
+        requires from { from < length self.old.bags }
+        requires to { to < length self.old.bags }
+        requires some { slice_index_or self.old.bags from [] ≢ [] }
+        ensures moves { (value : T) → HasFront self.old.bags from value → MovesFront self.old.bags self.new.bags from to value }
+        ensures spare { self.new.spare ≡ self.old.spare }
+    {
+        let at = self.heads[from];
+        self.heads[from] = self.links[at];
+        self.links[at] = self.heads[to];
+        self.heads[to] = at;
     }
 
     /// Whether a bag has no value.

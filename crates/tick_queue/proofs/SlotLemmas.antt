@@ -3,15 +3,16 @@ use Rattle.std.proofs.Common.{◌≡◌, ◌≢◌, ℕ, zero, suc, ◌<◌, ◌
 use Rattle.std.specs.Prelude.{IsPermutation, slice_set, slice_index_or}
 use Rattle.std.specs.List.{AllByRecursion as Each}
 use Rattle.std.specs.Int.{bit_at}
-use Rattle.std.proofs.Math.ListN.{get_or-eq_default}
-use Rattle.std.proofs.lemmas.Bool.{cases_lt}
+use Rattle.std.proofs.Math.ListN.{get_or-eq_default, length-set}
+use Rattle.std.proofs.lemmas.Bool.{cases_lt, cases_eq}
 use Rattle.std.proofs.lemmas.Nat.Bits.{bit_at-zero}
 use Rattle.std.proofs.lemmas.List.{set_split, set-get_or, get_or-set_same, get_or-set_other}
 use Rattle.std.proofs.lemmas.List.Sorted.{IsPermutation-sym, IsPermutation-trans, IsPermutation-cons, IsPermutation-append_left, IsPermutation-append_comm}
 use Rattle.model_core.specs.declared.event.Event.{Event}
-use Rattle.event_bags.specs.Views.{TakesFront}
+use Rattle.event_bags.specs.Views.{TakesFront, HasFront, MovesFront}
 use Rattle.key_order.proofs.EachLemmas.{Each-append}
 use Rattle.tick_queue.specs.Levels.{joined}
+use Rattle.tick_queue.specs.Marks.{mark_of}
 use Rattle.tick_queue.specs.Slots.{AllEmpty, AreSlots}
 
 joined-append : (rs ss : List (List Event)) → joined (rs ++ ss) ≡ joined rs ++ joined ss
@@ -129,3 +130,70 @@ read_same slots new slot es lt is = ap (λ ss. slice_index_or ss slot []) is ∙
 
 pub read_other : (slots new : List (List Event)) (slot i : ℕ) (es : List Event) → i ≢ slot → new ≡ slice_set slots slot es → slice_index_or new i [] ≡ slice_index_or slots i []
 read_other slots new slot i es ne is = ap (λ ss. slice_index_or ss i []) is ∙ get_or-set_other slots slot i es [] ne
+
+-- the front of one slot went to another
+pub record Moved (old new : List (List Event)) (from to : ℕ) : Type 0 where
+  pub long : length new ≡ length old
+  pub full : slice_index_or new to [] ≢ []
+  pub others : (i : ℕ) → i ≢ to → i ≢ from → slice_index_or new i [] ≡ slice_index_or old i []
+
+pub slots_moved : (old new : List (List Event)) (from to : ℕ) → to < length old → slice_index_or old from [] ≢ [] → ((event : Event) → HasFront old from event → MovesFront old new from to event) → Moved old new from to
+slots_moved old new from to within some moves =
+    let first = first_event (slice_index_or old from []) some in
+    let moved = moves first.event (first.rest, first.is) in
+    let between : List (List Event) = moved.0 in
+    let rest : List Event = moved.1.0 in
+    let long : length between ≡ length old = ap length moved.1.2 ∙ length-set old from rest in
+    let front : List Event = first.event ∷ slice_index_or between to [] in
+    let here : slice_index_or new to [] ≡ front = read_same between new to front (omega (arith, long)) moved.2 in
+    record {
+      long = ap length moved.2 ∙ length-set between to front ∙ long;
+      full = λ none. let two : front ≡ [] = sym here ∙ none in cc two;
+      others = λ i far apart. read_other between new to i front far moved.2 ∙ read_other old between from i rest apart moved.1.2;
+    }
+
+-- the marks still say which slots have events, where that one has more
+pub still_slots : (marks marks2 : List ℕ) (old new : List (List Event)) (from to : ℕ) → AreSlots marks old → Moved old new from to → slice_index_or old from [] ≢ [] → slice_index_or new from [] ≢ []
+    → mark_of marks2 to ≡ 1 → ((i : ℕ) → i ≢ to → mark_of marks2 i ≡ mark_of marks i) → AreSlots marks2 new
+still_slots marks marks2 old new from to are moved some left set others = record {
+  long = moved.long ∙ are.long;
+  clear = λ i zero. elim (cases_eq i to) [
+    | inl same ↦ absurd (let one = ap (mark_of marks2) same ∙ set in omega (arith, one, zero))
+    | inr far ↦
+        let was : mark_of marks i ≡ 0 = sym (others i far) ∙ zero in
+        elim (cases_eq i from) [
+          | inl here ↦ absurd (some (sym (ap (λ n. slice_index_or old n []) here) ∙ are.clear i was))
+          | inr apart ↦ moved.others i far apart ∙ are.clear i was
+        ]
+  ];
+  full = λ i one none. elim (cases_eq i to) [
+    | inl same ↦ moved.full (sym (ap (λ n. slice_index_or new n []) same) ∙ none)
+    | inr far ↦ elim (cases_eq i from) [
+      | inl here ↦ left (sym (ap (λ n. slice_index_or new n []) here) ∙ none)
+      | inr apart ↦ are.full i (sym (others i far) ∙ one) (sym (moved.others i far apart) ∙ none)
+    ]
+  ];
+}
+
+-- and where it has none any more
+pub left_slots : (marks marks2 marks3 : List ℕ) (old new : List (List Event)) (from to : ℕ) → AreSlots marks old → Moved old new from to → slice_index_or new from [] ≡ []
+    → mark_of marks2 to ≡ 1 → ((i : ℕ) → i ≢ to → mark_of marks2 i ≡ mark_of marks i) → mark_of marks3 from ≡ 0 → ((i : ℕ) → i ≢ from → mark_of marks3 i ≡ mark_of marks2 i) → AreSlots marks3 new
+left_slots marks marks2 marks3 old new from to are moved none set others gone stay = record {
+  long = moved.long ∙ are.long;
+  clear = λ i zero. elim (cases_eq i from) [
+    | inl here ↦ ap (λ n. slice_index_or new n []) here ∙ none
+    | inr apart ↦
+        let before : mark_of marks2 i ≡ 0 = sym (stay i apart) ∙ zero in
+        elim (cases_eq i to) [
+          | inl same ↦ absurd (let one = ap (mark_of marks2) same ∙ set in omega (arith, one, before))
+          | inr far ↦ moved.others i far apart ∙ are.clear i (sym (others i far) ∙ before)
+        ]
+  ];
+  full = λ i one empty. elim (cases_eq i from) [
+    | inl here ↦ let zero = ap (mark_of marks3) here ∙ gone in omega (arith, zero, one)
+    | inr apart ↦ elim (cases_eq i to) [
+      | inl same ↦ moved.full (sym (ap (λ n. slice_index_or new n []) same) ∙ empty)
+      | inr far ↦ are.full i (sym (others i far) ∙ (sym (stay i apart) ∙ one)) (sym (moved.others i far apart) ∙ empty)
+    ]
+  ];
+}

@@ -2,12 +2,13 @@
 use Rattle.std.proofs.Common.{◌≡◌, ◌≢◌, ℕ, ◌+◌, ◌*◌, ◌/◌, ◌^◌, ◌<◌, ◌≤◌, List, [], ◌∷◌, ◌++◌, length, append-nil, sym, ap, ◌∙◌, subst, inl, inr, arith}
 use Rattle.std.specs.Prelude.{IsPermutation, Result, Ok, Err, OnOk, OnErr, slice_set, slice_index_or}
 use Rattle.std.specs.List.{AllByRecursion as Each}
+use Rattle.std.proofs.Math.ListN.{length-set}
 use Rattle.std.proofs.lemmas.Bool.{cases_eq}
 use Rattle.std.proofs.lemmas.List.{set-set}
 use Rattle.std.proofs.lemmas.List.Sorted.{IsPermutation-refl, IsPermutation-trans}
 use Rattle.event_key.specs.Stamps.{time_part}
 use Rattle.model_core.specs.declared.event.Event.{Event}
-use Rattle.event_bags.specs.Views.{TakesFront}
+use Rattle.event_bags.specs.Views.{TakesFront, HasFront, MovesFront}
 use Rattle.tick_queue.specs.Digits.{InSlot}
 use Rattle.tick_queue.specs.Slots.{SlotsView}
 use Rattle.tick_queue.specs.Levels.{joined, StandsIn, StandIn, PutsIn, Spreads, HasLeft}
@@ -25,9 +26,6 @@ leaves now slot p e high begins at same =
     let after = here.after (omega arith) in
     let digits = begins.1 in
     omega (arith, after, digits)
-
-pub spreads_first : (now slot : ℕ) (s0 s1 : List (List Event)) (e : Event) → Spreads now slot s0 → TakesFront s0 s1 slot e → Begins now slot e
-spreads_first now slot s0 s1 e h takes = let P : List Event → Type 0 = Each (Begins now slot) in (subst P takes.1 h.begins).0
 
 pub record Spread (now slot : ℕ) (s0 s2 : List (List Event)) : Type 0 where
   pub spreads : Spreads now slot s2
@@ -68,6 +66,17 @@ spreads_step now slot s0 s1 s2 e h takes puts =
       events = IsPermutation-trans (joined s0) (e ∷ joined s1) (joined s2) (slot_take s0 s1 slot e takes) (subst Q (sym puts.is) (slot_put s1 p e puts.within));
       fewer = omega (arith, more, had);
     }
+
+-- the first of them goes there
+pub spreads_move : (now slot to : ℕ) (old new : List (List Event)) (e : Event) → Spreads now slot old → HasFront old slot e → length old ≡ 512
+    → ((event : Event) → HasFront old slot event → MovesFront old new slot to event) → to < 512 → InSlot now to (time_part e.key.stamp) → Spread now slot old new
+spreads_move now slot to old new e h front long moves within at =
+    let moved = moves e front in
+    let same : length moved.0 ≡ length old = ap length moved.1.2 ∙ length-set old slot moved.1.0 in
+    spreads_step now slot old moved.0 new e h moved.1 (record { slot = to; within = omega (arith, same, long); at = at; is = moved.2 })
+
+pub front_begins : (now slot : ℕ) (slots : List (List Event)) (e : Event) → Spreads now slot slots → HasFront slots slot e → Begins now slot e
+front_begins now slot slots e h front = let P : List Event → Type 0 = Each (Begins now slot) in (subst P front.1 h.begins).0
 
 -- all have gone
 pub spreads_end : (now slot : ℕ) (slots : List (List Event)) → Spreads now slot slots → slice_index_or slots slot [] ≡ [] → StandIn now slots

@@ -1,6 +1,7 @@
 //! Events in slots, of which the first that isn't empty is found at once.
-ghost use Rattle.std.specs.Prelude.{◌≡◌, ◌+◌, ◌<◌, ◌≤◌, [], ◌∷◌, ◌++◌, length, IfOk, OnOk, OnErr, IfSome, IfNone, OnSome, slice_set, slice_index_or};
-ghost use Rattle.event_bags.specs.Views.{TakesFront};
+ghost use Rattle.std.specs.Prelude.{◌≡◌, ◌≢◌, ◌+◌, ◌<◌, ◌≤◌, [], ◌∷◌, ◌++◌, length, IfOk, OnOk, OnErr, IfSome, IfNone, slice_set, slice_index_or};
+ghost use Rattle.model_core.specs.declared.event.Event.{Event};
+ghost use Rattle.event_bags.specs.Views.{HasFront, MovesFront};
 ghost use Rattle.tick_queue.specs.Slots.{AllEmpty, IsFirst};
 
 use crate::marks::{first_marked, mark, unmark};
@@ -73,19 +74,30 @@ impl Slots {
         mark(&mut self.marks, slot);
     }
 
-    /// Takes an event of a slot, if there is one.
-    pub fn take(&mut self, slot: usize) -> Option<Event>
+    /// The front event of a slot, if there is one.
+    pub fn front(&self, slot: usize) -> Option<&Event>
         requires { slot < 512 }
-        ensures none { IfNone result ((slice_index_or self.old.slots slot [] ≡ []) × (self.new ≡ self.old)) }
-        ensures some { IfSome result (λ event. TakesFront self.old.slots self.new.slots slot event) }
-        ensures spare { OnSome result (self.new.spare ≡ self.old.spare + 1) }
+        ensures some { IfSome result (λ event. HasFront self.now.slots slot event.now) }
+        ensures none { IfNone result (slice_index_or self.now.slots slot [] ≡ []) }
     {
-        let event = self.bags.pop(slot)?;
-        if !self.bags.is_empty(slot) {
-            return Some(event);
+        self.bags.front(slot)
+    }
+
+    /// Moves the front event of a slot that isn't empty to another slot.
+    pub fn move_front(&mut self, from: usize, to: usize)
+        requires from { from < 512 }
+        requires to { to < 512 }
+        requires some { slice_index_or self.old.slots from [] ≢ [] }
+        ensures long { length self.old.slots ≡ 512 }
+        ensures moves { (event : Event) → HasFront self.old.slots from event → MovesFront self.old.slots self.new.slots from to event }
+        ensures spare { self.new.spare ≡ self.old.spare }
+    {
+        self.bags.move_front(from, to);
+        mark(&mut self.marks, to);
+        if !self.bags.is_empty(from) {
+            return;
         }
-        unmark(&mut self.marks, slot);
-        Some(event)
+        unmark(&mut self.marks, from);
     }
 
     /// Appends the events of a slot, and leaves it without any. After a refusal all slots are as they were.
