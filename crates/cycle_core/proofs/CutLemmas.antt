@@ -16,7 +16,7 @@ use Rattle.model_core.specs.declared.event.Event.{Event}
 use Rattle.sim_spec.specs.declared.terms.Terms.{Terms}
 use Rattle.key_order.specs.Ascending.{Ascends, key_of}
 use Rattle.key_order.specs.Due.{is_uncut}
-use Rattle.key_order.specs.Keys.{Differ, at_key, lesser, times}
+use Rattle.key_order.specs.Keys.{Differ, at_key, times}
 use Rattle.key_order.specs.Pending.{in_order}
 use Rattle.key_order.proofs.AscendingLemmas.{Ascends-filter, Ascends-map, key_lt-turned}
 use Rattle.key_order.proofs.FilterLemmas.{filter-all, filter-passes, filter-swap, length-filter_le}

@@ -6,20 +6,17 @@ use Rattle.event_key.specs.declared.key.Key.{Key}
 use Rattle.event_key.specs.declared.stamp.TheConstants.{NO_STAMP}
 use Rattle.model_core.specs.Meaning.{Meaning}
 use Rattle.model_core.specs.declared.event.Event.{Event}
-use Rattle.sim_spec.specs.Cut.{emissions_of}
 use Rattle.sim_spec.specs.Firing.{Firing}
 use Rattle.sim_spec.specs.Replay.{EmitsFrom}
-use Rattle.object_log.specs.Dones.{Done}
-use Rattle.object_log.specs.Logs.{keys_of}
 use Rattle.object_log.specs.Replays.{replay_of}
 use Rattle.node_core.specs.declared.committed.Committed.{Committed}
 use Rattle.node_core.specs.Blank.{IsBlank}
 use Rattle.node_core.specs.Calls.{CommitsNothing, ReceivesNothing, HasCommitted}
-use Rattle.node_core.specs.Nodes.{NodeView, data_of, log_at}
+use Rattle.node_core.specs.Nodes.{NodeView, log_at}
 use Rattle.node_core.specs.Shares.{AreProcessedKeys}
 use Rattle.node_core.specs.Steps.{IsHeldLeast}
 use Rattle.cycle_core.specs.Blank.{AreBlank}
-use Rattle.cycle_core.specs.Busy.{AllBetween, AllBut, IsQuiet, NamesBusy}
+use Rattle.cycle_core.specs.Busy.{AllBut, IsQuiet, NamesBusy}
 use Rattle.cycle_core.specs.Ends.{AreDueDone, CanReceive, CommitUpto, ReceiveUpto, Receives}
 use Rattle.cycle_core.specs.Gathered.{IsFaultBelow, MayFaultBelow, fault_key, processed_in}
 use Rattle.cycle_core.specs.Known.{AreKnown}

@@ -1,7 +1,6 @@
-use Rattle.std.proofs.Common.{◌≡◌, ◌∙◌, ℕ, List, length, refl, sym, ap, subst, inl, arith, add-one, slice_set, slice_index_or, get_or, rules}
+use Rattle.std.proofs.Common.{◌≡◌, ◌∙◌, ℕ, length, refl, sym, ap, subst, inl, arith, add-one, slice_set, slice_index_or, get_or, rules}
 use Rattle.std.proofs.lemmas.Option.{slice_get-get_or}
-use Rattle.node_core.specs.Nodes.{NodeView}
-use Rattle.cycle_core.specs.Busy.{AllBut, IsQuiet}
+use Rattle.cycle_core.specs.Busy.{IsQuiet}
 use Rattle.cycle_core.specs.Known.{AreKnown}
 use Rattle.cycle_core.proofs.BusyLemmas.{pass-at, pass-end}
 use Rattle.cycle_core.proofs.ClosingLemmas.{IsOpenedUpto, opened-all, opened-more}

@@ -1,4 +1,4 @@
-use Rattle.std.proofs.Common.{◌≡◌, ℕ, suc, length, refl, arith, add-one, get_or, rules}
+use Rattle.std.proofs.Common.{ℕ, suc, length, refl, arith, add-one, get_or, rules}
 use Rattle.std.proofs.lemmas.Option.{slice_get-get_or, slice_get_read}
 use Rattle.cycle_core.specs.Busy.{IsQuiet}
 use Rattle.cycle_core.specs.Gathered.{IsFaultBelow, MayFaultBelow, fault_key}

@@ -1,4 +1,4 @@
-use Rattle.std.proofs.Common.{◌≡◌, length, refl, arith}
+use Rattle.std.proofs.Common.{length, refl, arith}
 use Rattle.std.proofs.lemmas.Option.{slice_get_read, slice_get_within}
 use Rattle.cycle_core.specs.Gathered.{HasNoneBefore}
 use Rattle.cycle_core.proofs.PlaceLemmas.{each-more}

@@ -1,7 +1,5 @@
-use Rattle.std.proofs.Common.{◌≡◌, ◌∙◌, sym, refl, arith, subst, ltb, ltb-true, ltb-false}
-use Rattle.std.specs.Prelude.{Some, None}
+use Rattle.std.proofs.Common.{arith, ltb-true, ltb-false}
 use Rattle.std.proofs.lemmas.List.{nil_from_length}
-use Rattle.node_core.specs.Calls.{IsLeastKeyOf}
 use Rattle.cycle_core.proofs.StandingLemmas.{key-none, none-before}
 use Rattle.cycle_core.proofs.standing.is_before.Goals as goal
 

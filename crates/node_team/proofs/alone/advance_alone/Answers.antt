@@ -1,11 +1,10 @@
-use Rattle.std.proofs.Common.{◌≡◌, ◌≤◌, inl, inr, length, refl, sym, ap, ◌∙◌, subst, arith}
-use Rattle.std.proofs.lemmas.List.{nil_from_length}
+use Rattle.std.proofs.Common.{◌≡◌, length, refl, sym, ap, ◌∙◌, subst, arith}
 use Rattle.event_key.specs.Stamps.{end_stamp}
 use Rattle.node_core.specs.Nodes.{NodeView}
 use Rattle.cycle_core.specs.Works.{IsSettled}
-use Rattle.cycle_core.proofs.WorkLemmas.{as_before, settling-first, settling-more, works-none, works-refused}
+use Rattle.cycle_core.proofs.WorkLemmas.{settling-first, settling-more, works-refused}
 use Rattle.node_team.proofs.AdvanceLemmas.{told-none, told-on}
-use Rattle.node_team.proofs.AloneLemmas.{idle-none, past-first, past-more, past-settled}
+use Rattle.node_team.proofs.AloneLemmas.{past-first, past-more, past-settled}
 use Rattle.node_team.proofs.alone.advance_alone.Goals as goal
 
 pub near-init : goal.near-init

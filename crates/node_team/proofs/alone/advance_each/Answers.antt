@@ -1,4 +1,4 @@
-use Rattle.std.proofs.Common.{◌≡◌, ◌<◌, ◌∙◌, suc, length, refl, sym, arith, add-one, get_or, rules}
+use Rattle.std.proofs.Common.{◌≡◌, ◌<◌, ◌∙◌, suc, length, sym, arith, add-one, get_or, rules}
 use Rattle.std.proofs.lemmas.Option.{slice_get-get_or, slice_get_within}
 use Rattle.cycle_core.specs.Busy.{IsQuiet}
 use Rattle.cycle_core.proofs.BusyLemmas.{pass-at, pass-end}

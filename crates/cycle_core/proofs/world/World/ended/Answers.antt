@@ -1,7 +1,6 @@
-use Rattle.std.proofs.Common.{◌≡◌, ◌∙◌, List, not, ap, sym, subst}
+use Rattle.std.proofs.Common.{◌≡◌, ◌∙◌, ap, sym, subst}
 use Rattle.std.specs.Prelude.{None}
 use Rattle.event_key.specs.Stamps.{end_stamp}
-use Rattle.node_core.specs.Nodes.{NodeView}
 use Rattle.cycle_core.specs.Gathered.{HaveEventBefore, HaveNoneBefore}
 use Rattle.cycle_core.specs.Inside.{nodes_in}
 use Rattle.cycle_core.proofs.StandingLemmas.{end-told, fault-ended, limit-told, more-told, spent-ended, taken-ended}

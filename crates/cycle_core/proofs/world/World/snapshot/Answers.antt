@@ -1,5 +1,5 @@
 -- What the nodes show once all is undone.
-use Rattle.std.proofs.Common.{◌≡◌, ◌∙◌, List, length, map, sym, ap, subst, arith}
+use Rattle.std.proofs.Common.{◌≡◌, ◌∙◌, List, length, sym, ap, subst, arith}
 use Rattle.std.proofs.lemmas.List.{with_items_is}
 use Rattle.node_core.specs.Homes.{HomesView}
 use Rattle.node_core.specs.Nodes.{NodeView}
