@@ -1,5 +1,6 @@
 pub mod CommitFacts
 pub mod DueFacts
+pub mod FirstFacts
 pub mod ItemLemmas
 pub mod JoinFacts
 pub mod LogFacts

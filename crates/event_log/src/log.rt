@@ -1,5 +1,5 @@
 //! The log of a node.
-ghost use Rattle.std.specs.Prelude.{◌≡◌, ◌<◌, ◌+◌, ◌^◌, [], ◌∷◌, ◌++◌, length, slice_get, IfOk, IfErr, IfSome, OnOk, OnErr, IsTrue, Some, None, is_some, false, true, nat_lt};
+ghost use Rattle.std.specs.Prelude.{◌≡◌, ◌<◌, ◌+◌, ◌^◌, [], ◌∷◌, ◌++◌, length, slice_get, IfOk, IfErr, IfSome, IfNone, OnOk, OnErr, IsTrue, Some, None, is_some, false, true, nat_lt};
 ghost use Rattle.std.specs.List.{AllByRecursion};
 ghost use Rattle.event_key.specs.Keys.{key_lt};
 ghost use Rattle.event_key.specs.Stamps.{time_part};
@@ -111,6 +111,14 @@ impl NodeLog {
         ensures { result ≡ least_stamp NO_STAMP (held_of self.now.log.done) }
     {
         self.events.held_least()
+    }
+
+    /// The least key.
+    pub fn first(&self) -> Option<Key>
+        ensures some { IfSome result (λ key. slice_get (keys_of self.now.log.done) 0 ≡ Some key) }
+        ensures none { IfNone result (self.now.log.done ≡ []) }
+    {
+        self.events.first()
     }
 
     /// Carries all that isn't carried yet. No message lies in the chain of a home then. Takes no memory.

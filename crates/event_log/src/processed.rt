@@ -1,5 +1,5 @@
 //! All that is processed: what is carried, and the news.
-ghost use Rattle.std.specs.Prelude.{◌≡◌, ℕ, List, ◌<◌, ◌≤◌, ◌+◌, ◌^◌, [], ◌++◌, length, map, take, slice_get, vec_len, vec_capacity, IfOk, IfErr, OnOk, OnErr, IsTrue, Some, None, true, false};
+ghost use Rattle.std.specs.Prelude.{◌≡◌, ℕ, List, ◌<◌, ◌≤◌, ◌+◌, ◌^◌, [], ◌++◌, length, map, take, slice_get, vec_len, vec_capacity, IfOk, IfErr, IfSome, IfNone, OnOk, OnErr, IsTrue, Some, None, true, false};
 ghost use Rattle.std.specs.List.{AllByRecursion, remove};
 ghost use Rattle.event_key.specs.Stamps.{time_part};
 ghost use Rattle.event_key.specs.declared.stamp.TheConstants.{NO_STAMP};
@@ -87,6 +87,26 @@ impl Processed {
         ensures { result ≡ least_stamp NO_STAMP (held_of (map (λ p. p.done) self.now.items)) }
     {
         self.carried.held_least().min(self.news.held_least())
+    }
+
+    /// The least key.
+    pub fn first(&self) -> Option<Key>
+        ensures some { IfSome result (λ key. slice_get (map placed_key self.now.items) 0 ≡ Some key) }
+        ensures none { IfNone result (self.now.items ≡ []) }
+    {
+        let carried = self.carried.first();
+        if self.news.len() == 0 {
+            return carried;
+        }
+        self.news.tells();
+        let news = self.news.key_at(0);
+        let Some(key) = carried else {
+            return Some(news);
+        };
+        if news.is_before(&key) {
+            return Some(news);
+        }
+        Some(key)
     }
 
     /// Carries all news. Takes no memory.
