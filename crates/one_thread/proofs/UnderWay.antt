@@ -9,6 +9,7 @@ use Rattle.sim_spec.specs.declared.bucket.Bucket.{Bucket}
 use Rattle.sim_spec.specs.declared.terms.Terms.{Terms}
 use Rattle.sim_spec.specs.Cut.{cut, after}
 use Rattle.sim_spec.specs.State.{State, Lawful}
+use Rattle.tick_queue.specs.Queues.{IsSettled}
 use Rattle.one_thread.specs.Engines.{Course, state_of}
 use Rattle.one_thread.specs.Turns.{horizon_of, NoneDue, IsDone, IsFailed, IsFull}
 use Rattle.one_thread.proofs.BucketLemmas.{InBucket, starts, goes_on}
@@ -68,3 +69,12 @@ pub leaves_limited : (m : Meaning) (t : Terms) (s : State) (told : List (Key × 
     → bucket ≡ record { done = told; horizon = 0; fault = None; limited = true } → Leaves m t s bucket c
 leaves_limited m t s told c bucket u full is_bucket =
     leaves m t s bucket c u.parts u.has (ends_limited m t s told u.parts bucket u.bucket (full_parts m t c u.parts u.has u.bucket.lawful full) is_bucket)
+
+-- a bucket has ended, and its course is settled
+pub record HasEnded (m : Meaning) (t : Terms) (s : State) (bucket : Bucket) (c : Course) : Type 0 where
+  pub leaves : Leaves m t s bucket c
+  pub settled : IsSettled c.queue
+
+-- by a turn that leaves all as it was
+pub has_ended : (m : Meaning) (t : Terms) (s : State) (bucket : Bucket) (c new : Course) → Leaves m t s bucket c → IsSettled c.queue → new ≡ c → HasEnded m t s bucket new
+has_ended m t s bucket c new leaves settled same = let P : Course → Type 0 = HasEnded m t s bucket in subst P (sym same) (record { leaves = leaves; settled = settled })

@@ -13,8 +13,10 @@ use Rattle.one_thread.specs.Turns.{IsTurn}
 use Rattle.one_thread.specs.declared.turn.Turn.{Turn}
 use Rattle.one_thread.specs.declared.turn.Turn.TheVariants.{Does, Ends, Limit, Fault}
 use Rattle.one_thread.proofs.FireLemmas.{done_below}
-use Rattle.one_thread.proofs.UnderWay.{begins, stays, lawful_in, goes, leaves_whole, leaves_limited, leaves_faulted}
+use Rattle.one_thread.proofs.UnderWay.{UnderWay, HasEnded, has_ended, begins, stays, lawful_in, goes, leaves_whole, leaves_limited, leaves_faulted}
+use Rattle.one_thread.proofs.bucket.fire_bucket.Given.{Over}
 use Rattle.one_thread.proofs.bucket.fire_bucket.Goals as goal
+use Rattle.one_thread.proofs.bucket.fire_bucket.Goals.{After-turn, In-Ends, In-Limit, In-Fault}
 
 pub loop-course-init : goal.loop-course-init
 loop-course-init g c =
@@ -24,6 +26,12 @@ loop-course-init g c =
       way = begins m c.args.terms.now (state_of c.args.course.now) [] c.merge.new.self refl c.merge.ensures.state c.merge.ensures.fresh c.requires.lawful;
       told = λ before holds. subst (g.T.Recorder.holds m c.args.into.now) (sym (append-nil before)) holds;
     }
+
+-- the course, once it is settled, is under way
+settled : (g : Over) (c : After-turn g) → UnderWay (g.M.Model.meaning c.args.model.now) c.args.terms.now (state_of c.args.course.now) c.loop-course.invariant.so_far c.settle.new.self
+settled g c =
+    let i = c.loop-course.invariant in
+    stays (g.M.Model.meaning c.args.model.now) c.args.terms.now (state_of c.args.course.now) i.so_far c.loop-course.course c.settle.new.self i.way c.in_ok-settle.ensures.state c.in_ok-settle.ensures.fresh
 
 pub turn-requires-clause-lawful : goal.turn-requires-clause-lawful
 turn-requires-clause-lawful g c lives lasts =
@@ -35,18 +43,17 @@ turn-requires-clause-lawful g c lives lasts =
 pub tell-requires : goal.tell-requires
 tell-requires g c =
     let m = g.M.Model.meaning c.args.model.now in
-    let i = c.loop-course.invariant in
-    let here = stays m c.args.terms.now (state_of c.args.course.now) i.so_far c.loop-course.course c.settle.new.self i.way c.in_ok-settle.ensures.state c.in_ok-settle.ensures.fresh in
+    let here = settled g (goal.at.tell-requires g c).After-turn in
     let P : Turn → Type 0 = λ turn. IsTurn m c.args.terms.now c.settle.new.self turn c.turn.new.sheet.note c.turn.new.self in
     let done : P (Does c.in-Does.key) = subst P c.in-Does.is c.in_ok-key.ensures in
-    let lawful = lawful_in m c.args.terms.now (state_of c.args.course.now) i.so_far c.settle.new.self here in
+    let lawful = lawful_in m c.args.terms.now (state_of c.args.course.now) c.loop-course.invariant.so_far c.settle.new.self here in
     c.requires.may _ _ _ (done_below m c.args.terms.now c.settle.new.self c.in-Does.key c.turn.new.sheet.note c.turn.new.self c.keeps_laws.ensures lawful done)
 
 pub loop-course-preserved : goal.loop-course-preserved
 loop-course-preserved g c =
     let m = g.M.Model.meaning c.args.model.now in
     let i = c.loop-course.invariant in
-    let here = stays m c.args.terms.now (state_of c.args.course.now) i.so_far c.loop-course.course c.settle.new.self i.way c.in_ok-settle.ensures.state c.in_ok-settle.ensures.fresh in
+    let here = settled g (goal.at.loop-course-preserved g c).After-turn in
     let P : Turn → Type 0 = λ turn. IsTurn m c.args.terms.now c.settle.new.self turn c.turn.new.sheet.note c.turn.new.self in
     let done : P (Does c.in-Does.key) = subst P c.in-Does.is c.in_ok-key.ensures in
     let told : Key × Note = (c.in-Does.key, c.turn.new.sheet.note) in
@@ -69,161 +76,72 @@ loop-course-smaller g c =
     let free = done.free in
     omega (arith, same, count, free)
 
-pub returns-in-Ends-clause-end : goal.returns-in-Ends-clause-end
-returns-in-Ends-clause-end g c =
+-- the bucket as it ends: with no event due, at the limit, or at a fault
+whole : (g : Over) (c : In-Ends g) → HasEnded (g.M.Model.meaning c.args.model.now) c.args.terms.now (state_of c.args.course.now) (record { done = c.loop-course.invariant.so_far; horizon = c.in-Ends.horizon; fault = None; limited = false }) c.turn.new.self
+whole g c =
     let m = g.M.Model.meaning c.args.model.now in
-    let i = c.loop-course.invariant in
-    let here = stays m c.args.terms.now (state_of c.args.course.now) i.so_far c.loop-course.course c.settle.new.self i.way c.in_ok-settle.ensures.state c.in_ok-settle.ensures.fresh in
+    let here = settled g (goal.at.In-Ends g c).After-turn in
     let P : Turn → Type 0 = λ turn. IsTurn m c.args.terms.now c.settle.new.self turn c.turn.new.sheet.note c.turn.new.self in
     let turn : P (Ends c.in-Ends.horizon) = subst P c.in-Ends.is c.in_ok-key.ensures in
-    let bucket : Bucket = record { done = i.so_far; horizon = c.in-Ends.horizon; fault = None; limited = false } in
-    let ends = leaves_whole m c.args.terms.now (state_of c.args.course.now) i.so_far c.settle.new.self c.in-Ends.horizon bucket here turn.0 turn.1 refl in
-    c.whole.ensures ∙ ap end_of ends.is_cut
+    has_ended m c.args.terms.now (state_of c.args.course.now) _ c.settle.new.self c.turn.new.self (leaves_whole m c.args.terms.now (state_of c.args.course.now) c.loop-course.invariant.so_far c.settle.new.self c.in-Ends.horizon _ here turn.0 turn.1 refl) c.in_ok-settle.ensures.settled turn.2
+
+limited : (g : Over) (c : In-Limit g) → HasEnded (g.M.Model.meaning c.args.model.now) c.args.terms.now (state_of c.args.course.now) (record { done = c.loop-course.invariant.so_far; horizon = 0; fault = None; limited = true }) c.turn.new.self
+limited g c =
+    let m = g.M.Model.meaning c.args.model.now in
+    let here = settled g (goal.at.In-Limit g c).After-turn in
+    let P : Turn → Type 0 = λ turn. IsTurn m c.args.terms.now c.settle.new.self turn c.turn.new.sheet.note c.turn.new.self in
+    let turn : P (Limit) = subst P c.in-Limit.is c.in_ok-key.ensures in
+    has_ended m c.args.terms.now (state_of c.args.course.now) _ c.settle.new.self c.turn.new.self (leaves_limited m c.args.terms.now (state_of c.args.course.now) c.loop-course.invariant.so_far c.settle.new.self _ here turn.0 refl) c.in_ok-settle.ensures.settled turn.1
+
+faulted : (g : Over) (c : In-Fault g) → HasEnded (g.M.Model.meaning c.args.model.now) c.args.terms.now (state_of c.args.course.now) (record { done = c.loop-course.invariant.so_far; horizon = 0; fault = Some (c.in-Fault.key, c.in-Fault.code); limited = false }) c.turn.new.self
+faulted g c =
+    let m = g.M.Model.meaning c.args.model.now in
+    let here = settled g (goal.at.In-Fault g c).After-turn in
+    let P : Turn → Type 0 = λ turn. IsTurn m c.args.terms.now c.settle.new.self turn c.turn.new.sheet.note c.turn.new.self in
+    let turn : P (Fault c.in-Fault.key c.in-Fault.code) = subst P c.in-Fault.is c.in_ok-key.ensures in
+    has_ended m c.args.terms.now (state_of c.args.course.now) _ c.settle.new.self c.turn.new.self (leaves_faulted m c.args.terms.now (state_of c.args.course.now) c.loop-course.invariant.so_far c.settle.new.self c.in-Fault.key c.in-Fault.code _ here turn.0 refl) c.in_ok-settle.ensures.settled turn.1
+
+pub returns-in-Ends-clause-end : goal.returns-in-Ends-clause-end
+returns-in-Ends-clause-end g c = c.whole.ensures ∙ ap end_of (whole g (goal.at.returns-in-Ends-clause-end g c).In-Ends).leaves.is_cut
 
 pub returns-in-Ends-clause-told : goal.returns-in-Ends-clause-told
-returns-in-Ends-clause-told g c =
-    let m = g.M.Model.meaning c.args.model.now in
-    let i = c.loop-course.invariant in
-    let here = stays m c.args.terms.now (state_of c.args.course.now) i.so_far c.loop-course.course c.settle.new.self i.way c.in_ok-settle.ensures.state c.in_ok-settle.ensures.fresh in
-    let P : Turn → Type 0 = λ turn. IsTurn m c.args.terms.now c.settle.new.self turn c.turn.new.sheet.note c.turn.new.self in
-    let turn : P (Ends c.in-Ends.horizon) = subst P c.in-Ends.is c.in_ok-key.ensures in
-    let bucket : Bucket = record { done = i.so_far; horizon = c.in-Ends.horizon; fault = None; limited = false } in
-    let ends = leaves_whole m c.args.terms.now (state_of c.args.course.now) i.so_far c.settle.new.self c.in-Ends.horizon bucket here turn.0 turn.1 refl in
-    λ before holds. subst (λ (b : Bucket). g.T.Recorder.holds m c.loop-course.into (before ++ b.done)) ends.is_cut (i.told before holds)
+returns-in-Ends-clause-told g c = λ before holds. subst (λ (b : Bucket). g.T.Recorder.holds (g.M.Model.meaning c.args.model.now) c.loop-course.into (before ++ b.done)) (whole g (goal.at.returns-in-Ends-clause-told g c).In-Ends).leaves.is_cut (c.loop-course.invariant.told before holds)
 
 pub returns-in-Ends-clause-after : goal.returns-in-Ends-clause-after
-returns-in-Ends-clause-after g c =
-    let m = g.M.Model.meaning c.args.model.now in
-    let i = c.loop-course.invariant in
-    let here = stays m c.args.terms.now (state_of c.args.course.now) i.so_far c.loop-course.course c.settle.new.self i.way c.in_ok-settle.ensures.state c.in_ok-settle.ensures.fresh in
-    let P : Turn → Type 0 = λ turn. IsTurn m c.args.terms.now c.settle.new.self turn c.turn.new.sheet.note c.turn.new.self in
-    let turn : P (Ends c.in-Ends.horizon) = subst P c.in-Ends.is c.in_ok-key.ensures in
-    let bucket : Bucket = record { done = i.so_far; horizon = c.in-Ends.horizon; fault = None; limited = false } in
-    let ends = leaves_whole m c.args.terms.now (state_of c.args.course.now) i.so_far c.settle.new.self c.in-Ends.horizon bucket here turn.0 turn.1 refl in
-    ap state_of turn.2 ∙ ends.is_after
+returns-in-Ends-clause-after g c = (whole g (goal.at.returns-in-Ends-clause-after g c).In-Ends).leaves.is_after
 
 pub returns-in-Ends-clause-lawful : goal.returns-in-Ends-clause-lawful
-returns-in-Ends-clause-lawful g c =
-    let m = g.M.Model.meaning c.args.model.now in
-    let i = c.loop-course.invariant in
-    let here = stays m c.args.terms.now (state_of c.args.course.now) i.so_far c.loop-course.course c.settle.new.self i.way c.in_ok-settle.ensures.state c.in_ok-settle.ensures.fresh in
-    let P : Turn → Type 0 = λ turn. IsTurn m c.args.terms.now c.settle.new.self turn c.turn.new.sheet.note c.turn.new.self in
-    let turn : P (Ends c.in-Ends.horizon) = subst P c.in-Ends.is c.in_ok-key.ensures in
-    let bucket : Bucket = record { done = i.so_far; horizon = c.in-Ends.horizon; fault = None; limited = false } in
-    let ends = leaves_whole m c.args.terms.now (state_of c.args.course.now) i.so_far c.settle.new.self c.in-Ends.horizon bucket here turn.0 turn.1 refl in
-    let Q : Course → Type 0 = λ after. Lawful m c.args.terms.now (state_of after) in
-    subst Q (sym turn.2) ends.lawful
+returns-in-Ends-clause-lawful g c = (whole g (goal.at.returns-in-Ends-clause-lawful g c).In-Ends).leaves.lawful
 
 pub returns-in-Ends-clause-settled : goal.returns-in-Ends-clause-settled
-returns-in-Ends-clause-settled g c =
-    let m = g.M.Model.meaning c.args.model.now in
-    let P : Turn → Type 0 = λ turn. IsTurn m c.args.terms.now c.settle.new.self turn c.turn.new.sheet.note c.turn.new.self in
-    let turn : P (Ends c.in-Ends.horizon) = subst P c.in-Ends.is c.in_ok-key.ensures in
-    let Q : Course → Type 0 = λ after. IsSettled after.queue in
-    subst Q (sym turn.2) c.in_ok-settle.ensures.settled
+returns-in-Ends-clause-settled g c = (whole g (goal.at.returns-in-Ends-clause-settled g c).In-Ends).settled
 
 pub returns-in-Limit-clause-end : goal.returns-in-Limit-clause-end
-returns-in-Limit-clause-end g c =
-    let m = g.M.Model.meaning c.args.model.now in
-    let i = c.loop-course.invariant in
-    let here = stays m c.args.terms.now (state_of c.args.course.now) i.so_far c.loop-course.course c.settle.new.self i.way c.in_ok-settle.ensures.state c.in_ok-settle.ensures.fresh in
-    let P : Turn → Type 0 = λ turn. IsTurn m c.args.terms.now c.settle.new.self turn c.turn.new.sheet.note c.turn.new.self in
-    let turn : P (Limit) = subst P c.in-Limit.is c.in_ok-key.ensures in
-    let bucket : Bucket = record { done = i.so_far; horizon = 0; fault = None; limited = true } in
-    let ends = leaves_limited m c.args.terms.now (state_of c.args.course.now) i.so_far c.settle.new.self bucket here turn.0 refl in
-    c.limit.ensures ∙ ap end_of ends.is_cut
+returns-in-Limit-clause-end g c = c.limit.ensures ∙ ap end_of (limited g (goal.at.returns-in-Limit-clause-end g c).In-Limit).leaves.is_cut
 
 pub returns-in-Limit-clause-told : goal.returns-in-Limit-clause-told
-returns-in-Limit-clause-told g c =
-    let m = g.M.Model.meaning c.args.model.now in
-    let i = c.loop-course.invariant in
-    let here = stays m c.args.terms.now (state_of c.args.course.now) i.so_far c.loop-course.course c.settle.new.self i.way c.in_ok-settle.ensures.state c.in_ok-settle.ensures.fresh in
-    let P : Turn → Type 0 = λ turn. IsTurn m c.args.terms.now c.settle.new.self turn c.turn.new.sheet.note c.turn.new.self in
-    let turn : P (Limit) = subst P c.in-Limit.is c.in_ok-key.ensures in
-    let bucket : Bucket = record { done = i.so_far; horizon = 0; fault = None; limited = true } in
-    let ends = leaves_limited m c.args.terms.now (state_of c.args.course.now) i.so_far c.settle.new.self bucket here turn.0 refl in
-    λ before holds. subst (λ (b : Bucket). g.T.Recorder.holds m c.loop-course.into (before ++ b.done)) ends.is_cut (i.told before holds)
+returns-in-Limit-clause-told g c = λ before holds. subst (λ (b : Bucket). g.T.Recorder.holds (g.M.Model.meaning c.args.model.now) c.loop-course.into (before ++ b.done)) (limited g (goal.at.returns-in-Limit-clause-told g c).In-Limit).leaves.is_cut (c.loop-course.invariant.told before holds)
 
 pub returns-in-Limit-clause-after : goal.returns-in-Limit-clause-after
-returns-in-Limit-clause-after g c =
-    let m = g.M.Model.meaning c.args.model.now in
-    let i = c.loop-course.invariant in
-    let here = stays m c.args.terms.now (state_of c.args.course.now) i.so_far c.loop-course.course c.settle.new.self i.way c.in_ok-settle.ensures.state c.in_ok-settle.ensures.fresh in
-    let P : Turn → Type 0 = λ turn. IsTurn m c.args.terms.now c.settle.new.self turn c.turn.new.sheet.note c.turn.new.self in
-    let turn : P (Limit) = subst P c.in-Limit.is c.in_ok-key.ensures in
-    let bucket : Bucket = record { done = i.so_far; horizon = 0; fault = None; limited = true } in
-    let ends = leaves_limited m c.args.terms.now (state_of c.args.course.now) i.so_far c.settle.new.self bucket here turn.0 refl in
-    ap state_of turn.1 ∙ ends.is_after
+returns-in-Limit-clause-after g c = (limited g (goal.at.returns-in-Limit-clause-after g c).In-Limit).leaves.is_after
 
 pub returns-in-Limit-clause-lawful : goal.returns-in-Limit-clause-lawful
-returns-in-Limit-clause-lawful g c =
-    let m = g.M.Model.meaning c.args.model.now in
-    let i = c.loop-course.invariant in
-    let here = stays m c.args.terms.now (state_of c.args.course.now) i.so_far c.loop-course.course c.settle.new.self i.way c.in_ok-settle.ensures.state c.in_ok-settle.ensures.fresh in
-    let P : Turn → Type 0 = λ turn. IsTurn m c.args.terms.now c.settle.new.self turn c.turn.new.sheet.note c.turn.new.self in
-    let turn : P (Limit) = subst P c.in-Limit.is c.in_ok-key.ensures in
-    let bucket : Bucket = record { done = i.so_far; horizon = 0; fault = None; limited = true } in
-    let ends = leaves_limited m c.args.terms.now (state_of c.args.course.now) i.so_far c.settle.new.self bucket here turn.0 refl in
-    let Q : Course → Type 0 = λ after. Lawful m c.args.terms.now (state_of after) in
-    subst Q (sym turn.1) ends.lawful
+returns-in-Limit-clause-lawful g c = (limited g (goal.at.returns-in-Limit-clause-lawful g c).In-Limit).leaves.lawful
 
 pub returns-in-Limit-clause-settled : goal.returns-in-Limit-clause-settled
-returns-in-Limit-clause-settled g c =
-    let m = g.M.Model.meaning c.args.model.now in
-    let P : Turn → Type 0 = λ turn. IsTurn m c.args.terms.now c.settle.new.self turn c.turn.new.sheet.note c.turn.new.self in
-    let turn : P (Limit) = subst P c.in-Limit.is c.in_ok-key.ensures in
-    let Q : Course → Type 0 = λ after. IsSettled after.queue in
-    subst Q (sym turn.1) c.in_ok-settle.ensures.settled
+returns-in-Limit-clause-settled g c = (limited g (goal.at.returns-in-Limit-clause-settled g c).In-Limit).settled
 
 pub returns-in-Fault-clause-end : goal.returns-in-Fault-clause-end
-returns-in-Fault-clause-end g c =
-    let m = g.M.Model.meaning c.args.model.now in
-    let i = c.loop-course.invariant in
-    let here = stays m c.args.terms.now (state_of c.args.course.now) i.so_far c.loop-course.course c.settle.new.self i.way c.in_ok-settle.ensures.state c.in_ok-settle.ensures.fresh in
-    let P : Turn → Type 0 = λ turn. IsTurn m c.args.terms.now c.settle.new.self turn c.turn.new.sheet.note c.turn.new.self in
-    let turn : P (Fault c.in-Fault.key c.in-Fault.code) = subst P c.in-Fault.is c.in_ok-key.ensures in
-    let bucket : Bucket = record { done = i.so_far; horizon = 0; fault = Some (c.in-Fault.key, c.in-Fault.code); limited = false } in
-    let ends = leaves_faulted m c.args.terms.now (state_of c.args.course.now) i.so_far c.settle.new.self c.in-Fault.key c.in-Fault.code bucket here turn.0 refl in
-    c.fault.ensures ∙ ap end_of ends.is_cut
+returns-in-Fault-clause-end g c = c.fault.ensures ∙ ap end_of (faulted g (goal.at.returns-in-Fault-clause-end g c).In-Fault).leaves.is_cut
 
 pub returns-in-Fault-clause-told : goal.returns-in-Fault-clause-told
-returns-in-Fault-clause-told g c =
-    let m = g.M.Model.meaning c.args.model.now in
-    let i = c.loop-course.invariant in
-    let here = stays m c.args.terms.now (state_of c.args.course.now) i.so_far c.loop-course.course c.settle.new.self i.way c.in_ok-settle.ensures.state c.in_ok-settle.ensures.fresh in
-    let P : Turn → Type 0 = λ turn. IsTurn m c.args.terms.now c.settle.new.self turn c.turn.new.sheet.note c.turn.new.self in
-    let turn : P (Fault c.in-Fault.key c.in-Fault.code) = subst P c.in-Fault.is c.in_ok-key.ensures in
-    let bucket : Bucket = record { done = i.so_far; horizon = 0; fault = Some (c.in-Fault.key, c.in-Fault.code); limited = false } in
-    let ends = leaves_faulted m c.args.terms.now (state_of c.args.course.now) i.so_far c.settle.new.self c.in-Fault.key c.in-Fault.code bucket here turn.0 refl in
-    λ before holds. subst (λ (b : Bucket). g.T.Recorder.holds m c.loop-course.into (before ++ b.done)) ends.is_cut (i.told before holds)
+returns-in-Fault-clause-told g c = λ before holds. subst (λ (b : Bucket). g.T.Recorder.holds (g.M.Model.meaning c.args.model.now) c.loop-course.into (before ++ b.done)) (faulted g (goal.at.returns-in-Fault-clause-told g c).In-Fault).leaves.is_cut (c.loop-course.invariant.told before holds)
 
 pub returns-in-Fault-clause-after : goal.returns-in-Fault-clause-after
-returns-in-Fault-clause-after g c =
-    let m = g.M.Model.meaning c.args.model.now in
-    let i = c.loop-course.invariant in
-    let here = stays m c.args.terms.now (state_of c.args.course.now) i.so_far c.loop-course.course c.settle.new.self i.way c.in_ok-settle.ensures.state c.in_ok-settle.ensures.fresh in
-    let P : Turn → Type 0 = λ turn. IsTurn m c.args.terms.now c.settle.new.self turn c.turn.new.sheet.note c.turn.new.self in
-    let turn : P (Fault c.in-Fault.key c.in-Fault.code) = subst P c.in-Fault.is c.in_ok-key.ensures in
-    let bucket : Bucket = record { done = i.so_far; horizon = 0; fault = Some (c.in-Fault.key, c.in-Fault.code); limited = false } in
-    let ends = leaves_faulted m c.args.terms.now (state_of c.args.course.now) i.so_far c.settle.new.self c.in-Fault.key c.in-Fault.code bucket here turn.0 refl in
-    ap state_of turn.1 ∙ ends.is_after
+returns-in-Fault-clause-after g c = (faulted g (goal.at.returns-in-Fault-clause-after g c).In-Fault).leaves.is_after
 
 pub returns-in-Fault-clause-lawful : goal.returns-in-Fault-clause-lawful
-returns-in-Fault-clause-lawful g c =
-    let m = g.M.Model.meaning c.args.model.now in
-    let i = c.loop-course.invariant in
-    let here = stays m c.args.terms.now (state_of c.args.course.now) i.so_far c.loop-course.course c.settle.new.self i.way c.in_ok-settle.ensures.state c.in_ok-settle.ensures.fresh in
-    let P : Turn → Type 0 = λ turn. IsTurn m c.args.terms.now c.settle.new.self turn c.turn.new.sheet.note c.turn.new.self in
-    let turn : P (Fault c.in-Fault.key c.in-Fault.code) = subst P c.in-Fault.is c.in_ok-key.ensures in
-    let bucket : Bucket = record { done = i.so_far; horizon = 0; fault = Some (c.in-Fault.key, c.in-Fault.code); limited = false } in
-    let ends = leaves_faulted m c.args.terms.now (state_of c.args.course.now) i.so_far c.settle.new.self c.in-Fault.key c.in-Fault.code bucket here turn.0 refl in
-    let Q : Course → Type 0 = λ after. Lawful m c.args.terms.now (state_of after) in
-    subst Q (sym turn.1) ends.lawful
+returns-in-Fault-clause-lawful g c = (faulted g (goal.at.returns-in-Fault-clause-lawful g c).In-Fault).leaves.lawful
 
 pub returns-in-Fault-clause-settled : goal.returns-in-Fault-clause-settled
-returns-in-Fault-clause-settled g c =
-    let m = g.M.Model.meaning c.args.model.now in
-    let P : Turn → Type 0 = λ turn. IsTurn m c.args.terms.now c.settle.new.self turn c.turn.new.sheet.note c.turn.new.self in
-    let turn : P (Fault c.in-Fault.key c.in-Fault.code) = subst P c.in-Fault.is c.in_ok-key.ensures in
-    let Q : Course → Type 0 = λ after. IsSettled after.queue in
-    subst Q (sym turn.1) c.in_ok-settle.ensures.settled
+returns-in-Fault-clause-settled g c = (faulted g (goal.at.returns-in-Fault-clause-settled g c).In-Fault).settled
