@@ -17,6 +17,3 @@ mod top;
 pub use reader::ShopTexts;
 pub use text_fields::{Refusal, code_name};
 pub use top::read_shop;
-
-#[cfg(test)]
-mod tests;

@@ -10,8 +10,6 @@ mod lines;
 mod shop_totals;
 mod station_sums;
 mod station_totals;
-#[cfg(test)]
-mod tests;
 mod visit_sums;
 mod visits;
 

@@ -1,5 +1,6 @@
 //! What a text is refused for, and the order of the checks.
-use super::{CLINIC, MILL, STEP, answer_of, assert_answer, assert_changed, assert_steps};
+use super::{CLINIC, STEP, answer_of, assert_answer, assert_changed, assert_steps};
+use crate::tests::models::MILL;
 use std::test::Fail;
 
 #[test]

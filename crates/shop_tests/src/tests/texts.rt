@@ -2,22 +2,15 @@
 mod limits;
 mod refusals;
 
-use crate::{Refusal, read_shop};
+use super::models::MILL;
 use model_core::model::Model;
+use shop_text::{Refusal, read_shop};
 use std::alloc::Global;
 use std::process::Abort;
 use std::test::Fail;
 
 /// The code and the item with which a text is refused. A text that is read has code 0 and item 0.
 type Answer = (u8, u32);
-
-/// A mill to which parts come.
-const MILL: &str = "format = 1
-model = \"shop\"
-end = 20
-station = [ { name = \"mill\", line = 10 } ]
-class = [ { name = \"part\", first = 1, every = { law = \"fixed\", value = 2 }, count = 3, route = [ { at = \"mill\", service = { law = \"fixed\", value = 3 } } ] } ]
-";
 
 /// The only step of the mill's parts.
 const STEP: &str = "{ at = \"mill\", service = { law = \"fixed\", value = 3 } }";

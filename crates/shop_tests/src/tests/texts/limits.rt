@@ -1,5 +1,6 @@
 //! Both sides of each limit of a text: the numbers that are just read and just refused, and the longest lists.
-use super::{MILL, STEP, assert_answer, replaced};
+use super::{STEP, assert_answer, replaced};
+use crate::tests::models::MILL;
 use std::alloc::Global;
 use std::process::Abort;
 use std::test::Fail;
@@ -233,5 +234,46 @@ class = [ {{ name = \"a\", times = [{fits}], route = [ {{ go = [\"out\"] }} ] }}
     assert_answer(&rt, alloc, text.as_str(), (0, 0));
     let long = replaced(alloc, text.as_str(), "times = [1]", "times = [1, -1]")?;
     assert_answer(&rt, alloc, long.as_str(), (7, 2));
+    Ok(())
+}
+
+#[test]
+fn names_and_labels_have_1_to_16_letters(rt: HostRuntime) -> Result<(), Fail> {
+    let alloc = rt.alloc();
+    let unlinked = replaced(alloc, MILL, STEP, "{ go = [\"out\"] }")?;
+    for (name, named, labelled) in [
+        ("", (5, 1), (5, 2)),
+        ("m", (0, 0), (0, 0)),
+        ("a-mill_of_Basel7", (0, 0), (0, 0)),
+        ("a-mill_of_Basel77", (5, 1), (5, 2)),
+        ("m.", (5, 1), (5, 2)),
+    ] {
+        let station = replaced(alloc, unlinked.as_str(), "mill", name)?;
+        assert_answer(&rt, alloc, station.as_str(), named);
+        let step = format!(in alloc; "{{ label = \"{name}\", free = \"mill\" }}")?;
+        let label = replaced(alloc, MILL, STEP, step.as_str())?;
+        assert_answer(&rt, alloc, label.as_str(), labelled);
+    }
+    Ok(())
+}
+
+#[test]
+fn stations_and_classes_are_so_many_in_all(rt: HostRuntime) -> Result<(), Fail> {
+    let alloc = rt.alloc();
+    for (stations, classes, wanted) in [
+        (65_536, 0, (3, 1)),
+        (65_537, 0, (7, 0)),
+        (0, 65_536, (3, 1)),
+        (0, 65_537, (7, 0)),
+        (32_768, 32_768, (3, 1)),
+        (32_768, 32_769, (7, 0)),
+    ] {
+        let stations = many(alloc, "{}", stations)?;
+        let classes = many(alloc, "{}", classes)?;
+        let text = format!(in alloc;
+            "format = 1\nmodel = \"shop\"\nend = 1\nstation = [{stations}]\nclass = [{classes}]\n"
+        )?;
+        assert_answer(&rt, alloc, text.as_str(), wanted);
+    }
     Ok(())
 }
