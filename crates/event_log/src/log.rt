@@ -121,7 +121,8 @@ impl NodeLog {
         self.events.first()
     }
 
-    /// Carries all that isn't carried yet. No message lies in the chain of a home then. Takes no memory.
+    /// Carries all that isn't carried yet. No message lies in the chain of a home then. Takes no memory. Each goes to its place
+    /// among those that are carried, and moves the shorter side of them.
     pub fn carry_all(&mut self)
         ensures log { self.new.log ≡ self.old.log }
         ensures carried { IsCarried self.new }
