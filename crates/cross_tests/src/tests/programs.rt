@@ -1,5 +1,8 @@
 //! Whole runs of the program, over sources and sinks in memory.
 mod long;
+mod longest_state;
+mod machines;
+mod processes;
 mod readers;
 mod refusals;
 mod saving;
