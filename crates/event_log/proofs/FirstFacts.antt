@@ -32,7 +32,7 @@ pub keys-placed : (items : List Placed) → map placed_key items ≡ keys_of (do
 keys-placed [] = refl
 keys-placed (p ∷ ps) = ap (λ ks. placed_key p ∷ ks) (keys-placed ps)
 
-each-weave : (P : Placed → Type 0) (ps qs : List Placed) → Each P ps → Each P qs → Each P (weave placed_key ps qs)
+pub each-weave : (P : Placed → Type 0) (ps qs : List Placed) → Each P ps → Each P qs → Each P (weave placed_key ps qs)
 unfolding weave
 each-weave P [] qs one other = other
 each-weave P (p ∷ ps) qs one other = Each-insert placed_key P p (weave placed_key ps qs) one.0 (each-weave P ps qs one.1 other)
@@ -71,7 +71,7 @@ after-all k n (d ∷ ds) lt up at =
     let first : key_lt k d.event.key ≡ true = ap (key_lt k) same ∙ lt in
     (first, Each-map (λ (x : Done). key_lt d.event.key x.event.key ≡ true) (λ (x : Done). key_lt k x.event.key ≡ true) ds (λ x after. key_lt-trans k d.event.key x.event.key first after) up.0)
 
-later-new : (k : Key) (ps : List Placed) (q : Placed) (qs : List Placed) → times placed_key k (ps ++ (q ∷ qs)) ≡ 0 → k ≢ placed_key q
+pub later-new : (k : Key) (ps : List Placed) (q : Placed) (qs : List Placed) → times placed_key k (ps ++ (q ∷ qs)) ≡ 0 → k ≢ placed_key q
 later-new k [] q qs new = new-head placed_key k q qs new
 later-new k (p ∷ ps) q qs new = later-new k ps q qs (new-tail placed_key k p (ps ++ (q ∷ qs)) new)
 

@@ -1,15 +1,11 @@
 -- Carried events by their places, and the least stamps that they hold.
-use Rattle.std.proofs.Common.{◌≡◌, ℕ, zero, suc, ◌-◌, ◌<◌, ◌≤◌, List, [], ◌∷◌, ◌++◌, length, map, take, drop, get_or, set, sym, ap, ◌∙◌, subst, arith}
-use Rattle.std.specs.List.{insert as inserted, remove}
-use Rattle.event_key.specs.declared.key.Key.{Key}
+use Rattle.std.proofs.Common.{◌≡◌, ℕ, zero, suc, ◌-◌, ◌<◌, ◌≤◌, List, [], ◌∷◌, length, map, drop, get_or, set, sym, ap, ◌∙◌, subst, arith}
+use Rattle.std.specs.List.{remove}
 use Rattle.event_key.specs.declared.stamp.TheConstants.{NO_STAMP}
 use Rattle.key_order.specs.Ascending.{Ascends}
-use Rattle.key_order.specs.Keys.{times}
 use Rattle.key_order.specs.Stamps.{least_stamp}
-use Rattle.object_log.specs.Carrying.{Placed, place_of, placed_key}
+use Rattle.object_log.specs.Carrying.{Placed}
 use Rattle.object_log.specs.Logs.{held_of}
-use Rattle.object_log.specs.Weave.{insert}
-use Rattle.object_log.proofs.CarriedLemmas.{map-insert, place-put, times-map}
 use Rattle.object_log.proofs.HeldLemmas.{least-join, least-none}
 use Rattle.event_log.specs.declared.item.Item.{Item}
 use Rattle.event_log.specs.Items.{AreHeld, AreHeldBut, IsHeld, IsHeldBut, first_held, item_key, placed, placed_of}
@@ -24,18 +20,6 @@ held-is (e ∷ es) held =
     let own = e.least_is in
     let join = least-join e.done.sends (held_of (map (λ (p : Placed). p.done) (placed es))) in
     omega arith
-
--- an item more
-pub but-inserted : (n : ℕ) (e : Item) (es : List Item) → n ≤ length es → IsHeld e (drop n es) → AreHeld es → AreHeldBut n (take n es ++ e ∷ drop n es)
-unfolding AreHeld AreHeldBut
-but-inserted zero e es within is held = (is, held)
-but-inserted (suc n) e [] within is held = absurd (omega arith)
-but-inserted (suc n) e (f ∷ es) within is held = (still n es (omega arith) held.0, but-inserted n e es (omega arith) is held.1)
-  where
-    still : (n : ℕ) (es : List Item) → n ≤ length es → IsHeld f es → IsHeldBut n f (take n es ++ e ∷ drop n es)
-    still zero es within h = tt
-    still (suc n) [] within h = absurd (omega arith)
-    still (suc n) (g ∷ es) within h = h
 
 -- an item less
 pub but-removed : (n : ℕ) (es : List Item) → AreHeld es → AreHeldBut n (remove es n)
@@ -95,12 +79,3 @@ mend-ends (suc n) es none but = absurd (omega arith)
 pub none-carried : Ascends item_key [] × AreHeld []
 unfolding Ascends AreHeld
 none-carried = (tt, tt)
-
--- an item that was put in at its place
-pub inserted-placed : (es now : List Item) (e : Item) (at : ℕ) (key : Key) → placed now ≡ placed (inserted es at e) → at ≡ place_of item_key key es → key ≡ item_key e → times placed_key (item_key e) (placed es) ≡ 0
-    → placed now ≡ insert placed_key (placed_of e) (placed es)
-inserted-placed es now e at key is place same fresh =
-    is
-    ∙ ap (λ n. placed (inserted es n e)) (place ∙ ap (λ k. place_of item_key k es) same)
-    ∙ ap placed (place-put item_key e es (times-map placed_of placed_key (item_key e) es ∙ fresh))
-    ∙ map-insert placed_of placed_key e es

@@ -1,5 +1,7 @@
 pub mod CommitFacts
 pub mod DueFacts
+pub mod EndFacts
+pub mod FaultFacts
 pub mod FirstFacts
 pub mod ItemLemmas
 pub mod JoinFacts
@@ -11,3 +13,4 @@ pub mod ProcessFacts
 pub mod ProcessedFacts
 pub mod ReadFacts
 pub mod TakesFacts
+pub mod TurnLemmas

@@ -1,3 +1,4 @@
+pub mod Faults
 pub mod Items
 pub mod Keeping
 pub mod News
@@ -5,3 +6,4 @@ pub mod NodeLogs
 pub mod Outboxes
 pub mod Popping
 pub mod Processing
+pub mod Turning

@@ -1,31 +1,34 @@
 //! Carried events in the order of their keys.
-ghost use Rattle.std.specs.Prelude.{◌≡◌, ◌<◌, ◌≤◌, ◌+◌, [], length, map, drop, slice_get, Some, IfSome, IfNone, OnOk};
+ghost use Rattle.std.specs.Prelude.{◌≡◌, ℕ, List, ◌<◌, ◌≤◌, [], ◌++◌, length, map, take, drop, slice_get, Some, IfSome, IfNone, OnOk, IsTrue, true};
 ghost use Rattle.std.specs.List.{remove};
-ghost use Rattle.std.specs.VecDeque.{deque_len, deque_capacity};
+ghost use Rattle.std.specs.List.{AllByRecursion};
+ghost use Rattle.std.specs.VecDeque.{deque_capacity};
+ghost use Rattle.event_key.specs.Keys.{key_lt};
 ghost use Rattle.event_key.specs.declared.stamp.TheConstants.{NO_STAMP};
 ghost use Rattle.key_order.specs.Ascending.{Ascends};
-ghost use Rattle.key_order.specs.Keys.{times};
 ghost use Rattle.key_order.specs.Stamps.{least_stamp};
-ghost use Rattle.object_log.specs.Logs.{held_of};
-ghost use Rattle.object_log.specs.Carrying.{Placed, place_of, placed_key};
-ghost use Rattle.object_log.specs.Weave.{insert};
-ghost use Rattle.event_log.specs.Items.{AreHeld, AreHeldBut, CarriedView, first_held, item_key, placed};
+ghost use Rattle.object_log.specs.Logs.{fault_of, held_of};
+ghost use Rattle.model_core.specs.declared.event.Event.{Event};
+ghost use Rattle.object_log.specs.Carrying.{Placed, placed_key};
+ghost use Rattle.event_log.specs.Items.{AreHeld, AreHeldBut, first_held, placed};
+ghost use Rattle.event_log.specs.Processing.{CanCarry, merged};
 
-use crate::item::Item;
+use crate::item::{Item, Items};
 use crate::kept::Kept;
+use crate::news::News;
+use crate::turning::carry_into;
+use event_chain::CellPool;
 use event_key::{Key, NO_STAMP};
-use model_core::OutOfMemory;
+use model_core::{Event, OutOfMemory};
+use object_log::Verdict;
 use std::alloc::Global;
 use std::collections::VecDeque;
 use std::marker::Model;
 
-type Items = VecDeque<Item, Global>;
-
 /// Carried events of many objects, in the order of their keys, each with the place of its object. Contracts see beside them
 /// for how many more there is room.
 ///
-/// Each knows the least stamp that it and those behind it send, so that the least of all is known at the first. To find
-/// an event takes constant time at either end, and time logarithmic in how many come behind it elsewhere.
+/// Each knows the least stamp that it and those behind it send, so that the least of all is known at the first.
 #[derive(Drop)]
 pub struct Carried {
     items: Items,
@@ -78,28 +81,27 @@ impl Carried {
         Ok(())
     }
 
-    /// Puts an event in, with the place of its object. Constant behind the last one, else it moves the shorter side.
-    pub fn insert(&mut self, done: Kept, place: u32)
-        requires room { 1 ≤ self.old.room }
-        requires new { times placed_key done.event.key self.old.items ≡ 0 }
-        ensures items { self.new.items ≡ insert placed_key (record { done = done; place = place }) self.old.items }
-        ensures room { self.old.room ≤ self.new.room + 1 }
+    /// Carries the news from a place on. Takes no memory. Each of them is moved once, and so is each carried event that comes after
+    /// the first of them; then the shorter side of the list.
+    pub fn carry(
+        &mut self,
+        news: &mut News,
+        places: &mut Vec<u32>,
+        cells: &mut CellPool<Event>,
+        from: usize,
+    )
+        requires can { CanCarry places.old.items news.old self.old cells.old }
+        requires from { from ≤ length news.old.done }
+        ensures same { merged news.new.done places.new.items self.new.items ≡ merged news.old.done places.old.items self.old.items }
+        ensures can { CanCarry places.new.items news.new self.new cells.new }
+        ensures done { news.new.done ≡ take from news.old.done }
+        ensures sent { (own : List (ℕ × Event)) × (news.old.sent ≡ news.new.sent ++ own) }
+        ensures nodes { news.new.nodes ≡ news.old.nodes }
     {
-        let key = done.key();
-        let least = done.least();
-        let at = search(&self.items, &key);
-        let held = least.min(held_from(&self.items, at));
-        let item = Item {
-            key,
-            place,
-            least,
-            held,
-            done,
-        };
-        let Ok(()) = self.items.insert(at, item) else {
-            unreachable!()
-        };
-        mend(&mut self.items, at);
+        let turned = carry_into(&mut self.items, news, places, cells, from);
+        let rest = self.items.len() - turned;
+        self.items.rotate_left(turned);
+        mend(&mut self.items, rest);
     }
 
     /// The key of the event at a place of the list, and the place of its object.
@@ -136,33 +138,43 @@ impl Carried {
         }
     }
 
+    /// Whether each comes before a key, in constant time.
+    pub fn ends_before(&self, key: &Key) -> bool
+        ensures { IsTrue result → AllByRecursion (λ p. key_lt (placed_key p) key.now ≡ true) self.now.items }
+    {
+        match self.items.back() {
+            Some(item) => item.key.is_before(key),
+            None => true,
+        }
+    }
+
     /// The least stamp that they send, or `NO_STAMP`, in constant time.
     pub fn held_least(&self) -> u64
         ensures { result ≡ least_stamp NO_STAMP (held_of (map (λ p. p.done) self.now.items)) }
     {
         held_from(&self.items, 0)
     }
+
+    /// The key and the code of the first event that failed, if one did, in time linear in how many come before it.
+    pub fn faulted(&self) -> Option<(Key, u32)>
+        ensures { result ≡ fault_of (map (λ p. p.done) self.now.items) }
+    {
+        fault_in(&self.items)
+    }
 }
 
-/// How many keys come before this one. The search widens from the back, in time logarithmic in how many don't.
-fn search(items: &Items, key: &Key) -> usize
-    requires { Ascends item_key items.now.items }
-    ensures { result ≡ place_of item_key key.now items.now.items }
+/// The key and the code of the first event that failed, if one did.
+fn fault_in(items: &Items) -> Option<(Key, u32)>
+    ensures { result ≡ fault_of (map (λ p. p.done) (placed items.now.items)) }
 {
-    let len = items.len();
-    let mut low = 0;
-    let mut high = len;
-    while low < high {
-        let past = len - high;
-        let half = (high - low - 1) / 2;
-        let middle = high - 1 - past.min(half);
-        if items[middle].key.is_before(key) {
-            low = middle + 1;
-        } else {
-            high = middle;
+    for place in 0..items.len() {
+        let item = &items[place];
+        match item.done.verdict() {
+            Verdict::Noted(_) => {}
+            Verdict::Failed(code) => return Some((item.key, code)),
         }
     }
-    low
+    None
 }
 
 /// The least stamp that the events from this place on send, or `NO_STAMP`.

@@ -5,6 +5,8 @@ ghost use Rattle.key_order.specs.Stamps.{least_stamp};
 
 use crate::kept::Kept;
 use event_key::Key;
+use std::alloc::Global;
+use std::collections::VecDeque;
 
 /// A carried event in its place among others.
 #[derive(Drop)]
@@ -20,3 +22,6 @@ pub struct Item {
     ghost key_is: { key ≡ done.event.key },
     ghost least_is: { least ≡ least_stamp NO_STAMP done.sends },
 }
+
+/// Carried events, one behind another.
+pub type Items = VecDeque<Item, Global>;

@@ -79,6 +79,13 @@ impl Kept {
         self.least
     }
 
+    /// What came of the event.
+    pub fn verdict(&self) -> Verdict
+        ensures { result ≡ self.now.verdict }
+    {
+        self.verdict
+    }
+
     /// Takes the event back at its object, which fired it last of those that it has not taken back. The cells of its messages go
     /// to the pool.
     pub fn undo(self, object: &mut Object, cells: &mut CellPool<Event>) -> Cell<Event>

@@ -13,6 +13,7 @@ mod popped;
 mod processed;
 mod row;
 mod sending;
+mod turning;
 mod undo_list;
 
 pub use log::NodeLog;

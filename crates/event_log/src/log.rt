@@ -1,5 +1,5 @@
 //! The log of a node.
-ghost use Rattle.std.specs.Prelude.{◌≡◌, ◌<◌, ◌+◌, ◌^◌, [], ◌∷◌, ◌++◌, length, slice_get, IfOk, IfErr, IfSome, IfNone, OnOk, OnErr, IsTrue, Some, None, is_some, false, true, nat_lt};
+ghost use Rattle.std.specs.Prelude.{◌≡◌, ℕ, List, ◌<◌, ◌+◌, ◌^◌, [], ◌∷◌, ◌++◌, length, slice_get, IfOk, IfErr, IfSome, IfNone, OnOk, OnErr, IsTrue, Some, None, is_some, false, true, nat_lt};
 ghost use Rattle.std.specs.List.{AllByRecursion};
 ghost use Rattle.event_key.specs.Keys.{key_lt};
 ghost use Rattle.event_key.specs.Stamps.{time_part};
@@ -113,6 +113,14 @@ impl NodeLog {
         self.events.held_least()
     }
 
+    /// The key and the code of the first event that failed, if one did. It looks at each carried event up to the first that
+    /// failed, and at the last of the news.
+    pub fn faulted(&self) -> Option<(Key, u32)>
+        ensures { result ≡ fault_of self.now.log.done }
+    {
+        self.events.faulted()
+    }
+
     /// The least key.
     pub fn first(&self) -> Option<Key>
         ensures some { IfSome result (λ key. slice_get (keys_of self.now.log.done) 0 ≡ Some key) }
@@ -121,8 +129,15 @@ impl NodeLog {
         self.events.first()
     }
 
-    /// Carries all that isn't carried yet. No message lies in the chain of a home then. Takes no memory. Each goes to its place
-    /// among those that are carried, and moves the shorter side of them.
+    /// Whether each event comes before a key, in constant time.
+    pub fn ends_before(&self, key: &Key) -> bool
+        ensures { IsTrue result → AllByRecursion (λ d. key_lt d.event.key key.now ≡ true) self.now.log.done }
+    {
+        self.events.ends_before(key)
+    }
+
+    /// Carries all that isn't carried yet. No message lies in the chain of a home then. Takes no memory, and time linear in how
+    /// many come over and how many were carried.
     pub fn carry_all(&mut self)
         ensures log { self.new.log ≡ self.old.log }
         ensures carried { IsCarried self.new }
@@ -187,15 +202,20 @@ impl NodeLog {
     }
 
     /// Undoes each event of an object that doesn't come before a key, and puts them into `into` in the order of their keys.
-    /// Answers how many there were. Takes no memory, and a look at each event that doesn't come before the key.
+    /// Answers how many there were. Takes no memory, and constant time if all events come before the key; else all is carried,
+    /// and it takes a look at each event that doesn't come before the key.
     pub fn back_to(&mut self, object: u32, key: Key, into: &mut Chain<Event>) -> u64
         requires here { is_some (state_in self.old.log.objects object) ≡ true }
         requires empty { into.old ≡ [] }
         ensures back { HasGoneBack object key self.old.log self.new.log into.new }
         ensures count { result ≡ length into.new }
-        ensures carried { IsCarried self.new }
+        ensures carried { 0 < result → IsCarried self.new }
+        ensures homed { (homes : List ℕ) → AreHomed homes self.old.chained → AreHomed homes self.new.chained }
         ensures nodes { self.new.nodes ≡ self.old.nodes }
     {
+        if self.ends_before(&key) {
+            return 0;
+        }
         self.carry_all();
         self.go_back(object, key, into)
     }

@@ -237,6 +237,18 @@ impl News {
         self.key_at(len - 1).is_before(key)
     }
 
+    /// Whether each comes before a key, in constant time.
+    pub fn ends_before(&self, key: &Key) -> bool
+        ensures { IsTrue result → AllByRecursion (λ d. key_lt d.event.key key.now ≡ true) self.now.done }
+    {
+        self.tells();
+        let len = self.len();
+        if len == 0 {
+            return true;
+        }
+        self.key_at(len - 1).is_before(key)
+    }
+
     /// How many messages they sent.
     pub fn sent(&self) -> usize
         ensures { result ≡ length self.now.sent }

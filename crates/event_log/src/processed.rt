@@ -1,6 +1,7 @@
 //! All that is processed: what is carried, and the news.
 ghost use Rattle.std.specs.Prelude.{◌≡◌, ℕ, List, ◌<◌, ◌≤◌, ◌+◌, ◌^◌, [], ◌++◌, length, map, take, slice_get, vec_len, vec_capacity, IfOk, IfErr, IfSome, IfNone, OnOk, OnErr, IsTrue, Some, None, true, false};
 ghost use Rattle.std.specs.List.{AllByRecursion, remove};
+ghost use Rattle.event_key.specs.Keys.{key_lt};
 ghost use Rattle.event_key.specs.Stamps.{time_part};
 ghost use Rattle.event_key.specs.declared.stamp.TheConstants.{NO_STAMP};
 ghost use Rattle.key_order.specs.Ascending.{Ascends};
@@ -14,6 +15,7 @@ ghost use Rattle.model_core.specs.declared.event.Event.{Event};
 ghost use Rattle.object_log.specs.Objects.{HasUndone, IsNewest, IsSameObject};
 ghost use Rattle.object_log.specs.Parts.{due_of};
 ghost use Rattle.object_log.specs.Whole.{dones_in};
+ghost use Rattle.event_log.specs.Faults.{lesser_fault};
 ghost use Rattle.event_log.specs.Outboxes.{AreBlank};
 ghost use Rattle.event_log.specs.Processing.{AreHomed, CanCarry, CanJoin, CommitsNews, HasCome, HasHanded, IsSameProcessed, merged};
 
@@ -89,6 +91,15 @@ impl Processed {
         self.carried.held_least().min(self.news.held_least())
     }
 
+    /// The key and the code of the first event that failed, if one did. It looks at each carried event up to the first that
+    /// failed, and at the last of the news.
+    pub fn faulted(&self) -> Option<(Key, u32)>
+        ensures { result ≡ fault_of (map (λ p. p.done) self.now.items) }
+    {
+        self.news.tells();
+        lesser_fault(self.news.faulted(), self.carried.faulted())
+    }
+
     /// The least key.
     pub fn first(&self) -> Option<Key>
         ensures some { IfSome result (λ key. slice_get (map placed_key self.now.items) 0 ≡ Some key) }
@@ -109,19 +120,24 @@ impl Processed {
         Some(key)
     }
 
+    /// Whether each comes before a key, in constant time.
+    pub fn ends_before(&self, key: &Key) -> bool
+        ensures { IsTrue result → AllByRecursion (λ p. key_lt (placed_key p) key.now ≡ true) self.now.items }
+    {
+        if self.carried.ends_before(key) {
+            return self.news.ends_before(key);
+        }
+        false
+    }
+
     /// Carries all news. Takes no memory.
     pub fn carry_all(&mut self)
         ensures same { IsSameProcessed self.old self.new }
         ensures news { self.new.news ≡ [] }
         ensures chained { self.new.chained ≡ [] }
     {
-        carry_from(
-            &mut self.news,
-            &mut self.places,
-            &mut self.cells,
-            &mut self.carried,
-            0,
-        );
+        self.carried
+            .carry(&mut self.news, &mut self.places, &mut self.cells, 0);
         self.news.tells();
         self.news.forget();
         self.idle = 0;
@@ -304,27 +320,20 @@ impl Processed {
     }
 }
 
-/// Carries the news from a place on, the last one first.
-fn carry_from(
-    news: &mut News,
-    places: &mut Vec<u32>,
-    cells: &mut CellPool<Event>,
-    carried: &mut Carried,
-    from: usize,
-)
-    requires can { CanCarry places.old.items news.old carried.old cells.old }
-    requires from { from ≤ length news.old.done }
-    ensures same { merged news.new.done places.new.items carried.new.items ≡ merged news.old.done places.old.items carried.old.items }
-    ensures can { CanCarry places.new.items news.new carried.new cells.new }
-    ensures done { news.new.done ≡ take from news.old.done }
-    ensures sent { (own : List (ℕ × Event)) × (news.old.sent ≡ news.new.sent ++ own) }
-    ensures nodes { news.new.nodes ≡ news.old.nodes }
+/// The fault with the lesser key, as far as they are there.
+fn lesser_fault(one: Option<(Key, u32)>, other: Option<(Key, u32)>) -> Option<(Key, u32)>
+    ensures { result ≡ lesser_fault one other }
 {
-    while news.len() > from {
-        let done = news.pop(cells);
-        let place = places.pop().unwrap();
-        carried.insert(done, place);
+    let Some((key, code)) = one else {
+        return other;
+    };
+    let Some((other_key, other_code)) = other else {
+        return Some((key, code));
+    };
+    if key.is_before(&other_key) {
+        return Some((key, code));
     }
+    Some((other_key, other_code))
 }
 
 /// Makes room for one event more, where so many are news and at most so many of them send nothing.
@@ -400,7 +409,7 @@ fn hand_out(
         return Ok(());
     }
     told.reserve(due)?;
-    carry_from(news, places, cells, carried, due);
+    carried.carry(news, places, cells, due);
     news.tells();
     news.copy_out(told, out);
     Ok(())

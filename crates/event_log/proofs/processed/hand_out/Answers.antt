@@ -37,24 +37,24 @@ returns-then-due-len-clause-ordered c =
     weave-below placed_key (placed_all v.done c.args.places.now.items) c.args.carried.now.items c.requires.can.ordered
 
 pub copy_out-requires-clause-went : goal.copy_out-requires-clause-went
-copy_out-requires-clause-went c = ap fault_of c.carry_from.ensures.done ∙ c.requires.went
+copy_out-requires-clause-went c = ap fault_of c.carry.ensures.done ∙ c.requires.went
 
 pub copy_out-requires-clause-room : goal.copy_out-requires-clause-room
 copy_out-requires-clause-room c =
-    let long = ap length c.carry_from.ensures.done in
+    let long = ap length c.carry.ensures.done in
     let some = length-take c.args.due c.args.news.now.done in
     omega (arith, c.requires.due, c.in_ok-reserve.ensures.room)
 
 pub returns-clause-ok : goal.returns-clause-ok
 returns-clause-ok c =
-    let carry = c.carry_from.ensures in
-    let P : List Done → Type 0 = λ ds. length c.carry_from.new.places.items ≡ length ds in
+    let carry = c.carry.ensures in
+    let P : List Done → Type 0 = λ ds. length c.carry.new.places.items ≡ length ds in
     record {
-      left = c.carry_from.new.places.items;
-      sent = c.carry_from.new.news.sent;
+      left = c.carry.new.places.items;
+      sent = c.carry.new.news.sent;
       own = carry.sent.0;
       long = subst P carry.done carry.can.long;
-      same = ap (λ (ds : List Done). merged ds c.carry_from.new.places.items c.carry_from.new.carried.items) (sym carry.done) ∙ carry.same;
+      same = ap (λ (ds : List Done). merged ds c.carry.new.places.items c.carry.new.self.items) (sym carry.done) ∙ carry.same;
       told_is = c.copy_out.ensures.told ∙ ap told_all carry.done;
       split = carry.sent.1;
       held = c.tells-2.ensures.sent ∙ ap held_of carry.done;
@@ -62,4 +62,4 @@ returns-clause-ok c =
     }
 
 pub returns-clause-ordered : goal.returns-clause-ordered
-returns-clause-ordered c = weave-below placed_key (placed_all c.carry_from.new.news.done c.carry_from.new.places.items) c.carry_from.new.carried.items c.carry_from.ensures.can.ordered
+returns-clause-ordered c = weave-below placed_key (placed_all c.carry.new.news.done c.carry.new.places.items) c.carry.new.self.items c.carry.ensures.can.ordered
