@@ -1,5 +1,5 @@
-//! Runs each example on one thread and on nodes, and says whether its text is the stored one, which an independent
-//! simulator wrote.
+//! Runs each example on one thread and on nodes, and each example of a shop by the words of its program, and says whether
+//! the text is the stored one, which an independent simulator wrote.
 #![tactic(auto)]
 
 ghost use Rattle.std.specs.Prelude.{◌≡◌, false, IfOk, IfSome};
@@ -14,13 +14,15 @@ use model_runs::{DEFAULT_SPREAD, Job, Machine, Stage, run_model};
 use model_text::{AnyModel, read_model};
 use node_team::Open;
 use run_tally::NoTally;
-use sim_io::MemSink;
+use shop_program::run_program;
+use sim_io::{MemSink, MemSource};
 use sim_spec::Terms;
 use sim_text::{Telling, Unfinished};
 use std::alloc::{AllocGlobal, Global};
 use std::rt::Files;
 use std::thread::Threads;
 use std::{fs, io};
+use test_texts::words_of;
 
 /// The examples by name. Each is a model and its text in `data`, which the folder `examples` at the top stands for.
 const EXAMPLES: [&str; 13] = [
@@ -37,6 +39,17 @@ const EXAMPLES: [&str; 13] = [
     "traced",
     "unranked",
     "urgent",
+];
+
+/// The examples of shops: the model in `data/shops`, the words that it is run by, and the file of what it prints.
+const SHOPS: [(&str, &str, &str); 7] = [
+    ("call-centre", "totals", "call-centre.totals"),
+    ("clinic", "totals", "clinic.totals"),
+    ("clinic", "replicate 5 --first 1", "clinic.csv"),
+    ("ft06", "one", "ft06.txt"),
+    ("ft06", "run", "ft06.txt"),
+    ("ft06", "totals", "ft06.totals"),
+    ("job-shop", "totals", "job-shop.totals"),
 ];
 
 /// More bytes than any of the texts has.
@@ -100,12 +113,55 @@ fn agrees<R: AllocGlobal + Files + Threads + Sync>(
     Ok(is_text(by_one) && is_text(by_nodes))
 }
 
+/// A sink with room for any of the texts, if there is memory for it.
+fn sink(alloc: Global) -> Option<MemSink> {
+    match MemSink::new(alloc, ROOM, Vec::new(alloc), Vec::new(alloc), ROOM) {
+        Ok(sink) => Some(sink),
+        Err(_) => None,
+    }
+}
+
+/// What these words answer to the text of a shop, if its run comes to its end and nothing is noted of it.
+fn answer_of<R: AllocGlobal + Threads + Sync>(
+    rt: &R,
+    words: Vec<String>,
+    model: Vec<u8>,
+) -> Option<MemSink> {
+    let alloc = rt.alloc();
+    let mut source = MemSource::new(model, Vec::new(alloc), ROOM);
+    let mut out = sink(alloc)?;
+    let mut notes = sink(alloc)?;
+    let status = run_program(rt, Ok(words), &mut source, &mut out, &mut notes, &Open);
+    (status == 0 && notes.bytes().is_empty()).then_some(out)
+}
+
+/// Whether these words answer to the example of a shop with the text that is stored beside it.
+fn shop_agrees<R: AllocGlobal + Files + Threads + Sync>(
+    rt: &R,
+    name: &str,
+    words: &str,
+    text: &str,
+) -> io::Result<bool> {
+    let alloc = rt.alloc();
+    let model = fs::read(rt, format!(in alloc; "shops/{name}.toml")?)?;
+    let text = fs::read(rt, format!(in alloc; "shops/{text}")?)?;
+    let told = answer_of(rt, words_of(alloc, words)?, model);
+    Ok(told.is_some_and(|sink| sink.bytes() == text.as_slice()))
+}
+
 fn main(rt: HostRuntime) -> io::Result<()> {
     for name in EXAMPLES {
         if agrees(&rt, rt.alloc(), name)? {
             println!(rt; "{name} agrees")?;
         } else {
             println!(rt; "{name} differs")?;
+        }
+    }
+    for (name, words, text) in SHOPS {
+        if shop_agrees(&rt, name, words, text)? {
+            println!(rt; "{name} {words} agrees")?;
+        } else {
+            println!(rt; "{name} {words} differs")?;
         }
     }
     Ok(())
