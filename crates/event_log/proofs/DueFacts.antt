@@ -27,6 +27,16 @@ module _ (horizon : ℕ) (cut : Option Key) where
   at-none (d ∷ ds) zero x at all = (let same : d ≡ x = cc in subst NotDue same all.0)
   at-none (d ∷ ds) (suc n) x at all = at-none ds n x at all.1
 
+  -- from one that isn't due on none is
+  pub none-from : (ds : List Done) (n : ℕ) (x : Done) → Ascends done_key ds → slice_get ds n ≡ Some x → NotDue x → Each NotDue (drop n ds)
+  unfolding Ascends
+  none-from [] n x up at idle = absurd (cc)
+  none-from (d ∷ ds) zero x up at idle =
+      let same : x ≡ d = cc in
+      let first = subst NotDue same idle in
+      (first, none-due done_key horizon cut d.event.key ds first up.0)
+  none-from (d ∷ ds) (suc n) x up at idle = none-from ds n x up.1 at idle
+
   both : (d : Done) → Due d → NotDue d → ⊥
   both d takes not_taken = cc
 

@@ -20,8 +20,8 @@ use Rattle.object_log.specs.Whole.{dones_in}
 use Rattle.event_log.specs.declared.item.Item.{Item}
 use Rattle.event_log.specs.Items.{item_key, placed}
 use Rattle.event_log.specs.Processing.{merged, placed_all}
-use Rattle.event_log.proofs.FirstFacts.{each-weave}
 use Rattle.event_log.proofs.TurnLemmas.{each-placed, ends}
+use Rattle.event_log.proofs.WovenFacts.{Each-weave}
 use Rattle.std.specs.Prelude.{◌&&◌}
 
 -- where the last item comes before a key, all do
@@ -42,7 +42,7 @@ placed-before key (d ∷ ds) (place ∷ places) all = (all.0, placed-before key 
 -- so it is of both parts together
 pub merged-before : (key : Key) (ds : List Done) (places : List ℕ) (items : List Placed) → Each (λ (d : Done). key_lt d.event.key key ≡ true) ds → Each (λ (p : Placed). key_lt (placed_key p) key ≡ true) items
     → Each (λ (p : Placed). key_lt (placed_key p) key ≡ true) (merged ds places items)
-merged-before key ds places items one other = each-weave (λ (p : Placed). key_lt (placed_key p) key ≡ true) (placed_all ds places) items (placed-before key ds places one) other
+merged-before key ds places items one other = Each-weave placed_key (λ (p : Placed). key_lt (placed_key p) key ≡ true) (placed_all ds places) items (placed-before key ds places one) other
 
 pub dones-before : (key : Key) (items : List Placed) → Each (λ (p : Placed). key_lt (placed_key p) key ≡ true) items → Each (λ (d : Done). key_lt d.event.key key ≡ true) (dones_in items)
 dones-before key [] all = tt

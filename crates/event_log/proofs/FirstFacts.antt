@@ -1,5 +1,5 @@
 -- The least key of what is carried and the news.
-use Rattle.std.proofs.Common.{◌≡◌, ◌≢◌, ℕ, true, false, cond, Option, Some, None, List, [], ◌∷◌, ◌++◌, length, map, refl, sym, ap, ◌∙◌, subst, arith}
+use Rattle.std.proofs.Common.{◌≡◌, ◌≢◌, ℕ, true, false, Option, Some, None, List, [], ◌∷◌, ◌++◌, length, map, refl, sym, ap, ◌∙◌, subst, arith}
 use Rattle.std.proofs.lemmas.List.Sorted.{IsPermutation-sym}
 use Rattle.std.specs.List.{AllByRecursion as Each}
 use Rattle.std.specs.Prelude.{IfNone, IfSome, slice_get}
@@ -8,17 +8,17 @@ use Rattle.event_key.specs.Keys.{key_lt}
 use Rattle.event_key.proofs.Order.{key_lt-trans}
 use Rattle.key_order.specs.Ascending.{Ascends}
 use Rattle.key_order.specs.Keys.{times}
-use Rattle.key_order.proofs.AscendingLemmas.{key_lt-turned}
 use Rattle.key_order.proofs.EachLemmas.{Each-map}
 use Rattle.key_order.proofs.KeyLemmas.{Ascends-differ, Differ-first, Differ-permutation, key_lt-other, new-head, new-tail}
 use Rattle.object_log.specs.Carrying.{Placed, placed_key}
 use Rattle.object_log.specs.Dones.{Done}
 use Rattle.object_log.specs.EventLogs.{done_key}
 use Rattle.object_log.specs.Logs.{keys_of}
-use Rattle.object_log.specs.Weave.{insert, weave}
+use Rattle.object_log.specs.Weave.{weave}
 use Rattle.object_log.specs.Whole.{dones_in}
-use Rattle.object_log.proofs.WeaveLemmas.{Each-insert, insert-first, weave-permutation}
+use Rattle.object_log.proofs.WeaveLemmas.{insert-first, weave-permutation}
 use Rattle.event_log.specs.Processing.{merged, placed_all}
+use Rattle.event_log.proofs.WovenFacts.{Each-weave, weave-second}
 
 pub some-more : (found : Option Key) (P Q : Key → Type 0) → ((key : Key) → P key → Q key) → IfSome found P → IfSome found Q
 some-more None P Q more holds = holds
@@ -31,11 +31,6 @@ none-more (Some key) P Q more holds = holds
 pub keys-placed : (items : List Placed) → map placed_key items ≡ keys_of (dones_in items)
 keys-placed [] = refl
 keys-placed (p ∷ ps) = ap (λ ks. placed_key p ∷ ks) (keys-placed ps)
-
-pub each-weave : (P : Placed → Type 0) (ps qs : List Placed) → Each P ps → Each P qs → Each P (weave placed_key ps qs)
-unfolding weave
-each-weave P [] qs one other = other
-each-weave P (p ∷ ps) qs one other = Each-insert placed_key P p (weave placed_key ps qs) one.0 (each-weave P ps qs one.1 other)
 
 placed-each : (key : Key) (ds : List Done) (places : List ℕ) → Each (λ (d : Done). key_lt key d.event.key ≡ true) ds → Each (λ (p : Placed). key_lt key (placed_key p) ≡ true) (placed_all ds places)
 unfolding placed_all
@@ -53,15 +48,8 @@ first-news (d ∷ ds) (place ∷ places) items n long up at after =
     let same : d.event.key ≡ n = cc in
     let p : Placed = record { done = d; place = place } in
     let A : Key → Type 0 = λ k. Each (λ (q : Placed). key_lt k (placed_key q) ≡ true) items in
-    let all = each-weave (λ (q : Placed). key_lt d.event.key (placed_key q) ≡ true) (placed_all ds places) items (placed-each d.event.key ds places up.0) (subst A (sym same) after) in
+    let all = Each-weave placed_key (λ (q : Placed). key_lt d.event.key (placed_key q) ≡ true) (placed_all ds places) items (placed-each d.event.key ds places up.0) (subst A (sym same) after) in
     ap (λ qs. slice_get (map placed_key qs) 0) (insert-first placed_key p (weave placed_key (placed_all ds places) items) all) ∙ ap Some same
-
-behind-first : (q : Placed) (qs ps : List Placed) → Each (λ (p : Placed). key_lt (placed_key q) (placed_key p) ≡ true) ps → weave placed_key ps (q ∷ qs) ≡ q ∷ weave placed_key ps qs
-unfolding weave insert
-behind-first q qs [] all = refl
-behind-first q qs (p ∷ ps) all =
-    ap (insert placed_key p) (behind-first q qs ps all.1)
-    ∙ ap (λ b. cond b (p ∷ q ∷ weave placed_key ps qs) (q ∷ insert placed_key p (weave placed_key ps qs))) (key_lt-turned (placed_key q) (placed_key p) all.0)
 
 after-all : (k n : Key) (ds : List Done) → key_lt k n ≡ true → Ascends done_key ds → slice_get (keys_of ds) 0 ≡ Some n → Each (λ (d : Done). key_lt k d.event.key ≡ true) ds
 unfolding Ascends
@@ -93,7 +81,7 @@ first-carried (d ∷ ds) (place ∷ places) (q ∷ qs) n k long up whole at foun
     let lt : key_lt k n ≡ true = key_lt-other n k (λ same. apart (here ∙ same ∙ sym there)) late in
     let after = placed-each k (d ∷ ds) (place ∷ places) (after-all k n (d ∷ ds) lt up at) in
     let A : Key → Type 0 = λ j. Each (λ (r : Placed). key_lt j (placed_key r) ≡ true) (p ∷ ps) in
-    ap (λ rs. slice_get (map placed_key rs) 0) (behind-first q qs (p ∷ ps) (subst A (sym there) after)) ∙ ap Some there
+    ap (λ rs. slice_get (map placed_key rs) 0) (weave-second placed_key q qs (p ∷ ps) (subst A (sym there) after)) ∙ ap Some there
 
 -- where the first comes after a key, all do
 pub after-first : (n k : Key) (items : List Placed) → Ascends placed_key items → slice_get (map placed_key items) 0 ≡ Some k → key_lt n k ≡ true → Each (λ (p : Placed). key_lt n (placed_key p) ≡ true) items

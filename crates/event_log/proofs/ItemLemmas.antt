@@ -1,14 +1,14 @@
 -- Carried events by their places, and the least stamps that they hold.
-use Rattle.std.proofs.Common.{◌≡◌, ℕ, zero, suc, ◌-◌, ◌<◌, ◌≤◌, List, [], ◌∷◌, length, map, drop, get_or, set, sym, ap, ◌∙◌, subst, arith}
+use Rattle.std.proofs.Common.{◌≡◌, ℕ, zero, suc, ◌-◌, ◌<◌, ◌≤◌, false, refl, List, [], ◌∷◌, length, map, drop, get_or, set, sym, ap, ◌∙◌, subst, arith}
 use Rattle.std.specs.List.{remove}
 use Rattle.event_key.specs.declared.stamp.TheConstants.{NO_STAMP}
 use Rattle.key_order.specs.Ascending.{Ascends}
 use Rattle.key_order.specs.Stamps.{least_stamp}
 use Rattle.object_log.specs.Carrying.{Placed}
-use Rattle.object_log.specs.Logs.{held_of}
+use Rattle.object_log.specs.Logs.{fault_of, held_of}
 use Rattle.object_log.proofs.HeldLemmas.{least-join, least-none}
 use Rattle.event_log.specs.declared.item.Item.{Item}
-use Rattle.event_log.specs.Items.{AreHeld, AreHeldBut, IsHeld, IsHeldBut, first_held, item_key, placed, placed_of}
+use Rattle.event_log.specs.Items.{AreHeld, AreHeldBut, IsHeld, IsHeldBut, MayFail, first_held, item_key, placed, placed_of}
 
 -- what the events hold
 pub held-is : (es : List Item) → AreHeld es → first_held es ≡ least_stamp NO_STAMP (held_of (map (λ (p : Placed). p.done) (placed es)))
@@ -76,6 +76,6 @@ unfolding AreHeldBut
 mend-ends zero es none but = but
 mend-ends (suc n) es none but = absurd (omega arith)
 
-pub none-carried : Ascends item_key [] × AreHeld []
-unfolding Ascends AreHeld
-none-carried = (tt, tt)
+pub none-carried : Ascends item_key [] × AreHeld [] × MayFail false []
+unfolding Ascends AreHeld fault_of
+none-carried = (tt, tt, (λ none. refl))

@@ -97,18 +97,24 @@ holds-push news gone told rows undo sent code d told' rows' undo' sent' code' h 
     }
 
 -- nothing
-pub holds-none : (told : Told) (rows : List Row) (undo : List Change) (sent : List (ℕ × Event)) (code : Option ℕ) → told ≡ [] → rows ≡ [] → undo ≡ [] → sent ≡ [] → code ≡ None → HoldsNews [] [] told rows undo sent code
+-- where there is no event, what is told is told of events that are gone
+pub holds-gone : (told : Told) (rows : List Row) (undo : List Change) (sent : List (ℕ × Event)) (code : Option ℕ) → rows ≡ [] → undo ≡ [] → sent ≡ [] → code ≡ None → HoldsNews [] told told rows undo sent code
 unfolding rows_of told_all changes_of held_of code_of OnlyLastFailed Ascends
-holds-none told rows undo sent code no_told no_rows no_undo no_sent no_code = record {
+holds-gone told rows undo sent code no_rows no_undo no_sent no_code = record {
   rows_are = no_rows;
-  told_are = no_told;
+  told_are = refl;
   undo_are = no_undo;
   sent_are = ap (map message) no_sent;
   code_is = no_code;
   last = tt;
-  whole = whole-none [] code refl;
+  whole = (let W : Option ℕ → Type 0 = λ c. IfSome c (λ n. told ≡ []) in subst W (sym no_code) tt);
   ordered = tt;
 }
+
+pub holds-none : (told : Told) (rows : List Row) (undo : List Change) (sent : List (ℕ × Event)) (code : Option ℕ) → told ≡ [] → rows ≡ [] → undo ≡ [] → sent ≡ [] → code ≡ None → HoldsNews [] [] told rows undo sent code
+holds-none told rows undo sent code no_told no_rows no_undo no_sent no_code =
+    let G : Told → Type 0 = λ gone. HoldsNews [] gone told rows undo sent code in
+    subst G no_told (holds-gone told rows undo sent code no_rows no_undo no_sent no_code)
 
 -- nothing is told of those that were taken back any more
 pub forgets : (news : List Done) (gone told told' : Told) (rows : List Row) (undo : List Change) (sent : List (ℕ × Event)) (code : Option ℕ) → HoldsNews news gone told rows undo sent code → news ≡ [] → told' ≡ [] → HoldsNews [] [] told' rows undo sent code

@@ -1,6 +1,6 @@
 -- One event more in the log of a node.
-use Rattle.std.proofs.Common.{◌≡◌, ℕ, ◌<◌, Bool, true, false, not, arith, refl, List, [], ◌∷◌, length, get_or, sym, ap, ◌∙◌, subst}
-use Rattle.std.specs.Prelude.{Option, Result, Ok, Err, IfOk, OnErr, filter, slice_set}
+use Rattle.std.proofs.Common.{◌≡◌, ℕ, ◌<◌, true, not, arith, refl, List, [], ◌∷◌, length, get_or, sym, ap, ◌∙◌, subst}
+use Rattle.std.specs.Prelude.{Option, Result, Ok, Err, IfOk, OnErr, OnOk, filter, slice_set}
 use Rattle.std.specs.List.{AllByRecursion as Each}
 use Rattle.event_key.specs.declared.key.Key.{Key}
 use Rattle.event_key.specs.Keys.{key_lt}
@@ -28,8 +28,9 @@ use Rattle.object_log.proofs.OwnLemmas.{left-at, own-ascends}
 use Rattle.object_log.proofs.PrefixLemmas.{due-front}
 use Rattle.object_log.proofs.EventLogLemmas.{IsFiring, processed-one, same-log, same-view, still-log}
 use Rattle.object_log.proofs.JoinLemmas.{new-key}
-use Rattle.event_log.specs.NodeLogs.{Commits, node_log_view}
-use Rattle.event_log.specs.Processing.{CommitsNews, HasCome, IsSameProcessed, ProcessedView}
+use Rattle.event_log.specs.Committing.{HasCommittedDue}
+use Rattle.event_log.specs.NodeLogs.{HasCommittedTo, node_log_view}
+use Rattle.event_log.specs.Processing.{HasCome, IsSameProcessed, ProcessedView}
 use Rattle.event_log.proofs.CommitFacts.{dones-left}
 
 pub ok-more : {T E : Type 0} (r : Result T E) (P Q : T → Type 0) → ((t : T) → P t → Q t) → IfOk r P → IfOk r Q
@@ -99,21 +100,23 @@ committed-log horizon cut objects items log =
         subst K (sym (ap (dones_at o.object) (dones-left horizon cut items) ∙ left-at o.object horizon cut (dones_in items)))
         (keeps-left o.cells o.sent (due_of horizon cut own) (left_of horizon cut own) (subst K (due-front horizon cut own up) k))
 
-module _ (horizon : ℕ) (cut : Option Key) (objects : List KeptObject) (old new : ProcessedView) (told : List (Key × Note)) (out : List (List Event)) where
-  pub commits-log : (b : Bool) → CommitsNews b horizon cut old new told out → IsEventLog objects old.items → IsEventLog objects new.items
-  commits-log true h log = subst (IsEventLog objects) (sym h.items) (committed-log horizon cut objects old.items log)
-  commits-log false h log = let L : ProcessedView → Type 0 = λ v. IsEventLog objects v.items in subst L (sym h.0) log
+module _ (homes : List ℕ) (horizon : ℕ) (cut : Option Key) (objects : List KeptObject) (old new : ProcessedView) (told : List (Key × Note)) (out : List (List Event)) where
+  pub commits-log : HasCommittedDue homes horizon cut old new told out → IsEventLog objects old.items → IsEventLog objects new.items
+  commits-log h log = subst (IsEventLog objects) (sym h.items) (committed-log horizon cut objects old.items log)
 
-  pub commits : (b : Bool) → CommitsNews b horizon cut old new told out → Commits b horizon cut (node_log_view objects old) (node_log_view objects new) told out
-  commits true h = record {
+  pub commits : HasCommittedDue homes horizon cut old new told out → HasCommittedTo homes horizon cut (node_log_view objects old) (node_log_view objects new) told out
+  commits h = record {
     objects = refl;
     done = ap dones_in h.items ∙ dones-left horizon cut old.items;
     told_is = h.told_is;
     parcels = h.parcels;
     carried = record { news = h.news; chained = h.chained };
   }
-  commits false h = (ap (node_log_view objects) h.0, h.1, h.2)
 
-pub ok-either : {T E : Type 0} (r : Result T E) (P : T → Type 0) (Q X : Type 0) → IfOk r P → OnErr r Q → ((t : T) → P t → X) → (Q → X) → X
-ok-either (Ok t) P Q X ok err one other = one t ok
-ok-either (Err e) P Q X ok err one other = other err
+pub on-either : {T E : Type 0} (r : Result T E) (P Q X : Type 0) → OnOk r P → OnErr r Q → (P → X) → (Q → X) → X
+on-either (Ok t) P Q X ok err one other = one ok
+on-either (Err e) P Q X ok err one other = other err
+
+pub on-more : {T E : Type 0} (r : Result T E) (P Q : Type 0) → (P → Q) → OnOk r P → OnOk r Q
+on-more (Ok t) P Q more holds = more holds
+on-more (Err e) P Q more holds = holds

@@ -1,8 +1,10 @@
 -- Carried events in the order of their keys, and the least stamps that they hold.
-use Rattle.std.specs.Prelude.{◌≡◌, ℕ, zero, suc, min, List, [], ◌∷◌, map}
+use Rattle.std.specs.Prelude.{◌≡◌, ℕ, zero, suc, min, Bool, false, List, [], ◌∷◌, map, None}
 use Rattle.event_key.specs.declared.key.Key.{Key}
 use Rattle.event_key.specs.declared.stamp.TheConstants.{NO_STAMP}
 use Rattle.object_log.specs.Carrying.{Placed}
+use Rattle.object_log.specs.Logs.{fault_of}
+use Rattle.object_log.specs.Whole.{dones_in}
 use Rattle.event_log.specs.declared.item.Item.{Item}
 
 -- the events in order, and for how many more there is room
@@ -43,3 +45,7 @@ unfoldable pub AreHeldBut : ℕ → List Item → Type 0
 AreHeldBut zero is = AreHeld is
 AreHeldBut (suc n) [] = Unit {0}
 AreHeldBut (suc n) (i ∷ is) = IsHeldBut n i is × AreHeldBut n is
+
+-- one of them may have failed: if none may, none did
+abbrev pub MayFail : Bool → List Item → Type 0
+MayFail may is = may ≡ false → fault_of (dones_in (placed is)) ≡ None

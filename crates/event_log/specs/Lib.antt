@@ -1,9 +1,12 @@
+pub mod Committing
 pub mod Faults
 pub mod Items
 pub mod Keeping
+pub mod Moves
 pub mod News
 pub mod NodeLogs
 pub mod Outboxes
 pub mod Popping
 pub mod Processing
+pub mod Reading
 pub mod Turning

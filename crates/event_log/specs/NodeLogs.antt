@@ -1,9 +1,8 @@
 -- What contracts see of the log of a node.
-use Rattle.std.specs.Prelude.{◌≡◌, ℕ, Bool, true, false, List, [], ◌∷◌, filter, slice_index, IsPermutation, Option}
+use Rattle.std.specs.Prelude.{◌≡◌, ℕ, List, [], filter, slice_index, IsPermutation, Option}
 use Rattle.event_key.specs.declared.key.Key.{Key}
 use Rattle.model_core.specs.declared.event.Event.{Event}
 use Rattle.model_core.specs.declared.note.Note.{Note}
-use Rattle.object_log.specs.declared.pool.Released.{Released}
 use Rattle.object_log.specs.Dones.{Done}
 use Rattle.object_log.specs.EventLogs.{EventLogView}
 use Rattle.object_log.specs.Flat.{goes_to}
@@ -12,8 +11,8 @@ use Rattle.object_log.specs.Objects.{KeptObject}
 use Rattle.object_log.specs.Parts.{due_of, left_of}
 use Rattle.object_log.specs.Tellings.{told_all}
 use Rattle.object_log.specs.Whole.{log_view}
-use Rattle.event_log.specs.Outboxes.{AreBlank, chain_at}
-use Rattle.event_log.specs.Processing.{AreHomed, ProcessedView}
+use Rattle.event_log.specs.Outboxes.{chain_at}
+use Rattle.event_log.specs.Processing.{ProcessedView}
 
 -- its objects and all that they have processed, those of the events that aren't carried, the messages of those with their
 -- homes, and how many homes there are
@@ -37,25 +36,11 @@ pub record IsStillCarried (old new : NodeLogView) : Type 0 where
   pub chained : new.chained ≡ []
   pub nodes : new.nodes ≡ old.nodes
 
--- all that was due is committed: what is told of it, and its messages in the chains of their homes, in whatever order. What
--- isn't due is carried
-pub record HasCommitted (horizon : ℕ) (cut : Option Key) (old new : NodeLogView) (told : List (Key × Note)) (out : List (List Event)) : Type 0 where
+-- all that was due is committed: what is told of it, in the order of the keys, and its messages in the chains of these homes,
+-- in whatever order. What isn't due is carried
+pub record HasCommittedTo (homes : List ℕ) (horizon : ℕ) (cut : Option Key) (old new : NodeLogView) (told : List (Key × Note)) (out : List (List Event)) : Type 0 where
   pub objects : new.log.objects ≡ old.log.objects
   pub done : new.log.done ≡ left_of horizon cut old.log.done
   pub told_is : told ≡ told_all (due_of horizon cut old.log.done)
-  pub parcels : (homes : List ℕ) → AreHomed homes old.chained → (to : ℕ) → IsPermutation (filter (goes_to (slice_index homes) to) (held_of (due_of horizon cut old.log.done))) (chain_at out to)
+  pub parcels : (to : ℕ) → IsPermutation (filter (goes_to (slice_index homes) to) (held_of (due_of horizon cut old.log.done))) (chain_at out to)
   pub carried : IsCarried new
-
--- so it is, or nothing was done
-abbrev pub Commits : Bool → ℕ → Option Key → NodeLogView → NodeLogView → List (Key × Note) → List (List Event) → Type 0
-Commits true horizon cut old new told out = HasCommitted horizon cut old new told out
-Commits false horizon cut old new told out = (new ≡ old) × (told ≡ []) × AreBlank out
-
--- the first event was taken out and is in hand
-pub record HasReleased (old new : NodeLogView) (released : Released) : Type 0 where
-  pub first : Done
-  pub done : old.log.done ≡ first ∷ new.log.done
-  pub objects : new.log.objects ≡ old.log.objects
-  pub event_is : released.event ≡ first.event
-  pub sends_are : released.sends ≡ first.sends
-  pub verdict_is : released.verdict ≡ first.verdict

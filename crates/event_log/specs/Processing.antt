@@ -1,27 +1,22 @@
 -- All that is processed: what is carried, and the news.
-use Rattle.std.specs.Prelude.{◌≡◌, ℕ, ◌+◌, ◌<◌, ◌≤◌, ◌^◌, Bool, true, false, not, List, [], ◌∷◌, ◌++◌, length, map, filter, take, slice_index, IsPermutation, Option, None}
+use Rattle.std.specs.Prelude.{◌≡◌, ℕ, ◌+◌, ◌<◌, ◌≤◌, ◌^◌, true, List, [], ◌∷◌, length, map, None}
 use Rattle.std.specs.List.{AllByRecursion}
 use Rattle.event_key.specs.declared.key.Key.{Key}
 use Rattle.event_key.specs.Keys.{key_lt}
 use Rattle.event_key.specs.declared.stamp.TheConstants.{NO_STAMP}
 use Rattle.key_order.specs.Ascending.{Ascends}
-use Rattle.key_order.specs.Due.{is_due}
 use Rattle.key_order.specs.Stamps.{least_stamp}
 use Rattle.model_core.specs.declared.event.Event.{Event}
-use Rattle.model_core.specs.declared.note.Note.{Note}
 use Rattle.model_core.specs.Meaning.{Meaning}
 use Rattle.object_log.specs.Carrying.{Placed, placed_key}
 use Rattle.object_log.specs.Dones.{Done}
-use Rattle.object_log.specs.Flat.{goes_to, zeros}
-use Rattle.object_log.specs.Logs.{fault_of, held_of}
+use Rattle.object_log.specs.Flat.{zeros}
+use Rattle.object_log.specs.Logs.{fault_of}
 use Rattle.object_log.specs.Objects.{HasFired, KeptObject}
-use Rattle.object_log.specs.Parts.{due_of}
-use Rattle.object_log.specs.Tellings.{told_all}
 use Rattle.object_log.specs.Weave.{insert, weave}
-use Rattle.object_log.specs.Whole.{dones_in}
 use Rattle.event_log.specs.Items.{CarriedView}
 use Rattle.event_log.specs.News.{NewsView, homed}
-use Rattle.event_log.specs.Outboxes.{AreBlank, chain_at, message, parcel}
+use Rattle.event_log.specs.Outboxes.{message}
 
 -- all processed events in the order of their keys, those among them that aren't carried, the messages of those with
 -- their homes, and how many homes there are
@@ -85,29 +80,3 @@ pub record CanJoin (key : Key) (v : ProcessedView) : Type 0 where
   pub went : fault_of v.news ≡ None
   pub few : length v.news + 8 < 2 ^ 60
   pub few_sent : length v.chained + 8 < 2 ^ 60
-
--- all news that are due are gone, and nothing that is carried was due: what is told of them, and their messages in the chains
--- of their homes, in whatever order
-pub record HasCommittedNews (horizon : ℕ) (cut : Option Key) (old new : ProcessedView) (told : List (Key × Note)) (out : List (List Event)) : Type 0 where
-  pub items : new.items ≡ filter (λ p. not (is_due horizon cut (placed_key p))) old.items
-  pub told_is : told ≡ told_all (due_of horizon cut (dones_in old.items))
-  pub parcels : (homes : List ℕ) → AreHomed homes old.chained → (to : ℕ) → IsPermutation (filter (goes_to (slice_index homes) to) (held_of (due_of horizon cut (dones_in old.items)))) (chain_at out to)
-  pub news : new.news ≡ []
-  pub chained : new.chained ≡ []
-
--- so it is, or nothing was done
-abbrev pub CommitsNews : Bool → ℕ → Option Key → ProcessedView → ProcessedView → List (Key × Note) → List (List Event) → Type 0
-CommitsNews true horizon cut old new told out = HasCommittedNews horizon cut old new told out
-CommitsNews false horizon cut old new told out = (new ≡ old) × (told ≡ []) × AreBlank out
-
--- the news up to a place are handed out, and the others are carried
-pub record HasHanded (due : ℕ) (places : List ℕ) (old : NewsView) (items items' : List Placed) (told : List (Key × Note)) (out : List (List Event)) : Type 0 where
-  pub left : List ℕ
-  pub sent : List (ℕ × Event)
-  pub own : List (ℕ × Event)
-  pub long : length left ≡ length (take due old.done)
-  pub same : merged (take due old.done) left items' ≡ merged old.done places items
-  pub told_is : told ≡ told_all (take due old.done)
-  pub split : old.sent ≡ sent ++ own
-  pub held : map message sent ≡ held_of (take due old.done)
-  pub parcels : (node : ℕ) → chain_at out node ≡ parcel node sent

@@ -1,5 +1,5 @@
 //! Carried events in the order of their keys.
-ghost use Rattle.std.specs.Prelude.{◌≡◌, ℕ, List, ◌<◌, ◌≤◌, [], ◌++◌, length, map, take, drop, slice_get, Some, IfSome, IfNone, OnOk, IsTrue, true};
+ghost use Rattle.std.specs.Prelude.{◌≡◌, ℕ, List, ◌<◌, ◌≤◌, ◌+◌, [], ◌++◌, length, map, take, drop, slice_get, Some, IfSome, IfNone, OnOk, IsTrue, true, None, false};
 ghost use Rattle.std.specs.List.{remove};
 ghost use Rattle.std.specs.List.{AllByRecursion};
 ghost use Rattle.std.specs.VecDeque.{deque_capacity};
@@ -10,12 +10,15 @@ ghost use Rattle.key_order.specs.Stamps.{least_stamp};
 ghost use Rattle.object_log.specs.Logs.{fault_of, held_of};
 ghost use Rattle.model_core.specs.declared.event.Event.{Event};
 ghost use Rattle.object_log.specs.Carrying.{Placed, placed_key};
+ghost use Rattle.object_log.specs.Weave.{weave};
 ghost use Rattle.event_log.specs.Items.{AreHeld, AreHeldBut, first_held, placed};
+ghost use Rattle.event_log.specs.Moves.{other_items, own_items, shifted};
 ghost use Rattle.event_log.specs.Processing.{CanCarry, merged};
 
 use crate::item::{Item, Items};
 use crate::kept::Kept;
 use crate::news::News;
+use crate::parting::{join_all, part, settle};
 use crate::turning::carry_into;
 use event_chain::CellPool;
 use event_key::{Key, NO_STAMP};
@@ -32,19 +35,21 @@ use std::marker::Model;
 #[derive(Drop)]
 pub struct Carried {
     items: Items,
+    // false only if none failed
+    may_fail: bool,
 }
 
 impl Model for Carried {
     ghost use Rattle.std.specs.Prelude.{◌-◌, length};
     ghost use Rattle.std.specs.VecDeque.{deque_capacity};
     ghost use Rattle.key_order.specs.Ascending.{Ascends};
-    ghost use Rattle.event_log.specs.Items.{AreHeld, CarriedView, item_key, placed};
+    ghost use Rattle.event_log.specs.Items.{AreHeld, CarriedView, MayFail, item_key, placed};
 
     ghost Value = { CarriedView };
 
     ghost view = { λ c. record { items = placed c.items.items; room = deque_capacity c.items - length c.items.items } };
 
-    ghost invariant = { λ c. Ascends item_key c.items.items × AreHeld c.items.items };
+    ghost invariant = { λ c. Ascends item_key c.items.items × AreHeld c.items.items × MayFail c.may_fail c.items.items };
 }
 
 impl Carried {
@@ -54,6 +59,7 @@ impl Carried {
     {
         Carried {
             items: VecDeque::new(alloc),
+            may_fail: false,
         }
     }
 
@@ -98,6 +104,7 @@ impl Carried {
         ensures sent { (own : List (ℕ × Event)) × (news.old.sent ≡ news.new.sent ++ own) }
         ensures nodes { news.new.nodes ≡ news.old.nodes }
     {
+        self.may_fail = may_fail_with(self.may_fail, news);
         let turned = carry_into(&mut self.items, news, places, cells, from);
         let rest = self.items.len() - turned;
         self.items.rotate_left(turned);
@@ -113,7 +120,8 @@ impl Carried {
         (item.key, item.place)
     }
 
-    /// Takes the event at a place of the list out. It moves the shorter side.
+    /// Takes the event at a place of the list out. It moves the shorter side. If the event failed, it looks at the others up to
+    /// the first that failed.
     pub fn take(&mut self, index: usize) -> Kept
         requires { index < length self.old.items }
         ensures left { self.new.items ≡ remove self.old.items index }
@@ -124,7 +132,39 @@ impl Carried {
         };
         mend(&mut self.items, index);
         let Item { done, .. } = item;
+        self.may_fail = may_fail_without(self.may_fail, &done, &self.items);
         done
+    }
+
+    /// Takes the events of an object out, and puts them into a list that has room for them. What stood at one place has another
+    /// then. Each is moved twice.
+    pub fn part(&mut self, object: u32, from: usize, to: u32, own: &mut Items)
+        requires empty { own.old.items ≡ [] }
+        requires room { length (own_items object self.old.items) ≤ deque_capacity own.old }
+        ensures items { self.new.items ≡ map (shifted from to) (other_items object self.old.items) }
+        ensures own { placed own.new.items ≡ own_items object self.old.items }
+        ensures capacity { deque_capacity own.new ≡ deque_capacity own.old }
+    {
+        part(&mut self.items, object, own);
+        settle(&mut self.items, from, to);
+        self.may_fail = has_failed(&self.items);
+    }
+
+    /// Puts all into a list of others, which has room for them, and keeps that. The others stood at place 0, and stand at another
+    /// now. Each event is moved a few times.
+    pub fn absorb(&mut self, items: Items, to: u32)
+        requires ordered { Ascends placed_key (weave placed_key self.old.items (map (shifted 0 to) (placed items.items))) }
+        requires room { length self.old.items + length items.items ≤ deque_capacity items }
+        ensures { self.new.items ≡ weave placed_key self.old.items (map (shifted 0 to) (placed items.items)) }
+    {
+        let mut items = items;
+        settle(&mut items, 0, to);
+        let turned = join_all(&mut items, &mut self.items);
+        let rest = items.len() - turned;
+        items.rotate_left(turned);
+        mend(&mut items, rest);
+        self.may_fail = has_failed(&items);
+        self.items = items;
     }
 
     /// The least key.
@@ -155,12 +195,41 @@ impl Carried {
         held_from(&self.items, 0)
     }
 
-    /// The key and the code of the first event that failed, if one did, in time linear in how many come before it.
+    /// The key and the code of the first event that failed, if one did. In constant time if none did, else in time linear in how
+    /// many come before it.
     pub fn faulted(&self) -> Option<(Key, u32)>
         ensures { result ≡ fault_of (map (λ p. p.done) self.now.items) }
     {
-        fault_in(&self.items)
+        if self.may_fail {
+            fault_in(&self.items)
+        } else {
+            None
+        }
     }
+}
+
+/// Whether one may have failed once these news are carried.
+fn may_fail_with(may_fail: bool, news: &News) -> bool
+    ensures { result ≡ false → (may_fail ≡ false) × (fault_of news.now.done ≡ None) }
+{
+    may_fail || news.faulted().is_some()
+}
+
+/// Whether one of those that are left may have failed once one is taken out.
+fn may_fail_without(may_fail: bool, taken: &Kept, left: &Items) -> bool
+    ensures { result ≡ false → may_fail ≡ true → fault_of (map (λ p. p.done) (placed left.now.items)) ≡ None }
+{
+    match taken.verdict() {
+        Verdict::Noted(_) => may_fail,
+        Verdict::Failed(_) => has_failed(left),
+    }
+}
+
+/// Whether one failed.
+fn has_failed(items: &Items) -> bool
+    ensures { result ≡ false → fault_of (map (λ p. p.done) (placed items.now.items)) ≡ None }
+{
+    fault_in(items).is_some()
 }
 
 /// The key and the code of the first event that failed, if one did.

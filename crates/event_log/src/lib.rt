@@ -4,13 +4,17 @@
 #![tactic(auto)]
 
 mod carried;
+mod committing;
 mod item;
 mod kept;
 mod log;
+mod moved;
 mod news;
 mod outbox;
+mod parting;
 mod popped;
 mod processed;
+mod reading;
 mod row;
 mod sending;
 mod turning;
@@ -18,6 +22,7 @@ mod undo_list;
 
 pub use log::NodeLog;
 pub use model_core::OutOfMemory;
+pub use moved::{LogRoom, MovedLog};
 pub use news::News;
 pub use outbox::Outbox;
 pub use row::Row;

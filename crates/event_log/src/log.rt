@@ -1,28 +1,29 @@
 //! The log of a node.
-ghost use Rattle.std.specs.Prelude.{◌≡◌, ℕ, List, ◌<◌, ◌+◌, ◌^◌, [], ◌∷◌, ◌++◌, length, slice_get, IfOk, IfErr, IfSome, IfNone, OnOk, OnErr, IsTrue, Some, None, is_some, false, true, nat_lt};
+ghost use Rattle.std.specs.Prelude.{◌≡◌, ◌≢◌, ℕ, List, ◌<◌, ◌≤◌, ◌+◌, ◌^◌, [], ◌∷◌, ◌++◌, filter, length, map, not, slice_get, IfOk, IfErr, IfSome, IfNone, OnOk, OnErr, IsTrue, Some, None, is_some, false, true, nat_lt};
 ghost use Rattle.std.specs.List.{AllByRecursion};
 ghost use Rattle.event_key.specs.Keys.{key_lt};
 ghost use Rattle.event_key.specs.Stamps.{time_part};
 ghost use Rattle.event_key.specs.declared.stamp.TheConstants.{NO_STAMP};
 ghost use Rattle.model_core.specs.Meaning.{Meaning};
-ghost use Rattle.key_order.specs.Ascending.{Ascends};
 ghost use Rattle.key_order.specs.Stamps.{least_stamp};
 ghost use Rattle.object_log.specs.EventCalls.{HasGoneBack, HasProcessed, HasUndoneFrom};
-ghost use Rattle.object_log.specs.EventLogs.{ObjectView, done_key, dones_at, state_in};
+ghost use Rattle.object_log.specs.EventLogs.{ObjectView, done_key, dones_at, is_of, slot_in, state_in};
 ghost use Rattle.object_log.specs.Logs.{fault_of, held_of, keys_of};
-ghost use Rattle.object_log.specs.Objects.{IsPlaced};
+ghost use Rattle.object_log.specs.Objects.{AreSound, IsPlaced};
 ghost use Rattle.object_log.specs.Parts.{due_of};
 ghost use Rattle.object_log.specs.Undoings.{HasUndoneAt, IsNewestAt, LastIsFrom};
-ghost use Rattle.event_log.specs.NodeLogs.{Commits, HasReleased, IsCarried, IsStillCarried};
+ghost use Rattle.event_log.specs.NodeLogs.{HasCommittedTo, IsCarried, IsStillCarried};
+ghost use Rattle.event_log.specs.Moves.{place_after};
 ghost use Rattle.event_log.specs.Outboxes.{AreBlank};
 ghost use Rattle.event_log.specs.Processing.{AreHomed};
 
+use crate::moved::{LogRoom, MovedLog, push_object};
 use crate::processed::Processed;
 use event_chain::{Cell, Chain};
 use event_key::Key;
 use model_core::model::Model as SimulationModel;
 use model_core::{Cells, Effect, Event, OutOfMemory, RecordBuffer};
-use object_log::{Object, Released};
+use object_log::Object;
 use std::alloc::Global;
 use std::marker::Model;
 
@@ -75,6 +76,34 @@ impl NodeLog {
         Ok(())
     }
 
+    /// Gives the object at a place, which has processed nothing, other cells, and how many events it has sent. Takes no memory.
+    pub fn set(&mut self, place: u32, object: u32, cells: Cells, sent: u64)
+        requires place { IsPlaced self.old.log place object }
+        requires none { dones_at object self.old.log.done ≡ [] }
+        ensures state { state_in self.new.log.objects object ≡ Some (record { cells = cells.contents; sent = sent }) }
+        ensures others { (other : ℕ) → other ≢ object → state_in self.new.log.objects other ≡ state_in self.old.log.objects other }
+        ensures numbers { map (λ o. o.object) self.new.log.objects ≡ map (λ o. o.object) self.old.log.objects }
+        ensures same { self.new ≡ record self.old { log = record self.old.log { objects = self.new.log.objects } } }
+    {
+        self.objects[place as usize] = Object::new(object, cells, sent);
+    }
+
+    /// How many objects there are.
+    pub fn objects(&self) -> usize
+        ensures { result ≡ length self.now.log.objects }
+    {
+        self.objects.len()
+    }
+
+    /// Which object stands at a place, if one does.
+    pub fn number_at(&self, place: u32) -> Option<u32>
+        ensures some { IfSome result (IsPlaced self.now.log place) }
+        ensures none { IfNone result (length self.now.log.objects ≤ place) }
+    {
+        let object = self.objects.get(place as usize)?;
+        Some(object.number())
+    }
+
     /// The cells of the object at a place, after all that it has processed.
     pub fn cells(&self, place: u32) -> &Cells
         requires { place < length self.now.log.objects }
@@ -98,10 +127,9 @@ impl NodeLog {
         self.events.len()
     }
 
-    /// What is true of each log: its events are in the order of their keys, and few.
+    /// What is true of each log.
     pub fn tells(&self)
-        ensures ordered { Ascends done_key self.now.log.done }
-        ensures few { length self.now.log.done < 2 ^ 60 }
+        ensures { AreSound self.now.log }
     {
         let _ = &self.objects;
     }
@@ -113,8 +141,8 @@ impl NodeLog {
         self.events.held_least()
     }
 
-    /// The key and the code of the first event that failed, if one did. It looks at each carried event up to the first that
-    /// failed, and at the last of the news.
+    /// The key and the code of the first event that failed, if one did. In constant time if no carried event did, else it looks
+    /// at each carried event up to the first that failed.
     pub fn faulted(&self) -> Option<(Key, u32)>
         ensures { result ≡ fault_of self.now.log.done }
     {
@@ -127,6 +155,15 @@ impl NodeLog {
         ensures none { IfNone result (self.now.log.done ≡ []) }
     {
         self.events.first()
+    }
+
+    /// Appends the keys of the processed events below a horizon, in their order, or nothing where no memory is left. It makes room
+    /// for the keys of all events, and takes time linear in how many are below the horizon.
+    pub fn push_below(&self, horizon: u64, into: &mut Vec<Key>) -> Result<(), OutOfMemory>
+        ensures ok { OnOk result (into.new.items ≡ into.old.items ++ filter (λ k. nat_lt k.stamp horizon) (keys_of self.now.log.done)) }
+        ensures err { OnErr result (into.new.items ≡ into.old.items) }
+    {
+        self.events.push_below(horizon, into)
     }
 
     /// Whether each event comes before a key, in constant time.
@@ -265,6 +302,7 @@ impl NodeLog {
     pub fn undo_from(&mut self, horizon: u64, into: &mut Chain<Event>) -> u64
         requires { into.old ≡ [] }
         ensures undone { HasUndoneFrom horizon self.old.log self.new.log into.new }
+        ensures numbers { map (λ o. o.object) self.new.log.objects ≡ map (λ o. o.object) self.old.log.objects }
         ensures count { result ≡ length into.new }
         ensures carried { IsCarried self.new }
         ensures nodes { self.new.nodes ≡ self.old.nodes }
@@ -278,6 +316,7 @@ impl NodeLog {
         requires carried { IsCarried self.old }
         requires empty { into.old ≡ [] }
         ensures undone { HasUndoneFrom horizon self.old.log self.new.log into.new }
+        ensures numbers { map (λ o. o.object) self.new.log.objects ≡ map (λ o. o.object) self.old.log.objects }
         ensures count { result ≡ length into.new }
         ensures carried { IsStillCarried self.old self.new }
     {
@@ -291,37 +330,81 @@ impl NodeLog {
         count
     }
 
-    /// Commits the news that are due, if nothing carried is, and answers whether it did. The other news are carried. As a rule
-    /// all are due, and no event is touched then. `told` and `out` take what is told of the events and their messages.
-    pub fn commit_news(
+    /// Commits each event that is due: what is told of them goes to `told` in the order of their keys, and their messages to the
+    /// chains of their homes in `out`. What isn't due is carried. If all news are due and nothing carried is, which is the rule
+    /// where there is one node, no event is touched. Else it takes a step for each carried event that is due, each of its
+    /// messages and each of the news. If no memory is left for what is told, nothing is done.
+    pub fn commit(
         &mut self,
+        homes: &[u32],
         horizon: u64,
         cut: &Option<Key>,
         told: &mut RecordBuffer,
         out: &mut Vec<Chain<Event>>,
-    ) -> Result<bool, OutOfMemory>
+    ) -> Result<(), OutOfMemory>
         requires went { fault_of (due_of horizon cut.now self.old.log.done) ≡ None }
+        requires homed { AreHomed homes.now self.old.chained }
+        requires known { AllByRecursion (λ e. e.key.dest < length homes.now) (held_of (due_of horizon cut.now self.old.log.done)) }
+        requires homes { AllByRecursion (λ home. home < self.old.nodes) homes.now }
+        requires few { length (held_of self.old.log.done) < 2 ^ 60 }
         requires told { told.old.items ≡ [] }
         requires blank { AreBlank out.old.items }
         requires long { length out.old.items ≡ self.old.nodes }
-        ensures ok { IfOk result (λ done. Commits done horizon cut.now self.old self.new told.new.items out.new.items) }
+        ensures ok { OnOk result (HasCommittedTo homes.now horizon cut.now self.old self.new told.new.items out.new.items) }
         ensures err { OnErr result (self.new ≡ self.old) }
         ensures told { OnErr result (told.new.items ≡ []) }
         ensures blank { OnErr result (AreBlank out.new.items) }
         ensures long { length out.new.items ≡ self.old.nodes }
         ensures nodes { self.new.nodes ≡ self.old.nodes }
     {
-        self.events.commit_news(horizon, cut, told, out)
+        self.events.commit(homes, horizon, cut, told, out)
     }
 
-    /// Takes the event of the least key out, which stays done, and takes it apart. In constant time.
-    pub fn commit_first(&mut self) -> Released
-        requires carried { IsCarried self.old }
-        requires some { 0 < length self.old.log.done }
-        ensures released { HasReleased self.old self.new result }
-        ensures carried { IsStillCarried self.old self.new }
+    /// Takes the object at a place out with all that it has processed, into room that was made for it. The last object stands at
+    /// its place then. Takes no memory, and time linear in how many are processed.
+    pub fn take(&mut self, place: u32, object: u32, room: LogRoom) -> MovedLog
+        requires place { IsPlaced self.old.log place object }
+        requires room { length (dones_at object self.old.log.done) ≤ room.events }
+        ensures log { slot_in self.old.log object ≡ Some result.log }
+        ensures gone { state_in self.new.log.objects object ≡ None }
+        ensures others { (other : ℕ) → other ≢ object → state_in self.new.log.objects other ≡ state_in self.old.log.objects other }
+        ensures done { self.new.log.done ≡ filter (λ d. not (is_of object d)) self.old.log.done }
+        ensures places { (at other : ℕ) → other ≢ object → IsPlaced self.old.log at other → IsPlaced self.new.log (place_after (length self.new.log.objects) place at) other }
+        ensures count { length self.new.log.objects + 1 ≡ length self.old.log.objects }
+        ensures carried { IsCarried self.new }
+        ensures nodes { self.new.nodes ≡ self.old.nodes }
+        ensures room { result.room ≡ room.events }
+        ensures places_room { result.places ≡ room.places }
     {
-        let done = self.events.take(0);
-        self.events.release(done)
+        let events = &mut self.events;
+        events.carry_all();
+        let (objects, mut own) = room.into_lists();
+        let last = self.objects.len() - 1;
+        events.part(object, last, place, &mut own);
+        let object = self.objects.swap_remove(place as usize);
+        MovedLog::new(object, own, objects)
+    }
+
+    /// Puts an object in, which isn't here, behind the others, with all that it has processed. Takes no memory, and time linear in
+    /// how many are processed.
+    pub fn put(&mut self, moved: MovedLog)
+        requires away { state_in self.old.log.objects moved.log.object ≡ None }
+        requires room { length self.old.log.done + length moved.log.done ≤ moved.room }
+        requires places { length self.old.log.objects + 1 ≤ moved.places }
+        requires few { length self.old.log.done + length moved.log.done < 2 ^ 60 }
+        requires numbered { length self.old.log.objects < 2 ^ 32 }
+        ensures slot { slot_in self.new.log moved.log.object ≡ Some moved.log }
+        ensures objects { self.new.log.objects ≡ self.old.log.objects ++ (record { object = moved.log.object; state = moved.log.state }) ∷ [] }
+        ensures others { (other : ℕ) → other ≢ moved.log.object → dones_at other self.new.log.done ≡ dones_at other self.old.log.done }
+        ensures count { length self.new.log.done ≡ length self.old.log.done + length moved.log.done }
+        ensures carried { IsCarried self.new }
+        ensures nodes { self.new.nodes ≡ self.old.nodes }
+    {
+        let events = &mut self.events;
+        events.carry_all();
+        let place = self.objects.len() as u32;
+        let (object, own, room) = moved.into_parts();
+        events.absorb(own, place);
+        push_object(&mut self.objects, room, object);
     }
 }

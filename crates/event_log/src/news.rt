@@ -286,38 +286,30 @@ impl News {
         self.outbox.hand_out(chains);
     }
 
-    /// Hands out what is told of the events that are left, where others were taken back. The records are copied to a buffer
-    /// that has room for them.
-    pub fn copy_out(&mut self, done: &mut RecordBuffer, chains: &mut Vec<Chain<Event>>)
+    /// Lets all events go, and hands out their messages in the chains of their homes. What is told of them can be read until
+    /// it is forgotten. No event is touched.
+    pub fn send_out(&mut self, chains: &mut Vec<Chain<Event>>)
         requires went { fault_of self.old.done ≡ None }
-        requires told { done.old.items ≡ [] }
-        requires room { length self.old.done ≤ done.old.room }
         requires blank { AreBlank chains.old.items }
         requires long { length chains.old.items ≡ self.old.nodes }
-        ensures told { done.new.items ≡ told_all self.old.done }
         ensures parcels { (node : ℕ) → chain_at chains.new.items node ≡ parcel node self.old.sent }
         ensures long { length chains.new.items ≡ self.old.nodes }
         ensures done { self.new.done ≡ [] }
         ensures sent { self.new.sent ≡ [] }
-        ensures gone { self.new.gone ≡ [] }
+        ensures gone { self.new.gone ≡ told_all self.old.done ++ self.old.gone }
         ensures nodes { self.new.nodes ≡ self.old.nodes }
     {
-        copy_first(&self.told, self.rows.len(), done);
         self.rows.clear();
         self.undo.clear();
-        self.told.clear();
         self.outbox.hand_out(chains);
     }
-}
 
-/// Puts the first records of a buffer behind those of another, which has room for them.
-fn copy_first(told: &RecordBuffer, count: usize, done: &mut RecordBuffer)
-    requires count { count ≤ length told.now.items }
-    requires room { count ≤ done.old.room }
-    ensures { done.new.items ≡ done.old.items ++ take count told.now.items }
-{
-    for i in 0..count {
-        done.push_from(told, i);
+    /// What is told of events that are gone, where none is left.
+    pub fn told(&self) -> &RecordBuffer
+        requires { self.now.done ≡ [] }
+        ensures { result.now.items ≡ self.now.gone }
+    {
+        &self.told
     }
 }
 

@@ -1,6 +1,7 @@
 //! All that is processed: what is carried, and the news.
-ghost use Rattle.std.specs.Prelude.{◌≡◌, ℕ, List, ◌<◌, ◌≤◌, ◌+◌, ◌^◌, [], ◌++◌, length, map, take, slice_get, vec_len, vec_capacity, IfOk, IfErr, IfSome, IfNone, OnOk, OnErr, IsTrue, Some, None, true, false};
+ghost use Rattle.std.specs.Prelude.{◌≡◌, ℕ, List, ◌<◌, ◌≤◌, ◌+◌, ◌^◌, [], ◌++◌, filter, nat_lt, length, map, take, slice_get, vec_len, vec_capacity, IfOk, IfErr, IfSome, IfNone, OnOk, OnErr, IsTrue, Some, None, true, false};
 ghost use Rattle.std.specs.List.{AllByRecursion, remove};
+ghost use Rattle.std.specs.VecDeque.{deque_capacity};
 ghost use Rattle.event_key.specs.Keys.{key_lt};
 ghost use Rattle.event_key.specs.Stamps.{time_part};
 ghost use Rattle.event_key.specs.declared.stamp.TheConstants.{NO_STAMP};
@@ -14,19 +15,26 @@ ghost use Rattle.object_log.specs.Logs.{fault_of, held_of};
 ghost use Rattle.model_core.specs.declared.event.Event.{Event};
 ghost use Rattle.object_log.specs.Objects.{HasUndone, IsNewest, IsSameObject};
 ghost use Rattle.object_log.specs.Parts.{due_of};
+ghost use Rattle.object_log.specs.Weave.{weave};
 ghost use Rattle.object_log.specs.Whole.{dones_in};
 ghost use Rattle.event_log.specs.Faults.{lesser_fault};
+ghost use Rattle.event_log.specs.Items.{placed};
+ghost use Rattle.event_log.specs.Moves.{other_items, own_items, shifted};
 ghost use Rattle.event_log.specs.Outboxes.{AreBlank};
-ghost use Rattle.event_log.specs.Processing.{AreHomed, CanCarry, CanJoin, CommitsNews, HasCome, HasHanded, IsSameProcessed, merged};
+ghost use Rattle.event_log.specs.Committing.{HasCommittedDue};
+ghost use Rattle.event_log.specs.Processing.{AreHomed, CanJoin, HasCome, IsSameProcessed};
 
 use crate::carried::Carried;
+use crate::committing::{commit_first, due_in};
+use crate::item::Items;
 use crate::kept::Kept;
 use crate::news::News;
+use crate::reading::push_below;
 use event_chain::{Cell, CellPool, Chain};
 use event_key::Key;
 use model_core::model::Model as SimulationModel;
 use model_core::{Effect, Event, OutOfMemory, RecordBuffer};
-use object_log::{Object, Released, is_due_at};
+use object_log::Object;
 use std::alloc::Global;
 use std::marker::Model;
 
@@ -128,6 +136,17 @@ impl Processed {
             return self.news.ends_before(key);
         }
         false
+    }
+
+    /// Appends the keys below a horizon, in their order, or nothing where no memory is left.
+    pub fn push_below(&self, horizon: u64, into: &mut Vec<Key>) -> Result<(), OutOfMemory>
+        requires { length self.now.items < 2 ^ 60 }
+        ensures ok { OnOk result (into.new.items ≡ into.old.items ++ filter (λ k. nat_lt k.stamp horizon) (map placed_key self.now.items)) }
+        ensures err { OnErr result (into.new.items ≡ into.old.items) }
+    {
+        into.reserve(self.len())?;
+        push_below(&self.carried, &self.news, horizon, into);
+        Ok(())
     }
 
     /// Carries all news. Takes no memory.
@@ -238,43 +257,61 @@ impl Processed {
         }
     }
 
-    /// Commits the news that are due, if nothing carried is, and answers whether it did. The other news are carried. As a rule
-    /// all news are due, and no event is touched then.
-    pub fn commit_news(
+    /// Commits each event that is due: what is told of them goes to `told` in the order of their keys, and their messages to the
+    /// chains of their homes. The other news are carried. If all news are due and nothing carried is, no event is touched. Else
+    /// the records of the news that are due are copied, and each carried event that is due takes a step.
+    pub fn commit(
         &mut self,
+        homes: &[u32],
         horizon: u64,
         cut: &Option<Key>,
         told: &mut RecordBuffer,
         out: &mut Vec<Chain<Event>>,
-    ) -> Result<bool, OutOfMemory>
+    ) -> Result<(), OutOfMemory>
         requires went { fault_of (due_of horizon cut.now (dones_in self.old.items)) ≡ None }
+        requires homed { AreHomed homes.now self.old.chained }
+        requires known { AllByRecursion (λ e. e.key.dest < length homes.now) (held_of (due_of horizon cut.now (dones_in self.old.items))) }
+        requires homes { AllByRecursion (λ home. home < self.old.nodes) homes.now }
+        requires few { length self.old.items < 2 ^ 60 }
+        requires few_held { length (held_of (dones_in self.old.items)) < 2 ^ 60 }
         requires told { told.old.items ≡ [] }
         requires blank { AreBlank out.old.items }
         requires long { length out.old.items ≡ self.old.nodes }
-        ensures ok { IfOk result (λ done. CommitsNews done horizon cut.now self.old self.new told.new.items out.new.items) }
+        ensures ok { OnOk result (HasCommittedDue homes.now horizon cut.now self.old self.new told.new.items out.new.items) }
         ensures err { OnErr result (self.new ≡ self.old) }
         ensures told { OnErr result (told.new.items ≡ []) }
         ensures blank { OnErr result (AreBlank out.new.items) }
         ensures long { length out.new.items ≡ self.old.nodes }
         ensures nodes { self.new.nodes ≡ self.old.nodes }
     {
-        if is_first_due(&self.carried, horizon, cut) {
-            return Ok(false);
-        }
         self.news.tells();
-        let due = self.news.due(horizon, cut);
-        hand_out(
-            &mut self.news,
-            &mut self.places,
-            &mut self.cells,
+        let news = self.news.due(horizon, cut);
+        let carried = due_in(&self.carried, horizon, cut);
+        if carried == 0 && news == self.news.len() {
+            self.news.hand_out(told, out);
+            self.places.clear();
+            self.idle = 0;
+            return Ok(());
+        }
+        told.reserve(carried + news)?;
+        self.carried
+            .carry(&mut self.news, &mut self.places, &mut self.cells, news);
+        self.news.tells();
+        self.news.send_out(out);
+        commit_first(
+            self.news.told(),
+            news,
             &mut self.carried,
-            due,
+            carried,
+            &mut self.cells,
+            homes,
             told,
             out,
-        )?;
+        );
+        self.news.forget();
         self.places.clear();
         self.idle = 0;
-        Ok(true)
+        Ok(())
     }
 
     /// The key of the event at a place of the list, and the place of its object.
@@ -297,6 +334,32 @@ impl Processed {
         self.carried.take(index)
     }
 
+    /// Takes the events of an object out, and puts them into a list that has room for them. What stood at one place has another
+    /// then.
+    pub fn part(&mut self, object: u32, from: usize, to: u32, own: &mut Items)
+        requires news { self.old.news ≡ [] }
+        requires empty { own.old.items ≡ [] }
+        requires room { length (own_items object self.old.items) ≤ deque_capacity own.old }
+        ensures items { self.new.items ≡ map (shifted from to) (other_items object self.old.items) }
+        ensures own { placed own.new.items ≡ own_items object self.old.items }
+        ensures capacity { deque_capacity own.new ≡ deque_capacity own.old }
+        ensures same { self.new ≡ record self.old { items = self.new.items } }
+    {
+        self.carried.part(object, from, to, own);
+    }
+
+    /// Puts all into a list of others, which has room for them, and keeps that. The others stood at place 0, and stand at another
+    /// now.
+    pub fn absorb(&mut self, items: Items, to: u32)
+        requires news { self.old.news ≡ [] }
+        requires ordered { Ascends placed_key (weave placed_key self.old.items (map (shifted 0 to) (placed items.items))) }
+        requires room { length self.old.items + length items.items ≤ deque_capacity items }
+        ensures items { self.new.items ≡ weave placed_key self.old.items (map (shifted 0 to) (placed items.items)) }
+        ensures same { self.new ≡ record self.old { items = self.new.items } }
+    {
+        self.carried.absorb(items, to);
+    }
+
     /// Takes an event back that was taken out, at its object, which fired it last of those that it has not taken back.
     pub fn undo(&mut self, done: Kept, object: &mut Object) -> Cell<Event>
         requires news { self.old.news ≡ [] }
@@ -306,17 +369,6 @@ impl Processed {
         ensures same { self.new ≡ self.old }
     {
         done.undo(object, &mut self.cells)
-    }
-
-    /// Takes a committed event apart that was taken out. Its cell is kept.
-    pub fn release(&mut self, done: Kept) -> Released
-        requires { self.old.news ≡ [] }
-        ensures event { result.event ≡ done.event }
-        ensures sends { result.sends ≡ done.sends }
-        ensures verdict { result.verdict ≡ done.verdict }
-        ensures same { self.new ≡ self.old }
-    {
-        done.release(&mut self.cells)
     }
 }
 
@@ -369,59 +421,5 @@ fn idle_after(idle: usize, sends: usize) -> usize
     match sends {
         0 => idle + 1,
         _ => idle,
-    }
-}
-
-/// Hands out the news up to a place, and carries the others.
-fn hand_out(
-    news: &mut News,
-    places: &mut Vec<u32>,
-    cells: &mut CellPool<Event>,
-    carried: &mut Carried,
-    due: usize,
-    told: &mut RecordBuffer,
-    out: &mut Vec<Chain<Event>>,
-) -> Result<(), OutOfMemory>
-    requires can { CanCarry places.old.items news.old carried.old cells.old }
-    requires whole { news.old.gone ≡ [] }
-    requires due { due ≤ length news.old.done }
-    requires went { fault_of (take due news.old.done) ≡ None }
-    requires told { told.old.items ≡ [] }
-    requires blank { AreBlank out.old.items }
-    requires long { length out.old.items ≡ news.old.nodes }
-    ensures ok { OnOk result (HasHanded due places.old.items news.old carried.old.items carried.new.items told.new.items out.new.items) }
-    ensures ordered { OnOk result (Ascends placed_key carried.new.items) }
-    ensures done { OnOk result (news.new.done ≡ []) }
-    ensures sent { OnOk result (news.new.sent ≡ []) }
-    ensures gone { OnOk result (news.new.gone ≡ []) }
-    ensures nodes { news.new.nodes ≡ news.old.nodes }
-    ensures long { length out.new.items ≡ news.old.nodes }
-    ensures news { OnErr result (news.new ≡ news.old) }
-    ensures places { OnErr result (places.new.items ≡ places.old.items) }
-    ensures carried { OnErr result (carried.new ≡ carried.old) }
-    ensures cells { OnErr result (cells.new ≡ cells.old) }
-    ensures told { OnErr result (told.new.items ≡ []) }
-    ensures blank { OnErr result (AreBlank out.new.items) }
-{
-    if due == news.len() {
-        news.tells();
-        news.hand_out(told, out);
-        return Ok(());
-    }
-    told.reserve(due)?;
-    carried.carry(news, places, cells, due);
-    news.tells();
-    news.copy_out(told, out);
-    Ok(())
-}
-
-/// Whether the first of what is carried is due.
-fn is_first_due(carried: &Carried, horizon: u64, cut: &Option<Key>) -> bool
-    ensures { result ≡ false → AllByRecursion (λ p. is_due horizon cut.now (placed_key p) ≡ false) carried.now.items }
-{
-    carried.tells();
-    match carried.first() {
-        Some(key) => is_due_at(horizon, cut, &key),
-        None => false,
     }
 }

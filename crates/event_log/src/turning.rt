@@ -50,7 +50,7 @@ pub fn carry_into(
 }
 
 /// Puts an event in that comes before those in front, with the place of its object. Answers how many stand in front then.
-fn join(items: &mut Items, front: usize, done: Kept, place: u32) -> usize
+pub fn join(items: &mut Items, front: usize, done: Kept, place: u32) -> usize
     requires turned { IsTurned front items.old.items }
     requires after { AreAfter done.event.key front items.old.items }
     requires room { deque_len items.old < deque_capacity items.old }
@@ -97,7 +97,7 @@ fn turn_past(items: &mut Items, front: usize, key: &Key) -> usize
 }
 
 /// Puts an event before all, with the least stamp that it and so many behind it send.
-fn put_first(items: &mut Items, turned: usize, done: Kept, place: u32)
+pub fn put_first(items: &mut Items, turned: usize, done: Kept, place: u32)
     requires within { turned ≤ length items.old.items }
     requires room { deque_len items.old < deque_capacity items.old }
     ensures items { (put : Item) × (items.new.items ≡ put ∷ items.old.items) × (placed_of put ≡ record { done = done; place = place }) × IsHeld put (take turned items.old.items) }

@@ -2,10 +2,13 @@
 use Rattle.std.proofs.Common.{◌-◌, List, length, sym, ap, ◌∙◌, subst, arith, length-drop}
 use Rattle.std.proofs.lemmas.List.{append-nil}
 use Rattle.std.specs.VecDeque.{deque_capacity}
+use Rattle.key_order.specs.Ascending.{Ascends}
+use Rattle.object_log.specs.Carrying.{Placed, placed_key}
 use Rattle.event_log.specs.declared.item.Item.{Item}
 use Rattle.event_log.specs.Items.{AreHeldBut, CarriedView, placed}
 use Rattle.event_log.specs.Processing.{CanCarry, merged}
 use Rattle.event_log.specs.Turning.{turned_back, turned_view}
+use Rattle.event_log.proofs.FailFacts.{carried-went}
 use Rattle.event_log.proofs.TurnLemmas.{can-same, same-long, same-order, start-turned, turned-but, turned-long}
 use Rattle.event_log.proofs.carried.Carried.carry.Goals as goal
 
@@ -55,7 +58,21 @@ invariant_of-self c =
     let n = c.carry_into-turned.result in
     let es = c.carry_into-turned.new.items.items in
     let same = c.mend.ensures.same ∙ ap placed c.rotate_left.ensures.items in
-    (same-order c.mend.new.items.items (turned_back n es) same c.carry_into-turned.ensures.turned.ordered, c.mend.ensures.held)
+    let old : CarriedView = record { items = placed c.self.inside.items.items; room = deque_capacity c.self.inside.items - length c.self.inside.items.items } in
+    let C : CarriedView → Type 0 = λ v. CanCarry c.args.places.now.items c.args.news.now v c.args.cells.now in
+    let can = subst C (sym c.self.view_is) c.requires.can in
+    let can' = c.carry_into-turned.ensures.can in (
+      same-order c.mend.new.items.items (turned_back n es) same c.carry_into-turned.ensures.turned.ordered,
+      c.mend.ensures.held,
+      (λ none.
+          let went = c.may_fail_with-self-inside.ensures none in
+          carried-went c.args.news.now.done c.carry_into-turned.new.news.done c.args.places.now.items c.carry_into-turned.new.places.items c.args.from old.items (placed c.mend.new.items.items)
+          (ap (merged c.carry_into-turned.new.news.done c.carry_into-turned.new.places.items) same
+          ∙ c.carry_into-turned.ensures.same
+          ∙ ap (λ (is : List Item). merged c.args.news.now.done c.args.places.now.items (placed is)) (append-nil c.self.inside.items.items))
+          can.long can'.long can.ordered (let A : List Placed → Type 0 = λ ps. Ascends placed_key (merged c.carry_into-turned.new.news.done c.carry_into-turned.new.places.items ps) in subst A (sym same) can'.ordered)
+          c.carry_into-turned.ensures.done went.1 (c.self.invariant.2 went.0)),
+    )
 
 pub returns-clause-same : goal.returns-clause-same
 returns-clause-same c =

@@ -8,6 +8,7 @@ use Rattle.key_order.proofs.AscendingLemmas.{Ascends-map, Ascends-mapped}
 use Rattle.object_log.specs.Carrying.{placed_key}
 use Rattle.event_log.specs.Items.{AreHeldBut, CarriedView, placed, placed_of}
 use Rattle.object_log.proofs.CarriedLemmas.{ascends-removed, map-removed, read-map}
+use Rattle.event_log.proofs.FailFacts.{left-went}
 use Rattle.event_log.proofs.ItemLemmas.{but-removed}
 use Rattle.event_log.proofs.carried.Carried.take.Goals as goal
 
@@ -29,6 +30,8 @@ invariant_of-self c =
       Ascends-mapped placed_key placed_of c.mend.new.items.items
           (subst (Ascends placed_key) (sym left) (ascends-removed placed_key (placed es) c.args.index (Ascends-map placed_key placed_of es c.self.invariant.0))),
       c.mend.ensures.held,
+      (λ none. left-went c.self.inside.may_fail (placed es) (placed c.mend.new.items.items) c.args.index (c.mend.ensures.same ∙ ap placed c.in-Some.ensures.items ∙ map-removed placed_of es c.args.index)
+          c.self.invariant.2 (c.may_fail_without-self-inside.ensures none)),
     )
 
 pub returns-clause-left : goal.returns-clause-left

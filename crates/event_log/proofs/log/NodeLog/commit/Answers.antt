@@ -1,0 +1,72 @@
+-- What is due leaves the log.
+use Rattle.std.proofs.Common.{◌≡◌, ◌<◌, ◌^◌, length, None, sym, ap, ◌∙◌, subst}
+use Rattle.std.specs.List.{AllByRecursion as Each}
+use Rattle.model_core.specs.declared.event.Event.{Event}
+use Rattle.object_log.specs.Logs.{fault_of, held_of}
+use Rattle.object_log.specs.Parts.{due_of}
+use Rattle.object_log.specs.Whole.{IsEventLog}
+use Rattle.event_log.specs.Committing.{HasCommittedDue}
+use Rattle.event_log.specs.NodeLogs.{HasCommittedTo, NodeLogView, node_log_view}
+use Rattle.event_log.specs.Processing.{AreHomed, ProcessedView}
+use Rattle.event_log.proofs.LogFacts.{commits, commits-log, err-one, on-either, on-more}
+use Rattle.event_log.proofs.log.NodeLog.commit.Goals as goal
+
+pub commit-requires-clause-went : goal.commit-requires-clause-went
+commit-requires-clause-went c =
+    let W : NodeLogView → Type 0 = λ v. fault_of (due_of c.args.horizon c.args.cut.now v.log.done) ≡ None in
+    subst W (sym c.self.view_is) c.requires.went
+
+pub commit-requires-clause-homed : goal.commit-requires-clause-homed
+commit-requires-clause-homed c =
+    let H : NodeLogView → Type 0 = λ v. AreHomed c.args.homes.now v.chained in
+    subst H (sym c.self.view_is) c.requires.homed
+
+pub commit-requires-clause-known : goal.commit-requires-clause-known
+commit-requires-clause-known c =
+    let K : NodeLogView → Type 0 = λ v. Each (λ (e : Event). e.key.dest < length c.args.homes.now) (held_of (due_of c.args.horizon c.args.cut.now v.log.done)) in
+    subst K (sym c.self.view_is) c.requires.known
+
+pub commit-requires-clause-homes : goal.commit-requires-clause-homes
+commit-requires-clause-homes c =
+    let H : NodeLogView → Type 0 = λ v. Each (λ home. home < v.nodes) c.args.homes.now in
+    subst H (sym c.self.view_is) c.requires.homes
+
+pub commit-requires-clause-few : goal.commit-requires-clause-few
+commit-requires-clause-few c = c.self.invariant.few
+
+pub commit-requires-clause-few_held : goal.commit-requires-clause-few_held
+commit-requires-clause-few_held c =
+    let F : NodeLogView → Type 0 = λ v. length (held_of v.log.done) < 2 ^ 60 in
+    subst F (sym c.self.view_is) c.requires.few
+
+pub commit-requires-clause-long : goal.commit-requires-clause-long
+commit-requires-clause-long c = c.requires.long ∙ sym (ap (λ (v : NodeLogView). v.nodes) c.self.view_is)
+
+pub invariant_of-self : goal.invariant_of-self
+invariant_of-self c =
+    let objects = c.self.inside.objects.items in
+    let old : ProcessedView = c.self.inside.events in
+    let new : ProcessedView = c.commit.new.self in
+    let told = c.commit.new.told.items in
+    let out = c.commit.new.out.items in
+    let L : ProcessedView → Type 0 = λ v. IsEventLog objects v.items in
+    on-either c.commit.result (HasCommittedDue c.args.homes.now c.args.horizon c.args.cut.now old new told out) (new ≡ old) (IsEventLog objects new.items) c.commit.ensures.ok c.commit.ensures.err
+    (λ h. commits-log c.args.homes.now c.args.horizon c.args.cut.now objects old new told out h c.self.invariant) (λ same. subst L (sym same) c.self.invariant)
+
+pub returns-clause-ok : goal.returns-clause-ok
+returns-clause-ok c =
+    let objects = c.self.inside.objects.items in
+    let old : ProcessedView = c.self.inside.events in
+    let new : ProcessedView = c.commit.new.self in
+    let told = c.commit.new.told.items in
+    let out = c.commit.new.out.items in
+    let V : NodeLogView → Type 0 = λ v. HasCommittedTo c.args.homes.now c.args.horizon c.args.cut.now v (node_log_view objects new) told out in
+    on-more c.commit.result (HasCommittedDue c.args.homes.now c.args.horizon c.args.cut.now old new told out) (V c.args.self.now)
+    (λ h. subst V c.self.view_is (commits c.args.homes.now c.args.horizon c.args.cut.now objects old new told out h)) c.commit.ensures.ok
+
+pub returns-clause-err : goal.returns-clause-err
+returns-clause-err c =
+    let objects = c.self.inside.objects.items in
+    let old : ProcessedView = c.self.inside.events in
+    let new : ProcessedView = c.commit.new.self in
+    err-one c.commit.result (new ≡ old) (node_log_view objects new ≡ c.args.self.now) (λ same. ap (node_log_view objects) same ∙ c.self.view_is) c.commit.ensures.err

@@ -1,0 +1,71 @@
+-- The last of the others goes over.
+use Rattle.std.proofs.Common.{◌≡◌, List, [], ◌∷◌, ◌++◌, length, refl, sym, ap, ◌∙◌, subst, arith, length-append, append_assoc}
+use Rattle.std.proofs.lemmas.List.{append-nil, map-append, nil_from_length}
+use Rattle.key_order.specs.Ascending.{Ascends}
+use Rattle.key_order.specs.Keys.{times}
+use Rattle.object_log.specs.Carrying.{Placed, placed_key}
+use Rattle.object_log.specs.Weave.{insert, weave}
+use Rattle.object_log.proofs.WeaveLemmas.{insert-fresh, weave-below, weave-last}
+use Rattle.event_log.specs.declared.item.Item.{Item}
+use Rattle.event_log.specs.Items.{item_key, placed, placed_of}
+use Rattle.event_log.specs.Turning.{turned_back}
+use Rattle.event_log.proofs.PartFacts.{before-end, joined-start, joins-end, joins-fresh, joins-same}
+use Rattle.event_log.proofs.parting.join_all.Goals as goal
+
+pub loop-item-init : goal.loop-item-init
+loop-item-init c = record {
+  turned = c.requires.turned;
+  same = refl;
+  after = λ es e is. tt;
+  gone = ([], sym (append-nil c.args.others.now.items));
+  room = c.requires.room;
+  capacity = refl;
+}
+
+pub join-turned-requires-clause-after : goal.join-turned-requires-clause-after
+join-turned-requires-clause-after c = c.loop-item.invariant.after c.pop_back.new.self.items c.in-Some.item c.in-Some.ensures.items
+
+pub join-turned-requires-clause-room : goal.join-turned-requires-clause-room
+join-turned-requires-clause-room c =
+    let long = ap length c.in-Some.ensures.items in
+    let parts = length-append c.pop_back.new.self.items (c.in-Some.item ∷ []) in
+    let room = c.loop-item.invariant.room in
+    omega arith
+
+pub join-turned-requires-clause-new : goal.join-turned-requires-clause-new
+join-turned-requires-clause-new c =
+    let l = c.loop-item in
+    let x : Item = c.in-Some.item in
+    let now = placed (turned_back l.turned l.items.items) in
+    joins-fresh l.others.items c.pop_back.new.self.items x now c.in-Some.ensures.items (subst (Ascends placed_key) (sym l.invariant.same) (joined-start c.args.items.now.items (placed c.args.others.now.items) c.requires.ordered))
+
+pub loop-item-preserved : goal.loop-item-preserved
+loop-item-preserved c =
+    let l = c.loop-item in
+    let x : Item = c.in-Some.item in
+    let xs = c.pop_back.new.self.items in
+    let joined = c.join-turned.ensures in
+    let is : l.others.items ≡ xs ++ x ∷ [] = c.in-Some.ensures.items in
+    let long = ap length is in
+    let parts = length-append xs (x ∷ []) in
+    let room = l.invariant.room in
+    let more = joined.long in
+    let capacity = joined.capacity in
+    record {
+      turned = joined.turned;
+      same = joins-same l.others.items xs x (placed (turned_back l.turned l.items.items)) (placed (turned_back c.join-turned.result c.join-turned.new.items.items)) is joined.items ∙ l.invariant.same;
+      after = λ es e last. joined.after (item_key e) (before-end c.args.others.now.items l.others.items l.invariant.gone.0 xs es x e c.requires.others l.invariant.gone.1 is last);
+      gone = (x ∷ l.invariant.gone.0, l.invariant.gone.1 ∙ ap (λ (es : List Item). es ++ l.invariant.gone.0) is ∙ append_assoc xs (x ∷ []) l.invariant.gone.0);
+      room = omega arith;
+      capacity = joined.capacity ∙ l.invariant.capacity;
+    }
+
+pub returns-clause-items : goal.returns-clause-items
+returns-clause-items c =
+    let l = c.loop-item in
+    let empty = c.in_default.ensures.cases.0 in
+    let long = l.others.ok.0 in
+    let none : l.others.items ≡ [] = nil_from_length l.others.items (omega arith) in
+    joins-end l.others.items (placed (turned_back l.turned l.items.items)) none
+    ∙ l.invariant.same
+    ∙ ap (λ (es : List Item). weave placed_key (placed c.args.others.now.items) (placed es)) (append-nil c.args.items.now.items)
