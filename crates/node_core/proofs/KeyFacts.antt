@@ -1,5 +1,5 @@
 -- The keys of a node's processed events.
-use Rattle.std.proofs.Common.{◌≡◌, ℕ, ◌+◌, ◌*◌, ◌≤◌, List, [], ◌∷◌, length, map, Option, Some, None, is_some, Bool, true, false, refl, sym, ap, ◌∙◌, subst, arith}
+use Rattle.std.proofs.Common.{◌≡◌, ℕ, ◌+◌, ◌*◌, ◌≤◌, List, [], ◌∷◌, length, Option, Some, None, is_some, Bool, true, false, refl, sym, ap, ◌∙◌, subst, arith}
 use Rattle.std.specs.Prelude.{filter, ◌==◌}
 use Rattle.std.proofs.lemmas.List.{length-map}
 use Rattle.event_key.specs.declared.key.Key.{Key}
@@ -7,15 +7,15 @@ use Rattle.model_core.specs.Meaning.{Meaning, MeaningLaws}
 use Rattle.key_order.specs.Ascending.{After, Ascends}
 use Rattle.world_spec.specs.Share.{IsHome}
 use Rattle.key_order.proofs.FilterLemmas.{filter-map}
-use Rattle.object_log.specs.Dones.{Done}
-use Rattle.object_log.specs.Logs.{LogView, keys_of as keys_of_log}
+use Rattle.object_log.specs.Logs.{LogView}
 use Rattle.object_log.specs.Replays.{IsReplayed}
-use Rattle.node_core.specs.Marks.{MarkView, AreInOrder, mark_of}
+use Rattle.node_core.specs.Marks.{MarkView, AreInOrder}
 use Rattle.node_core.specs.Nodes.{IsHere, NodeView, ahead_of, base_at, home, log_at, log_or, slot_at}
 use Rattle.node_core.specs.Rows.{keys_of}
 use Rattle.node_core.specs.Shares.{AreProcessedKeys, total_upto}
 use Rattle.node_core.specs.Sound.{AreMarked, IsNode, IsStore}
 use Rattle.node_core.proofs.CommitReplay.{log-little}
+use Rattle.node_core.proofs.MarkLemmas.{marked-keys}
 use Rattle.node_core.proofs.RollbackFacts.{home-here}
 use Rattle.node_core.proofs.SentFacts.{sent-bound}
 use Rattle.node_core.proofs.ShareFacts.{marks-total}
@@ -28,10 +28,6 @@ keys-ascend : (ks : List MarkView) → AreInOrder ks → Ascends (λ (k : Key). 
 unfolding Ascends
 keys-ascend [] up = tt
 keys-ascend (k ∷ ks) up = (keys-after k.key ks up.0, keys-ascend ks up.1)
-
-marked-keys : (ds : List Done) → keys_of (map mark_of ds) ≡ keys_of_log ds
-marked-keys [] = refl
-marked-keys (d ∷ ds) = ap (λ ks. d.event.key ∷ ks) (marked-keys ds)
 
 module _ {M : Type 0} (m : Meaning) (n : NodeView M) (marks : List MarkView) (node : IsNode m n.terms n.number n.homes n.logs marks n.counts) (marked : AreMarked n.logs marks) where
   -- an object that isn't here has processed nothing

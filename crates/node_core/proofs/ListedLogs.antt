@@ -1,9 +1,8 @@
 -- A node's logs, out of one list: an event more, and what a node knows of all.
-use Rattle.std.proofs.Common.{◌≡◌, ◌≢◌, ℕ, ◌<◌, Bool, true, false, cond, ltb, ltb-true, ltb-false, arith, List, [], ◌∷◌, ◌++◌, Option, Some, None, is_some, map, refl, sym, ap, ◌∙◌, subst}
+use Rattle.std.proofs.Common.{◌≡◌, ℕ, ◌<◌, Bool, true, false, ltb, ltb-true, ltb-false, arith, List, [], ◌∷◌, Option, Some, None, is_some, map, refl, sym, ap, ◌∙◌, subst}
 use Rattle.std.proofs.lemmas.Bool.{false_from_ne_true}
 use Rattle.std.specs.List.{AllByRecursion as Each}
 use Rattle.std.specs.Prelude.{filter, ◌==◌}
-use Rattle.event_key.specs.Keys.{key_lt}
 use Rattle.model_core.specs.declared.event.Event.{Event}
 use Rattle.model_core.specs.Meaning.{Meaning}
 use Rattle.sim_spec.specs.Firing.{ObjectState, fire}
@@ -12,11 +11,11 @@ use Rattle.key_order.proofs.AscendingLemmas.{Ascends-map}
 use Rattle.key_order.proofs.EachLemmas.{Each-map}
 use Rattle.key_order.proofs.FilterLemmas.{filter-map, filter-none}
 use Rattle.object_log.specs.Dones.{Done}
-use Rattle.object_log.specs.Logs.{LogView, undone, fault_of}
+use Rattle.object_log.specs.Logs.{LogView, undone}
 use Rattle.object_log.specs.Replays.{IsLogOf, IsOneMore, IsReplayed, IsTold}
 use Rattle.object_log.proofs.OwnLemmas.{is_there}
 use Rattle.object_log.proofs.ReplayLemmas.{replayed-push, undone-append}
-use Rattle.node_core.specs.Marks.{MarkView, fault_code, mark_of}
+use Rattle.node_core.specs.Marks.{MarkView, code_of, mark_of}
 use Rattle.node_core.specs.Moves.{IsProcessedAt}
 use Rattle.node_core.specs.Nodes.{log_at, log_or, slot_at}
 use Rattle.node_core.specs.Sound.{AreMarked}
@@ -46,12 +45,11 @@ more-replay m old new e least more is_log =
 
 -- so a node's log is one event longer
 pub node-processed : (m : Meaning) (n : ℕ) (old new : EventLogView) (event : Event) (least : ℕ) (fault : Option ℕ) → event.key.dest < n → (h : HasProcessed m old new event least)
-    → fault_of (log_at (logs_upto old n) event.key.dest).done ≡ None → fault ≡ fault_code (fault_of (dones_at event.key.dest new.done))
-    → IsProcessedAt m (logs_upto old n) (logs_upto new n) event least fault
-node-processed m n old new event least fault inside h went is =
+    → fault ≡ code_of h.more.entry.verdict → IsProcessedAt m (logs_upto old n) (logs_upto new n) event least fault
+node-processed m n old new event least fault inside h is =
     let was = log_with old.done event.key.dest h.was in
     let now = log_with new.done event.key.dest h.now in
-    processed_at m (logs_upto old n) (logs_upto new n) was now event least fault (written event.key.dest n old new h.was h.now inside h.changes) h.more went is (more-base m was now event least h.more) (more-replay m was now event least h.more)
+    processed_at m (logs_upto old n) (logs_upto new n) was now event least fault (written event.key.dest n old new h.was h.now inside h.changes) h.more is (more-base m was now event least h.more) (more-replay m was now event least h.more)
 
 module _ (log : EventLogView) (n : ℕ) (within : (object : ℕ) → is_some (state_in log.objects object) ≡ true → object < n) (here : Each (λ (d : Done). is_some (state_in log.objects d.event.key.dest) ≡ true) log.done) where
   none-away : (object : ℕ) → is_some (state_in log.objects object) ≡ false → dones_at object log.done ≡ []

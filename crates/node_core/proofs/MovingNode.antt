@@ -7,12 +7,13 @@ use Rattle.event_key.specs.Stamps.{end_stamp}
 use Rattle.model_core.specs.declared.event.Event.{Event}
 use Rattle.model_core.specs.Meaning.{Meaning}
 use Rattle.sim_spec.specs.declared.terms.Terms.{Terms}
+use Rattle.sim_spec.specs.Replay.{events_at}
 use Rattle.object_log.specs.Logs.{LogView, events_of, undone}
 use Rattle.object_log.specs.Replays.{IsLogOf, IsReplayed}
 use Rattle.world_spec.specs.Share.{IsHome}
 use Rattle.node_core.specs.Homes.{HomesView, home_of}
 use Rattle.node_core.specs.Marks.{MarkView}
-use Rattle.node_core.specs.Moving.{AreAlikeBut, CanCome, CanTakeIn, HasCome, HasLeft, HasTakenOut, IsMovable, MovedView}
+use Rattle.node_core.specs.Moving.{AreAlikeBut, CanCome, CanTakeIn, HasCome, HasLeft, HasTakenIn, HasTakenOut, IsMovable, IsPutAt, MovedView}
 use Rattle.node_core.specs.Nodes.{Counts, IsHere, NodeView, base_at, log_at, no_log, slot_at}
 use Rattle.node_core.specs.Rows.{keys_of}
 use Rattle.node_core.specs.Sound.{IsNode, IsStore}
@@ -113,18 +114,29 @@ module _ (m : Meaning) (t : Terms) (number object : ℕ) (homes homes' : HomesVi
         counts = ap (λ (k : ℕ). record counts { processed = (counts.processed + (2 ^ 64 - k)) % 2 ^ 64 }) count_is;
       }
 
-module _ {M : Type 0} (m : Meaning) (n : NodeView M) (s : StoreView) (logs_are : n.logs ≡ s.logs) (processed_are : n.processed ≡ keys_of s.marks) (waiting_is : n.waiting ≡ s.waiting)
-    (homes' : HomesView) (moved : MovedView) (places : ℕ) (node : IsNode m n.terms n.number n.homes s.logs s.marks n.counts) (can : CanTakeIn m homes' n moved places) where
+module _ {M : Type 0} (m : Meaning) (n : NodeView M) (s : StoreView) (homes_are : n.homes ≡ s.homes) (logs_are : n.logs ≡ s.logs) (processed_are : n.processed ≡ keys_of s.marks) (waiting_is : n.waiting ≡ s.waiting) (spare_is : n.spare ≡ s.spare)
+    (homes' : HomesView) (moved : MovedView) (node : IsNode m n.terms n.number n.homes s.logs s.marks n.counts) (can : CanTakeIn m homes' n moved) where
   away : slot_at s.logs moved.log.object ≡ None
   away = not-here s.logs moved.log.object (λ here. can.away (node.only moved.log.object here))
 
-  pub can-come : CanCome s moved places
+  pub can-come : CanCome homes' s moved
   can-come =
       let long = node.lawful.long in let low = can.movable.exists in
       let one = ap length processed_are ∙ length-map s.marks (λ (k : MarkView). k.key) in
       let two = ap length waiting_is in
       let room = can.room in let few = can.few in
-      record { own = can.movable.own; away = away; inside = omega arith; room = omega arith; few = omega arith }
+      let places = can.places in let objects = node.objects in
+      let alike = can.homes_are in
+      record {
+        own = can.movable.own;
+        away = away;
+        inside = omega arith;
+        nodes = alike.nodes ∙ ap (λ (h : HomesView). h.nodes) homes_are;
+        objects = alike.objects ∙ ap (λ (h : HomesView). length h.homes) homes_are;
+        room = omega arith;
+        places = omega arith;
+        few = omega arith;
+      }
 
   pub node-came : (s' : StoreView) → HasCome s s' moved → (count : ℕ) → count ≡ length moved.log.done
       → IsNode m n.terms n.number homes' s'.logs s'.marks (record n.counts { processed = (n.counts.processed + count) % 2 ^ 64 })
@@ -158,4 +170,25 @@ module _ {M : Type 0} (m : Meaning) (n : NodeView M) (s : StoreView) (logs_are :
           below = λ o. by_object B object o (subst BL (sym now) can.movable.below) (λ apart. subst BL (sym (same_log o apart)) (node.lawful.below o));
         };
         balance = more-processed n.counts.processed n.counts.committed n.counts.undone (length s.marks) count (length s'.marks) node.balance (let all = came.count in omega arith);
+      }
+
+  pub taken-in : (s' : StoreView) → HasCome s s' moved → (count : ℕ) → count ≡ length moved.log.done
+      → HasTakenIn homes' n (node_of n.model n.terms n.number homes' s' n.work n.met (record n.counts { processed = (n.counts.processed + count) % 2 ^ 64 })) moved
+  taken-in s' came count count_is =
+      let L : List (Option LogView) → Type 0 = λ ls. IsPutAt moved.log.object ls s'.logs moved.log in
+      let one = length-map s.marks (λ (k : MarkView). k.key) in
+      let two = length-map s'.marks (λ (k : MarkView). k.key) in
+      let processed = ap length processed_are in
+      let waiting_long = ap length waiting_is in
+      let all = came.count in
+      let whole = came.total in
+      record {
+        same = record { model = refl; terms = refl; number = refl; homes_are = refl; work = refl; met = refl };
+        logs = subst L (sym logs_are) came.logs;
+        waiting = came.waiting;
+        rest = λ other apart. came.rest other apart ∙ ap (events_at other) (sym waiting_is);
+        processed = omega arith;
+        total = omega arith;
+        spare = came.spare ∙ sym spare_is;
+        counts = ap (λ (k : ℕ). record n.counts { processed = (n.counts.processed + k) % 2 ^ 64 }) count_is;
       }

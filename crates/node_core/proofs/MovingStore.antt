@@ -12,6 +12,7 @@ use Rattle.sim_spec.specs.Replay.{events_at}
 use Rattle.sim_spec.proofs.PartLemmas.{IsAscending-events_at, events_at-all, events_at-dest}
 use Rattle.object_log.specs.Keeping.{OnlyLastFailed}
 use Rattle.object_log.specs.Logs.{LogView, events_of}
+use Rattle.node_core.specs.Homes.{HomesView}
 use Rattle.node_core.specs.Marks.{MarkView, AreInOrder, mark_of}
 use Rattle.node_core.specs.Moving.{MovedView, CanCome, HasCome, HasLeft, IsOwn, IsPutAt, IsTakenAt, marks_at}
 use Rattle.node_core.specs.Nodes.{IsHere, log_at, log_or, no_log, pending_at, slot_at}
@@ -83,8 +84,8 @@ module _ (object : ℕ) (logs left : List (Option LogView)) (marks : List MarkVi
       let Q : ℕ → Type 0 = λ o. Each (λ (e : Event). e.key.dest ≡ o) (events_of log.done) in
       subst Q (sym left-number) (subst P was (store.held.own object))
 
-  pub left-is-own : IsOwn (record { log = log; waiting = events_at object waiting })
-  left-is-own =
+  pub left-is-own : (room places : ℕ) → IsOwn (record { log = log; waiting = events_at object waiting; room = room; places = places })
+  left-is-own room places =
       let L : LogView → Type 0 = λ l. OnlyLastFailed l.done in
       let A : LogView → Type 0 = λ l. IsAscending (events_of l.done ++ events_at object waiting) in
       let Q : ℕ → Type 0 = λ o. Each (λ (e : Event). e.key.dest ≡ o) (events_at object waiting) in
@@ -149,12 +150,13 @@ module _ (object : ℕ) (logs left : List (Option LogView)) (marks : List MarkVi
           few = omega arith;
         }
 
-    pub has-left : (spare spare' : ℕ) → spare ≤ spare'
-        → HasLeft object (record { logs = logs; marks = marks; waiting = waiting; spare = spare }) (record { logs = left; marks = marks'; waiting = rest; spare = spare' }) (record { log = log; waiting = events_at object waiting })
-    has-left spare spare' more = record {
+    pub has-left : (homes homes' : HomesView) (spare spare' room places : ℕ) → spare ≤ spare'
+        → HasLeft object (record { homes = homes; logs = logs; marks = marks; waiting = waiting; spare = spare }) (record { homes = homes'; logs = left; marks = marks'; waiting = rest; spare = spare' })
+        (record { log = log; waiting = events_at object waiting; room = room; places = places })
+    has-left homes homes' spare spare' room places more = record {
       logs = taken;
       number = left-number;
-      own = left-is-own;
+      own = left-is-own room places;
       waiting = refl;
       rest = rest-other;
       count = count;
@@ -177,7 +179,7 @@ none-at object other ws apart own =
     filter-none (λ (e : Event). e.key.dest == other) ws
     (Each-map (λ (e : Event). e.key.dest ≡ object) (λ (e : Event). (e.key.dest == other) ≡ false) ws (λ e is. ne_eqb e.key.dest other (λ same. apart (sym same ∙ is))) own)
 
-module _ (s : StoreView) (moved : MovedView) (places : ℕ) (store : IsStore s.logs s.marks s.waiting) (can : CanCome s moved places) where
+module _ (homes : HomesView) (s : StoreView) (moved : MovedView) (store : IsStore s.logs s.marks s.waiting) (can : CanCome homes s moved) where
   abbrev object : ℕ
   object = moved.log.object
 
@@ -228,8 +230,8 @@ module _ (s : StoreView) (moved : MovedView) (places : ℕ) (store : IsStore s.l
           few = omega arith;
         }
 
-    pub come-hand : (spare : ℕ) → IsInHand (record { logs = logs; marks = marks; waiting = s.waiting; spare = spare }) moved.waiting
-    come-hand spare =
+    pub come-hand : (after : HomesView) (spare : ℕ) → IsInHand (record { homes = after; logs = logs; marks = marks; waiting = s.waiting; spare = spare }) moved.waiting
+    come-hand after spare =
         let A : ℕ → Type 0 = λ o. IsAscending (events_of (log_at logs o).done ++ (events_at o moved.waiting ++ events_at o s.waiting)) in
         let A0 : LogView → Type 0 = λ l. IsAscending (events_of l.done ++ (events_at object moved.waiting ++ events_at object s.waiting)) in
         let A1 : List Event → Type 0 = λ ws. IsAscending (events_of moved.log.done ++ ws) in
@@ -247,8 +249,8 @@ module _ (s : StoreView) (moved : MovedView) (places : ℕ) (store : IsStore s.l
           few = omega arith;
         }
 
-    pub has-come : (new : StoreView) → IsGivenBack (record { logs = logs; marks = marks; waiting = s.waiting; spare = s.spare }) new moved.waiting → HasCome s new moved
-    has-come new back =
+    pub has-come : (after : HomesView) (new : StoreView) → IsGivenBack (record { homes = after; logs = logs; marks = marks; waiting = s.waiting; spare = s.spare }) new moved.waiting → HasCome s new moved
+    has-come after new back =
         let P : List (Option LogView) → Type 0 = λ ls. IsPutAt object s.logs ls moved.log in
         let long = ap length back.waiting ∙ length-enqueue_all moved.waiting s.waiting in
         let marks_long = ap length back.marks in

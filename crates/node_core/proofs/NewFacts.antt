@@ -15,17 +15,19 @@ use Rattle.sim_spec.specs.Replay.{events_at, replay}
 use Rattle.sim_spec.specs.State.{first_object}
 use Rattle.world_spec.specs.Share.{IsHome, log_of}
 use Rattle.object_log.specs.Dones.{Done}
-use Rattle.object_log.specs.Keeping.{OnlyLastFailed}
+use Rattle.object_log.specs.EventLogs.{dones_at, state_in}
+use Rattle.object_log.specs.Objects.{AreSound}
 use Rattle.object_log.specs.Logs.{LogView, events_of, undone}
 use Rattle.object_log.specs.Replays.{IsReplayed, replay_of}
 use Rattle.node_core.specs.Calls.{IsNewNode}
 use Rattle.node_core.specs.Homes.{HomesView, home_of}
-use Rattle.node_core.specs.Marks.{mark_of}
+use Rattle.node_core.specs.Logged.{LogsView}
 use Rattle.node_core.specs.NewLogs.{first_log, first_logs}
 use Rattle.node_core.specs.Nodes.{Counts, IsHere, NodeView, Stands, base_at, home, log_at, log_or, slot_at}
-use Rattle.node_core.specs.Sound.{AreOrderly, IsNode, IsStore}
-use Rattle.node_core.specs.Stores.{StoreView}
+use Rattle.node_core.specs.Sound.{IsNode, IsStore}
+use Rattle.node_core.specs.Stores.{StoreView, shown_logs, shown_marks}
 use Rattle.node_core.proofs.NodeViews.{node_of}
+use Rattle.node_core.proofs.ShownFacts.{marks-long, shown-done, shown-store}
 use Rattle.node_core.proofs.TotalLemmas.{eqb-apart}
 
 abbrev new_log : Meaning → ℕ → LogView
@@ -129,20 +131,6 @@ module _ (m : Meaning) (homes : HomesView) (number : ℕ) (logs : List (Option L
   unfolding IsHere
   new-home object here = by_home m homes number (IsHome m (home_of homes) number object) object (λ at. at) (λ apart. absurd (let none = ap is_some (new-elsewhere object apart) in cc))
 
-  pub new-held : AreOrderly logs []
-  unfolding OnlyLastFailed Ascends events_at
-  new-held =
-      let O : List Done → Type 0 = OnlyLastFailed in
-      let A : List Done → Type 0 = λ ds. IsAscending (events_of ds ++ []) in
-      record {
-        objects = λ o here. ap (λ (l : LogView). l.object) (new-log o (new-home o here));
-        last = λ o. subst O (sym (new-done o)) tt;
-        ordered = λ o. subst A (sym (new-done o)) tt;
-        own = λ o. (let E : List Done → Type 0 = λ ds. Each (λ (e : Event). e.key.dest ≡ o) (events_of ds) in subst E (sym (new-done o)) tt);
-        waiting_ordered = tt;
-        waiting_here = tt;
-      }
-
   pub new-base : (object : ℕ) → IsHome m (home_of homes) number object → base_at logs object ≡ first_object m object
   unfolding undone
   new-base object at = ap (λ (l : LogView). undone l.state l.done) (new-log object at)
@@ -180,6 +168,10 @@ module _ (m : Meaning) (homes : HomesView) (number : ℕ) (logs : List (Option L
       }
 
 -- a store without events
-pub new-store : (logs : List (Option LogView)) → AreOrderly logs [] → ((object : ℕ) → (log_at logs object).done ≡ []) → IsStore logs [] []
-unfolding Ascends
-new-store logs held none = record { held = held; marked = record { ordered = tt; parts = λ o. sym (ap (map mark_of) (none o)) }; few = omega arith }
+pub new-store : (l : LogsView) → AreSound l.log → ((object : ℕ) → is_some (state_in l.log.objects object) ≡ true → object < length l.homes.homes) → l.log.done ≡ [] → IsStore (shown_logs l) (shown_marks l) []
+unfolding Ascends events_at
+new-store l sound inside none =
+    let A : List Done → Type 0 = λ ds. IsAscending (events_of ds ++ []) in
+    let no_mark = ap length none in
+    let long = marks-long l in
+    shown-store l sound inside [] (λ o. subst A (sym (shown-done l sound inside o ∙ ap (dones_at o) none)) tt) tt tt (omega arith)

@@ -1,5 +1,5 @@
 -- A commit and a receipt that change nothing.
-use Rattle.std.proofs.Common.{◌≡◌, ℕ, ◌+◌, ◌<◌, ◌%◌, ◌^◌, false, List, [], length, Option, None, refl, sym, ap, ◌∙◌, subst, arith}
+use Rattle.std.proofs.Common.{◌≡◌, ℕ, ◌+◌, ◌<◌, ◌%◌, ◌^◌, false, List, [], length, Option, sym, ap, ◌∙◌, subst, arith}
 use Rattle.std.specs.Prelude.{IfSome}
 use Rattle.std.proofs.lemmas.List.{length-map, nil_from_length}
 use Rattle.event_key.specs.declared.key.Key.{Key}
@@ -13,8 +13,8 @@ use Rattle.node_core.specs.Nodes.{Counts}
 use Rattle.node_core.specs.Rows.{keys_of}
 use Rattle.node_core.specs.Sound.{IsNode, IsStore}
 use Rattle.node_core.specs.Stores.{StoreView}
-use Rattle.node_core.proofs.CommitLoop.{handed-none}
 use Rattle.node_core.proofs.CommitNode.{IsInside, committed-whole}
+use Rattle.node_core.proofs.CommitStore.{handed-none}
 use Rattle.node_core.proofs.NodeViews.{node_of}
 use Rattle.node_core.proofs.ReceiptFacts.{can-receive, received-whole}
 use Rattle.node_core.proofs.ReceiveLoop.{arrive-start}
@@ -33,7 +33,7 @@ none-due horizon cut marks none =
 module _ {M : Type 0} (m : Meaning) (model : M) (t : Terms) (number : ℕ) (homes : HomesView) (s : StoreView) (work met : ℕ) (counts : Counts) where
   pub commits-nothing : IsInside m t number homes s counts → counts.committed < 2 ^ 64 → CommitsNothing m (node_of model t number homes s work met counts)
   commits-nothing is small none horizon cut done c blank =
-      let handed = handed-none homes horizon cut s c.done.items c.out.items None blank.told blank.long blank.empty refl (none-due horizon cut s.marks none) in
+      let handed = handed-none homes horizon cut s c.done.items c.out.items blank.told blank.long blank.empty (none-due horizon cut s.marks none) in
       let H : ℕ → Type 0 = λ k. HasCommitted m horizon cut (node_of model t number homes s work met counts) (node_of model t number homes s work met (record counts { committed = k })) c.done.items c.out.items in
       subst H (count-stays counts.committed small)
       (committed-whole m t number homes s s counts is horizon cut c.done.items c.out.items handed is.store done model work met 0 (sym (ap length blank.told)))

@@ -1,5 +1,5 @@
 -- An object is given a state, where nothing is processed.
-use Rattle.std.proofs.Common.{◌≡◌, ◌≢◌, ℕ, ◌<◌, List, [], ◌++◌, map, Option, Some, None, is_some, true, refl, sym, ap, ◌∙◌, subst}
+use Rattle.std.proofs.Common.{◌≡◌, ◌≢◌, ℕ, ◌<◌, List, [], ◌++◌, length, map, Option, Some, None, is_some, true, refl, sym, ap, ◌∙◌, subst}
 use Rattle.std.specs.Prelude.{IsTrue}
 use Rattle.std.specs.List.{AllByRecursion as Each}
 use Rattle.event_key.specs.Stamps.{end_stamp}
@@ -10,15 +10,19 @@ use Rattle.sim_spec.specs.declared.terms.Terms.{Terms}
 use Rattle.sim_spec.specs.Firing.{ObjectState}
 use Rattle.sim_spec.specs.Replay.{events_at}
 use Rattle.object_log.specs.Dones.{Done}
+use Rattle.object_log.specs.EventLogs.{dones_at, logs_upto, slot_of, state_in}
 use Rattle.object_log.specs.Keeping.{OnlyLastFailed}
 use Rattle.object_log.specs.Logs.{LogView, events_of, undone}
 use Rattle.object_log.specs.Replays.{IsLogOf, IsReplayed}
 use Rattle.node_core.specs.Homes.{HomesView}
+use Rattle.node_core.specs.Logged.{LogsView}
 use Rattle.node_core.specs.Marks.{MarkView, mark_of}
 use Rattle.node_core.specs.Moves.{IsMovedAt}
 use Rattle.node_core.specs.Nodes.{Counts, IsHere, base_at, log_at, log_or, slot_at}
 use Rattle.node_core.specs.Saves.{IsPutIn}
 use Rattle.node_core.specs.Sound.{IsNode, IsStore}
+use Rattle.node_core.specs.Stores.{shown_logs}
+use Rattle.node_core.proofs.SlotLemmas.{length-logs, same-slots, slot-is}
 use Rattle.node_core.proofs.StoreLemmas.{IsGoodAt, by_object, held-moved, still_here, was_here}
 
 -- the slot of an object that is here
@@ -29,6 +33,20 @@ slot-here logs object here = by_slot (slot_at logs object) here
     by_slot : (slot : Option LogView) → is_some slot ≡ true → slot ≡ Some (log_or slot)
     by_slot None here = absurd (cc)
     by_slot (Some log) here = refl
+
+module _ (object : ℕ) (s : ObjectState) (old new : LogsView) (inside : object < length old.homes.homes) (none : dones_at object old.log.done ≡ []) (homes : new.homes ≡ old.homes) (done : new.log.done ≡ old.log.done)
+    (state : state_in new.log.objects object ≡ Some s) (others : (other : ℕ) → other ≢ object → state_in new.log.objects other ≡ state_in old.log.objects other) where
+  -- an object is shown with the state that it is given
+  pub put-shown : IsPutIn object (record { object = object; state = s; done = [] }) (shown_logs old) (shown_logs new)
+  put-shown =
+      let n = length old.homes.homes in
+      let P : HomesView → Type 0 = λ hs. IsPutIn object (record { object = object; state = s; done = [] }) (shown_logs old) (logs_upto new.log (length hs.homes)) in
+      subst P (sym homes)
+      (record {
+        log_is = slot-is new.log n object inside ∙ ap (slot_of new.log.done object) state ∙ ap (λ ds. Some (record { object = object; state = s; done = ds })) (ap (dones_at object) done ∙ none);
+        others = λ other apart. same-slots old.log new.log n other (λ i. slot_of (done i) other (others other apart i));
+        long = length-logs new.log n ∙ sym (length-logs old.log n);
+      })
 
 module _ (object : ℕ) (log : LogView) (old new : List (Option LogView)) (put : IsPutIn object log old new) (here : IsHere old object) (none : (log_at old object).done ≡ []) (number : log.object ≡ object) (fresh : log.done ≡ []) where
   log-put : log_at new object ≡ log

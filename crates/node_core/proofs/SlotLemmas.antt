@@ -36,11 +36,11 @@ slot-is log (suc n) object lt = by_test (ltb object n) refl (λ below. slot-is l
 pub slot-beyond : (log : EventLogView) (n object : ℕ) → n ≤ object → slot_at (logs_upto log n) object ≡ None
 slot-beyond log n object ge = let long = length-logs log n in get_or_past (logs_upto log n) object None (omega arith)
 
-slot-same : (old new : List Done) (object : ℕ) (s : Option ObjectState) → dones_at object new ≡ dones_at object old → slot_of new object s ≡ slot_of old object s
+pub slot-same : (old new : List Done) (object : ℕ) (s : Option ObjectState) → dones_at object new ≡ dones_at object old → slot_of new object s ≡ slot_of old object s
 slot-same old new object None is = refl
 slot-same old new object (Some s) is = ap (λ ds. Some (record { object = object; state = s; done = ds })) is
 
-same-slots : (old new : EventLogView) (n other : ℕ) → slot_in new other ≡ slot_in old other → slot_at (logs_upto new n) other ≡ slot_at (logs_upto old n) other
+pub same-slots : (old new : EventLogView) (n other : ℕ) → slot_in new other ≡ slot_in old other → slot_at (logs_upto new n) other ≡ slot_at (logs_upto old n) other
 same-slots old new n other is = by_test (ltb other n) refl
   where
     by_test : (b : Bool) → ltb other n ≡ b → slot_at (logs_upto new n) other ≡ slot_at (logs_upto old n) other

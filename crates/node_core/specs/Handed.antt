@@ -1,5 +1,5 @@
--- What a commit hands out, as far as it has come.
-use Rattle.std.specs.Prelude.{◌≡◌, ℕ, ◌*◌, ◌<◌, ◌≤◌, ◌^◌, true, false, List, [], ◌∷◌, ◌++◌, length, map, filter, slice_index_or, IsPermutation, Option, Some, None, IfSome}
+-- What a commit hands out.
+use Rattle.std.specs.Prelude.{◌≡◌, ℕ, ◌*◌, ◌<◌, ◌≤◌, ◌^◌, true, false, List, [], ◌++◌, length, map, filter, slice_index_or, IsPermutation, Option, Some, None, IfSome}
 use Rattle.std.specs.List.{AllByRecursion}
 use Rattle.event_key.specs.declared.key.Key.{Key}
 use Rattle.model_core.specs.declared.event.Event.{Event}
@@ -9,10 +9,9 @@ use Rattle.sim_spec.specs.Cut.{emissions_of, events_of, records_of}
 use Rattle.sim_spec.specs.Firing.{Firing}
 use Rattle.sim_spec.specs.Replay.{done_at, replay_after}
 use Rattle.object_log.specs.Dones.{Done}
-use Rattle.object_log.specs.declared.done.Verdict.{Verdict}
 use Rattle.object_log.specs.Logs.{LogView, events_of as log_events}
 use Rattle.object_log.specs.Replays.{IsLogOf, replay_of}
-use Rattle.object_log.specs.Tellings.{IsNoted, told_of}
+use Rattle.object_log.specs.Tellings.{IsNoted}
 use Rattle.key_order.specs.Due.{is_due}
 use Rattle.world_spec.specs.Share.{is_at}
 use Rattle.node_core.specs.Homes.{HomesView, home_of}
@@ -25,12 +24,6 @@ use Rattle.node_core.specs.Stores.{StoreView}
 abbrev pub IsFaultLate : ℕ → Option Key → Option (Key × ℕ) → Type 0
 IsFaultLate horizon cut None = Unit {0}
 IsFaultLate horizon cut (Some fault) = is_due horizon cut fault.0 ≡ false
-
--- each event went at the end of what is told, and its messages at the end of the parcels of their homes
-pub record AddsOne (homes : HomesView) (event : Event) (sends : List Event) (verdict : Verdict) (told told' : List (Key × Note)) (out out' : List (List Event)) : Type 0 where
-  pub told_is : told' ≡ told ++ told_of event.key verdict
-  pub long : length out' ≡ length out
-  pub parcels : (to : ℕ) → to < homes.nodes → slice_index_or out' to [] ≡ slice_index_or out to [] ++ filter (is_at (home_of homes) to) sends
 
 -- what is due can be handed out: no fault is, and what is held is little, with destinations
 pub record CanCommit (homes : HomesView) (horizon : ℕ) (cut : Option Key) (s : StoreView) : Type 0 where

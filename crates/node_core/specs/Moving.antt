@@ -15,10 +15,12 @@ use Rattle.node_core.specs.Marks.{MarkView}
 use Rattle.node_core.specs.Nodes.{NodeView, slot_at}
 use Rattle.node_core.specs.Stores.{StoreView}
 
--- an object with its log, and the events that wait for it
+-- an object with its log, the events that wait for it, and for how many processed events and objects there is room where it comes
 pub record MovedView : Type 0 where
   pub log : LogView
   pub waiting : List Event
+  pub room : ℕ
+  pub places : ℕ
 
 -- the events are the object's own and in order, and only the last processed one may have failed
 pub record IsOwn (moved : MovedView) : Type 0 where
@@ -63,12 +65,15 @@ pub record HasLeft (object : ℕ) (old new : StoreView) (moved : MovedView) : Ty
   pub total : length new.waiting + length moved.waiting ≡ length old.waiting
   pub spare : old.spare ≤ new.spare
 
--- an object that isn't here can come: there is room for what it has processed
-pub record CanCome (s : StoreView) (moved : MovedView) (places : ℕ) : Type 0 where
+-- an object that isn't here can come: there is room for it and for what it has processed
+pub record CanCome (homes : HomesView) (s : StoreView) (moved : MovedView) : Type 0 where
   pub own : IsOwn moved
   pub away : slot_at s.logs moved.log.object ≡ None
   pub inside : moved.log.object < length s.logs
-  pub room : length s.marks + length moved.log.done ≤ places
+  pub nodes : homes.nodes ≡ s.homes.nodes
+  pub objects : length homes.homes ≡ length s.homes.homes
+  pub room : length s.marks + length moved.log.done ≤ moved.room
+  pub places : length s.logs ≤ moved.places
   pub few : length s.marks + length s.waiting + (length moved.log.done + length moved.waiting) < 2 ^ 60
 
 -- an object came, with its log and the events that wait for it
@@ -117,12 +122,13 @@ module _ {M : Type 0} where
     pub counts : new.counts ≡ record old.counts { processed = (old.counts.processed + (2 ^ 64 - length moved.log.done)) % 2 ^ 64 }
 
   -- a node can take an object in
-  pub record CanTakeIn (m : Meaning) (homes : HomesView) (n : NodeView M) (moved : MovedView) (places : ℕ) : Type 0 where
+  pub record CanTakeIn (m : Meaning) (homes : HomesView) (n : NodeView M) (moved : MovedView) : Type 0 where
     pub movable : IsMovable m n.terms moved
     pub homes_are : AreAlikeBut moved.log.object n.homes homes
     pub away : home_of n.homes moved.log.object ≢ n.number
     pub comes : home_of homes moved.log.object ≡ n.number
-    pub room : length n.processed + length moved.log.done ≤ places
+    pub room : length n.processed + length moved.log.done ≤ moved.room
+    pub places : length n.homes.homes ≤ moved.places
     pub few : length n.processed + length n.waiting + (length moved.log.done + length moved.waiting) < 2 ^ 60
 
   -- the object came with all that is its own, and the others stay

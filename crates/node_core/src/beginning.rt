@@ -1,35 +1,40 @@
 //! The logs of a node at the start.
-ghost use Rattle.std.specs.Prelude.{◌≡◌, length, IfOk};
+ghost use Rattle.std.specs.Prelude.{◌≡◌, [], ℕ, length, slice_index_or, is_some, true, IfOk};
+ghost use Rattle.object_log.specs.EventLogs.{logs_upto, state_in};
+ghost use Rattle.object_log.specs.Objects.{IsPlaced};
 ghost use Rattle.node_core.specs.Homes.{home_of};
+ghost use Rattle.node_core.specs.Logged.{AreLogged};
 ghost use Rattle.node_core.specs.NewLogs.{first_logs as first_logs_of};
 
+use crate::committed::empty_parcels;
 use crate::homes::Homes;
-use crate::logs::Logs;
+use event_log::NodeLog;
 use model_core::OutOfMemory;
 use model_core::model::{Model as SimulationModel, keeps_laws};
-use object_log::ObjectLog;
 use std::alloc::Global;
 
-/// The logs of a node's objects at the start.
+/// The log of a node's objects at the start, and the place of each.
 pub fn first_logs<M: SimulationModel>(
     alloc: Global,
     model: &M,
     number: u32,
     homes: &Homes,
-) -> Result<Logs, OutOfMemory>
+) -> Result<(NodeLog, Vec<u32>), OutOfMemory>
     requires { length homes.now.homes ≡ (M.meaning model.now).objects }
-    ensures { IfOk result (λ logs. logs ≡ first_logs_of (M.meaning model.now) (home_of homes.now) number (M.meaning model.now).objects) }
+    ensures logged { IfOk result (λ first. AreLogged homes.now first.0 first.1.items) }
+    ensures done { IfOk result (λ first. first.0.log.done ≡ []) }
+    ensures logs { IfOk result (λ first. logs_upto first.0.log (M.meaning model.now).objects ≡ first_logs_of (M.meaning model.now) (home_of homes.now) number (M.meaning model.now).objects) }
 {
     keeps_laws(model);
-    let objects = model.objects();
-    let mut logs = Logs::with_capacity(alloc, objects as usize)?;
-    for object in 0..objects {
+    let mut log = NodeLog::new(alloc, empty_parcels(alloc, homes.nodes())?);
+    let mut places = Vec::with_capacity(alloc, homes.objects() as usize)?;
+    let mut here = 0;
+    for object in 0..model.objects() {
+        places.push(here)?;
         if homes.home(object) == number {
-            let cells = model.first_cells(alloc, object)?;
-            logs.push(alloc, ObjectLog::new(object, cells))?;
-        } else {
-            logs.skip()?;
+            log.add(object, model.first_cells(alloc, object)?, 0)?;
+            here += 1;
         }
     }
-    Ok(logs)
+    Ok((log, places))
 }

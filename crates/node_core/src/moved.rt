@@ -2,14 +2,14 @@
 ghost use Rattle.std.specs.Prelude.{◌≡◌, length};
 
 use event_chain::Chain;
+use event_log::MovedLog;
 use model_core::Event;
-use object_log::ObjectLog;
 use std::marker::Model;
 
 /// An object that has left a node: its log, and the events that wait for it in the order of their keys.
 #[derive(Drop)]
 pub struct Moved {
-    pub(crate) log: Box<ObjectLog>,
+    pub(crate) log: MovedLog,
     pub(crate) waiting: Chain<Event>,
 }
 
@@ -18,7 +18,7 @@ impl Model for Moved {
 
     ghost Value = { MovedView };
 
-    ghost view = { λ moved. record { log = moved.log.value; waiting = moved.waiting } };
+    ghost view = { λ moved. record { log = moved.log.log; waiting = moved.waiting; room = moved.log.room; places = moved.log.places } };
 }
 
 impl Moved {
@@ -26,7 +26,7 @@ impl Moved {
     pub fn object(&self) -> u32
         ensures { result ≡ self.now.log.object }
     {
-        self.log.object()
+        self.log.number()
     }
 
     /// How many events it has processed.

@@ -13,14 +13,12 @@ ghost use Rattle.node_core.specs.Nodes.{IsAsBefore, Stands, ahead_of, data_of, h
 ghost use Rattle.node_core.specs.Shares.{AreProcessedKeys, SendAtMostEight, StandsForItsOwn};
 ghost use Rattle.node_core.specs.Steps.{IsHeldLeast, HasStepped};
 
+mod moving;
 mod saving;
 
-use crate::beginning::first_logs;
 use crate::committed::Committed;
 use crate::homes::Homes;
 use crate::keys::is_before_fault;
-use crate::moved::Moved;
-use crate::room::Room;
 use crate::step::Step;
 use crate::store::Store;
 use crate::tallies::{Tallies, met_after, raised, tells_range};
@@ -40,7 +38,6 @@ pub struct Node<M: SimulationModel> {
     model: Arc<M>,
     terms: Terms,
     number: u32,
-    homes: Arc<Homes>,
     store: Store,
     work: u64,
     met: u64,
@@ -61,7 +58,7 @@ impl<M: SimulationModel> Model for Node<M> {
       model = arc_value n.model;
       terms = n.terms;
       number = n.number;
-      homes = arc_value n.homes;
+      homes = n.store.homes;
       logs = n.store.logs;
       processed = keys_of n.store.marks;
       waiting = n.store.waiting;
@@ -71,7 +68,7 @@ impl<M: SimulationModel> Model for Node<M> {
       counts = record { processed = n.processed; undone = n.undone; committed = n.committed };
     } };
 
-    ghost invariant = { λ n. IsNode (M.meaning (arc_value n.model)) n.terms n.number (arc_value n.homes) n.store.logs n.store.marks
+    ghost invariant = { λ n. IsNode (M.meaning (arc_value n.model)) n.terms n.number n.store.homes n.store.logs n.store.marks
         (record { processed = n.processed; undone = n.undone; committed = n.committed }) };
 }
 
@@ -93,13 +90,11 @@ impl<M: SimulationModel> Node<M> {
         ensures new { IfOk result (IsNewNode (M.meaning (arc_value model))) }
     {
         keeps_laws(&*model);
-        let logs = first_logs(alloc, &*model, number, &homes)?;
-        let store = Store::new(alloc, logs)?;
+        let store = Store::new(alloc, &*model, number, homes)?;
         Ok(Node {
             model,
             terms,
             number,
-            homes,
             store,
             work: 0,
             met: 0,
@@ -155,8 +150,7 @@ impl<M: SimulationModel> Node<M> {
         count
     }
 
-    /// The least stamp of the messages that it holds, or `NO_STAMP`, in time linear in how many of its processed events come
-    /// before that stamp.
+    /// The least stamp of the messages that it holds, or `NO_STAMP`, in constant time.
     pub fn open_cycle(&mut self) -> u64
         ensures same { self.new ≡ self.old }
         ensures least { IsHeldLeast (M.meaning self.old.model) self.old result }
@@ -244,7 +238,7 @@ impl<M: SimulationModel> Node<M> {
     {
         keeps_laws(&*self.model);
         self.store.tells();
-        self.store.commit(&self.homes, horizon, &cut, into)?;
+        self.store.commit(horizon, &cut, into)?;
         self.store.tells();
         self.committed = self.committed.wrapping_add(into.done.len() as u64);
         Ok(())
@@ -314,43 +308,14 @@ impl<M: SimulationModel> Node<M> {
     pub fn objects(&self) -> u32
         ensures { result ≡ objects_of self.now.homes self.now.number }
     {
-        self.homes.objects_of(self.number)
+        self.store.homes().objects_of(self.number)
     }
 
     /// The least of its objects, in time linear in how many objects of other nodes come before it.
     pub fn least_object(&self) -> Option<u32>
         ensures { IsLeastObject self.now.homes self.now.number result }
     {
-        self.homes.least_of(self.number)
-    }
-
-    /// Takes an object out, with its log and the events that wait for it, and has homes under which it is elsewhere. Takes
-    /// no memory. It costs a step of the queue for each event that waits at the node, whosever it is: the queue keeps no list
-    /// for each object.
-    pub fn take_out(&mut self, object: u32, homes: Arc<Homes>) -> Moved
-        requires here { IsHome (M.meaning self.old.model) (home self.old) self.old.number object }
-        requires homes { AreAlikeBut object self.old.homes (arc_value homes) }
-        requires goes { home_of (arc_value homes) object ≢ self.old.number }
-        ensures { HasTakenOut (M.meaning self.old.model) object (arc_value homes) self.old self.new result }
-    {
-        self.store.tells();
-        let moved = self.store.take_out(object);
-        self.processed = self.processed.wrapping_sub(moved.processed() as u64);
-        self.homes = homes;
-        moved
-    }
-
-    /// Takes an object in, with its log and the events that wait for it, and has homes under which it is here. Takes no
-    /// memory, and time linear in how many events are processed.
-    pub fn take_in(&mut self, moved: Moved, homes: Arc<Homes>, room: Room)
-        requires { CanTakeIn (M.meaning self.old.model) (arc_value homes) self.old moved room }
-        ensures { HasTakenIn (arc_value homes) self.old self.new moved }
-    {
-        self.store.tells();
-        let count = moved.processed() as u64;
-        self.store.take_in(moved, room);
-        self.processed = self.processed.wrapping_add(count);
-        self.homes = homes;
+        self.store.homes().least_of(self.number)
     }
 
     /// Has other homes, under which its objects are the same.
@@ -358,7 +323,7 @@ impl<M: SimulationModel> Node<M> {
         requires { KeepObjects self.old.number self.old.homes (arc_value homes) }
         ensures { self.new ≡ record self.old { homes = arc_value homes } }
     {
-        self.homes = homes;
+        self.store.set_homes(homes);
     }
 
     /// Its homes are those of the model's objects.

@@ -1,9 +1,12 @@
 -- One move, node by node.
-use Rattle.std.proofs.Common.{◌≡◌, ◌≢◌, ◌⊎◌, inl, inr, ℕ, ◌+◌, ◌<◌, Bool, true, false, List, length, eqb, eqb-true, slice_set, refl, sym, ap, ◌∙◌, subst, arith}
+use Rattle.std.proofs.Common.{◌≡◌, ◌≢◌, ◌⊎◌, inl, inr, ℕ, ◌+◌, ◌<◌, ◌≤◌, Bool, true, false, List, length, eqb, eqb-true, slice_set, refl, sym, ap, ◌∙◌, subst, arith}
 use Rattle.std.proofs.lemmas.Bool.{eqb-false}
-use Rattle.std.proofs.lemmas.List.{get_or-set_same, get_or-set_other, length-set}
+use Rattle.std.proofs.lemmas.List.{get_or-set_same, get_or-set_other, length-map, length-set}
 use Rattle.std.proofs.lemmas.Option.{slice_get_within, slice_get-get_or}
-use Rattle.std.specs.Prelude.{slice_get, slice_index_or, Some}
+use Rattle.std.specs.Prelude.{slice_get, slice_index_or, Some, ◌==◌}
+use Rattle.event_key.specs.declared.key.Key.{Key}
+use Rattle.key_order.proofs.FilterLemmas.{length-filter_le}
+use Rattle.object_log.specs.Dones.{Done}
 use Rattle.model_core.specs.Meaning.{Meaning}
 use Rattle.sim_spec.specs.declared.terms.Terms.{Terms}
 use Rattle.sim_spec.specs.Replay.{events_at}
@@ -11,7 +14,7 @@ use Rattle.sim_spec.specs.State.{State}
 use Rattle.world_spec.specs.Share.{IsHome}
 use Rattle.node_core.specs.Homes.{HomesView, home_of, rehomed}
 use Rattle.node_core.specs.Moving.{AreAlikeBut, CanTakeIn, HasTakenIn, HasTakenOut, IsMovable, KeepObjects as KeepsObjects, MovedView}
-use Rattle.node_core.specs.Nodes.{NodeView, home, slot_at}
+use Rattle.node_core.specs.Nodes.{NodeView, home, log_at, slot_at}
 use Rattle.node_core.proofs.StoreLemmas.{by_object}
 use Rattle.cycle_core.specs.Known.{AreKnown}
 use Rattle.cycle_core.specs.Moving.{processed_in}
@@ -128,7 +131,18 @@ module _ {M : Type 0} (meaning_of : M → Meaning) (p : Step) (ns : List (NodeVi
     pub step-goes : (h : HomesView) → h ≡ h' → home_of h p.object ≢ a.number
     step-goes h h_is same = goes (ap (λ x. home_of x p.object) (sym h_is) ∙ same ∙ a_is.number_is)
 
-    module _ (a' : NodeView M) (moved : MovedView) (h_out : HomesView) (out_is : h_out ≡ h') (taken : HasTakenOut (meaning_of a.model) p.object h_out a a' moved) where
+    -- there is room for what the object has processed
+    pub step-room : AreKnown meaning_of w.nodes → length (log_at a.logs p.object).done ≤ p.room.events
+    step-room known =
+        let own = length-filter_le (λ (k : Key). k.dest == p.object) a.processed in
+        let keys = ap length ((known p.from a at_a).keys.parts p.object) in
+        let long = length-map (log_at a.logs p.object).done (λ (d : Done). d.event.key) in
+        let part = processed-at ns p.from a at_a in
+        let room = is.room in
+        omega arith
+
+    module _ (a' : NodeView M) (moved : MovedView) (h_out : HomesView) (out_is : h_out ≡ h') (taken : HasTakenOut (meaning_of a.model) p.object h_out a a' moved) (room_is : moved.room ≡ p.room.events)
+        (places_are : moved.places ≡ p.room.places) where
       out : HasTakenOut (meaning_of a.model) p.object h' a a' moved
       out = let P : HomesView → Type 0 = λ h. HasTakenOut (meaning_of a.model) p.object h a a' moved in subst P out_is taken
 
@@ -151,7 +165,7 @@ module _ {M : Type 0} (meaning_of : M → Meaning) (p : Step) (ns : List (NodeVi
         b_is : IsNodeOf w.model w.terms w.homes p.to b
         b_is = stands_so.has.nodes.each p.to b at_b
 
-        can-take : AreKnown meaning_of w.nodes → CanTakeIn (meaning_of b.model) h' b moved p.room
+        can-take : AreKnown meaning_of w.nodes → CanTakeIn (meaning_of b.model) h' b moved
         can-take known =
             let small = all-small meaning_of w s stands_so known in
             let small_a = (small p.from a at_a).few in
@@ -169,12 +183,13 @@ module _ {M : Type 0} (meaning_of : M → Meaning) (p : Step) (ns : List (NodeVi
               away = λ same. is.apart (sym is.from ∙ ap (home_of w.homes) (sym out.number) ∙ ap (λ h. home_of h moved.log.object) (sym b_is.homes_is) ∙ same ∙ b_is.number_is);
               comes = ap (home_of h') out.number ∙ comes ∙ sym b_is.number_is;
               room = omega arith;
+              places = (let all = is.objects in let long = ap (λ (h : HomesView). length h.homes) b_is.homes_is in omega arith);
               few = omega arith;
             }
 
-        pub can-take-in : (h : HomesView) → h ≡ h' → AreKnown meaning_of w.nodes → CanTakeIn (meaning_of b.model) h b moved p.room
+        pub can-take-in : (h : HomesView) → h ≡ h' → AreKnown meaning_of w.nodes → CanTakeIn (meaning_of b.model) h b moved
         can-take-in h h_is known =
-            let P : HomesView → Type 0 = λ x. CanTakeIn (meaning_of b.model) x b moved p.room in
+            let P : HomesView → Type 0 = λ x. CanTakeIn (meaning_of b.model) x b moved in
             subst P (sym h_is) (can-take known)
 
         module _ (b' : NodeView M) (h_in : HomesView) (in_is : h_in ≡ h') (got : HasTakenIn h_in b b' moved) where

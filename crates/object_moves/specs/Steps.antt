@@ -8,7 +8,7 @@ use Rattle.cycle_core.specs.Moving.{processed_in}
 use Rattle.cycle_core.specs.Worlds.{WorldView, StandsAt}
 use Rattle.object_moves.specs.declared.step.Step.{Step}
 
--- a move from these homes, to another node, with room for so many events
+-- a move from these homes, to another node, with room for so many events and all objects
 pub record IsStep (places : ℕ) (h : HomesView) (p : Step) : Type 0 where
   pub object : p.object < length h.homes
   pub from : home_of h p.object ≡ p.from
@@ -17,7 +17,8 @@ pub record IsStep (places : ℕ) (h : HomesView) (p : Step) : Type 0 where
   pub apart : p.from ≢ p.to
   pub after : p.copies.homes ≡ rehomed h p.object p.to
   pub copies : p.copies.left ≡ h.nodes + 2
-  pub room : places ≤ p.room
+  pub room : places ≤ p.room.events
+  pub objects : length h.homes ≤ p.room.places
 
 -- moves from the first homes to the last
 unfoldable pub AreSteps : ℕ → HomesView → List Step → HomesView → Type 0

@@ -17,7 +17,7 @@ use std::alloc::Global;
 
 /// Makes these moves, one after another. An object goes with its log and the events that wait for it: nothing is undone
 /// or copied. Each move copies the homes, four bytes for each object of the model, and makes room for as many events as the
-/// world has processed; all memory is taken before the first move. Beside that it costs a step of the queue for each event
+/// world has processed and as many objects as the model has; all memory is taken before the first move. Beside that it costs a step of the queue for each event
 /// that waits at the node that the object leaves.
 pub fn move_objects<M: SimulationModel>(
     alloc: Global,

@@ -11,18 +11,18 @@ use crate::copies::Copies;
 use cycle_core::know_all;
 use model_core::OutOfMemory;
 use model_core::model::Model as SimulationModel;
-use node_core::{Homes, Node, Room};
+use node_core::{Homes, LogRoom, Node};
 use std::alloc::Global;
 use std::sync::Arc;
 
-/// A move of an object from a node to another one, with the homes after it and room for what the object has processed.
+/// A move of an object from a node to another one, with the homes after it and room for the object and what it has processed.
 #[derive(Drop)]
 pub struct Step {
     pub object: u32,
     pub from: u32,
     pub to: u32,
     pub copies: Copies,
-    pub room: Room,
+    pub room: LogRoom,
 }
 
 impl Step {
@@ -46,7 +46,7 @@ impl Step {
         let after = homes.with_home(alloc, object, to)?;
         let mut copies = Copies::new(alloc, after, homes.nodes() as usize + 3)?;
         let after = copies.take();
-        let room = Room::new(alloc, places)?;
+        let room = LogRoom::new(alloc, homes.objects() as usize, places)?;
         let step = Step {
             object,
             from,
@@ -86,8 +86,8 @@ pub fn make<M: SimulationModel>(step: Step, nodes: &mut [Node<M>]) -> Arc<Homes>
     } = step;
     know_all(nodes);
     nodes[from as usize].tells_homes();
-    let moved = nodes[from as usize].take_out(object, copies.take());
-    nodes[to as usize].take_in(moved, copies.take(), room);
+    let moved = nodes[from as usize].take_out(object, copies.take(), room);
+    nodes[to as usize].take_in(moved, copies.take());
     rehome(nodes, &mut copies);
     know_all(nodes);
     copies.into_last()

@@ -7,7 +7,6 @@ ghost use Rattle.node_core.specs.Saves.{HasObject};
 use super::Node;
 use model_core::model::Model as SimulationModel;
 use model_core::{Cells, Event, OutOfMemory};
-use object_log::ObjectLog;
 
 impl<M: SimulationModel> Node<M> {
     /// Gives an object that has processed nothing these cells, and how many events it has sent. It takes no memory.
@@ -18,8 +17,7 @@ impl<M: SimulationModel> Node<M> {
         ensures { HasObject object (record { cells = cells.contents; sent = sent }) self.old self.new }
     {
         self.store.tells();
-        self.store
-            .set_log(object, ObjectLog::with(object, cells, sent));
+        self.store.set(object, cells, sent);
     }
 
     /// The cells of an object, after all that it has processed.

@@ -7,20 +7,17 @@ ghost use Rattle.node_core.specs.Stores.{IsSameStore};
 use super::Store;
 use crate::waiting::put_all;
 use model_core::{Cells, Event, OutOfMemory};
-use object_log::ObjectLog;
 
 impl Store {
-    /// Puts a log in place of the one that an object has. Neither has processed anything.
-    pub fn set_log(&mut self, object: u32, log: ObjectLog)
+    /// Gives an object that has processed nothing other cells, and how many events it has sent. Takes no memory.
+    pub fn set(&mut self, object: u32, cells: Cells, sent: u64)
         requires here { IsHere self.old.logs object }
         requires none { (log_at self.old.logs object).done ≡ [] }
-        requires number { log.object ≡ object }
-        requires fresh { log.done ≡ [] }
-        ensures logs { IsPutIn object log self.old.logs self.new.logs }
+        ensures logs { IsPutIn object (record { object = object; state = record { cells = cells.contents; sent = sent }; done = [] }) self.old.logs self.new.logs }
         ensures rest { self.new ≡ record self.old { logs = self.new.logs } }
     {
-        let _ = &self.queue;
-        self.logs.set(object, log);
+        self.logs.tells();
+        self.logs.set(object, cells, sent);
     }
 
     /// The cells of an object, after all that it has processed.
@@ -28,6 +25,7 @@ impl Store {
         requires { IsHere self.now.logs object }
         ensures { result.now.contents ≡ (log_at self.now.logs object).state.cells }
     {
+        self.logs.tells();
         self.logs.cells(object)
     }
 
@@ -36,6 +34,7 @@ impl Store {
         requires { IsHere self.now.logs object }
         ensures { result ≡ (log_at self.now.logs object).state.sent }
     {
+        self.logs.tells();
         self.logs.sent(object)
     }
 

@@ -1,17 +1,16 @@
--- One log is another one.
-use Rattle.std.proofs.Common.{refl, ap, ◌∙◌, arith}
-use Rattle.std.specs.Prelude.{Some}
-use Rattle.node_core.proofs.LogLemmas.{row_inside, row_some, written}
-use Rattle.node_core.proofs.SetFacts.{slot-here}
+-- Each object stays at its place.
+use Rattle.std.proofs.Common.{ℕ, List, sym, ap, subst}
+use Rattle.std.specs.Arc.{arc_value}
+use Rattle.model_core.specs.declared.event.Event.{Event}
+use Rattle.event_log.specs.NodeLogs.{NodeLogView}
+use Rattle.event_log.specs.Processing.{AreHomed}
+use Rattle.node_core.proofs.LoggedFacts.{logged-still}
 use Rattle.node_core.proofs.logs.Logs.set.Goals as goal
 
-pub index_mut-requires : goal.index_mut-requires
-index_mut-requires c = omega (arith, row_inside c.args.self.now c.self.inside.logs.items c.args.object c.self.view_is c.requires, c.self.inside.logs.ok.0)
-
-pub unreachable-requires : goal.unreachable-requires
-unreachable-requires c = row_some c.args.self.now c.self.inside.logs.items c.args.object c.index_mut.result.now c.self.view_is c.requires c.index_mut.ensures.value c.in_default.is
-
-pub returns : goal.returns
-returns c =
-    let w = written c.args.self.now c.self.inside.logs.items c.args.object c.index_mut.result.now c.in-Some.place _ c.in-Some.place.value c.self.view_is c.requires c.index_mut.ensures.value c.in-Some.is refl in
-    record { log_is = slot-here _ c.args.object w.here ∙ ap Some w.becomes; others = w.others; long = w.long }
+pub invariant_of-self : goal.invariant_of-self
+invariant_of-self c =
+    let homes = arc_value c.self.inside.homes in
+    let same = c.set.ensures.same in
+    let H : List (ℕ × Event) → Type 0 = AreHomed homes.homes in
+    logged-still homes c.self.inside.log c.set.new.self c.self.inside.places.items c.set.ensures.numbers (ap (λ (v : NodeLogView). v.nodes) same)
+    (subst H (sym (ap (λ (v : NodeLogView). v.chained) same)) c.self.invariant.homed) c.self.invariant

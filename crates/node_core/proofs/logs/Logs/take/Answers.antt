@@ -1,22 +1,36 @@
--- A log leaves its row.
-use Rattle.std.proofs.Common.{Box, Global, Option, sym, ◌∙◌, subst, arith}
-use Rattle.std.specs.Prelude.{slice_set}
-use Rattle.object_log.specs.Logs.{LogView}
-use Rattle.node_core.specs.Moving.{IsTakenAt}
-use Rattle.node_core.specs.Rows.{logs_of}
-use Rattle.node_core.proofs.LogLemmas.{row_inside, row_some}
-use Rattle.node_core.proofs.MovingLogs.{log-taken}
+-- An object leaves the logs.
+use Rattle.std.proofs.Common.{◌≡◌, ℕ, ◌<◌, ◌≤◌, Bool, true, false, List, length, ltb, ltb-true, ltb-false, refl, sym, ap, subst, ◌∙◌, arith}
+use Rattle.std.specs.Arc.{arc_value}
+use Rattle.object_log.specs.Objects.{IsPlaced}
+use Rattle.node_core.specs.Logged.{AreLogged, LogsView}
+use Rattle.node_core.proofs.MovingLogs.{left-last, left-moved, number-known, placed-at}
 use Rattle.node_core.proofs.logs.Logs.take.Goals as goal
 
-pub index_mut-requires : goal.index_mut-requires
-index_mut-requires c = omega (arith, row_inside c.args.self.now c.self.inside.logs.items c.args.object c.self.view_is c.requires, c.self.inside.logs.ok.0)
+pub note_place-requires : goal.note_place-requires
+note_place-requires c =
+    let t = c.take-moved.ensures in
+    let i = c.self.inside in
+    number-known c.args.object c.index-place.result.now i.log c.take-moved.new.self i.places.items (arc_value i.homes) (arc_value c.args.homes) c.self.invariant t.gone t.others t.places t.carried t.nodes
+    (c.requires.nodes ∙ sym (ap (λ (v : LogsView). v.homes.nodes) c.self.view_is)) (c.requires.objects ∙ sym (ap (λ (v : LogsView). length v.homes.homes) c.self.view_is))
 
-pub unreachable-requires : goal.unreachable-requires
-unreachable-requires c =
-    row_some c.args.self.now c.self.inside.logs.items c.args.object c.index_mut.result.now c.self.view_is c.requires c.index_mut.ensures.value (sym c.take.ensures.value ∙ c.in_default.is)
-
-pub returns : goal.returns
-returns c =
-    let P : Option (Box LogView Global) → Type 0 = λ slot. IsTakenAt c.args.object c.args.self.now (logs_of (slice_set c.self.inside.logs.items c.args.object slot)) c.in-Some.log.value in
-    subst P (sym c.take.ensures.after)
-    (log-taken c.args.self.now c.self.inside.logs.items c.args.object c.index_mut.result.now c.in-Some.log c.self.view_is c.requires c.index_mut.ensures.value (sym c.take.ensures.value ∙ c.in-Some.is))
+pub invariant_of-self : goal.invariant_of-self
+invariant_of-self c =
+    let i = c.self.inside in
+    let t = c.take-moved.ensures in
+    let new = c.take-moved.new.self in
+    let place = c.index-place.result.now in
+    let nodes = c.requires.nodes ∙ sym (ap (λ (v : LogsView). v.homes.nodes) c.self.view_is) in
+    let objects = c.requires.objects ∙ sym (ap (λ (v : LogsView). length v.homes.homes) c.self.view_is) in
+    let L : List ℕ → Type 0 = AreLogged (arc_value c.args.homes) new in
+    let by_test : (b : Bool) → ltb place (length new.log.objects) ≡ b → AreLogged (arc_value c.args.homes) new c.note_place.new.places.items = λ b. elim b as (λ k. ltb place (length new.log.objects) ≡ k → AreLogged (arc_value c.args.homes) new c.note_place.new.places.items) [
+      | true ↦ λ h.
+          let at = placed-at new.log.objects place (ltb-true place (length new.log.objects) h) in
+          let is : IsPlaced new.log place at.0.object = (at.0, at.1, refl) in
+          subst L (sym (c.note_place.ensures.some at.0.object is))
+          (left-moved c.args.object place i.log new i.places.items (arc_value i.homes) (arc_value c.args.homes) c.self.invariant t.gone t.others t.places t.carried t.nodes nodes objects at.0.object is)
+      | false ↦ λ h.
+          let ge = ltb-false place (length new.log.objects) h in
+          subst L (sym (c.note_place.ensures.none ge))
+          (left-last c.args.object place i.log new i.places.items (arc_value i.homes) (arc_value c.args.homes) c.self.invariant t.gone t.others t.places t.carried t.nodes nodes objects ge)
+    ] in
+    by_test (ltb place (length new.log.objects)) refl

@@ -15,7 +15,7 @@ returns-clause-commits g c =
     let laws = subst L (ap g.M.Model.meaning c.deref.ensures) c.keeps_laws.ensures in
     let P : NodeView g.row.M.Denot → Type 0 = λ n. CommitsNothing (g.M.Model.meaning n.model) n in
     subst P c.self.view_is
-    (commits-nothing (g.M.Model.meaning (arc_value i.model)) (arc_value i.model) i.terms i.number (arc_value i.homes) i.store i.work i.met (counts_of i.processed i.undone i.committed)
+    (commits-nothing (g.M.Model.meaning (arc_value i.model)) (arc_value i.model) i.terms i.number i.store.homes i.store i.work i.met (counts_of i.processed i.undone i.committed)
     (record { laws = laws; node = c.self.invariant; store = c.tells.ensures })
     c.tells_range.ensures)
 
@@ -24,6 +24,6 @@ returns-clause-receives g c =
     let i = c.self.inside in
     let P : NodeView g.row.M.Denot → Type 0 = λ n. ReceivesNothing (g.M.Model.meaning n.model) n in
     subst P c.self.view_is
-    (receives-nothing (g.M.Model.meaning (arc_value i.model)) (arc_value i.model) i.terms i.number (arc_value i.homes) i.store i.work i.met (counts_of i.processed i.undone i.committed)
+    (receives-nothing (g.M.Model.meaning (arc_value i.model)) (arc_value i.model) i.terms i.number i.store.homes i.store i.work i.met (counts_of i.processed i.undone i.committed)
     c.self.invariant c.tells.ensures
     c.tells_range-2.ensures)

@@ -10,7 +10,7 @@ use Rattle.node_core.proofs.node.Node.tells_sent.Goals as goal
 pub returns : goal.returns
 returns g c =
     let i = c.self.inside in
-    let v = node_of (arc_value i.model) i.terms i.number (arc_value i.homes) i.store i.work i.met (counts_of i.processed i.undone i.committed) in
+    let v = node_of (arc_value i.model) i.terms i.number i.store.homes i.store i.work i.met (counts_of i.processed i.undone i.committed) in
     let L : Meaning → Type 0 = MeaningLaws in
     let laws = subst L (ap g.M.Model.meaning c.deref.ensures) c.keeps_laws.ensures in
     let P : NodeView g.row.M.Denot → Type 0 = λ n. (object : ℕ) → (log_at n.logs object).state.sent ≤ (base_at n.logs object).sent + 8 * ahead_of n object in

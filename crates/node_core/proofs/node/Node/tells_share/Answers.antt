@@ -13,21 +13,21 @@ use Rattle.node_core.proofs.node.Node.tells_share.Goals as goal
 pub returns-clause-stands : goal.returns-clause-stands
 returns-clause-stands g c =
     let i = c.self.inside in
-    let v = node_of (arc_value i.model) i.terms i.number (arc_value i.homes) i.store i.work i.met (counts_of i.processed i.undone i.committed) in
+    let v = node_of (arc_value i.model) i.terms i.number i.store.homes i.store i.work i.met (counts_of i.processed i.undone i.committed) in
     let P : NodeView g.row.M.Denot → Type 0 = λ n. Stands (g.M.Model.meaning n.model) n (share_of n) (ahead_of n) in
     subst P c.self.view_is (own-stands (g.M.Model.meaning (arc_value i.model)) v i.store.marks c.self.invariant c.tells.ensures)
 
 pub returns-clause-only : goal.returns-clause-only
 returns-clause-only g c =
     let i = c.self.inside in
-    let v = node_of (arc_value i.model) i.terms i.number (arc_value i.homes) i.store i.work i.met (counts_of i.processed i.undone i.committed) in
+    let v = node_of (arc_value i.model) i.terms i.number i.store.homes i.store i.work i.met (counts_of i.processed i.undone i.committed) in
     let P : NodeView g.row.M.Denot → Type 0 = λ n. (share : Share) (ahead : ℕ → ℕ) → Stands (g.M.Model.meaning n.model) n share ahead → IsOwnShare (g.M.Model.meaning n.model) n share ahead in
     subst P c.self.view_is (own-only (g.M.Model.meaning (arc_value i.model)) v i.store.marks c.self.invariant c.tells.ensures)
 
 pub returns-clause-size : goal.returns-clause-size
 returns-clause-size g c =
     let i = c.self.inside in
-    let v = node_of (arc_value i.model) i.terms i.number (arc_value i.homes) i.store i.work i.met (counts_of i.processed i.undone i.committed) in
+    let v = node_of (arc_value i.model) i.terms i.number i.store.homes i.store i.work i.met (counts_of i.processed i.undone i.committed) in
     let P : NodeView g.row.M.Denot → Type 0 = λ n. length n.processed + length n.waiting ≡ length (share_of n).pending in
     subst P c.self.view_is
     (ap (λ k. k + length i.store.waiting) (length-map i.store.marks (λ (k : MarkView). k.key)) ∙ own-size (g.M.Model.meaning (arc_value i.model)) v i.store.marks c.self.invariant c.tells.ensures)

@@ -1,71 +1,91 @@
 -- An object comes with its log and its waiting events.
-use Rattle.std.proofs.Common.{◌≡◌, ◌≢◌, ℕ, ◌+◌, [], length, map, sym, subst}
-use Rattle.std.specs.List.{AllByRecursion as Each}
-use Rattle.model_core.specs.declared.event.Event.{Event}
-use Rattle.object_log.specs.Logs.{LogView, events_of}
-use Rattle.node_core.specs.Marks.{mark_of}
-use Rattle.node_core.specs.Moving.{CanCome, HasCome, MovedView, marks_at}
+use Rattle.std.proofs.Common.{◌≡◌, ℕ, ◌+◌, ◌<◌, ◌≤◌, List, length, None, Option, sym, ap, ◌∙◌, subst, refl, arith}
+use Rattle.std.specs.Arc.{arc_value}
+use Rattle.node_core.specs.Homes.{HomesView}
+use Rattle.node_core.specs.Moving.{CanCome, HasCome, MovedView}
 use Rattle.node_core.specs.Stores.{StoreView}
-use Rattle.node_core.proofs.MovingStore.{come-hand, come-none, come-store, has-come}
+use Rattle.node_core.proofs.MovingShown.{hand-come, shown-come, state-away, store-come}
+use Rattle.node_core.proofs.ShownFacts.{marks-long, shown-long}
 use Rattle.node_core.proofs.StoreLemmas.{store_of}
 use Rattle.node_core.proofs.store.Store.take_in.Goals as goal
 
-pub learn-requires-clause-none : goal.learn-requires-clause-none
-learn-requires-clause-none c =
-    let old = store_of c.self.inside.logs c.self.inside.marks c.self.inside.queue in
-    let moved : MovedView = record { log = c.moved.inside.log.value; waiting = c.moved.inside.waiting } in
-    let M : MovedView → Type 0 = λ v. CanCome c.args.self.now v c.args.room in
-    let S : StoreView → Type 0 = λ s. CanCome s moved c.args.room in
+pub put-requires-clause-away : goal.put-requires-clause-away
+put-requires-clause-away c =
+    let i = c.self.inside in
+    let old = store_of i.logs i.queue in
+    let m = c.moved.inside in
+    let moved : MovedView = record { log = m.log.log; waiting = m.waiting; room = m.log.room; places = m.log.places } in
+    let M : MovedView → Type 0 = λ v. CanCome (arc_value c.args.homes) c.args.self.now v in
+    let S : StoreView → Type 0 = λ s. CanCome (arc_value c.args.homes) s moved in
     let can = subst S (sym c.self.view_is) (subst M (sym c.moved.view_is) c.requires) in
-    let P : LogView → Type 0 = λ l. marks_at l.object c.self.inside.marks ≡ [] in
-    subst P (sym c.deref.ensures) (come-none old moved c.args.room c.self.invariant can)
+    let within : moved.log.object < length i.logs.homes.homes = (let lt = can.inside in let long = shown-long i.logs in omega arith) in
+    state-away i.logs moved.log.object within can.away
 
-pub learn-requires-clause-own : goal.learn-requires-clause-own
-learn-requires-clause-own c =
-    let moved : MovedView = record { log = c.moved.inside.log.value; waiting = c.moved.inside.waiting } in
-    let M : MovedView → Type 0 = λ v. CanCome c.args.self.now v c.args.room in
-    let can : M moved = subst M (sym c.moved.view_is) c.requires in
-    let P : LogView → Type 0 = λ l. Each (λ (e : Event). e.key.dest ≡ l.object) (events_of l.done) in
-    subst P (sym c.deref.ensures) can.own.processed
+pub put-requires-clause-inside : goal.put-requires-clause-inside
+put-requires-clause-inside c =
+    let i = c.self.inside in
+    let old = store_of i.logs i.queue in
+    let m = c.moved.inside in
+    let moved : MovedView = record { log = m.log.log; waiting = m.waiting; room = m.log.room; places = m.log.places } in
+    let M : MovedView → Type 0 = λ v. CanCome (arc_value c.args.homes) c.args.self.now v in
+    let S : StoreView → Type 0 = λ s. CanCome (arc_value c.args.homes) s moved in
+    let can = subst S (sym c.self.view_is) (subst M (sym c.moved.view_is) c.requires) in
+    let within : moved.log.object < length i.logs.homes.homes = (let lt = can.inside in let long = shown-long i.logs in omega arith) in
+    within
+
+pub put-requires-clause-places : goal.put-requires-clause-places
+put-requires-clause-places c =
+    let i = c.self.inside in
+    let old = store_of i.logs i.queue in
+    let m = c.moved.inside in
+    let moved : MovedView = record { log = m.log.log; waiting = m.waiting; room = m.log.room; places = m.log.places } in
+    let M : MovedView → Type 0 = λ v. CanCome (arc_value c.args.homes) c.args.self.now v in
+    let S : StoreView → Type 0 = λ s. CanCome (arc_value c.args.homes) s moved in
+    let can = subst S (sym c.self.view_is) (subst M (sym c.moved.view_is) c.requires) in
+    let within : moved.log.object < length i.logs.homes.homes = (let lt = can.inside in let long = shown-long i.logs in omega arith) in
+    let room = can.places in let long = shown-long i.logs in omega arith
 
 pub invariant_of-self : goal.invariant_of-self
 invariant_of-self c =
-    let old = store_of c.self.inside.logs c.self.inside.marks c.self.inside.queue in
-    let moved : MovedView = record { log = c.moved.inside.log.value; waiting = c.moved.inside.waiting } in
-    let M : MovedView → Type 0 = λ v. CanCome c.args.self.now v c.args.room in
-    let S : StoreView → Type 0 = λ s. CanCome s moved c.args.room in
+    let i = c.self.inside in
+    let old = store_of i.logs i.queue in
+    let m = c.moved.inside in
+    let moved : MovedView = record { log = m.log.log; waiting = m.waiting; room = m.log.room; places = m.log.places } in
+    let M : MovedView → Type 0 = λ v. CanCome (arc_value c.args.homes) c.args.self.now v in
+    let S : StoreView → Type 0 = λ s. CanCome (arc_value c.args.homes) s moved in
     let can = subst S (sym c.self.view_is) (subst M (sym c.moved.view_is) c.requires) in
-    let N : LogView → Type 0 = λ l. marks_at l.object c.learn.new.self ≡ map mark_of l.done in
-    let O : LogView → Type 0 = λ l. (other : ℕ) → other ≢ l.object → marks_at other c.learn.new.self ≡ marks_at other c.self.inside.marks in
-    let C : LogView → Type 0 = λ l. length c.learn.new.self ≡ length c.self.inside.marks + length l.done in
-    come-store old moved c.args.room c.self.invariant can c.put.new.self c.learn.new.self c.put.ensures (subst N c.deref.ensures c.learn.ensures.parts) (subst O c.deref.ensures c.learn.ensures.others)
-    (subst C c.deref.ensures c.learn.ensures.count) c.len-in_order.ensures.ordered
+    let within : moved.log.object < length i.logs.homes.homes = (let lt = can.inside in let long = shown-long i.logs in omega arith) in
+    let same = ap (λ (h : HomesView). length h.homes) c.put.ensures.homes ∙ can.objects in
+    let p = c.put.ensures in
+    store-come (arc_value c.args.homes) i.logs c.put.new.self old moved refl refl c.self.invariant can c.tells-3.ensures.sound same within p.slot p.states p.dones p.count
 
 pub give_back-requires : goal.give_back-requires
 give_back-requires c =
-    let old = store_of c.self.inside.logs c.self.inside.marks c.self.inside.queue in
-    let moved : MovedView = record { log = c.moved.inside.log.value; waiting = c.moved.inside.waiting } in
-    let M : MovedView → Type 0 = λ v. CanCome c.args.self.now v c.args.room in
-    let S : StoreView → Type 0 = λ s. CanCome s moved c.args.room in
+    let i = c.self.inside in
+    let old = store_of i.logs i.queue in
+    let m = c.moved.inside in
+    let moved : MovedView = record { log = m.log.log; waiting = m.waiting; room = m.log.room; places = m.log.places } in
+    let M : MovedView → Type 0 = λ v. CanCome (arc_value c.args.homes) c.args.self.now v in
+    let S : StoreView → Type 0 = λ s. CanCome (arc_value c.args.homes) s moved in
     let can = subst S (sym c.self.view_is) (subst M (sym c.moved.view_is) c.requires) in
-    let N : LogView → Type 0 = λ l. marks_at l.object c.learn.new.self ≡ map mark_of l.done in
-    let O : LogView → Type 0 = λ l. (other : ℕ) → other ≢ l.object → marks_at other c.learn.new.self ≡ marks_at other c.self.inside.marks in
-    let C : LogView → Type 0 = λ l. length c.learn.new.self ≡ length c.self.inside.marks + length l.done in
-    come-hand old moved c.args.room c.self.invariant can c.put.new.self c.learn.new.self c.put.ensures (subst N c.deref.ensures c.learn.ensures.parts) (subst O c.deref.ensures c.learn.ensures.others)
-    (subst C c.deref.ensures c.learn.ensures.count) c.len-in_order.ensures.ordered c.self.inside.queue.spare
+    let within : moved.log.object < length i.logs.homes.homes = (let lt = can.inside in let long = shown-long i.logs in omega arith) in
+    let same = ap (λ (h : HomesView). length h.homes) c.put.ensures.homes ∙ can.objects in
+    let p = c.put.ensures in
+    hand-come (arc_value c.args.homes) i.logs c.put.new.self old moved refl refl c.self.invariant can c.tells-3.ensures.sound same within p.slot p.states p.dones p.count c.put.new.self.homes i.queue.spare
 
-pub returns : goal.returns
-returns c =
-    let old = store_of c.self.inside.logs c.self.inside.marks c.self.inside.queue in
-    let moved : MovedView = record { log = c.moved.inside.log.value; waiting = c.moved.inside.waiting } in
-    let M : MovedView → Type 0 = λ v. CanCome c.args.self.now v c.args.room in
-    let S : StoreView → Type 0 = λ s. CanCome s moved c.args.room in
+pub returns-clause-come : goal.returns-clause-come
+returns-clause-come c =
+    let i = c.self.inside in
+    let old = store_of i.logs i.queue in
+    let m = c.moved.inside in
+    let moved : MovedView = record { log = m.log.log; waiting = m.waiting; room = m.log.room; places = m.log.places } in
+    let M : MovedView → Type 0 = λ v. CanCome (arc_value c.args.homes) c.args.self.now v in
+    let S : StoreView → Type 0 = λ s. CanCome (arc_value c.args.homes) s moved in
     let can = subst S (sym c.self.view_is) (subst M (sym c.moved.view_is) c.requires) in
-    let N : LogView → Type 0 = λ l. marks_at l.object c.learn.new.self ≡ map mark_of l.done in
-    let O : LogView → Type 0 = λ l. (other : ℕ) → other ≢ l.object → marks_at other c.learn.new.self ≡ marks_at other c.self.inside.marks in
-    let C : LogView → Type 0 = λ l. length c.learn.new.self ≡ length c.self.inside.marks + length l.done in
-    let has = has-come old moved c.args.room c.self.invariant can c.put.new.self c.learn.new.self c.put.ensures (subst N c.deref.ensures c.learn.ensures.parts) (subst O c.deref.ensures c.learn.ensures.others)
-    (subst C c.deref.ensures c.learn.ensures.count) c.len-in_order.ensures.ordered c.give_back.new.self c.give_back.ensures in
+    let within : moved.log.object < length i.logs.homes.homes = (let lt = can.inside in let long = shown-long i.logs in omega arith) in
+    let same = ap (λ (h : HomesView). length h.homes) c.put.ensures.homes ∙ can.objects in
+    let p = c.put.ensures in
+    let has = shown-come (arc_value c.args.homes) i.logs c.put.new.self old moved refl refl c.self.invariant can c.tells-3.ensures.sound same within p.slot p.states p.dones p.count c.put.new.self.homes c.give_back.new.self c.give_back.ensures in
     let R : StoreView → Type 0 = λ s. HasCome s c.give_back.new.self moved in
     let V : MovedView → Type 0 = λ v. HasCome c.args.self.now c.give_back.new.self v in
     subst V c.moved.view_is (subst R c.self.view_is has)

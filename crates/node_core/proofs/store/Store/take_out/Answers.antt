@@ -1,47 +1,53 @@
 -- An object leaves with its log and its waiting events.
-use Rattle.std.proofs.Common.{◌≡◌, ◌≢◌, ℕ, ◌+◌, [], List, length, map, sym, subst}
-use Rattle.std.specs.List.{AllByRecursion as Each}
+use Rattle.std.proofs.Common.{◌≡◌, ℕ, ◌<◌, ◌≤◌, true, List, length, is_some, sym, ap, ◌∙◌, subst, refl}
+use Rattle.std.specs.Arc.{arc_value}
 use Rattle.model_core.specs.declared.event.Event.{Event}
-use Rattle.object_log.specs.Logs.{LogView, events_of}
+use Rattle.object_log.specs.EventLogs.{state_in}
 use Rattle.speedes_queue.specs.Queues.{pending_of}
-use Rattle.node_core.specs.Marks.{mark_of}
-use Rattle.node_core.specs.Moving.{HasLeft, marks_at}
+use Rattle.node_core.specs.Homes.{HomesView}
+use Rattle.node_core.specs.Moving.{HasLeft, MovedView}
+use Rattle.node_core.specs.Nodes.{IsHere, log_at}
 use Rattle.node_core.specs.Stores.{StoreView}
-use Rattle.node_core.proofs.MovingStore.{has-left, left-marks, left-own, left-store}
+use Rattle.node_core.proofs.ListedLogs.{log-done}
+use Rattle.node_core.proofs.MovingShown.{shown-left, store-left}
+use Rattle.node_core.proofs.ShownFacts.{state-here}
 use Rattle.node_core.proofs.StoreLemmas.{store_of}
 use Rattle.node_core.proofs.store.Store.take_out.Goals as goal
 
-pub forget-requires-clause-parts : goal.forget-requires-clause-parts
-forget-requires-clause-parts c =
-    let P : LogView → Type 0 = λ l. marks_at l.object c.self.inside.marks ≡ map mark_of l.done in
-    subst P (sym c.deref.ensures) (left-marks c.args.object c.self.inside.logs c.take-log.new.self c.self.inside.marks (pending_of c.self.inside.queue) c.take-log.result.value c.self.invariant c.take-log.ensures)
+pub take-log-requires-clause-here : goal.take-log-requires-clause-here
+take-log-requires-clause-here c =
+    let H : StoreView → Type 0 = λ s. IsHere s.logs c.args.object in
+    state-here c.self.inside.logs c.args.object (subst H (sym c.self.view_is) c.requires.here)
 
-pub forget-requires-clause-own : goal.forget-requires-clause-own
-forget-requires-clause-own c =
-    let P : LogView → Type 0 = λ l. Each (λ (e : Event). e.key.dest ≡ l.object) (events_of l.done) in
-    subst P (sym c.deref.ensures) (left-own c.args.object c.self.inside.logs c.take-log.new.self c.self.inside.marks (pending_of c.self.inside.queue) c.take-log.result.value c.self.invariant c.take-log.ensures)
+pub take-log-requires-clause-room : goal.take-log-requires-clause-room
+take-log-requires-clause-room c =
+    let l = c.self.inside.logs in
+    let t = c.tells-2.ensures in
+    let R : StoreView → Type 0 = λ s. length (log_at s.logs c.args.object).done ≤ c.args.room.events in
+    let P : ℕ → Type 0 = λ n. n ≤ c.args.room.events in
+    subst P (ap length (log-done l.log (length l.homes.homes) t.inside t.sound.here c.args.object)) (subst R (sym c.self.view_is) c.requires.room)
 
 pub invariant_of-self : goal.invariant_of-self
 invariant_of-self c =
-    let log = c.take-log.result.value in
-    let N : LogView → Type 0 = λ l. marks_at l.object c.forget.new.self ≡ [] in
-    let O : LogView → Type 0 = λ l. (other : ℕ) → other ≢ l.object → marks_at other c.forget.new.self ≡ marks_at other c.self.inside.marks in
-    let C : LogView → Type 0 = λ l. length c.forget.new.self + length l.done ≡ length c.self.inside.marks in
-    left-store c.args.object c.self.inside.logs c.take-log.new.self c.self.inside.marks (pending_of c.self.inside.queue) log c.self.invariant c.take-log.ensures
-    c.forget.new.self (pending_of c.take_events-waiting.new.queue) (subst N c.deref.ensures c.forget.ensures.none) (subst O c.deref.ensures c.forget.ensures.others) (subst C c.deref.ensures c.forget.ensures.count)
-    c.len-in_order.ensures.ordered c.take_events-waiting.ensures.rest
+    let i = c.self.inside in
+    let k = c.take-log.ensures in
+    let H : StoreView → Type 0 = λ s. IsHere s.logs c.args.object in
+    let within = c.tells-2.ensures.inside c.args.object (state-here i.logs c.args.object (subst H (sym c.self.view_is) c.requires.here)) in
+    let same = ap (λ (h : HomesView). length h.homes) k.homes ∙ c.requires.objects ∙ sym (ap (λ (s : StoreView). length s.homes.homes) c.self.view_is) in
+    store-left c.args.object i.logs c.take-log.new.self c.take-log.result.log (pending_of i.queue) (pending_of c.take_events-waiting.new.queue) c.self.invariant c.tells-3.ensures.sound same within k.log k.gone k.others k.done
+    c.take_events-waiting.ensures.rest
 
-pub returns : goal.returns
-returns c =
-    let log = c.take-log.result.value in
-    let N : LogView → Type 0 = λ l. marks_at l.object c.forget.new.self ≡ [] in
-    let O : LogView → Type 0 = λ l. (other : ℕ) → other ≢ l.object → marks_at other c.forget.new.self ≡ marks_at other c.self.inside.marks in
-    let C : LogView → Type 0 = λ l. length c.forget.new.self + length l.done ≡ length c.self.inside.marks in
-    let old = store_of c.self.inside.logs c.self.inside.marks c.self.inside.queue in
-    let new = store_of c.take-log.new.self c.forget.new.self c.take_events-waiting.new.queue in
-    let has = has-left c.args.object c.self.inside.logs c.take-log.new.self c.self.inside.marks (pending_of c.self.inside.queue) log c.self.invariant c.take-log.ensures
-    c.forget.new.self (pending_of c.take_events-waiting.new.queue) (subst N c.deref.ensures c.forget.ensures.none) (subst O c.deref.ensures c.forget.ensures.others) (subst C c.deref.ensures c.forget.ensures.count)
-    c.len-in_order.ensures.ordered c.take_events-waiting.ensures.rest c.self.inside.queue.spare c.take_events-waiting.new.queue.spare c.take_events-waiting.ensures.spare in
-    let W : List Event → Type 0 = λ ws. HasLeft c.args.object old new (record { log = log; waiting = ws }) in
-    let S : StoreView → Type 0 = λ s. HasLeft c.args.object s new (record { log = log; waiting = c.take_events-waiting.result }) in
-    subst S c.self.view_is (subst W (sym c.take_events-waiting.ensures.own) has)
+pub returns-clause-left : goal.returns-clause-left
+returns-clause-left c =
+    let i = c.self.inside in
+    let k = c.take-log.ensures in
+    let w = c.take_events-waiting.ensures in
+    let H : StoreView → Type 0 = λ s. IsHere s.logs c.args.object in
+    let within = c.tells-2.ensures.inside c.args.object (state-here i.logs c.args.object (subst H (sym c.self.view_is) c.requires.here)) in
+    let same = ap (λ (h : HomesView). length h.homes) k.homes ∙ c.requires.objects ∙ sym (ap (λ (s : StoreView). length s.homes.homes) c.self.view_is) in
+    let has = shown-left c.args.object i.logs c.take-log.new.self c.take-log.result.log (pending_of i.queue) (pending_of c.take_events-waiting.new.queue) c.self.invariant c.tells-3.ensures.sound same within k.log k.gone k.others k.done
+    w.rest i.queue.spare c.take_events-waiting.new.queue.spare c.take-log.result.room c.take-log.result.places w.spare in
+    let new = store_of c.take-log.new.self c.take_events-waiting.new.queue in
+    let W : List Event → Type 0 = λ ws. HasLeft c.args.object (store_of i.logs i.queue) new (record { log = c.take-log.result.log; waiting = ws; room = c.take-log.result.room; places = c.take-log.result.places }) in
+    let S : StoreView → Type 0 = λ s. HasLeft c.args.object s new (record { log = c.take-log.result.log; waiting = c.take_events-waiting.result; room = c.take-log.result.room; places = c.take-log.result.places }) in
+    subst S c.self.view_is (subst W (sym w.own) has)

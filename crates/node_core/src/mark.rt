@@ -1,0 +1,8 @@
+//! What is known of a processed event.
+
+/// What is known of a processed event: the least stamp that it sends, or `NO_STAMP`, and the code with which it failed.
+#[derive(Clone, Copy, Debug, PartialEq, Eq)]
+pub struct Mark {
+    pub least: u64,
+    pub fault: Option<u32>,
+}
