@@ -131,7 +131,9 @@ impl Cells {
         Ok(())
     }
 
-    /// Makes the room that the changes need at the line where one of them puts a value in.
+    /// Makes the room that the changes need at the line where one of them puts a value in. It is room for as many values as
+    /// there are changes, so that nothing is counted.
+    #[inline(always)]
     fn room_at(&mut self, change: &Change, changes: &[Change]) -> Result<(), OutOfMemory>
         requires { NamesLine change.now self.old.contents }
         ensures ok { OnOk result ((line : ℕ) → puts_in_at change.now line ≡ true
@@ -141,13 +143,14 @@ impl Cells {
     {
         match *change {
             Change::Push { line, .. } | Change::Unpop { line, .. } => {
-                self.reserve(line, room_for(changes, line))
+                self.reserve(line, changes.len())
             }
             _ => Ok(()),
         }
     }
 
     /// Makes the spare of a line at least this many.
+    #[inline(always)]
     fn reserve(&mut self, line: u32, places: usize) -> Result<(), OutOfMemory>
         requires { line < length self.old.contents.lines }
         ensures ok { OnOk result (places ≤ slice_index self.new.spare line) }
@@ -259,16 +262,6 @@ impl Cells {
             self.exchange(&mut changes[at]);
         }
     }
-}
-
-/// How many values the changes put in at a line.
-fn room_for(changes: &[Change], line: u32) -> usize
-    ensures { result ≡ room_for changes.now line }
-{
-    changes
-        .iter()
-        .filter(|change| change.puts_in_at(line))
-        .count()
 }
 
 /// Lines of the same values, with no spare.

@@ -1,6 +1,4 @@
 //! One change of an object's cells.
-ghost use Rattle.std.specs.Prelude.{◌≡◌};
-ghost use Rattle.delta_exchange.specs.Spares.{puts_in_at};
 
 /// A change of a word, of one end of a line, or of a value in a line.
 #[derive(Clone, Copy, Debug, PartialEq, Eq)]
@@ -17,16 +15,4 @@ pub enum Change {
     Unpop { line: u32, value: u64 },
     /// Each bit of the value at the place turns, the line's first value being at place 0.
     Flip { line: u32, place: u64 },
-}
-
-impl Change {
-    /// Whether the change puts a value in at the line.
-    pub(crate) fn puts_in_at(&self, line: u32) -> bool
-        ensures { result ≡ puts_in_at self.now line }
-    {
-        match *self {
-            Change::Push { line: at, .. } | Change::Unpop { line: at, .. } => at == line,
-            _ => false,
-        }
-    }
 }

@@ -62,15 +62,28 @@ impl Line {
     }
 
     /// Makes the spare at least this many. The queue grows to twice its length at least.
+    #[inline(always)]
     pub fn reserve(&mut self, places: usize) -> Result<(), AllocError>
         ensures values { self.new.values ≡ self.old.values }
         ensures spare { OnOk result (places ≤ self.new.spare) }
         ensures never_less { self.old.spare ≤ self.new.spare }
     {
-        if self.spare < places {
-            self.queue.reserve(places)?;
-            self.spare = places;
+        if places <= self.spare {
+            return Ok(());
         }
+        self.grow(places)
+    }
+
+    /// Makes the spare this many, which are more than it has.
+    #[inline(never)]
+    fn grow(&mut self, places: usize) -> Result<(), AllocError>
+        requires { self.old.spare < places }
+        ensures values { self.new.values ≡ self.old.values }
+        ensures spare { OnOk result (places ≤ self.new.spare) }
+        ensures never_less { self.old.spare ≤ self.new.spare }
+    {
+        self.queue.reserve(places)?;
+        self.spare = places;
         Ok(())
     }
 

@@ -1,8 +1,6 @@
 //! An object as an engine keeps it.
-ghost use Rattle.std.specs.Prelude.{◌≡◌, ℕ, false, ◌+◌, ◌<◌, ◌^◌, IfOk, OnOk, OnErr, IsTrue};
-ghost use Rattle.std.specs.Bool.{OnFalse};
+ghost use Rattle.std.specs.Prelude.{◌≡◌, ◌+◌, ◌<◌, ◌^◌, IfOk, OnOk, OnErr, IsTrue};
 ghost use Rattle.delta_exchange.specs.Changes.{AllFit, cells_after_all};
-ghost use Rattle.delta_exchange.specs.Spares.{puts_in_at, room_for};
 ghost use Rattle.event_key.specs.Stamps.{time_part};
 ghost use Rattle.model_core.specs.Effects.{outcome_by};
 ghost use Rattle.event_firing.specs.Reactions.{IsReaction};
@@ -73,9 +71,7 @@ impl Object {
         ensures ok { OnOk result (self.new ≡ record { cells = cells_after_all changes.now self.old.cells; sent = self.old.sent + sends }) }
         ensures err { OnErr result (self.new ≡ self.old) }
     {
-        if need_room(changes) {
-            self.cells.room(changes)?;
-        }
+        self.cells.room(changes)?;
         self.cells.make(changes);
         self.sent += sends;
         Ok(())
@@ -122,28 +118,4 @@ impl Object {
         }
         Ok(ending)
     }
-}
-
-/// Whether a change puts a value in at a line.
-#[inline(always)]
-fn puts_in(change: &Change) -> bool
-    ensures { OnFalse result ((line : ℕ) → puts_in_at change.now line ≡ false) }
-{
-    match *change {
-        Change::Push { .. } | Change::Unpop { .. } => true,
-        _ => false,
-    }
-}
-
-/// Whether some change puts a value in at a line, which takes room.
-#[inline(always)]
-fn need_room(changes: &[Change]) -> bool
-    ensures { OnFalse result ((line : ℕ) → room_for changes.now line ≡ 0) }
-{
-    for change in changes {
-        if puts_in(change) {
-            return true;
-        }
-    }
-    false
 }
