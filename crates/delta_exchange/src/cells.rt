@@ -231,6 +231,7 @@ impl Cells {
     }
 
     /// Does the changes from the first to the last, and keeps nothing to undo them. After `room` this takes no memory.
+    #[inline(always)]
     pub fn make(&mut self, changes: &[Change])
         requires fit { AllFit changes.now self.old.contents }
         requires room { HaveRoom changes.now self.old.spare }
