@@ -20,21 +20,38 @@ pub struct Head {
     ghost is_head: { IsHead stamp bytes count },
 }
 
+/// Writes the text of a stamp and a space at the beginning of some bytes, and answers how many they are.
+#[inline(always)]
+#[tactic(auto, unfolding(crate::specs::Texts::stamp_text))]
+fn write_stamp(digits: &Digits, stamp: u64, bytes: &mut [u8; 112]) -> usize
+    ensures { IsHead stamp bytes.new result }
+{
+    let dot = digits.write(time_of(stamp), bytes, 0);
+    let step = write_byte(b'.', bytes, dot);
+    let space = digits.write(u64::from(step_of(stamp)), bytes, step);
+    write_byte(b' ', bytes, space)
+}
+
 impl Head {
     /// The head of a stamp's lines.
-    #[tactic(auto, unfolding(crate::specs::Texts::stamp_text))]
     pub fn new(digits: &Digits, stamp: u64) -> Head
         ensures { result.stamp ≡ stamp }
     {
         let mut bytes = [0; LINE];
-        let dot = digits.write(time_of(stamp), &mut bytes, 0);
-        let step = write_byte(b'.', &mut bytes, dot);
-        let space = digits.write(u64::from(step_of(stamp)), &mut bytes, step);
-        let count = write_byte(b' ', &mut bytes, space);
+        let count = write_stamp(digits, stamp, &mut bytes);
         Head {
             stamp,
             bytes,
             count,
         }
+    }
+
+    /// Makes it the head of another stamp's lines. Its bytes stay where they are.
+    #[inline(always)]
+    pub fn rewrite(&mut self, digits: &Digits, stamp: u64)
+        ensures { self.new.stamp ≡ stamp }
+    {
+        self.count = write_stamp(digits, stamp, &mut self.bytes);
+        self.stamp = stamp;
     }
 }

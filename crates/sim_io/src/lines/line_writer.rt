@@ -95,7 +95,7 @@ impl LineWriter {
         ensures prefix { StartsWith into.new.items into.old.items }
     {
         if self.head.stamp != stamp {
-            self.head = Head::new(&self.digits, stamp);
+            self.head.rewrite(&self.digits, stamp);
         }
         let before = into.len();
         self.append_room(into)?;
