@@ -19,11 +19,7 @@ use text_fields::{
 use toml::{Table, Value};
 
 /// A label stands for the step with this number.
-fn take_in<'a>(
-    labels: &mut Directory<'a>,
-    label: &'a [u8],
-    number: u32,
-) -> Result<(), AllocError>
+fn take_in<'a>(labels: &mut Directory<'a>, label: &'a [u8], number: u32) -> Result<(), AllocError>
     ensures { OnOk result (finder labels.new ≡ taken_in (finder labels.old) label.now (step_place number)) }
 {
     let place = Place {

@@ -15,8 +15,8 @@ use crate::shifts::{most_open, read_timetable};
 use shop_model::{Breakdowns, MOST_LINE, MOST_OPEN, Order, Station};
 use std::alloc::Global;
 use text_fields::{
-    Cause, Directory, Place, Refusal, field, name_of, new_name, number_or, only, required, table_of,
-    text,
+    Cause, Directory, Place, Refusal, field, name_of, new_name, number_or, only, required,
+    table_of, text,
 };
 use toml::{Table, Value};
 

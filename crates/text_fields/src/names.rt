@@ -61,11 +61,7 @@ pub fn names_of(alloc: Global, values: &[Value], item: u32) -> Result<Vec<Name>,
 
 /// A name that no object before has.
 #[tactic(auto, unfolding(crate::specs::Names::new_name))]
-pub fn new_name<'a>(
-    value: &'a Value,
-    directory: &Directory,
-    item: u32,
-) -> Result<&'a str, Refusal>
+pub fn new_name<'a>(value: &'a Value, directory: &Directory, item: u32) -> Result<&'a str, Refusal>
     ensures read { Gives (λ name. name.now) result (new_name (finder directory.now) item (view value.now)) }
     ensures named { IfOk result (λ name. IsTrue (is_name name.now)) }
     ensures new { IfOk result (λ name. finder directory.now name.now ≡ None) }
