@@ -6,6 +6,7 @@ pub mod FaultFacts
 pub mod FirstFacts
 pub mod ItemLemmas
 pub mod JoinFacts
+pub mod LatestFacts
 pub mod LogFacts
 pub mod MoveFacts
 pub mod NewsFacts

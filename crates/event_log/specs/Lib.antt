@@ -2,6 +2,7 @@ pub mod Committing
 pub mod Faults
 pub mod Items
 pub mod Keeping
+pub mod Latest
 pub mod Moves
 pub mod News
 pub mod NodeLogs

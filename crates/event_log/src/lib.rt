@@ -7,6 +7,7 @@ mod carried;
 mod committing;
 mod item;
 mod kept;
+mod latest;
 mod log;
 mod moved;
 mod news;

@@ -50,7 +50,6 @@ pub fn carry_into(
 }
 
 /// Puts an event in that comes before those in front, with the place of its object. Answers how many stand in front then.
-#[inline(always)]
 pub fn join(items: &mut Items, front: usize, done: Kept, place: u32) -> usize
     requires turned { IsTurned front items.old.items }
     requires after { AreAfter done.event.key front items.old.items }
@@ -69,7 +68,6 @@ pub fn join(items: &mut Items, front: usize, done: Kept, place: u32) -> usize
 }
 
 /// Moves each of the others that comes after a key to the front. Answers how many stand in front then.
-#[inline(always)]
 fn turn_past(items: &mut Items, front: usize, key: &Key) -> usize
     requires turned { IsTurned front items.old.items }
     requires after { AreAfter key.now front items.old.items }
@@ -88,27 +86,17 @@ fn turn_past(items: &mut Items, front: usize, key: &Key) -> usize
         if last.key.is_before(key) {
             return turned;
         }
-        turn_last(items, turned);
+        let Some(item) = items.pop_back() else {
+            unreachable!()
+        };
+        let Item { place, done, .. } = item;
+        put_first(items, turned, done, place);
         turned += 1;
     }
     turned
 }
 
-/// Moves the last of the others to the front, where so many stand.
-#[inline(always)]
-fn turn_last(items: &mut Items, turned: usize)
-    requires within { turned < length items.old.items }
-    ensures items { IsTurnedLast turned items.old.items items.new.items }
-    ensures capacity { deque_capacity items.new ≡ deque_capacity items.old }
-{
-    let held = held_in_front(items, turned);
-    items.rotate_right(1);
-    let item = &mut items[0];
-    item.held = item.least.min(held);
-}
-
 /// Puts an event before all, with the least stamp that it and so many behind it send.
-#[inline(always)]
 pub fn put_first(items: &mut Items, turned: usize, done: Kept, place: u32)
     requires within { turned ≤ length items.old.items }
     requires room { deque_len items.old < deque_capacity items.old }
@@ -128,7 +116,6 @@ pub fn put_first(items: &mut Items, turned: usize, done: Kept, place: u32)
 }
 
 /// The least stamp that so many in front send, or `NO_STAMP`.
-#[inline(always)]
 fn held_in_front(items: &Items, turned: usize) -> u64
     requires { turned ≤ length items.now.items }
     ensures { result ≡ first_held (take turned items.now.items) }

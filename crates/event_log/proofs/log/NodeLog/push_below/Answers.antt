@@ -9,7 +9,7 @@ use Rattle.event_log.proofs.FirstFacts.{keys-placed}
 use Rattle.event_log.proofs.log.NodeLog.push_below.Goals as goal
 
 pub push_below-requires : goal.push_below-requires
-push_below-requires c = c.self.invariant.few
+push_below-requires c = c.self.invariant.0.few
 
 pub returns-clause-ok : goal.returns-clause-ok
 returns-clause-ok c =
