@@ -195,6 +195,14 @@ impl Carried {
         held_from(&self.items, 0)
     }
 
+    /// If it is true, none failed. In constant time.
+    #[inline(always)]
+    pub fn went(&self) -> bool
+        ensures { IsTrue result → fault_of (map (λ p. p.done) self.now.items) ≡ None }
+    {
+        !self.may_fail
+    }
+
     /// The key and the code of the first event that failed, if one did. In constant time if none did, else in time linear in how
     /// many come before it.
     pub fn faulted(&self) -> Option<(Key, u32)>

@@ -42,6 +42,7 @@ impl Latest {
     }
 
     /// No event that the object has processed has a later stamp.
+    #[inline(always)]
     pub fn of(&self, object: u32) -> u64
         ensures { result ≡ bound_of self.now object }
     {
@@ -52,6 +53,7 @@ impl Latest {
     }
 
     /// An event of this key is processed.
+    #[inline(always)]
     pub fn raise(&mut self, key: &Key)
         ensures reached { key.now.stamp ≤ bound_of self.new key.now.dest }
         ensures kept { (object : ℕ) → bound_of self.old object ≤ bound_of self.new object }

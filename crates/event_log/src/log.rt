@@ -149,6 +149,7 @@ impl NodeLog {
 
     /// The key and the code of the first event that failed, if one did. In constant time if no carried event did, else it looks
     /// at each carried event up to the first that failed.
+    #[inline(always)]
     pub fn faulted(&self) -> Option<(Key, u32)>
         ensures { result ≡ fault_of self.now.log.done }
     {
