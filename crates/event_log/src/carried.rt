@@ -15,7 +15,7 @@ ghost use Rattle.event_log.specs.Items.{AreHeld, AreHeldBut, first_held, placed}
 ghost use Rattle.event_log.specs.Moves.{other_items, own_items, shifted};
 ghost use Rattle.event_log.specs.Processing.{CanCarry, merged};
 
-use crate::item::{Item, Items};
+use crate::items::Items;
 use crate::kept::Kept;
 use crate::news::News;
 use crate::parting::{join_all, part, settle};
@@ -25,7 +25,6 @@ use event_key::{Key, NO_STAMP};
 use model_core::{Event, OutOfMemory};
 use object_log::Verdict;
 use std::alloc::Global;
-use std::collections::VecDeque;
 use std::marker::Model;
 
 /// Carried events of many objects, in the order of their keys, each with the place of its object. Contracts see beside them
@@ -58,7 +57,7 @@ impl Carried {
         ensures { result.items ≡ [] }
     {
         Carried {
-            items: VecDeque::new(alloc),
+            items: Items::new(alloc),
             may_fail: false,
         }
     }
@@ -83,8 +82,7 @@ impl Carried {
         ensures room { self.old.room ≤ self.new.room }
         ensures same { self.new.items ≡ self.old.items }
     {
-        self.items.reserve(events)?;
-        Ok(())
+        self.items.reserve(events)
     }
 
     /// Carries the news from a place on. Takes no memory. Each of them is moved once, and so is each carried event that comes after
@@ -116,8 +114,8 @@ impl Carried {
         requires { index < length self.now.items }
         ensures { (p : Placed) × (slice_get self.now.items index ≡ Some p) × (result.0 ≡ placed_key p) × (result.1 ≡ p.place) }
     {
-        let item = &self.items[index];
-        (item.key, item.place)
+        let entry = self.items.at(index);
+        (entry.key, entry.place)
     }
 
     /// Takes the event at a place of the list out. It moves the shorter side. If the event failed, it looks at the others up to
@@ -127,11 +125,8 @@ impl Carried {
         ensures left { self.new.items ≡ remove self.old.items index }
         ensures value { (p : Placed) × (slice_get self.old.items index ≡ Some p) × (result ≡ p.done) }
     {
-        let Some(item) = self.items.remove(index) else {
-            unreachable!()
-        };
+        let done = self.items.take_out(index);
         mend(&mut self.items, index);
-        let Item { done, .. } = item;
         self.may_fail = may_fail_without(self.may_fail, &done, &self.items);
         done
     }
@@ -172,20 +167,21 @@ impl Carried {
         ensures some { IfSome result (λ key. (p : Placed) × (slice_get self.now.items 0 ≡ Some p) × (key ≡ placed_key p)) }
         ensures none { IfNone result (self.now.items ≡ []) }
     {
-        match self.items.front() {
-            Some(item) => Some(item.key),
-            None => None,
+        if self.items.len() == 0 {
+            return None;
         }
+        Some(self.items.at(0).key)
     }
 
     /// Whether each comes before a key, in constant time.
     pub fn ends_before(&self, key: &Key) -> bool
         ensures { IsTrue result → AllByRecursion (λ p. key_lt (placed_key p) key.now ≡ true) self.now.items }
     {
-        match self.items.back() {
-            Some(item) => item.key.is_before(key),
-            None => true,
+        let len = self.items.len();
+        if len == 0 {
+            return true;
         }
+        self.items.at(len - 1).key.is_before(key)
     }
 
     /// The least stamp that they send, or `NO_STAMP`, in constant time.
@@ -237,10 +233,8 @@ fn fault_in(items: &Items) -> Option<(Key, u32)>
     ensures { result ≡ fault_of (map (λ p. p.done) (placed items.now.items)) }
 {
     for place in 0..items.len() {
-        let item = &items[place];
-        match item.done.verdict() {
-            Verdict::Noted(_) => {}
-            Verdict::Failed(code) => return Some((item.key, code)),
+        if let Verdict::Failed(code) = items.verdict_at(place) {
+            return Some((items.at(place).key, code));
         }
     }
     None
@@ -250,10 +244,10 @@ fn fault_in(items: &Items) -> Option<(Key, u32)>
 fn held_from(items: &Items, place: usize) -> u64
     ensures { result ≡ first_held (drop place items.now.items) }
 {
-    match items.get(place) {
-        Some(item) => item.held,
-        None => NO_STAMP,
+    if place == items.len() {
+        return NO_STAMP;
     }
+    items.at(place).held
 }
 
 /// Mends the least stamps before a place, from there towards the front until one stays.
@@ -268,12 +262,11 @@ fn mend(items: &mut Items, place: usize)
     while place > 0 {
         let held = held_from(items, place);
         place -= 1;
-        let item = &items[place];
-        let held = item.least.min(held);
-        if held == item.held {
+        let entry = items.at(place);
+        let held = entry.least.min(held);
+        if held == entry.held {
             return;
         }
-        let item = &mut items[place];
-        item.held = held;
+        items.set_held(place, held);
     }
 }

@@ -8,11 +8,10 @@ ghost use Rattle.object_log.specs.Whole.{IsEventLog};
 ghost use Rattle.event_log.specs.Items.{placed};
 ghost use Rattle.event_log.specs.Moves.{moved_view};
 
-use crate::item::Items;
+use crate::items::Items;
 use model_core::OutOfMemory;
 use object_log::Object;
 use std::alloc::Global;
-use std::collections::VecDeque;
 use std::marker::Model;
 
 /// Room that is made before an object moves: for the events that it has processed with those of the log to which it comes,
@@ -44,7 +43,7 @@ impl LogRoom {
     {
         Ok(LogRoom {
             objects: Vec::with_capacity(alloc, objects)?,
-            items: VecDeque::with_capacity(alloc, events)?,
+            items: Items::with_capacity(alloc, events)?,
         })
     }
 

@@ -8,8 +8,8 @@ ghost use Rattle.event_log.specs.Items.{AreHeld, placed};
 ghost use Rattle.event_log.specs.Moves.{other_items, own_items, place_after, shifted};
 ghost use Rattle.event_log.specs.Turning.{IsTurned, turned_back};
 
-use crate::item::{Item, Items};
-use crate::turning::{join, put_first};
+use crate::items::Items;
+use crate::turning::{held_in_front, join};
 
 /// Takes the events of an object out, and puts them into a list that has room for them, where they stand alone, at place 0. All
 /// stay in their order.
@@ -21,14 +21,10 @@ pub fn part(items: &mut Items, object: u32, own: &mut Items)
     ensures capacity { deque_capacity own.new ≡ deque_capacity own.old }
 {
     for _ in 0..items.len() {
-        let Some(mut item) = items.pop_front() else {
-            unreachable!()
-        };
-        if item.key.dest == object {
-            item.place = 0;
-            own.push_back_reserved(item);
+        if items.at(0).key.dest == object {
+            own.push_back(items.take_out(0), 0, 0);
         } else {
-            items.push_back_reserved(item);
+            items.rotate_left(1);
         }
     }
 }
@@ -51,11 +47,12 @@ pub fn settle(items: &mut Items, from: usize, to: u32)
     ensures capacity { deque_capacity items.new ≡ deque_capacity items.old }
 {
     for settled in 0..items.len() {
-        let Some(item) = items.pop_back() else {
-            unreachable!()
-        };
-        let Item { place, done, .. } = item;
-        put_first(items, settled, done, place_after(from, to, place));
+        let held = held_in_front(items, settled);
+        items.rotate_right();
+        let first = items.at(0);
+        let place = place_after(from, to, first.place);
+        let held = first.least.min(held);
+        items.set_first(place, held);
     }
 }
 
@@ -70,9 +67,9 @@ pub fn join_all(items: &mut Items, others: &mut Items) -> usize
     ensures capacity { deque_capacity items.new ≡ deque_capacity items.old }
 {
     let mut turned = 0;
-    while let Some(item) = others.pop_back() {
-        let Item { place, done, .. } = item;
-        turned = join(items, turned, done, place);
+    for left in (0..others.len()).rev() {
+        let place = others.at(left).place;
+        turned = join(items, turned, others.pop_back(), place);
     }
     turned
 }

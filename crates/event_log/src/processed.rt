@@ -26,7 +26,7 @@ ghost use Rattle.event_log.specs.Processing.{AreHomed, CanJoin, HasCome, IsSameP
 
 use crate::carried::Carried;
 use crate::committing::{commit_first, due_in};
-use crate::item::Items;
+use crate::items::Items;
 use crate::kept::Kept;
 use crate::news::News;
 use crate::reading::push_below;

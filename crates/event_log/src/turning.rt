@@ -13,7 +13,7 @@ ghost use Rattle.event_log.specs.Items.{IsHeld, first_held, item_key, placed, pl
 ghost use Rattle.event_log.specs.Processing.{CanCarry, merged};
 ghost use Rattle.event_log.specs.Turning.{AreAfter, IsTurned, turned_back, turned_view};
 
-use crate::item::{Item, Items};
+use crate::items::Items;
 use crate::kept::Kept;
 use crate::news::News;
 use event_chain::CellPool;
@@ -84,7 +84,7 @@ fn turn_past(items: &mut Items, front: usize, key: &Key) -> usize
     let len = items.len();
     let mut turned = front;
     while turned < len {
-        let last = &items[len - 1];
+        let last = items.at(len - 1);
         if last.key.is_before(key) {
             return turned;
         }
@@ -102,9 +102,9 @@ fn turn_last(items: &mut Items, turned: usize)
     ensures capacity { deque_capacity items.new ≡ deque_capacity items.old }
 {
     let held = held_in_front(items, turned);
-    items.rotate_right(1);
-    let item = &mut items[0];
-    item.held = item.least.min(held);
+    items.rotate_right();
+    let held = items.at(0).least.min(held);
+    items.set_held(0, held);
 }
 
 /// Puts an event before all, with the least stamp that it and so many behind it send.
@@ -115,26 +115,18 @@ pub fn put_first(items: &mut Items, turned: usize, done: Kept, place: u32)
     ensures items { (put : Item) × (items.new.items ≡ put ∷ items.old.items) × (placed_of put ≡ record { done = done; place = place }) × IsHeld put (take turned items.old.items) }
     ensures capacity { deque_capacity items.new ≡ deque_capacity items.old }
 {
-    let key = done.key();
-    let least = done.least();
-    let held = least.min(held_in_front(items, turned));
-    items.push_front_reserved(Item {
-        key,
-        place,
-        least,
-        held,
-        done,
-    });
+    let held = done.least().min(held_in_front(items, turned));
+    items.push_front(done, place, held);
 }
 
 /// The least stamp that so many in front send, or `NO_STAMP`.
 #[inline(always)]
-fn held_in_front(items: &Items, turned: usize) -> u64
+pub fn held_in_front(items: &Items, turned: usize) -> u64
     requires { turned ≤ length items.now.items }
     ensures { result ≡ first_held (take turned items.now.items) }
 {
     if turned == 0 {
         return NO_STAMP;
     }
-    items[0].held
+    items.at(0).held
 }
