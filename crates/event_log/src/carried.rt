@@ -2,7 +2,6 @@
 ghost use Rattle.std.specs.Prelude.{◌≡◌, ℕ, List, ◌<◌, ◌≤◌, ◌+◌, [], ◌++◌, length, map, take, drop, slice_get, Some, IfSome, IfNone, OnOk, IsTrue, true, None, false};
 ghost use Rattle.std.specs.List.{remove};
 ghost use Rattle.std.specs.List.{AllByRecursion};
-ghost use Rattle.std.specs.VecDeque.{deque_capacity};
 ghost use Rattle.event_key.specs.Keys.{key_lt};
 ghost use Rattle.event_key.specs.declared.stamp.TheConstants.{NO_STAMP};
 ghost use Rattle.key_order.specs.Ascending.{Ascends};
@@ -40,13 +39,12 @@ pub struct Carried {
 
 impl Model for Carried {
     ghost use Rattle.std.specs.Prelude.{◌-◌, length};
-    ghost use Rattle.std.specs.VecDeque.{deque_capacity};
     ghost use Rattle.key_order.specs.Ascending.{Ascends};
     ghost use Rattle.event_log.specs.Items.{AreHeld, CarriedView, MayFail, item_key, placed};
 
     ghost Value = { CarriedView };
 
-    ghost view = { λ c. record { items = placed c.items.items; room = deque_capacity c.items - length c.items.items } };
+    ghost view = { λ c. record { items = placed c.items.items; room = c.items.capacity - length c.items.items } };
 
     ghost invariant = { λ c. Ascends item_key c.items.items × AreHeld c.items.items × MayFail c.may_fail c.items.items };
 }
@@ -135,10 +133,10 @@ impl Carried {
     /// then. Each is moved twice.
     pub fn part(&mut self, object: u32, from: usize, to: u32, own: &mut Items)
         requires empty { own.old.items ≡ [] }
-        requires room { length (own_items object self.old.items) ≤ deque_capacity own.old }
+        requires room { length (own_items object self.old.items) ≤ own.old.capacity }
         ensures items { self.new.items ≡ map (shifted from to) (other_items object self.old.items) }
         ensures own { placed own.new.items ≡ own_items object self.old.items }
-        ensures capacity { deque_capacity own.new ≡ deque_capacity own.old }
+        ensures capacity { own.new.capacity ≡ own.old.capacity }
     {
         part(&mut self.items, object, own);
         settle(&mut self.items, from, to);
@@ -149,7 +147,7 @@ impl Carried {
     /// now. Each event is moved a few times.
     pub fn absorb(&mut self, items: Items, to: u32)
         requires ordered { Ascends placed_key (weave placed_key self.old.items (map (shifted 0 to) (placed items.items))) }
-        requires room { length self.old.items + length items.items ≤ deque_capacity items }
+        requires room { length self.old.items + length items.items ≤ items.capacity }
         ensures { self.new.items ≡ weave placed_key self.old.items (map (shifted 0 to) (placed items.items)) }
     {
         let mut items = items;
@@ -233,8 +231,9 @@ fn fault_in(items: &Items) -> Option<(Key, u32)>
     ensures { result ≡ fault_of (map (λ p. p.done) (placed items.now.items)) }
 {
     for place in 0..items.len() {
-        if let Verdict::Failed(code) = items.verdict_at(place) {
-            return Some((items.at(place).key, code));
+        match items.verdict_at(place) {
+            Verdict::Noted(_) => {}
+            Verdict::Failed(code) => return Some((items.at(place).key, code)),
         }
     }
     None
@@ -244,7 +243,7 @@ fn fault_in(items: &Items) -> Option<(Key, u32)>
 fn held_from(items: &Items, place: usize) -> u64
     ensures { result ≡ first_held (drop place items.now.items) }
 {
-    if place == items.len() {
+    if place >= items.len() {
         return NO_STAMP;
     }
     items.at(place).held
@@ -256,7 +255,7 @@ fn mend(items: &mut Items, place: usize)
     requires but { AreHeldBut place items.old.items }
     ensures held { AreHeld items.new.items }
     ensures same { placed items.new.items ≡ placed items.old.items }
-    ensures capacity { deque_capacity items.new ≡ deque_capacity items.old }
+    ensures capacity { items.new.capacity ≡ items.old.capacity }
 {
     let mut place = place;
     while place > 0 {
@@ -267,6 +266,6 @@ fn mend(items: &mut Items, place: usize)
         if held == entry.held {
             return;
         }
-        items.set_held(place, held);
+        items.set(place, entry.place, held);
     }
 }

@@ -6,8 +6,7 @@ use Rattle.event_key.specs.Keys.{key_lt}
 use Rattle.key_order.specs.Keys.{times}
 use Rattle.object_log.specs.Carrying.{Placed, placed_key}
 use Rattle.object_log.specs.Weave.{insert}
-use Rattle.event_log.specs.declared.item.Item.{Item}
-use Rattle.event_log.specs.Items.{item_key, placed}
+use Rattle.event_log.specs.Items.{Item, item_key, placed}
 use Rattle.event_log.specs.Turning.{AreAfter, turned_back}
 use Rattle.event_log.proofs.TurnLemmas.{joined-after, joined-items, joined-turned}
 use Rattle.event_log.proofs.turning.join.Goals as goal

@@ -1,8 +1,7 @@
 -- No event is in order.
 use Rattle.std.proofs.Common.{List, false, sym, subst}
 use Rattle.key_order.specs.Ascending.{Ascends}
-use Rattle.event_log.specs.declared.item.Item.{Item}
-use Rattle.event_log.specs.Items.{AreHeld, MayFail, item_key}
+use Rattle.event_log.specs.Items.{AreHeld, Item, MayFail, item_key}
 use Rattle.event_log.proofs.ItemLemmas.{none-carried}
 use Rattle.event_log.proofs.carried.Carried.new.Goals as goal
 
