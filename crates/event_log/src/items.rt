@@ -1,5 +1,5 @@
 //! Carried events, one behind another, each in a slot of its own.
-ghost use Rattle.std.specs.Prelude.{◌≡◌, ◌+◌, ◌<◌, ◌≤◌, [], ◌∷◌, ◌++◌, length, take, drop, slice_index_or, slice_set, IfOk, IfSome, IfNone, OnOk, List};
+ghost use Rattle.std.specs.Prelude.{◌≡◌, ◌+◌, ◌<◌, ◌≤◌, ◌^◌, [], ◌∷◌, ◌++◌, length, take, drop, slice_index_or, slice_set, IfOk, IfSome, IfNone, OnOk, List};
 ghost use Rattle.std.specs.List.{remove};
 ghost use Rattle.event_log.specs.Items.{Item};
 ghost use Rattle.event_log.specs.Slots.{TellsOf};
@@ -110,6 +110,7 @@ impl Items {
     pub fn push_front(&mut self, done: Kept, place: u32, held: u64)
         requires { length self.old.items < self.old.capacity }
         ensures items { self.new.items ≡ (record { done = done; place = place; held = held }) ∷ self.old.items }
+        ensures few { length self.new.items < 2 ^ 64 }
         ensures capacity { self.new.capacity ≡ self.old.capacity }
     {
         let key = done.key();

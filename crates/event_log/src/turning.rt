@@ -1,5 +1,5 @@
 //! News go among carried events, the last one first.
-ghost use Rattle.std.specs.Prelude.{◌≡◌, ℕ, List, ◌<◌, ◌≤◌, ◌+◌, [], ◌∷◌, ◌++◌, length, take, drop, true};
+ghost use Rattle.std.specs.Prelude.{◌≡◌, ℕ, List, ◌<◌, ◌≤◌, ◌+◌, ◌^◌, [], ◌∷◌, ◌++◌, length, take, drop, true};
 ghost use Rattle.std.specs.List.{AllByRecursion};
 ghost use Rattle.event_key.specs.declared.key.Key.{Key};
 ghost use Rattle.event_key.specs.Keys.{key_lt};
@@ -111,6 +111,7 @@ fn put_first(items: &mut Items, turned: usize, done: Kept, place: u32)
     requires within { turned ≤ length items.old.items }
     requires room { length items.old.items < items.old.capacity }
     ensures items { (put : Item) × (items.new.items ≡ put ∷ items.old.items) × (placed_of put ≡ record { done = done; place = place }) × IsHeld put (take turned items.old.items) }
+    ensures few { length items.new.items < 2 ^ 64 }
     ensures capacity { items.new.capacity ≡ items.old.capacity }
 {
     let held = done.least().min(held_in_front(items, turned));

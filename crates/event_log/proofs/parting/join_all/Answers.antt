@@ -13,8 +13,8 @@ use Rattle.event_log.specs.Turning.{AreAfter, turned_back}
 use Rattle.event_log.proofs.PartFacts.{before-end, joined-start, joins-end, joins-fresh, joins-same}
 use Rattle.event_log.proofs.parting.join_all.Goals as goal
 
-pub loop-init : goal.loop-init
-loop-init c = record {
+pub loop-done-init : goal.loop-done-init
+loop-done-init c = record {
   turned = c.requires.turned;
   same = refl;
   after = λ es e is. tt;
@@ -26,28 +26,28 @@ loop-init c = record {
 pub join-turned-requires-clause-after : goal.join-turned-requires-clause-after
 join-turned-requires-clause-after c =
     let s = c.in-Some.ensures.some in
-    let A : Done → Type 0 = λ d. AreAfter d.event.key c.loop.turned c.loop.items.items in
-    subst A (sym s.2) (c.loop.invariant.after c.pop_back.new.self.items s.0 s.1)
+    let A : Done → Type 0 = λ d. AreAfter d.event.key c.loop-done.turned c.loop-done.items.items in
+    subst A (sym s.2) (c.loop-done.invariant.after c.pop_back.new.self.items s.0 s.1)
 
 pub join-turned-requires-clause-room : goal.join-turned-requires-clause-room
 join-turned-requires-clause-room c =
     let s = c.in-Some.ensures.some in
     let long = ap length s.1 in
     let parts = length-append c.pop_back.new.self.items (s.0 ∷ []) in
-    let room = c.loop.invariant.room in
+    let room = c.loop-done.invariant.room in
     omega arith
 
 pub join-turned-requires-clause-new : goal.join-turned-requires-clause-new
 join-turned-requires-clause-new c =
-    let l = c.loop in
+    let l = c.loop-done in
     let s = c.in-Some.ensures.some in
     let now = placed (turned_back l.turned l.items.items) in
     ap (λ (d : Done). times placed_key d.event.key now) s.2
     ∙ joins-fresh l.others.items c.pop_back.new.self.items s.0 now s.1 (subst (Ascends placed_key) (sym l.invariant.same) (joined-start c.args.items.now.items (placed c.args.others.now.items) c.requires.ordered))
 
-pub loop-preserved : goal.loop-preserved
-loop-preserved c =
-    let l = c.loop in
+pub loop-done-preserved : goal.loop-done-preserved
+loop-done-preserved c =
+    let l = c.loop-done in
     let s = c.in-Some.ensures.some in
     let x : Item = s.0 in
     let xs = c.pop_back.new.self.items in
@@ -70,7 +70,7 @@ loop-preserved c =
 
 pub returns-clause-items : goal.returns-clause-items
 returns-clause-items c =
-    let l = c.loop in
+    let l = c.loop-done in
     let none : l.others.items ≡ [] = c.in_default.ensures.none in
     joins-end l.others.items (placed (turned_back l.turned l.items.items)) none
     ∙ l.invariant.same

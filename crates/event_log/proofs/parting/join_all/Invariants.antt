@@ -6,8 +6,8 @@ use Rattle.event_log.specs.Items.{Item, item_key, placed}
 use Rattle.event_log.specs.Turning.{AreAfter, IsTurned, turned_back}
 use Rattle.event_log.proofs.parting.join_all.Given as goal
 
-abbrev pub invariant-loop : goal.invariant-loop
-invariant-loop l = record {
+abbrev pub invariant-loop-done : goal.invariant-loop-done
+invariant-loop-done l = record {
   turned : IsTurned l.turned l.items.items;
   same : weave placed_key (placed l.others.items) (placed (turned_back l.turned l.items.items)) ≡ weave placed_key (placed l.fn.others.items) (placed (turned_back 0 l.fn.items.items));
   after : (es : List Item) (e : Item) → l.others.items ≡ es ++ e ∷ [] → AreAfter (item_key e) l.turned l.items.items;
@@ -16,5 +16,5 @@ invariant-loop l = record {
   capacity : l.items.capacity ≡ l.fn.items.capacity;
 }
 
-abbrev pub decreases-loop : goal.decreases-loop
-decreases-loop l = length l.others.items
+abbrev pub decreases-loop-done : goal.decreases-loop-done
+decreases-loop-done l = length l.others.items

@@ -9,8 +9,8 @@ use Rattle.event_log.proofs.parting.settle.Goals as goal
 pub loop-settled-init : goal.loop-settled-init
 loop-settled-init c = record { settled = none-settled c.args.from c.args.to c.args.items.now.items; long = refl; capacity = refl }
 
-pub turn_last-requires-clause-within : goal.turn_last-requires-clause-within
-turn_last-requires-clause-within c =
+pub turn_last-requires : goal.turn_last-requires
+turn_last-requires c =
     let same = c.loop-settled.invariant.long in
     let counted = c.len-len.ensures in
     omega arith

@@ -22,6 +22,13 @@ turn_past-turned-requires-clause-new c = ap (λ (k : Key). times placed_key k (p
 pub put_first-requires-clause-within : goal.put_first-requires-clause-within
 put_first-requires-clause-within c = c.turn_past-turned.ensures.turned.within
 
+pub overflow_add-result : goal.overflow_add-result
+overflow_add-result c =
+    let within = c.turn_past-turned.ensures.turned.within in
+    let more = ap length c.put_first.ensures.items.1 in
+    let few = c.put_first.ensures.few in
+    omega arith
+
 pub returns-clause-turned : goal.returns-clause-turned
 returns-clause-turned c =
     let n = c.turn_past-turned.result in

@@ -8,4 +8,4 @@ use Rattle.event_log.proofs.carried.Carried.new.Goals as goal
 pub invariant_of-result : goal.invariant_of-result
 invariant_of-result c =
     let P : List Item → Type 0 = λ is. Ascends item_key is × AreHeld is × MayFail false is in
-    subst P (sym c.new.ensures.items) none-carried
+    subst P (sym c.new.ensures) none-carried

@@ -1,5 +1,6 @@
 -- It lies in a slot that was free.
-use Rattle.std.proofs.Common.{◌≡◌, ◌∷◌, sym, ap, ◌∙◌, subst}
+use Rattle.std.proofs.Common.{◌≡◌, ◌∷◌, sym, ap, ◌∙◌, subst, arith}
+use Rattle.std.proofs.lemmas.List.{length-map}
 use Rattle.event_log.specs.declared.entry.Entry.{Entry}
 use Rattle.event_log.specs.Items.{ItemsView}
 use Rattle.event_log.specs.Slots.{AreInSlots, item_in, items_in}
@@ -25,3 +26,9 @@ returns-clause-items c =
     let stay : items_in new es ≡ items_in slots es = put-stay slots new e c.args.done es c.self.invariant put.was_vacant put.updates put.len in
     let own : item_in new e ≡ record { done = c.args.done; place = c.args.place; held = c.args.held } = put-item slots new e c.args.done es c.self.invariant put.was_vacant put.updates put.len in
     ap (items_in new) c.push_front_reserved.ensures.items ∙ (λ i. own i ∷ stay i) ∙ ap (λ (v : ItemsView). (record { done = c.args.done; place = c.args.place; held = c.args.held }) ∷ v.items) c.self.view_is
+
+pub returns-clause-few : goal.returns-clause-few
+returns-clause-few c =
+    let now = c.push_front_reserved.new.self in
+    let long = length-map now.items (item_in c.insert_reserved-slot.new.self) in
+    omega (arith, now.ok.0, now.small)
