@@ -1,14 +1,14 @@
 -- Entries whose events lie in slots.
-use Rattle.std.proofs.Common.{◌≡◌, ◌≢◌, ℕ, zero, suc, ◌+◌, ◌<◌, ◌≤◌, cond, count_by, is_some, List, [], ◌∷◌, ◌++◌, length, map, take, drop, get_or, set, refl, sym, ap, ◌∙◌, subst, inl, inr, arith, length-append, eq-eqb}
+use Rattle.std.proofs.Common.{◌≡◌, ◌≢◌, ℕ, zero, suc, ◌+◌, ◌<◌, ◌≤◌, cond, count_by, is_some, List, [], ◌∷◌, ◌++◌, length, take, drop, get_or, set, refl, sym, ap, ◌∙◌, subst, inl, inr, arith, length-append, eq-eqb}
 use Rattle.std.proofs.lemmas.Bool.{cases_eq, eqb-true, false_from_ne_true}
-use Rattle.std.proofs.lemmas.List.{length-set, map-append}
+use Rattle.std.proofs.lemmas.List.{length-set}
 use Rattle.std.specs.Prelude.{Option, Some, None, ◌==◌}
 use Rattle.std.specs.List.{AllByRecursion as Each}
 use Rattle.key_order.proofs.EachLemmas.{Each-append, Each-back, Each-front}
 use Rattle.object_log.specs.Dones.{Done}
 use Rattle.slab.specs.Slab.{Slab, Updates, get, slab_len}
 use Rattle.event_log.specs.declared.entry.Entry.{Entry}
-use Rattle.event_log.specs.Items.{Item, item_key, item_least}
+use Rattle.event_log.specs.Items.{item_least}
 use Rattle.event_log.specs.Slots.{AreInSlots, LiesIn, TellsOf, done_or, entries_of, item_in, items_in}
 
 -- what an entry tells

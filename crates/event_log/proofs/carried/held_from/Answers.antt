@@ -1,6 +1,6 @@
 -- What stands at the place knows it.
 use Rattle.std.proofs.Common.{◌∙◌, arith}
-use Rattle.event_log.proofs.ItemLemmas.{held-at, none-held}
+use Rattle.event_log.proofs.ItemLemmas.{held-at}
 use Rattle.event_log.proofs.carried.held_from.Goals as goal
 
 pub returns : goal.returns

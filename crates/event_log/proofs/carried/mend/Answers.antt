@@ -1,6 +1,6 @@
 -- What is mended goes one place towards the front.
-use Rattle.std.proofs.Common.{◌≡◌, ◌-◌, drop, length, min, length-set, sym, ap, ◌∙◌, subst, arith}
-use Rattle.event_log.specs.Items.{AreHeldBut, Item, first_held, item_least, placed}
+use Rattle.std.proofs.Common.{◌≡◌, ◌-◌, length, min, length-set, sym, ap, ◌∙◌, subst, arith}
+use Rattle.event_log.specs.Items.{AreHeldBut, Item, item_least, placed}
 use Rattle.object_log.proofs.CarriedLemmas.{same-read}
 use Rattle.event_log.proofs.ItemLemmas.{mend-ends, mend-goes, mend-stays, placed-set}
 use Rattle.event_log.proofs.carried.mend.Goals as goal

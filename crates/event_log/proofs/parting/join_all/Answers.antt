@@ -1,14 +1,13 @@
 -- The last of the others goes over.
 use Rattle.std.proofs.Common.{◌≡◌, List, [], ◌∷◌, ◌++◌, length, refl, sym, ap, ◌∙◌, subst, arith, length-append, append_assoc}
-use Rattle.std.proofs.lemmas.List.{append-nil, map-append, nil_from_length}
+use Rattle.std.proofs.lemmas.List.{append-nil}
 use Rattle.event_key.specs.Keys.{key_lt}
 use Rattle.key_order.specs.Ascending.{Ascends}
 use Rattle.key_order.specs.Keys.{times}
 use Rattle.object_log.specs.Carrying.{placed_key}
 use Rattle.object_log.specs.Dones.{Done}
 use Rattle.object_log.specs.Weave.{insert, weave}
-use Rattle.object_log.proofs.WeaveLemmas.{insert-fresh, weave-below, weave-last}
-use Rattle.event_log.specs.Items.{Item, item_key, placed, placed_of}
+use Rattle.event_log.specs.Items.{Item, item_key, placed}
 use Rattle.event_log.specs.Turning.{AreAfter, turned_back}
 use Rattle.event_log.proofs.PartFacts.{before-end, joined-start, joins-end, joins-fresh, joins-same}
 use Rattle.event_log.proofs.parting.join_all.Goals as goal

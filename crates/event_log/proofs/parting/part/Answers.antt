@@ -6,7 +6,7 @@ use Rattle.object_log.specs.Dones.{Done}
 use Rattle.object_log.proofs.CarriedLemmas.{same-read}
 use Rattle.object_log.proofs.OwnLemmas.{is_here, is_there}
 use Rattle.event_log.specs.Items.{Item}
-use Rattle.event_log.proofs.PartFacts.{IsParted, none-parted, parted-items, parted-other, parted-own, parted-own_items, parted-room}
+use Rattle.event_log.proofs.PartFacts.{IsParted, none-parted, parted-items, parted-other, parted-own}
 use Rattle.event_log.proofs.SlotLemmas.{split-entry}
 use Rattle.event_log.proofs.parting.part.Goals.{then-at-object, else-at-object}
 use Rattle.event_log.proofs.parting.part.Goals as goal

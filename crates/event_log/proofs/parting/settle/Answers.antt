@@ -2,7 +2,7 @@
 use Rattle.std.proofs.Common.{◌≡◌, ◌-◌, List, [], ◌∷◌, ◌++◌, length, get_or, refl, ap, ◌∙◌, subst, arith, length-append}
 use Rattle.event_log.specs.Items.{Item}
 use Rattle.event_log.specs.Moves.{place_after}
-use Rattle.event_log.proofs.PartFacts.{none-settled, settled-all, settled-more, settled-within}
+use Rattle.event_log.proofs.PartFacts.{none-settled, settled-all, settled-more}
 use Rattle.event_log.proofs.TurnLemmas.{last-read}
 use Rattle.event_log.proofs.parting.settle.Goals as goal
 

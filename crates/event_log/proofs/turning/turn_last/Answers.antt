@@ -1,5 +1,5 @@
 -- The last one stands before all, and holds the least of what it and those behind it send.
-use Rattle.std.proofs.Common.{◌≡◌, ◌≤◌, min, List, [], ◌∷◌, ◌++◌, length, take, get_or, set, refl, sym, ap, ◌∙◌, arith, length-append}
+use Rattle.std.proofs.Common.{◌≡◌, ◌≤◌, min, List, [], ◌∷◌, length, take, get_or, set, sym, ap, ◌∙◌, arith, length-append}
 use Rattle.std.proofs.lemmas.List.{take-append-le}
 use Rattle.event_log.specs.Items.{Item, first_held, item_least}
 use Rattle.event_log.proofs.turning.turn_last.Goals as goal

@@ -1,6 +1,6 @@
 -- What has found its place is turned to the back, and the least stamps before it are mended.
 use Rattle.std.proofs.Common.{◌-◌, List, length, map, sym, ap, ◌∙◌, subst, arith, length-drop}
-use Rattle.std.proofs.lemmas.List.{append-nil, length-map}
+use Rattle.std.proofs.lemmas.List.{length-map}
 use Rattle.key_order.specs.Ascending.{Ascends}
 use Rattle.key_order.proofs.AscendingLemmas.{Ascends-map, Ascends-mapped}
 use Rattle.object_log.specs.Carrying.{Placed, placed_key}

@@ -1,8 +1,7 @@
 -- All is carried, and comes to the list of the object that comes.
-use Rattle.std.proofs.Common.{◌≡◌, ◌+◌, ◌≤◌, ℕ, Some, List, [], ◌∷◌, length, sym, ap, ◌∙◌, subst, arith}
+use Rattle.std.proofs.Common.{ap, ◌∙◌, arith}
 use Rattle.std.proofs.lemmas.List.{length-map}
 use Rattle.std.specs.Vec.{vec_capacity}
-use Rattle.object_log.specs.Whole.{object_view}
 use Rattle.event_log.specs.Items.{placed, placed_of}
 use Rattle.event_log.specs.Moves.{MovedLogView}
 use Rattle.event_log.specs.NodeLogs.{NodeLogView}

@@ -1,7 +1,6 @@
 -- All is carried, and parts.
-use Rattle.std.proofs.Common.{◌≡◌, ◌≤◌, ◌-◌, ℕ, Some, List, [], ◌∷◌, length, sym, ap, ◌∙◌, subst, arith}
+use Rattle.std.proofs.Common.{◌≤◌, ◌-◌, Some, List, length, sym, ap, ◌∙◌, subst, arith}
 use Rattle.object_log.specs.Carrying.{Placed}
-use Rattle.object_log.specs.Whole.{IsEventLog}
 use Rattle.object_log.proofs.EventLogLemmas.{placed-within}
 use Rattle.event_log.specs.Items.{placed}
 use Rattle.event_log.specs.Moves.{MovedLogView, own_items}
