@@ -29,8 +29,7 @@ returns-clause-some c =
     let gone = c.remove.ensures in
     let popped : es ≡ xs ++ e ∷ [] = c.in_ok-entry.ensures.items in
     let h = subst (AreInSlots slots) popped c.self.invariant in
-    let stay : items_in new xs ≡ items_in slots xs = ap (items_in new) (sym (append-nil xs)) ∙ left-stay slots new xs [] e h gone.updates gone.len ∙ ap (items_in slots) (append-nil xs) in
-    (
+    let stay : items_in new xs ≡ items_in slots xs = ap (items_in new) (sym (append-nil xs)) ∙ left-stay slots new xs [] e h gone.updates gone.len ∙ ap (items_in slots) (append-nil xs) in (
       item_in slots e,
       sym (ap (λ (v : ItemsView). v.items) c.self.view_is) ∙ ap (items_in slots) popped ∙ map-append (item_in slots) xs (e ∷ []) ∙ ap (λ (is : List Item). is ++ item_in slots e ∷ []) (sym stay),
       sym (ap (done_or e.key) gone.value),

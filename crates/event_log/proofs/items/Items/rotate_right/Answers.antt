@@ -20,8 +20,7 @@ returns-clause-items c =
     let es = c.self.inside.entries.items in
     let n = deque_len c.self.inside.entries - 1 in
     let long : n + 1 ≡ length es = omega (arith, c.requires, ap (λ (v : ItemsView). length v.items) c.self.view_is, length-map es (item_in slots)) in
-    let last = drop-last n es long in
-    (
+    let last = drop-last n es long in (
       items_in slots (take n es),
       item_in slots last.0,
       sym (ap (λ (v : ItemsView). v.items) c.self.view_is) ∙ ap (items_in slots) (sym (take-append-drop n es)) ∙ map-append (item_in slots) (take n es) (drop n es) ∙ ap (λ (fs : List Entry). items_in slots (take n es) ++ items_in slots fs) last.1,

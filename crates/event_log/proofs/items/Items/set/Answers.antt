@@ -23,8 +23,7 @@ returns-clause-items c =
     let e : Entry = c.index_mut-entry.result.now in
     let f : Entry = record { key = e.key; place = c.args.place; slot = e.slot; least = e.least; held = c.args.held } in
     let within : c.args.index < length es = omega (arith, c.requires, ap (λ (v : ItemsView). length v.items) c.self.view_is, length-map es (item_in slots)) in
-    let P : ItemsView → Type 0 = λ v. item_in slots e ≡ get_or v.items c.args.index (item_in slots e) in
-    (
+    let P : ItemsView → Type 0 = λ v. item_in slots e ≡ get_or v.items c.args.index (item_in slots e) in (
       item_in slots e,
       subst P c.self.view_is (item-at slots c.args.index es e within c.index_mut-entry.ensures.value),
       set-items slots e f refl refl refl c.args.index es ∙ ap (λ (v : ItemsView). set v.items c.args.index (item_in slots f)) c.self.view_is,

@@ -12,8 +12,7 @@ returns c =
     let es = c.self.inside.entries.items in
     let e = c.index.result.now in
     let within : c.args.index < length es = omega (arith, c.requires, ap (λ (v : ItemsView). length v.items) c.self.view_is, length-map es (item_in slots)) in
-    let P : ItemsView → Type 0 = λ v. item_in slots e ≡ get_or v.items c.args.index (item_in slots e) in
-    (
+    let P : ItemsView → Type 0 = λ v. item_in slots e ≡ get_or v.items c.args.index (item_in slots e) in (
       item_in slots e,
       subst P c.self.view_is (item-at slots c.args.index es e within c.index.ensures),
       c.verdict.ensures ∙ ap (λ o. (done_or e.key o).verdict) (sym c.index-2.ensures),
