@@ -17,8 +17,7 @@ use Rattle.object_log.specs.EventLogs.{EventLogView, dones_at, is_of, stays, sta
 use Rattle.object_log.specs.Logs.{events_of, undone}
 use Rattle.object_log.specs.Parts.{from_key}
 use Rattle.object_log.specs.Whole.{dones_in}
-use Rattle.event_log.specs.declared.item.Item.{Item}
-use Rattle.event_log.specs.Items.{item_key, placed}
+use Rattle.event_log.specs.Items.{Item, item_key, placed}
 use Rattle.event_log.specs.Latest.{AreBounded, bound_of}
 use Rattle.event_log.specs.Processing.{merged, placed_all}
 use Rattle.event_log.proofs.TurnLemmas.{each-placed, ends}

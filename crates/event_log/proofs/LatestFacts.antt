@@ -8,8 +8,7 @@ use Rattle.object_log.specs.Carrying.{Placed, placed_key}
 use Rattle.object_log.specs.EventLogs.{is_of}
 use Rattle.object_log.specs.Weave.{insert, weave}
 use Rattle.object_log.proofs.WeaveLemmas.{Each-insert}
-use Rattle.event_log.specs.declared.item.Item.{Item}
-use Rattle.event_log.specs.Items.{item_key, placed, placed_of}
+use Rattle.event_log.specs.Items.{Item, item_key, placed, placed_of}
 use Rattle.event_log.specs.Latest.{AreBounded, bound_of}
 use Rattle.event_log.specs.Moves.{other_items, shifted}
 use Rattle.event_log.proofs.WovenFacts.{Each-weave}

@@ -20,6 +20,7 @@ pub mod PutFacts
 pub mod ReadFacts
 pub mod ReadingFacts
 pub mod SetFacts
+pub mod SlotLemmas
 pub mod SoundFacts
 pub mod TakesFacts
 pub mod TurnLemmas

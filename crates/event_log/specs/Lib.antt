@@ -10,4 +10,5 @@ pub mod Outboxes
 pub mod Popping
 pub mod Processing
 pub mod Reading
+pub mod Slots
 pub mod Turning

@@ -3,7 +3,7 @@ ghost use Rattle.std.specs.Prelude.{◌≤◌, ◌≡◌, ℕ};
 ghost use Rattle.event_log.specs.Items.{placed};
 ghost use Rattle.event_log.specs.Latest.{AreBounded, bound_of};
 
-use crate::item::Items;
+use crate::items::Items;
 use event_key::{Key, NO_STAMP};
 use model_core::OutOfMemory;
 use std::alloc::Global;
@@ -71,7 +71,7 @@ impl Latest {
         ensures kept { (object : ℕ) → bound_of self.old object ≤ bound_of self.new object }
     {
         for place in 0..items.len() {
-            self.raise(&items[place].key);
+            self.raise(&items.at(place).key);
         }
     }
 }

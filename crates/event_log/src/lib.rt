@@ -5,7 +5,8 @@
 
 mod carried;
 mod committing;
-mod item;
+mod entry;
+mod items;
 mod kept;
 mod latest;
 mod log;

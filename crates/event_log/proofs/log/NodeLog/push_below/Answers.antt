@@ -1,8 +1,7 @@
 -- The keys of the items are those of the events.
-use Rattle.std.proofs.Common.{◌≡◌, ◌++◌, List, map, sym, ap, ◌∙◌, subst, arith}
+use Rattle.std.proofs.Common.{◌≡◌, ◌++◌, List, ap, ◌∙◌, subst}
 use Rattle.std.specs.Prelude.{OnOk, filter, nat_lt}
 use Rattle.event_key.specs.declared.key.Key.{Key}
-use Rattle.object_log.specs.Carrying.{placed_key}
 use Rattle.object_log.specs.Logs.{keys_of}
 use Rattle.event_log.specs.NodeLogs.{NodeLogView}
 use Rattle.event_log.proofs.FirstFacts.{keys-placed}

@@ -1,9 +1,7 @@
 -- All is carried, and comes to the list of the object that comes.
-use Rattle.std.proofs.Common.{◌≡◌, ◌+◌, ◌≤◌, ℕ, Some, List, [], ◌∷◌, length, sym, ap, ◌∙◌, subst, arith}
+use Rattle.std.proofs.Common.{ap, ◌∙◌, subst, arith}
 use Rattle.std.proofs.lemmas.List.{length-map}
 use Rattle.std.specs.Vec.{vec_capacity}
-use Rattle.std.specs.VecDeque.{deque_capacity}
-use Rattle.object_log.specs.Whole.{object_view}
 use Rattle.event_log.specs.Items.{placed, placed_of}
 use Rattle.event_log.specs.Moves.{MovedLogView}
 use Rattle.event_log.specs.NodeLogs.{NodeLogView}
@@ -16,16 +14,16 @@ pub absorb-requires-clause-ordered : goal.absorb-requires-clause-ordered
 absorb-requires-clause-ordered c =
     let s = c.self.inside in
     let p = c.into_parts-object.result in
-    put-ordered s.objects.items s.events.items c.carry_all.new.self.items (placed p.1.items) c.args.self.now.log p.0 c.len-place.result (deque_capacity p.1) (vec_capacity p.2) c.args.moved
+    put-ordered s.objects.items s.events.items c.carry_all.new.self.items (placed p.1.items) c.args.self.now.log p.0 c.len-place.result p.1.capacity (vec_capacity p.2) c.args.moved
     (ap (λ (v : NodeLogView). v.log) c.self.view_is) c.self.invariant.0 c.into_parts-object.ensures.log c.into_parts-object.ensures.view c.requires.away c.carry_all.ensures.same.items (c.len-place.ensures ∙ s.objects.ok.0)
 
 pub absorb-requires-clause-room : goal.absorb-requires-clause-room
 absorb-requires-clause-room c =
     let s = c.self.inside in
     let p = c.into_parts-object.result in
-    let one = old-long s.objects.items s.events.items c.carry_all.new.self.items (placed p.1.items) c.args.self.now.log p.0 c.len-place.result (deque_capacity p.1) (vec_capacity p.2) c.args.moved
+    let one = old-long s.objects.items s.events.items c.carry_all.new.self.items (placed p.1.items) c.args.self.now.log p.0 c.len-place.result p.1.capacity (vec_capacity p.2) c.args.moved
     (ap (λ (v : NodeLogView). v.log) c.self.view_is) c.self.invariant.0 c.into_parts-object.ensures.log c.into_parts-object.ensures.view c.requires.away c.carry_all.ensures.same.items (c.len-place.ensures ∙ s.objects.ok.0) in
-    let two = own-long s.objects.items s.events.items c.carry_all.new.self.items (placed p.1.items) c.args.self.now.log p.0 c.len-place.result (deque_capacity p.1) (vec_capacity p.2) c.args.moved
+    let two = own-long s.objects.items s.events.items c.carry_all.new.self.items (placed p.1.items) c.args.self.now.log p.0 c.len-place.result p.1.capacity (vec_capacity p.2) c.args.moved
     (ap (λ (v : NodeLogView). v.log) c.self.view_is) c.self.invariant.0 c.into_parts-object.ensures.log c.into_parts-object.ensures.view c.requires.away c.carry_all.ensures.same.items (c.len-place.ensures ∙ s.objects.ok.0) in
     let three = length-map p.1.items placed_of in
     let room = c.requires.room in
@@ -36,7 +34,7 @@ pub invariant_of-self : goal.invariant_of-self
 invariant_of-self c =
     let s = c.self.inside in
     let p = c.into_parts-object.result in
-    ((put-all s.objects.items s.events.items c.carry_all.new.self.items (placed p.1.items) c.args.self.now.log p.0 c.len-place.result (deque_capacity p.1) (vec_capacity p.2) c.args.moved
+    ((put-all s.objects.items s.events.items c.carry_all.new.self.items (placed p.1.items) c.args.self.now.log p.0 c.len-place.result p.1.capacity (vec_capacity p.2) c.args.moved
     (ap (λ (v : NodeLogView). v.log) c.self.view_is) c.self.invariant.0 c.into_parts-object.ensures.log c.into_parts-object.ensures.view c.requires.away c.carry_all.ensures.same.items (c.len-place.ensures ∙ s.objects.ok.0)
     c.push_object.new.objects.items c.absorb.new.self.items c.requires.few c.push_object.ensures c.absorb.ensures.items).log,
     subst (AreBounded c.raise_all.new.self) (sym c.absorb.ensures.items)
@@ -47,7 +45,7 @@ pub returns-clause-slot : goal.returns-clause-slot
 returns-clause-slot c =
     let s = c.self.inside in
     let p = c.into_parts-object.result in
-    (put-all s.objects.items s.events.items c.carry_all.new.self.items (placed p.1.items) c.args.self.now.log p.0 c.len-place.result (deque_capacity p.1) (vec_capacity p.2) c.args.moved
+    (put-all s.objects.items s.events.items c.carry_all.new.self.items (placed p.1.items) c.args.self.now.log p.0 c.len-place.result p.1.capacity (vec_capacity p.2) c.args.moved
     (ap (λ (v : NodeLogView). v.log) c.self.view_is) c.self.invariant.0 c.into_parts-object.ensures.log c.into_parts-object.ensures.view c.requires.away c.carry_all.ensures.same.items (c.len-place.ensures ∙ s.objects.ok.0)
     c.push_object.new.objects.items c.absorb.new.self.items c.requires.few c.push_object.ensures c.absorb.ensures.items).slot
 
@@ -55,7 +53,7 @@ pub returns-clause-objects : goal.returns-clause-objects
 returns-clause-objects c =
     let s = c.self.inside in
     let p = c.into_parts-object.result in
-    (put-all s.objects.items s.events.items c.carry_all.new.self.items (placed p.1.items) c.args.self.now.log p.0 c.len-place.result (deque_capacity p.1) (vec_capacity p.2) c.args.moved
+    (put-all s.objects.items s.events.items c.carry_all.new.self.items (placed p.1.items) c.args.self.now.log p.0 c.len-place.result p.1.capacity (vec_capacity p.2) c.args.moved
     (ap (λ (v : NodeLogView). v.log) c.self.view_is) c.self.invariant.0 c.into_parts-object.ensures.log c.into_parts-object.ensures.view c.requires.away c.carry_all.ensures.same.items (c.len-place.ensures ∙ s.objects.ok.0)
     c.push_object.new.objects.items c.absorb.new.self.items c.requires.few c.push_object.ensures c.absorb.ensures.items).views
 
@@ -63,7 +61,7 @@ pub returns-clause-others : goal.returns-clause-others
 returns-clause-others c =
     let s = c.self.inside in
     let p = c.into_parts-object.result in
-    (put-all s.objects.items s.events.items c.carry_all.new.self.items (placed p.1.items) c.args.self.now.log p.0 c.len-place.result (deque_capacity p.1) (vec_capacity p.2) c.args.moved
+    (put-all s.objects.items s.events.items c.carry_all.new.self.items (placed p.1.items) c.args.self.now.log p.0 c.len-place.result p.1.capacity (vec_capacity p.2) c.args.moved
     (ap (λ (v : NodeLogView). v.log) c.self.view_is) c.self.invariant.0 c.into_parts-object.ensures.log c.into_parts-object.ensures.view c.requires.away c.carry_all.ensures.same.items (c.len-place.ensures ∙ s.objects.ok.0)
     c.push_object.new.objects.items c.absorb.new.self.items c.requires.few c.push_object.ensures c.absorb.ensures.items).others
 
@@ -71,6 +69,6 @@ pub returns-clause-count : goal.returns-clause-count
 returns-clause-count c =
     let s = c.self.inside in
     let p = c.into_parts-object.result in
-    (put-all s.objects.items s.events.items c.carry_all.new.self.items (placed p.1.items) c.args.self.now.log p.0 c.len-place.result (deque_capacity p.1) (vec_capacity p.2) c.args.moved
+    (put-all s.objects.items s.events.items c.carry_all.new.self.items (placed p.1.items) c.args.self.now.log p.0 c.len-place.result p.1.capacity (vec_capacity p.2) c.args.moved
     (ap (λ (v : NodeLogView). v.log) c.self.view_is) c.self.invariant.0 c.into_parts-object.ensures.log c.into_parts-object.ensures.view c.requires.away c.carry_all.ensures.same.items (c.len-place.ensures ∙ s.objects.ok.0)
     c.push_object.new.objects.items c.absorb.new.self.items c.requires.few c.push_object.ensures c.absorb.ensures.items).count

@@ -1,5 +1,5 @@
 -- The object is replaced.
-use Rattle.std.proofs.Common.{◌≡◌, Some, List, [], length, map, sym, ap, ◌∙◌, subst, arith}
+use Rattle.std.proofs.Common.{Some, map, sym, ap, ◌∙◌, arith}
 use Rattle.std.specs.Prelude.{slice_set}
 use Rattle.object_log.specs.EventLogs.{EventLogView, ObjectView, dones_at, state_in}
 use Rattle.object_log.specs.Objects.{KeptObject, state_of}

@@ -1,8 +1,6 @@
 -- All is carried, and parts.
-use Rattle.std.proofs.Common.{◌≡◌, ◌≤◌, ◌-◌, ℕ, Some, List, [], ◌∷◌, length, sym, ap, ◌∙◌, subst, arith}
-use Rattle.std.specs.VecDeque.{deque_capacity}
+use Rattle.std.proofs.Common.{◌≤◌, ◌-◌, Some, List, length, sym, ap, ◌∙◌, subst, arith}
 use Rattle.object_log.specs.Carrying.{Placed}
-use Rattle.object_log.specs.Whole.{IsEventLog}
 use Rattle.object_log.proofs.EventLogLemmas.{placed-within}
 use Rattle.event_log.specs.Items.{placed}
 use Rattle.event_log.specs.Moves.{MovedLogView, own_items}
@@ -19,7 +17,7 @@ overflow_sub-last c =
 
 pub part-requires-clause-room : goal.part-requires-clause-room
 part-requires-clause-room c =
-    let R : List Placed → Type 0 = λ items. length (own_items c.args.object items) ≤ deque_capacity c.into_lists-objects.result.1 in
+    let R : List Placed → Type 0 = λ items. length (own_items c.args.object items) ≤ c.into_lists-objects.result.1.capacity in
     let room = c.requires.room in
     let same = own-room c.self.inside.objects.items c.self.inside.events.items c.args.self.now.log c.args.object (ap (λ (v : NodeLogView). v.log) c.self.view_is) in
     subst R (sym c.carry_all.ensures.same.items) (omega (arith, c.into_lists-objects.ensures.events))
