@@ -1,9 +1,9 @@
 -- Where the last events come before a key, all do, and nothing is undone from there on.
-use Rattle.std.proofs.Common.{◌≡◌, ℕ, ◌+◌, Bool, true, false, not, Some, List, [], ◌∷◌, length, get_or, refl, sym, ap, ◌∙◌, subst}
+use Rattle.std.proofs.Common.{◌≡◌, ℕ, ◌+◌, ◌<◌, ◌≤◌, Bool, true, false, not, cond, eqb-true, Some, List, [], ◌∷◌, length, get_or, refl, sym, ap, ◌∙◌, subst, arith}
 use Rattle.std.specs.List.{AllByRecursion as Each}
 use Rattle.event_key.specs.declared.key.Key.{Key}
 use Rattle.event_key.specs.Keys.{key_lt}
-use Rattle.event_key.proofs.Order.{key_lt-trans}
+use Rattle.event_key.proofs.Order.{key_lt-stamp, key_lt-trans}
 use Rattle.key_order.specs.Ascending.{Ascends}
 use Rattle.key_order.proofs.AscendingLemmas.{Ascends-before}
 use Rattle.key_order.proofs.EachLemmas.{Each-append, Each-filter, Each-map}
@@ -17,8 +17,8 @@ use Rattle.object_log.specs.EventLogs.{EventLogView, dones_at, is_of, stays, sta
 use Rattle.object_log.specs.Logs.{events_of, undone}
 use Rattle.object_log.specs.Parts.{from_key}
 use Rattle.object_log.specs.Whole.{dones_in}
-use Rattle.event_log.specs.declared.item.Item.{Item}
-use Rattle.event_log.specs.Items.{item_key, placed}
+use Rattle.event_log.specs.Items.{Item, item_key, placed}
+use Rattle.event_log.specs.Latest.{AreBounded, bound_of}
 use Rattle.event_log.specs.Processing.{merged, placed_all}
 use Rattle.event_log.proofs.TurnLemmas.{each-placed, ends}
 use Rattle.event_log.proofs.WovenFacts.{Each-weave}
@@ -48,27 +48,53 @@ pub dones-before : (key : Key) (items : List Placed) → Each (λ (p : Placed). 
 dones-before key [] all = tt
 dones-before key (p ∷ ps) all = (all.0, dones-before key ps all.1)
 
-not-and : (b : Bool) → not (b && false) ≡ true
-not-and true = refl
-not-and false = refl
+-- nothing goes back to a key after all of the object's
+module _ (object : ℕ) (key : Key) (log : EventLogView) (into : List Event) (was : ObjectState) (here : state_in log.objects object ≡ Some was) (empty : into ≡ []) where
+  abbrev Comes : Done → Type 0
+  Comes d = is_of object d ≡ true → key_lt d.event.key key ≡ true
 
--- nothing goes back to a key after all
-pub none-back : (object : ℕ) (key : Key) (log : EventLogView) (into : List Event) (was : ObjectState) → state_in log.objects object ≡ Some was → Each (λ (d : Done). key_lt d.event.key key ≡ true) log.done → into ≡ [] → HasGoneBack object key log log into
-unfolding undone
-none-back object key log into was here all empty =
-    let P : Done → Type 0 = λ d. key_lt d.event.key key ≡ true in
-    let none : from_key key (dones_at object log.done) ≡ [] =
-    filter-none (λ (d : Done). not (key_lt d.event.key key)) (dones_at object log.done)
-    (Each-map P (λ (d : Done). not (key_lt d.event.key key) ≡ false) (dones_at object log.done) (λ d lt. ap not lt) (Each-filter P (is_of object) log.done all)) in
-    record {
-      was = was;
-      done = sym (filter-all (stays object key) log.done (Each-map P (λ (d : Done). stays object key d ≡ true) log.done (λ d lt. ap (λ b. not (is_of object d && not b)) lt ∙ not-and (is_of object d)) all));
-      changes = record {
-        before = here;
-        after = here ∙ ap (λ (ds : List Done). Some (undone was ds)) (sym none);
-        states = λ other apart. refl;
-        numbers = refl;
-        dones = λ other apart. refl;
-      };
-      events = empty ∙ ap events_of (sym none);
-    }
+  pub none-back : Each Comes log.done → HasGoneBack object key log log into
+  unfolding undone
+  none-back all =
+      let none : from_key key (dones_at object log.done) ≡ [] = filter-none (λ (d : Done). not (key_lt d.event.key key)) (dones_at object log.done) (own log.done all) in
+      record {
+        was = was;
+        done = sym (filter-all (stays object key) log.done (Each-map Comes (λ (d : Done). stays object key d ≡ true) log.done (λ d comes. stay d (is_of object d) refl comes) all));
+        changes = record {
+          before = here;
+          after = here ∙ ap (λ (ds : List Done). Some (undone was ds)) (sym none);
+          states = λ other apart. refl;
+          numbers = refl;
+          dones = λ other apart. refl;
+        };
+        events = empty ∙ ap events_of (sym none);
+      }
+    where
+      stay : (d : Done) (b : Bool) → is_of object d ≡ b → Comes d → not (b && not (key_lt d.event.key key)) ≡ true
+      stay d true is comes = ap (λ c. not (not c)) (comes is)
+      stay d false is comes = refl
+
+      own : (ds : List Done) → Each Comes ds → Each (λ (d : Done). not (key_lt d.event.key key) ≡ false) (dones_at object ds)
+      own [] all = tt
+      own (d ∷ ds) all = by_test (is_of object d) refl (own ds all.1)
+        where
+          by_test : (b : Bool) → is_of object d ≡ b → Each (λ (x : Done). not (key_lt x.event.key key) ≡ false) (dones_at object ds) → Each (λ (x : Done). not (key_lt x.event.key key) ≡ false) (cond b (d ∷ dones_at object ds) (dones_at object ds))
+          by_test true is more = (ap not (all.0 is), more)
+          by_test false is more = more
+
+-- so it is where all come before the key
+pub all-comes : (object : ℕ) (key : Key) (ds : List Done) → Each (λ (d : Done). key_lt d.event.key key ≡ true) ds → Each (λ (d : Done). is_of object d ≡ true → key_lt d.event.key key ≡ true) ds
+all-comes object key [] all = tt
+all-comes object key (d ∷ ds) all = ((λ is. all.0), all-comes object key ds all.1)
+
+-- and where the bound of the object does
+pub bounded-comes : (bounds : List ℕ) (object : ℕ) (key : Key) (ps : List Placed) → bound_of bounds object < key.stamp → AreBounded bounds ps → Each (λ (d : Done). is_of object d ≡ true → key_lt d.event.key key ≡ true) (dones_in ps)
+bounded-comes bounds object key [] low all = tt
+bounded-comes bounds object key (p ∷ ps) low all = (first, bounded-comes bounds object key ps low all.1)
+  where
+    first : is_of object p.done ≡ true → key_lt (placed_key p) key ≡ true
+    first is =
+        let same : (placed_key p).dest ≡ object = eqb-true (placed_key p).dest object is in
+        let S : ℕ → Type 0 = λ n. (placed_key p).stamp ≤ bound_of bounds n in
+        let le : (placed_key p).stamp ≤ bound_of bounds object = subst S same all.0 in
+        key_lt-stamp (placed_key p) key (omega arith)

@@ -16,9 +16,8 @@ use Rattle.object_log.specs.Logs.{fault_of, fault_or}
 use Rattle.object_log.specs.Weave.{insert, weave}
 use Rattle.object_log.specs.Whole.{dones_in}
 use Rattle.object_log.proofs.WeaveLemmas.{insert-without}
-use Rattle.event_log.specs.declared.item.Item.{Item}
 use Rattle.event_log.specs.Faults.{lesser_fault}
-use Rattle.event_log.specs.Items.{placed}
+use Rattle.event_log.specs.Items.{Item, placed}
 use Rattle.event_log.specs.Processing.{merged, placed_all}
 use Rattle.event_log.proofs.ProcessedFacts.{placed-dones}
 

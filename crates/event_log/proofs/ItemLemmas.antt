@@ -1,5 +1,6 @@
 -- Carried events by their places, and the least stamps that they hold.
 use Rattle.std.proofs.Common.{◌≡◌, ℕ, zero, suc, ◌-◌, ◌<◌, ◌≤◌, false, refl, List, [], ◌∷◌, length, map, drop, get_or, set, sym, ap, ◌∙◌, subst, arith}
+use Rattle.std.proofs.lemmas.List.{drop_all}
 use Rattle.std.specs.List.{remove}
 use Rattle.event_key.specs.declared.stamp.TheConstants.{NO_STAMP}
 use Rattle.key_order.specs.Ascending.{Ascends}
@@ -7,8 +8,7 @@ use Rattle.key_order.specs.Stamps.{least_stamp}
 use Rattle.object_log.specs.Carrying.{Placed}
 use Rattle.object_log.specs.Logs.{fault_of, held_of}
 use Rattle.object_log.proofs.HeldLemmas.{least-join, least-none}
-use Rattle.event_log.specs.declared.item.Item.{Item}
-use Rattle.event_log.specs.Items.{AreHeld, AreHeldBut, IsHeld, IsHeldBut, MayFail, first_held, item_key, placed, placed_of}
+use Rattle.event_log.specs.Items.{AreHeld, AreHeldBut, IsHeld, IsHeldBut, Item, MayFail, first_held, item_key, placed, placed_of}
 
 -- what the events hold
 pub held-is : (es : List Item) → AreHeld es → first_held es ≡ least_stamp NO_STAMP (held_of (map (λ (p : Placed). p.done) (placed es)))
@@ -17,9 +17,17 @@ held-is [] held = sym least-none
 held-is (e ∷ es) held =
     let more = held-is es held.1 in
     let is = held.0 in
-    let own = e.least_is in
     let join = least-join e.done.sends (held_of (map (λ (p : Placed). p.done) (placed es))) in
     omega arith
+
+-- what stands at a place holds what is held from there on
+pub held-at : (n : ℕ) (es : List Item) (x : Item) → n < length es → x ≡ get_or es n x → x.held ≡ first_held (drop n es)
+held-at n [] x within at = absurd (omega arith)
+held-at zero (e ∷ es) x within at = ap (λ (i : Item). i.held) at
+held-at (suc n) (e ∷ es) x within at = held-at n es x (omega arith) at
+
+pub none-held : (n : ℕ) (es : List Item) → length es ≤ n → NO_STAMP ≡ first_held (drop n es)
+none-held n es past = ap first_held (sym (drop_all n es past))
 
 -- an item less
 pub but-removed : (n : ℕ) (es : List Item) → AreHeld es → AreHeldBut n (remove es n)

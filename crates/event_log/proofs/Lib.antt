@@ -6,6 +6,7 @@ pub mod FaultFacts
 pub mod FirstFacts
 pub mod ItemLemmas
 pub mod JoinFacts
+pub mod LatestFacts
 pub mod LogFacts
 pub mod MoveFacts
 pub mod NewsFacts
@@ -19,6 +20,7 @@ pub mod PutFacts
 pub mod ReadFacts
 pub mod ReadingFacts
 pub mod SetFacts
+pub mod SlotLemmas
 pub mod SoundFacts
 pub mod TakesFacts
 pub mod TurnLemmas

@@ -1,27 +1,26 @@
 -- An object leaves a log, and comes to another.
-use Rattle.std.proofs.Common.{◌≡◌, ◌≢◌, ℕ, zero, suc, ◌+◌, ◌-◌, ◌<◌, ◌≤◌, ◌^◌, Bool, true, false, not, cond, Some, None, List, [], ◌∷◌, ◌++◌, length, map, take, get_or, eqb, eqb-true, eq-eqb, ltb, ltb-true, refl, sym, ap, ◌∙◌, subst, arith, length-append}
+use Rattle.std.proofs.Common.{◌≡◌, ◌≢◌, ℕ, zero, suc, ◌+◌, ◌-◌, ◌<◌, Bool, true, false, not, cond, Some, None, List, [], ◌∷◌, length, map, take, get_or, eqb-true, ltb, ltb-true, refl, sym, ap, ◌∙◌, subst, arith}
 use Rattle.std.proofs.lemmas.Bool.{eqb-false, false_from_ne_true, ltb-false}
-use Rattle.std.proofs.lemmas.List.{append-nil, length-map, map-append}
+use Rattle.std.proofs.lemmas.List.{length-map}
 use Rattle.std.proofs.lemmas.List.Sorted.{IsPermutation-map, IsPermutation-swap_remove, length_permutation}
 use Rattle.std.proofs.lemmas.Option.{slice_get_within}
 use Rattle.std.specs.Prelude.{filter, slice_get, slice_set, slice_index_or, swap_remove, IsPermutation, ◌==◌}
 use Rattle.std.specs.List.{AllByRecursion as Each}
-use Rattle.key_order.specs.Ascending.{Ascends}
 use Rattle.key_order.proofs.AscendingLemmas.{Ascends-filter, Ascends-map}
-use Rattle.key_order.proofs.EachLemmas.{Each-append, Each-both, Each-filter, Each-map}
-use Rattle.key_order.proofs.FilterLemmas.{filter-all, filter-map, filter-none, filter-passes, length-filter_le}
+use Rattle.key_order.proofs.EachLemmas.{Each-both, Each-filter, Each-map}
+use Rattle.key_order.proofs.FilterLemmas.{filter-all, filter-map, filter-passes, length-filter_le}
 use Rattle.key_order.proofs.MemberLemmas.{Each-permutation}
 use Rattle.object_log.specs.Carrying.{Placed, placed_key}
 use Rattle.object_log.specs.Dones.{Done}
-use Rattle.object_log.specs.EventLogs.{EventLogView, ObjectView, done_key, dones_at, is_of, or_else, slot_in, slot_of, state_in}
+use Rattle.object_log.specs.EventLogs.{EventLogView, ObjectView, dones_at, is_of, or_else, slot_in, slot_of, state_in}
 use Rattle.object_log.specs.Keeping.{Keeps}
 use Rattle.object_log.specs.Objects.{AreApart, IsPlaced, KeptObject, state_of}
 use Rattle.object_log.specs.Whole.{IsEventLog, StandsAt, dones_in, log_view, object_view}
 use Rattle.object_log.proofs.EventLogLemmas.{each-read, placed-dest, placed-state, placed-within, read-get}
-use Rattle.object_log.proofs.OwnLemmas.{is_here, is_there, only-own}
+use Rattle.object_log.proofs.OwnLemmas.{is_here, is_there}
 use Rattle.object_log.proofs.UndoLemmas.{get-map}
 use Rattle.event_log.specs.Moves.{alone, other_items, own_items, place_after, shifted}
-use Rattle.event_log.proofs.PermuteFacts.{apart-first, apart-permutation, none-here, not-here, state-permutation}
+use Rattle.event_log.proofs.PermuteFacts.{apart-first, apart-permutation, not-here, state-permutation}
 
 pub each-of-map : {X Y : Type 0} (f : X → Y) (P : Y → Type 0) (xs : List X) → Each (λ (x : X). P (f x)) xs → Each P (map f xs)
 each-of-map f P [] all = tt

@@ -1,5 +1,5 @@
 -- Carried events while those of an object leave, and while all get new places.
-use Rattle.std.proofs.Common.{◌≡◌, ℕ, zero, suc, ◌+◌, ◌<◌, ◌≤◌, Bool, true, false, not, cond, List, [], ◌∷◌, ◌++◌, length, map, take, refl, sym, ap, ◌∙◌, subst, arith, length-append, append_assoc}
+use Rattle.std.proofs.Common.{◌≡◌, ℕ, ◌+◌, ◌<◌, ◌≤◌, Bool, true, false, not, cond, List, [], ◌∷◌, ◌++◌, length, map, take, refl, sym, ap, ◌∙◌, subst, arith, length-append, append_assoc}
 use Rattle.std.proofs.lemmas.List.{append-nil, length-map, map-append, nil_from_length, take_at}
 use Rattle.std.proofs.lemmas.List.Elements.{filter-append}
 use Rattle.std.specs.Prelude.{filter}
@@ -14,8 +14,7 @@ use Rattle.object_log.specs.Carrying.{Placed, placed_key}
 use Rattle.object_log.specs.EventLogs.{is_of}
 use Rattle.object_log.specs.Weave.{insert, weave}
 use Rattle.object_log.proofs.WeaveLemmas.{insert-fresh, weave-below, weave-last}
-use Rattle.event_log.specs.declared.item.Item.{Item}
-use Rattle.event_log.specs.Items.{AreHeld, IsHeld, item_key, placed, placed_of}
+use Rattle.event_log.specs.Items.{AreHeld, IsHeld, Item, item_key, placed, placed_of}
 use Rattle.event_log.specs.Moves.{alone, other_items, own_items, shifted}
 use Rattle.event_log.specs.Turning.{turned_back}
 use Rattle.event_log.proofs.PopFacts.{same-ends}

@@ -1,9 +1,9 @@
 -- An object comes to a log with all that it has processed.
-use Rattle.std.proofs.Common.{◌≡◌, ◌≢◌, ℕ, zero, suc, ◌+◌, ◌<◌, ◌^◌, Bool, true, false, cond, Some, None, List, [], ◌∷◌, ◌++◌, length, map, eq-eqb, eqb-true, refl, sym, ap, ◌∙◌, subst, arith, length-append}
+use Rattle.std.proofs.Common.{◌≡◌, ◌≢◌, ℕ, zero, suc, ◌+◌, ◌<◌, ◌^◌, false, Some, None, List, [], ◌∷◌, ◌++◌, length, map, eq-eqb, eqb-true, refl, sym, ap, ◌∙◌, subst, arith, length-append}
 use Rattle.std.proofs.lemmas.Bool.{false_from_ne_true}
 use Rattle.std.proofs.lemmas.List.{append-nil, length-map, map-append}
 use Rattle.std.proofs.lemmas.List.Sorted.{length_permutation, sum_by-IsPermutation}
-use Rattle.std.specs.Prelude.{filter, slice_get, ◌==◌}
+use Rattle.std.specs.Prelude.{slice_get, ◌==◌}
 use Rattle.std.specs.List.{AllByRecursion as Each}
 use Rattle.event_key.specs.declared.key.Key.{Key}
 use Rattle.key_order.specs.Ascending.{Ascends}
@@ -17,7 +17,7 @@ use Rattle.object_log.specs.Dones.{Done}
 use Rattle.object_log.specs.EventLogs.{EventLogView, ObjectView, done_key, dones_at, is_of, or_else, slot_in, slot_of, state_in}
 use Rattle.object_log.specs.Keeping.{Keeps, OnlyLastFailed}
 use Rattle.object_log.specs.Objects.{KeptObject, state_of}
-use Rattle.object_log.specs.Weave.{insert, weave}
+use Rattle.object_log.specs.Weave.{weave}
 use Rattle.object_log.specs.Whole.{IsEventLog, StandsAt, dones_in, log_view, object_view}
 use Rattle.object_log.proofs.AddLemmas.{one-more-object}
 use Rattle.object_log.proofs.OwnLemmas.{is_there, only-own, own-ascends}

@@ -1,5 +1,5 @@
 -- An object that has processed nothing is replaced by another with its number.
-use Rattle.std.proofs.Common.{◌≡◌, ℕ, ◌<◌, List, [], length, get_or, sym, ap, ◌∙◌}
+use Rattle.std.proofs.Common.{◌≡◌, ℕ, ◌<◌, List, [], length, get_or, ap, ◌∙◌}
 use Rattle.std.specs.Prelude.{slice_set}
 use Rattle.key_order.proofs.EachLemmas.{Each-map}
 use Rattle.object_log.specs.Carrying.{Placed}

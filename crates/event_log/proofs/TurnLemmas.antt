@@ -15,8 +15,7 @@ use Rattle.object_log.specs.Dones.{Done}
 use Rattle.object_log.specs.EventLogs.{done_key}
 use Rattle.object_log.specs.Weave.{insert}
 use Rattle.object_log.proofs.WeaveLemmas.{insert-ascends, insert-first}
-use Rattle.event_log.specs.declared.item.Item.{Item}
-use Rattle.event_log.specs.Items.{AreHeld, AreHeldBut, CarriedView, IsHeld, IsHeldBut, first_held, item_key, placed, placed_of}
+use Rattle.event_log.specs.Items.{AreHeld, AreHeldBut, CarriedView, IsHeld, IsHeldBut, Item, first_held, item_key, placed, placed_of}
 use Rattle.event_log.specs.News.{NewsView}
 use Rattle.event_log.specs.Processing.{CanCarry, merged}
 use Rattle.event_log.specs.Turning.{AreAfter, IsTurned, turned_back}

@@ -2,10 +2,22 @@
 use Rattle.std.specs.Prelude.{◌≡◌, ℕ, zero, suc, min, Bool, false, List, [], ◌∷◌, map, None}
 use Rattle.event_key.specs.declared.key.Key.{Key}
 use Rattle.event_key.specs.declared.stamp.TheConstants.{NO_STAMP}
+use Rattle.key_order.specs.Stamps.{least_stamp}
 use Rattle.object_log.specs.Carrying.{Placed}
+use Rattle.object_log.specs.Dones.{Done}
 use Rattle.object_log.specs.Logs.{fault_of}
 use Rattle.object_log.specs.Whole.{dones_in}
-use Rattle.event_log.specs.declared.item.Item.{Item}
+
+-- a carried event, the place of its object, and the least stamp that it and those behind it send
+pub record Item : Type 0 where
+  pub done : Done
+  pub place : ℕ
+  pub held : ℕ
+
+-- items, one behind another, and for how many there is room
+pub record ItemsView : Type 0 where
+  pub items : List Item
+  pub capacity : ℕ
 
 -- the events in order, and for how many more there is room
 pub record CarriedView : Type 0 where
@@ -21,6 +33,10 @@ placed = map placed_of
 abbrev pub item_key : Item → Key
 item_key i = i.done.event.key
 
+-- the least stamp that an event sends
+abbrev pub item_least : Item → ℕ
+item_least i = least_stamp NO_STAMP i.done.sends
+
 -- what the first one holds
 abbrev pub first_held : List Item → ℕ
 first_held [] = NO_STAMP
@@ -28,7 +44,7 @@ first_held (i ∷ is) = i.held
 
 -- an item holds the least of what it and those behind it send
 abbrev pub IsHeld : Item → List Item → Type 0
-IsHeld i is = i.held ≡ min i.least (first_held is)
+IsHeld i is = i.held ≡ min (item_least i) (first_held is)
 
 -- each does
 unfoldable pub AreHeld : List Item → Type 0

@@ -2,6 +2,7 @@ pub mod Committing
 pub mod Faults
 pub mod Items
 pub mod Keeping
+pub mod Latest
 pub mod Moves
 pub mod News
 pub mod NodeLogs
@@ -9,4 +10,5 @@ pub mod Outboxes
 pub mod Popping
 pub mod Processing
 pub mod Reading
+pub mod Slots
 pub mod Turning

@@ -1,9 +1,9 @@
 -- Objects that move between logs with all that they have processed.
-use Rattle.std.specs.Prelude.{◌≡◌, ◌≢◌, ℕ, ◌==◌, Bool, List, [], ◌∷◌, map, filter, not, if◌then◌else◌}
+use Rattle.std.specs.Prelude.{ℕ, ◌==◌, List, map, filter, not, if◌then◌else◌}
 use Rattle.object_log.specs.Carrying.{Placed}
-use Rattle.object_log.specs.EventLogs.{EventLogView, is_of}
+use Rattle.object_log.specs.EventLogs.{is_of}
 use Rattle.object_log.specs.Logs.{LogView}
-use Rattle.object_log.specs.Objects.{IsPlaced, KeptObject, state_of}
+use Rattle.object_log.specs.Objects.{KeptObject, state_of}
 use Rattle.object_log.specs.Whole.{dones_in}
 
 -- for how many objects and for how many events there is room

@@ -1,11 +1,10 @@
 -- Carried events while news go among them: those that have found their place stand at the front, and the others behind them.
-use Rattle.std.specs.Prelude.{◌≡◌, ℕ, ◌-◌, ◌≤◌, true, List, ◌++◌, length, take, drop}
+use Rattle.std.specs.Prelude.{◌≡◌, ℕ, ◌-◌, ◌≤◌, true, List, [], ◌∷◌, ◌++◌, length, take, drop}
 use Rattle.std.specs.List.{AllByRecursion}
 use Rattle.event_key.specs.declared.key.Key.{Key}
 use Rattle.event_key.specs.Keys.{key_lt}
 use Rattle.key_order.specs.Ascending.{Ascends}
-use Rattle.event_log.specs.declared.item.Item.{Item}
-use Rattle.event_log.specs.Items.{AreHeld, AreHeldBut, CarriedView, item_key, placed}
+use Rattle.event_log.specs.Items.{AreHeld, AreHeldBut, CarriedView, IsHeld, Item, item_key, placed, placed_of}
 
 -- all of them, the others first
 abbrev pub turned_back : ℕ → List Item → List Item
@@ -25,3 +24,13 @@ pub record IsTurned (turned : ℕ) (items : List Item) : Type 0 where
 -- those that have found their place come after a key
 abbrev pub AreAfter : Key → ℕ → List Item → Type 0
 AreAfter key turned items = AllByRecursion (λ (i : Item). key_lt key (item_key i) ≡ true) (take turned items)
+
+-- the last one has come before all with this place, and holds what it and so many behind it send
+pub record HasTurnedLast (turned place : ℕ) (old new : List Item) : Type 0 where
+  pub front : List Item
+  pub last : Item
+  pub put : Item
+  pub old_is : old ≡ front ++ last ∷ []
+  pub new_is : new ≡ put ∷ front
+  pub put_is : placed_of put ≡ record { done = last.done; place = place }
+  pub held : IsHeld put (take turned front)

@@ -2,7 +2,6 @@
 ghost use Rattle.std.specs.Prelude.{◌≡◌, ℕ, List, ◌<◌, ◌≤◌, ◌+◌, [], ◌++◌, length, map, take, drop, slice_get, Some, IfSome, IfNone, OnOk, IsTrue, true, None, false};
 ghost use Rattle.std.specs.List.{remove};
 ghost use Rattle.std.specs.List.{AllByRecursion};
-ghost use Rattle.std.specs.VecDeque.{deque_capacity};
 ghost use Rattle.event_key.specs.Keys.{key_lt};
 ghost use Rattle.event_key.specs.declared.stamp.TheConstants.{NO_STAMP};
 ghost use Rattle.key_order.specs.Ascending.{Ascends};
@@ -15,7 +14,7 @@ ghost use Rattle.event_log.specs.Items.{AreHeld, AreHeldBut, first_held, placed}
 ghost use Rattle.event_log.specs.Moves.{other_items, own_items, shifted};
 ghost use Rattle.event_log.specs.Processing.{CanCarry, merged};
 
-use crate::item::{Item, Items};
+use crate::items::Items;
 use crate::kept::Kept;
 use crate::news::News;
 use crate::parting::{join_all, part, settle};
@@ -25,7 +24,6 @@ use event_key::{Key, NO_STAMP};
 use model_core::{Event, OutOfMemory};
 use object_log::Verdict;
 use std::alloc::Global;
-use std::collections::VecDeque;
 use std::marker::Model;
 
 /// Carried events of many objects, in the order of their keys, each with the place of its object. Contracts see beside them
@@ -41,13 +39,12 @@ pub struct Carried {
 
 impl Model for Carried {
     ghost use Rattle.std.specs.Prelude.{◌-◌, length};
-    ghost use Rattle.std.specs.VecDeque.{deque_capacity};
     ghost use Rattle.key_order.specs.Ascending.{Ascends};
     ghost use Rattle.event_log.specs.Items.{AreHeld, CarriedView, MayFail, item_key, placed};
 
     ghost Value = { CarriedView };
 
-    ghost view = { λ c. record { items = placed c.items.items; room = deque_capacity c.items - length c.items.items } };
+    ghost view = { λ c. record { items = placed c.items.items; room = c.items.capacity - length c.items.items } };
 
     ghost invariant = { λ c. Ascends item_key c.items.items × AreHeld c.items.items × MayFail c.may_fail c.items.items };
 }
@@ -58,7 +55,7 @@ impl Carried {
         ensures { result.items ≡ [] }
     {
         Carried {
-            items: VecDeque::new(alloc),
+            items: Items::new(alloc),
             may_fail: false,
         }
     }
@@ -83,8 +80,7 @@ impl Carried {
         ensures room { self.old.room ≤ self.new.room }
         ensures same { self.new.items ≡ self.old.items }
     {
-        self.items.reserve(events)?;
-        Ok(())
+        self.items.reserve(events)
     }
 
     /// Carries the news from a place on. Takes no memory. Each of them is moved once, and so is each carried event that comes after
@@ -116,8 +112,8 @@ impl Carried {
         requires { index < length self.now.items }
         ensures { (p : Placed) × (slice_get self.now.items index ≡ Some p) × (result.0 ≡ placed_key p) × (result.1 ≡ p.place) }
     {
-        let item = &self.items[index];
-        (item.key, item.place)
+        let entry = self.items.at(index);
+        (entry.key, entry.place)
     }
 
     /// Takes the event at a place of the list out. It moves the shorter side. If the event failed, it looks at the others up to
@@ -127,11 +123,8 @@ impl Carried {
         ensures left { self.new.items ≡ remove self.old.items index }
         ensures value { (p : Placed) × (slice_get self.old.items index ≡ Some p) × (result ≡ p.done) }
     {
-        let Some(item) = self.items.remove(index) else {
-            unreachable!()
-        };
+        let done = self.items.take_out(index);
         mend(&mut self.items, index);
-        let Item { done, .. } = item;
         self.may_fail = may_fail_without(self.may_fail, &done, &self.items);
         done
     }
@@ -140,10 +133,10 @@ impl Carried {
     /// then. Each is moved twice.
     pub fn part(&mut self, object: u32, from: usize, to: u32, own: &mut Items)
         requires empty { own.old.items ≡ [] }
-        requires room { length (own_items object self.old.items) ≤ deque_capacity own.old }
+        requires room { length (own_items object self.old.items) ≤ own.old.capacity }
         ensures items { self.new.items ≡ map (shifted from to) (other_items object self.old.items) }
         ensures own { placed own.new.items ≡ own_items object self.old.items }
-        ensures capacity { deque_capacity own.new ≡ deque_capacity own.old }
+        ensures capacity { own.new.capacity ≡ own.old.capacity }
     {
         part(&mut self.items, object, own);
         settle(&mut self.items, from, to);
@@ -154,7 +147,7 @@ impl Carried {
     /// now. Each event is moved a few times.
     pub fn absorb(&mut self, items: Items, to: u32)
         requires ordered { Ascends placed_key (weave placed_key self.old.items (map (shifted 0 to) (placed items.items))) }
-        requires room { length self.old.items + length items.items ≤ deque_capacity items }
+        requires room { length self.old.items + length items.items ≤ items.capacity }
         ensures { self.new.items ≡ weave placed_key self.old.items (map (shifted 0 to) (placed items.items)) }
     {
         let mut items = items;
@@ -172,20 +165,21 @@ impl Carried {
         ensures some { IfSome result (λ key. (p : Placed) × (slice_get self.now.items 0 ≡ Some p) × (key ≡ placed_key p)) }
         ensures none { IfNone result (self.now.items ≡ []) }
     {
-        match self.items.front() {
-            Some(item) => Some(item.key),
-            None => None,
+        if self.items.len() == 0 {
+            return None;
         }
+        Some(self.items.at(0).key)
     }
 
     /// Whether each comes before a key, in constant time.
     pub fn ends_before(&self, key: &Key) -> bool
         ensures { IsTrue result → AllByRecursion (λ p. key_lt (placed_key p) key.now ≡ true) self.now.items }
     {
-        match self.items.back() {
-            Some(item) => item.key.is_before(key),
-            None => true,
+        let len = self.items.len();
+        if len == 0 {
+            return true;
         }
+        self.items.at(len - 1).key.is_before(key)
     }
 
     /// The least stamp that they send, or `NO_STAMP`, in constant time.
@@ -193,6 +187,14 @@ impl Carried {
         ensures { result ≡ least_stamp NO_STAMP (held_of (map (λ p. p.done) self.now.items)) }
     {
         held_from(&self.items, 0)
+    }
+
+    /// If it is true, none failed. In constant time.
+    #[inline(always)]
+    pub fn went(&self) -> bool
+        ensures { IsTrue result → fault_of (map (λ p. p.done) self.now.items) ≡ None }
+    {
+        !self.may_fail
     }
 
     /// The key and the code of the first event that failed, if one did. In constant time if none did, else in time linear in how
@@ -237,10 +239,9 @@ fn fault_in(items: &Items) -> Option<(Key, u32)>
     ensures { result ≡ fault_of (map (λ p. p.done) (placed items.now.items)) }
 {
     for place in 0..items.len() {
-        let item = &items[place];
-        match item.done.verdict() {
+        match items.verdict_at(place) {
             Verdict::Noted(_) => {}
-            Verdict::Failed(code) => return Some((item.key, code)),
+            Verdict::Failed(code) => return Some((items.at(place).key, code)),
         }
     }
     None
@@ -250,10 +251,10 @@ fn fault_in(items: &Items) -> Option<(Key, u32)>
 fn held_from(items: &Items, place: usize) -> u64
     ensures { result ≡ first_held (drop place items.now.items) }
 {
-    match items.get(place) {
-        Some(item) => item.held,
-        None => NO_STAMP,
+    if place >= items.len() {
+        return NO_STAMP;
     }
+    items.at(place).held
 }
 
 /// Mends the least stamps before a place, from there towards the front until one stays.
@@ -262,18 +263,17 @@ fn mend(items: &mut Items, place: usize)
     requires but { AreHeldBut place items.old.items }
     ensures held { AreHeld items.new.items }
     ensures same { placed items.new.items ≡ placed items.old.items }
-    ensures capacity { deque_capacity items.new ≡ deque_capacity items.old }
+    ensures capacity { items.new.capacity ≡ items.old.capacity }
 {
     let mut place = place;
     while place > 0 {
         let held = held_from(items, place);
         place -= 1;
-        let item = &items[place];
-        let held = item.least.min(held);
-        if held == item.held {
+        let entry = items.at(place);
+        let held = entry.least.min(held);
+        if held == entry.held {
             return;
         }
-        let item = &mut items[place];
-        item.held = held;
+        items.set(place, entry.place, held);
     }
 }

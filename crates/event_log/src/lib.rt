@@ -5,8 +5,10 @@
 
 mod carried;
 mod committing;
-mod item;
+mod entry;
+mod items;
 mod kept;
+mod latest;
 mod log;
 mod moved;
 mod news;

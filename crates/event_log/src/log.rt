@@ -13,10 +13,12 @@ ghost use Rattle.object_log.specs.Objects.{AreSound, IsPlaced};
 ghost use Rattle.object_log.specs.Parts.{due_of};
 ghost use Rattle.object_log.specs.Undoings.{HasUndoneAt, IsNewestAt, LastIsFrom};
 ghost use Rattle.event_log.specs.NodeLogs.{HasCommittedTo, IsCarried, IsStillCarried};
+ghost use Rattle.event_log.specs.Latest.{AreBounded};
 ghost use Rattle.event_log.specs.Moves.{place_after};
 ghost use Rattle.event_log.specs.Outboxes.{AreBlank};
 ghost use Rattle.event_log.specs.Processing.{AreHomed};
 
+use crate::latest::Latest;
 use crate::moved::{LogRoom, MovedLog, push_object};
 use crate::processed::Processed;
 use event_chain::{Cell, Chain};
@@ -36,17 +38,19 @@ use std::marker::Model;
 pub struct NodeLog {
     objects: Vec<Object>,
     events: Processed,
+    latest: Latest,
 }
 
 impl Model for NodeLog {
     ghost use Rattle.object_log.specs.Whole.{IsEventLog};
+    ghost use Rattle.event_log.specs.Latest.{AreBounded};
     ghost use Rattle.event_log.specs.NodeLogs.{NodeLogView, node_log_view};
 
     ghost Value = { NodeLogView };
 
     ghost view = { λ log. node_log_view log.objects.items log.events };
 
-    ghost invariant = { λ log. IsEventLog log.objects.items log.events.items };
+    ghost invariant = { λ log. IsEventLog log.objects.items log.events.items × AreBounded log.latest log.events.items };
 }
 
 impl NodeLog {
@@ -61,6 +65,7 @@ impl NodeLog {
         NodeLog {
             objects: Vec::new(alloc),
             events: Processed::new(alloc, chains),
+            latest: Latest::new(alloc),
         }
     }
 
@@ -71,6 +76,7 @@ impl NodeLog {
         ensures same { self.new ≡ record self.old { log = record self.old.log { objects = self.new.log.objects } } }
         ensures err { OnErr result (self.new ≡ self.old) }
     {
+        begin(&mut self.latest, &self.events)?;
         self.objects.reserve(1)?;
         self.objects.push_reserved(Object::new(number, cells, sent));
         Ok(())
@@ -143,6 +149,7 @@ impl NodeLog {
 
     /// The key and the code of the first event that failed, if one did. In constant time if no carried event did, else it looks
     /// at each carried event up to the first that failed.
+    #[inline(always)]
     pub fn faulted(&self) -> Option<(Key, u32)>
         ensures { result ≡ fault_of self.now.log.done }
     {
@@ -210,6 +217,7 @@ impl NodeLog {
         ensures nodes { self.new.nodes ≡ self.old.nodes }
         ensures homed { AreHomed homes.now self.old.chained → AreHomed homes.now self.new.chained }
     {
+        self.latest.raise(&event.get().key);
         let object = &mut self.objects[place as usize];
         self.events
             .process(alloc, model, homes, sheet, object, place, event)
@@ -239,8 +247,8 @@ impl NodeLog {
     }
 
     /// Undoes each event of an object that doesn't come before a key, and puts them into `into` in the order of their keys.
-    /// Answers how many there were. Takes no memory, and constant time if all events come before the key; else all is carried,
-    /// and it takes a look at each event that doesn't come before the key.
+    /// Answers how many there were. Takes no memory, and constant time if the key's stamp is past what the object has processed,
+    /// as a rule, or if all events come before the key; else all is carried, and it takes a look at each event that doesn't.
     pub fn back_to(&mut self, object: u32, key: Key, into: &mut Chain<Event>) -> u64
         requires here { is_some (state_in self.old.log.objects object) ≡ true }
         requires empty { into.old ≡ [] }
@@ -250,6 +258,9 @@ impl NodeLog {
         ensures homed { (homes : List ℕ) → AreHomed homes self.old.chained → AreHomed homes self.new.chained }
         ensures nodes { self.new.nodes ≡ self.old.nodes }
     {
+        if self.latest.of(object) < key.stamp {
+            return 0;
+        }
         if self.ends_before(&key) {
             return 0;
         }
@@ -404,7 +415,19 @@ impl NodeLog {
         events.carry_all();
         let place = self.objects.len() as u32;
         let (object, own, room) = moved.into_parts();
+        self.latest.raise_all(&own);
         events.absorb(own, place);
         push_object(&mut self.objects, room, object);
     }
+}
+
+/// Makes a table of bounds if there is none, where nothing is processed.
+fn begin(latest: &mut Latest, events: &Processed) -> Result<(), OutOfMemory>
+    requires bounded { AreBounded latest.old events.now.items }
+    ensures bounded { AreBounded latest.new events.now.items }
+{
+    if events.first().is_none() {
+        latest.begin()?;
+    }
+    Ok(())
 }

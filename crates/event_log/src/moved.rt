@@ -1,6 +1,5 @@
 //! An object between two logs.
 ghost use Rattle.std.specs.Prelude.{◌≡◌, ◌+◌, ◌<◌, ◌≤◌, ◌^◌, [], ◌∷◌, ◌++◌, length, vec_len, vec_capacity, IfOk};
-ghost use Rattle.std.specs.VecDeque.{deque_capacity};
 ghost use Rattle.key_order.specs.Ascending.{Ascends};
 ghost use Rattle.object_log.specs.EventLogs.{done_key, dones_at};
 ghost use Rattle.object_log.specs.Keeping.{OnlyLastFailed};
@@ -8,11 +7,10 @@ ghost use Rattle.object_log.specs.Whole.{IsEventLog};
 ghost use Rattle.event_log.specs.Items.{placed};
 ghost use Rattle.event_log.specs.Moves.{moved_view};
 
-use crate::item::Items;
+use crate::items::Items;
 use model_core::OutOfMemory;
 use object_log::Object;
 use std::alloc::Global;
-use std::collections::VecDeque;
 use std::marker::Model;
 
 /// Room that is made before an object moves: for the events that it has processed with those of the log to which it comes,
@@ -26,12 +24,11 @@ pub struct LogRoom {
 impl Model for LogRoom {
     ghost use Rattle.std.specs.Prelude.{◌≡◌, []};
     ghost use Rattle.std.specs.Vec.{vec_capacity};
-    ghost use Rattle.std.specs.VecDeque.{deque_capacity};
     ghost use Rattle.event_log.specs.Moves.{RoomView};
 
     ghost Value = { RoomView };
 
-    ghost view = { λ r. record { places = vec_capacity r.objects; events = deque_capacity r.items } };
+    ghost view = { λ r. record { places = vec_capacity r.objects; events = r.items.capacity } };
 
     ghost invariant = { λ r. (r.objects.items ≡ []) × (r.items.items ≡ []) };
 }
@@ -44,7 +41,7 @@ impl LogRoom {
     {
         Ok(LogRoom {
             objects: Vec::with_capacity(alloc, objects)?,
-            items: VecDeque::with_capacity(alloc, events)?,
+            items: Items::with_capacity(alloc, events)?,
         })
     }
 
@@ -53,7 +50,7 @@ impl LogRoom {
         ensures objects { result.0.items ≡ [] }
         ensures items { result.1.items ≡ [] }
         ensures places { vec_capacity result.0 ≡ self.places }
-        ensures events { deque_capacity result.1 ≡ self.events }
+        ensures events { result.1.capacity ≡ self.events }
     {
         let LogRoom { objects, items } = self;
         (objects, items)
@@ -73,14 +70,13 @@ pub struct MovedLog {
 impl Model for MovedLog {
     ghost use Rattle.std.specs.Prelude.{◌≡◌, [], ◌∷◌};
     ghost use Rattle.std.specs.Vec.{vec_capacity};
-    ghost use Rattle.std.specs.VecDeque.{deque_capacity};
     ghost use Rattle.object_log.specs.Whole.{IsEventLog};
     ghost use Rattle.event_log.specs.Items.{placed};
     ghost use Rattle.event_log.specs.Moves.{MovedLogView, moved_view};
 
     ghost Value = { MovedLogView };
 
-    ghost view = { λ m. moved_view m.object (placed m.items.items) (deque_capacity m.items) (vec_capacity m.objects) };
+    ghost view = { λ m. moved_view m.object (placed m.items.items) m.items.capacity (vec_capacity m.objects) };
 
     // it is a log of one object
     ghost invariant = { λ m. IsEventLog (m.object ∷ []) (placed m.items.items) × (m.objects.items ≡ []) };
@@ -91,7 +87,7 @@ impl MovedLog {
     pub(crate) fn new(object: Object, items: Items, objects: Vec<Object>) -> MovedLog
         requires log { IsEventLog (object ∷ []) (placed items.items) }
         requires empty { objects.items ≡ [] }
-        ensures { result ≡ moved_view object (placed items.items) (deque_capacity items) (vec_capacity objects) }
+        ensures { result ≡ moved_view object (placed items.items) items.capacity (vec_capacity objects) }
     {
         MovedLog {
             object,
@@ -127,7 +123,7 @@ impl MovedLog {
 
     /// The object, what it has processed, and the list of no objects.
     pub(crate) fn into_parts(self) -> (Object, Items, Vec<Object>)
-        ensures view { self ≡ moved_view result.0 (placed result.1.items) (deque_capacity result.1) (vec_capacity result.2) }
+        ensures view { self ≡ moved_view result.0 (placed result.1.items) result.1.capacity (vec_capacity result.2) }
         ensures log { IsEventLog (result.0 ∷ []) (placed result.1.items) }
         ensures empty { result.2.items ≡ [] }
     {

@@ -106,6 +106,14 @@ impl News {
         least_in(&self.rows)
     }
 
+    /// If it is true, none failed.
+    #[inline(always)]
+    pub fn went(&self) -> bool
+        ensures { IsTrue result → fault_of self.now.done ≡ None }
+    {
+        self.fault.is_none()
+    }
+
     /// The key and the code of the event that failed, if one did, in constant time.
     pub fn faulted(&self) -> Option<(Key, u32)>
         ensures { result ≡ fault_of self.now.done }

@@ -1,7 +1,6 @@
 //! All that is processed: what is carried, and the news.
 ghost use Rattle.std.specs.Prelude.{◌≡◌, ℕ, List, ◌<◌, ◌≤◌, ◌+◌, ◌^◌, [], ◌++◌, filter, nat_lt, length, map, take, slice_get, vec_len, vec_capacity, IfOk, IfErr, IfSome, IfNone, OnOk, OnErr, IsTrue, Some, None, true, false};
 ghost use Rattle.std.specs.List.{AllByRecursion, remove};
-ghost use Rattle.std.specs.VecDeque.{deque_capacity};
 ghost use Rattle.event_key.specs.Keys.{key_lt};
 ghost use Rattle.event_key.specs.Stamps.{time_part};
 ghost use Rattle.event_key.specs.declared.stamp.TheConstants.{NO_STAMP};
@@ -26,7 +25,7 @@ ghost use Rattle.event_log.specs.Processing.{AreHomed, CanJoin, HasCome, IsSameP
 
 use crate::carried::Carried;
 use crate::committing::{commit_first, due_in};
-use crate::item::Items;
+use crate::items::Items;
 use crate::kept::Kept;
 use crate::news::News;
 use crate::reading::push_below;
@@ -99,9 +98,33 @@ impl Processed {
         self.carried.held_least().min(self.news.held_least())
     }
 
-    /// The key and the code of the first event that failed, if one did. It looks at each carried event up to the first that
-    /// failed, and at the last of the news.
+    /// If it is true, none failed. In constant time.
+    #[inline(always)]
+    fn went(&self) -> bool
+        ensures { IsTrue result → fault_of (map (λ p. p.done) self.now.items) ≡ None }
+    {
+        self.news.tells();
+        if self.news.went() {
+            return self.carried.went();
+        }
+        false
+    }
+
+    /// The key and the code of the first event that failed, if one did. In constant time if none did; else it looks at each carried
+    /// event up to the first that failed, and at the last of the news.
+    #[inline(always)]
     pub fn faulted(&self) -> Option<(Key, u32)>
+        ensures { result ≡ fault_of (map (λ p. p.done) self.now.items) }
+    {
+        if self.went() {
+            return None;
+        }
+        self.first_fault()
+    }
+
+    /// The key and the code of the first event that failed, if one did.
+    #[inline(never)]
+    fn first_fault(&self) -> Option<(Key, u32)>
         ensures { result ≡ fault_of (map (λ p. p.done) self.now.items) }
     {
         self.news.tells();
@@ -339,10 +362,10 @@ impl Processed {
     pub fn part(&mut self, object: u32, from: usize, to: u32, own: &mut Items)
         requires news { self.old.news ≡ [] }
         requires empty { own.old.items ≡ [] }
-        requires room { length (own_items object self.old.items) ≤ deque_capacity own.old }
+        requires room { length (own_items object self.old.items) ≤ own.old.capacity }
         ensures items { self.new.items ≡ map (shifted from to) (other_items object self.old.items) }
         ensures own { placed own.new.items ≡ own_items object self.old.items }
-        ensures capacity { deque_capacity own.new ≡ deque_capacity own.old }
+        ensures capacity { own.new.capacity ≡ own.old.capacity }
         ensures same { self.new ≡ record self.old { items = self.new.items } }
     {
         self.carried.part(object, from, to, own);
@@ -353,7 +376,7 @@ impl Processed {
     pub fn absorb(&mut self, items: Items, to: u32)
         requires news { self.old.news ≡ [] }
         requires ordered { Ascends placed_key (weave placed_key self.old.items (map (shifted 0 to) (placed items.items))) }
-        requires room { length self.old.items + length items.items ≤ deque_capacity items }
+        requires room { length self.old.items + length items.items ≤ items.capacity }
         ensures items { self.new.items ≡ weave placed_key self.old.items (map (shifted 0 to) (placed items.items)) }
         ensures same { self.new ≡ record self.old { items = self.new.items } }
     {

@@ -1,19 +1,17 @@
 //! News go among carried events, the last one first.
-ghost use Rattle.std.specs.Prelude.{◌≡◌, ℕ, List, ◌<◌, ◌≤◌, ◌+◌, [], ◌∷◌, ◌++◌, length, take, drop, true};
+ghost use Rattle.std.specs.Prelude.{◌≡◌, ℕ, List, ◌<◌, ◌≤◌, ◌+◌, ◌^◌, [], ◌∷◌, ◌++◌, length, take, drop, true};
 ghost use Rattle.std.specs.List.{AllByRecursion};
-ghost use Rattle.std.specs.VecDeque.{deque_len, deque_capacity};
 ghost use Rattle.event_key.specs.declared.key.Key.{Key};
 ghost use Rattle.event_key.specs.Keys.{key_lt};
 ghost use Rattle.key_order.specs.Keys.{times};
 ghost use Rattle.model_core.specs.declared.event.Event.{Event};
 ghost use Rattle.object_log.specs.Carrying.{placed_key};
 ghost use Rattle.object_log.specs.Weave.{insert};
-ghost use Rattle.event_log.specs.declared.item.Item.{Item};
-ghost use Rattle.event_log.specs.Items.{IsHeld, first_held, item_key, placed, placed_of};
+ghost use Rattle.event_log.specs.Items.{IsHeld, Item, first_held, item_key, placed, placed_of};
 ghost use Rattle.event_log.specs.Processing.{CanCarry, merged};
-ghost use Rattle.event_log.specs.Turning.{AreAfter, IsTurned, turned_back, turned_view};
+ghost use Rattle.event_log.specs.Turning.{AreAfter, HasTurnedLast, IsTurned, turned_back, turned_view};
 
-use crate::item::{Item, Items};
+use crate::items::Items;
 use crate::kept::Kept;
 use crate::news::News;
 use event_chain::CellPool;
@@ -30,11 +28,11 @@ pub fn carry_into(
     from: usize,
 ) -> usize
     requires turned { IsTurned 0 items.old.items }
-    requires can { CanCarry places.old.items news.old (turned_view 0 items.old.items (deque_capacity items.old)) cells.old }
+    requires can { CanCarry places.old.items news.old (turned_view 0 items.old.items items.old.capacity) cells.old }
     requires from { from ≤ length news.old.done }
     ensures turned { IsTurned result items.new.items }
     ensures same { merged news.new.done places.new.items (placed (turned_back result items.new.items)) ≡ merged news.old.done places.old.items (placed (turned_back 0 items.old.items)) }
-    ensures can { CanCarry places.new.items news.new (turned_view result items.new.items (deque_capacity items.new)) cells.new }
+    ensures can { CanCarry places.new.items news.new (turned_view result items.new.items items.new.capacity) cells.new }
     ensures done { news.new.done ≡ take from news.old.done }
     ensures sent { (own : List (ℕ × Event)) × (news.old.sent ≡ news.new.sent ++ own) }
     ensures nodes { news.new.nodes ≡ news.old.nodes }
@@ -50,15 +48,16 @@ pub fn carry_into(
 }
 
 /// Puts an event in that comes before those in front, with the place of its object. Answers how many stand in front then.
+#[inline(always)]
 pub fn join(items: &mut Items, front: usize, done: Kept, place: u32) -> usize
     requires turned { IsTurned front items.old.items }
     requires after { AreAfter done.event.key front items.old.items }
-    requires room { deque_len items.old < deque_capacity items.old }
+    requires room { length items.old.items < items.old.capacity }
     requires new { times placed_key done.event.key (placed (turned_back front items.old.items)) ≡ 0 }
     ensures turned { IsTurned result items.new.items }
     ensures items { placed (turned_back result items.new.items) ≡ insert placed_key (record { done = done; place = place }) (placed (turned_back front items.old.items)) }
     ensures after { (key : Key) → key_lt key done.event.key ≡ true → AreAfter key result items.new.items }
-    ensures capacity { deque_capacity items.new ≡ deque_capacity items.old }
+    ensures capacity { items.new.capacity ≡ items.old.capacity }
     ensures long { length items.new.items ≡ length items.old.items + 1 }
 {
     let key = done.key();
@@ -68,6 +67,7 @@ pub fn join(items: &mut Items, front: usize, done: Kept, place: u32) -> usize
 }
 
 /// Moves each of the others that comes after a key to the front. Answers how many stand in front then.
+#[inline(always)]
 fn turn_past(items: &mut Items, front: usize, key: &Key) -> usize
     requires turned { IsTurned front items.old.items }
     requires after { AreAfter key.now front items.old.items }
@@ -76,46 +76,50 @@ fn turn_past(items: &mut Items, front: usize, key: &Key) -> usize
     ensures same { placed (turned_back result items.new.items) ≡ placed (turned_back front items.old.items) }
     ensures after { AreAfter key.now result items.new.items }
     ensures others { AllByRecursion (λ (i : Item). key_lt (item_key i) key.now ≡ true) (drop result items.new.items) }
-    ensures capacity { deque_capacity items.new ≡ deque_capacity items.old }
+    ensures capacity { items.new.capacity ≡ items.old.capacity }
     ensures long { length items.new.items ≡ length items.old.items }
 {
     let len = items.len();
     let mut turned = front;
     while turned < len {
-        let last = &items[len - 1];
+        let last = items.at(len - 1);
         if last.key.is_before(key) {
             return turned;
         }
-        let Some(item) = items.pop_back() else {
-            unreachable!()
-        };
-        let Item { place, done, .. } = item;
-        put_first(items, turned, done, place);
+        turn_last(items, turned, last.place);
         turned += 1;
     }
     turned
 }
 
-/// Puts an event before all, with the least stamp that it and so many behind it send.
-pub fn put_first(items: &mut Items, turned: usize, done: Kept, place: u32)
-    requires within { turned ≤ length items.old.items }
-    requires room { deque_len items.old < deque_capacity items.old }
-    ensures items { (put : Item) × (items.new.items ≡ put ∷ items.old.items) × (placed_of put ≡ record { done = done; place = place }) × IsHeld put (take turned items.old.items) }
-    ensures capacity { deque_capacity items.new ≡ deque_capacity items.old }
+/// Moves the last of all to the front, where so many stand, with the place of its object.
+#[inline(always)]
+pub fn turn_last(items: &mut Items, turned: usize, place: u32)
+    requires within { turned < length items.old.items }
+    ensures items { HasTurnedLast turned place items.old.items items.new.items }
+    ensures capacity { items.new.capacity ≡ items.old.capacity }
 {
-    let key = done.key();
-    let least = done.least();
-    let held = least.min(held_in_front(items, turned));
-    items.push_front_reserved(Item {
-        key,
-        place,
-        least,
-        held,
-        done,
-    });
+    let held = held_in_front(items, turned);
+    items.rotate_right();
+    let held = items.at(0).least.min(held);
+    items.set(0, place, held);
+}
+
+/// Puts an event before all, with the least stamp that it and so many behind it send.
+#[inline(always)]
+fn put_first(items: &mut Items, turned: usize, done: Kept, place: u32)
+    requires within { turned ≤ length items.old.items }
+    requires room { length items.old.items < items.old.capacity }
+    ensures items { (put : Item) × (items.new.items ≡ put ∷ items.old.items) × (placed_of put ≡ record { done = done; place = place }) × IsHeld put (take turned items.old.items) }
+    ensures few { length items.new.items < 2 ^ 64 }
+    ensures capacity { items.new.capacity ≡ items.old.capacity }
+{
+    let held = done.least().min(held_in_front(items, turned));
+    items.push_front(done, place, held);
 }
 
 /// The least stamp that so many in front send, or `NO_STAMP`.
+#[inline(always)]
 fn held_in_front(items: &Items, turned: usize) -> u64
     requires { turned ≤ length items.now.items }
     ensures { result ≡ first_held (take turned items.now.items) }
@@ -123,5 +127,5 @@ fn held_in_front(items: &Items, turned: usize) -> u64
     if turned == 0 {
         return NO_STAMP;
     }
-    items[0].held
+    items.at(0).held
 }

@@ -6,6 +6,7 @@ ghost use Rattle.node_core.specs.Marks.{code_at_key, is_before_fault as before_f
 use event_key::Key;
 
 /// Whether a key comes before a fault, if there is one.
+#[inline(always)]
 pub fn is_before_fault(key: &Key, fault: &Option<(Key, u32)>) -> bool
     ensures { result ≡ before_fault key.now fault.now }
 {
@@ -16,6 +17,7 @@ pub fn is_before_fault(key: &Key, fault: &Option<(Key, u32)>) -> bool
 }
 
 /// The code of a fault, if it is at a key.
+#[inline(always)]
 pub fn code_at(key: &Key, fault: Option<(Key, u32)>) -> Option<u32>
     ensures { result ≡ code_at_key key.now fault }
 {

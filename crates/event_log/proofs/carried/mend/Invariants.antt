@@ -1,5 +1,4 @@
 use Rattle.std.proofs.Common.{◌≡◌, ◌≤◌, length}
-use Rattle.std.specs.VecDeque.{deque_capacity}
 use Rattle.event_log.specs.Items.{AreHeldBut, placed}
 use Rattle.event_log.proofs.carried.mend.Given as goal
 
@@ -8,7 +7,7 @@ invariant-loop-place l = record {
   inside : l.place ≤ length l.items.items;
   but : AreHeldBut l.place l.items.items;
   same : placed l.items.items ≡ placed l.fn.items.items;
-  capacity : deque_capacity l.items ≡ deque_capacity l.fn.items;
+  capacity : l.items.capacity ≡ l.fn.items.capacity;
 }
 
 abbrev pub decreases-loop-place : goal.decreases-loop-place

@@ -1,19 +1,19 @@
 -- The last of the others goes over.
 use Rattle.std.proofs.Common.{◌≡◌, List, [], ◌∷◌, ◌++◌, length, refl, sym, ap, ◌∙◌, subst, arith, length-append, append_assoc}
-use Rattle.std.proofs.lemmas.List.{append-nil, map-append, nil_from_length}
+use Rattle.std.proofs.lemmas.List.{append-nil}
+use Rattle.event_key.specs.Keys.{key_lt}
 use Rattle.key_order.specs.Ascending.{Ascends}
 use Rattle.key_order.specs.Keys.{times}
-use Rattle.object_log.specs.Carrying.{Placed, placed_key}
+use Rattle.object_log.specs.Carrying.{placed_key}
+use Rattle.object_log.specs.Dones.{Done}
 use Rattle.object_log.specs.Weave.{insert, weave}
-use Rattle.object_log.proofs.WeaveLemmas.{insert-fresh, weave-below, weave-last}
-use Rattle.event_log.specs.declared.item.Item.{Item}
-use Rattle.event_log.specs.Items.{item_key, placed, placed_of}
-use Rattle.event_log.specs.Turning.{turned_back}
+use Rattle.event_log.specs.Items.{Item, item_key, placed}
+use Rattle.event_log.specs.Turning.{AreAfter, turned_back}
 use Rattle.event_log.proofs.PartFacts.{before-end, joined-start, joins-end, joins-fresh, joins-same}
 use Rattle.event_log.proofs.parting.join_all.Goals as goal
 
-pub loop-item-init : goal.loop-item-init
-loop-item-init c = record {
+pub loop-done-init : goal.loop-done-init
+loop-done-init c = record {
   turned = c.requires.turned;
   same = refl;
   after = λ es e is. tt;
@@ -23,29 +23,36 @@ loop-item-init c = record {
 }
 
 pub join-turned-requires-clause-after : goal.join-turned-requires-clause-after
-join-turned-requires-clause-after c = c.loop-item.invariant.after c.pop_back.new.self.items c.in-Some.item c.in-Some.ensures.items
+join-turned-requires-clause-after c =
+    let s = c.in-Some.ensures.some in
+    let A : Done → Type 0 = λ d. AreAfter d.event.key c.loop-done.turned c.loop-done.items.items in
+    subst A (sym s.2) (c.loop-done.invariant.after c.pop_back.new.self.items s.0 s.1)
 
 pub join-turned-requires-clause-room : goal.join-turned-requires-clause-room
 join-turned-requires-clause-room c =
-    let long = ap length c.in-Some.ensures.items in
-    let parts = length-append c.pop_back.new.self.items (c.in-Some.item ∷ []) in
-    let room = c.loop-item.invariant.room in
+    let s = c.in-Some.ensures.some in
+    let long = ap length s.1 in
+    let parts = length-append c.pop_back.new.self.items (s.0 ∷ []) in
+    let room = c.loop-done.invariant.room in
     omega arith
 
 pub join-turned-requires-clause-new : goal.join-turned-requires-clause-new
 join-turned-requires-clause-new c =
-    let l = c.loop-item in
-    let x : Item = c.in-Some.item in
+    let l = c.loop-done in
+    let s = c.in-Some.ensures.some in
     let now = placed (turned_back l.turned l.items.items) in
-    joins-fresh l.others.items c.pop_back.new.self.items x now c.in-Some.ensures.items (subst (Ascends placed_key) (sym l.invariant.same) (joined-start c.args.items.now.items (placed c.args.others.now.items) c.requires.ordered))
+    ap (λ (d : Done). times placed_key d.event.key now) s.2
+    ∙ joins-fresh l.others.items c.pop_back.new.self.items s.0 now s.1 (subst (Ascends placed_key) (sym l.invariant.same) (joined-start c.args.items.now.items (placed c.args.others.now.items) c.requires.ordered))
 
-pub loop-item-preserved : goal.loop-item-preserved
-loop-item-preserved c =
-    let l = c.loop-item in
-    let x : Item = c.in-Some.item in
+pub loop-done-preserved : goal.loop-done-preserved
+loop-done-preserved c =
+    let l = c.loop-done in
+    let s = c.in-Some.ensures.some in
+    let x : Item = s.0 in
     let xs = c.pop_back.new.self.items in
     let joined = c.join-turned.ensures in
-    let is : l.others.items ≡ xs ++ x ∷ [] = c.in-Some.ensures.items in
+    let now = placed (turned_back l.turned l.items.items) in
+    let is : l.others.items ≡ xs ++ x ∷ [] = s.1 in
     let long = ap length is in
     let parts = length-append xs (x ∷ []) in
     let room = l.invariant.room in
@@ -53,8 +60,8 @@ loop-item-preserved c =
     let capacity = joined.capacity in
     record {
       turned = joined.turned;
-      same = joins-same l.others.items xs x (placed (turned_back l.turned l.items.items)) (placed (turned_back c.join-turned.result c.join-turned.new.items.items)) is joined.items ∙ l.invariant.same;
-      after = λ es e last. joined.after (item_key e) (before-end c.args.others.now.items l.others.items l.invariant.gone.0 xs es x e c.requires.others l.invariant.gone.1 is last);
+      same = joins-same l.others.items xs x now (placed (turned_back c.join-turned.result c.join-turned.new.items.items)) is (joined.items ∙ (λ i. insert placed_key (record { done = s.2 i; place = s.3 i }) now)) ∙ l.invariant.same;
+      after = λ es e last. joined.after (item_key e) (ap (λ (d : Done). key_lt (item_key e) d.event.key) s.2 ∙ before-end c.args.others.now.items l.others.items l.invariant.gone.0 xs es x e c.requires.others l.invariant.gone.1 is last);
       gone = (x ∷ l.invariant.gone.0, l.invariant.gone.1 ∙ ap (λ (es : List Item). es ++ l.invariant.gone.0) is ∙ append_assoc xs (x ∷ []) l.invariant.gone.0);
       room = omega arith;
       capacity = joined.capacity ∙ l.invariant.capacity;
@@ -62,10 +69,8 @@ loop-item-preserved c =
 
 pub returns-clause-items : goal.returns-clause-items
 returns-clause-items c =
-    let l = c.loop-item in
-    let empty = c.in_default.ensures.cases.0 in
-    let long = l.others.ok.0 in
-    let none : l.others.items ≡ [] = nil_from_length l.others.items (omega arith) in
+    let l = c.loop-done in
+    let none : l.others.items ≡ [] = c.in_default.ensures.none in
     joins-end l.others.items (placed (turned_back l.turned l.items.items)) none
     ∙ l.invariant.same
     ∙ ap (λ (es : List Item). weave placed_key (placed c.args.others.now.items) (placed es)) (append-nil c.args.items.now.items)

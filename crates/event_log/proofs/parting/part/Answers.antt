@@ -1,12 +1,14 @@
 -- One more has left, or has come behind the others.
-use Rattle.std.proofs.Common.{◌≡◌, ◌+◌, ◌<◌, true, false, subst, List, [], ◌∷◌, ◌++◌, length, refl, sym, ap, ◌∙◌, arith, length-append}
-use Rattle.std.specs.VecDeque.{deque_capacity}
+use Rattle.std.proofs.Common.{◌≡◌, ◌+◌, ◌<◌, true, false, subst, List, [], ◌∷◌, ◌++◌, length, take, drop, refl, sym, ap, ◌∙◌, arith, length-append}
 use Rattle.event_key.specs.declared.key.Key.{Key}
 use Rattle.object_log.specs.EventLogs.{is_of}
+use Rattle.object_log.specs.Dones.{Done}
+use Rattle.object_log.proofs.CarriedLemmas.{same-read}
 use Rattle.object_log.proofs.OwnLemmas.{is_here, is_there}
-use Rattle.event_log.specs.declared.item.Item.{Item}
-use Rattle.event_log.proofs.PartFacts.{IsParted, none-parted, parted-items, parted-other, parted-own, parted-own_items, parted-room}
-use Rattle.event_log.proofs.parting.part.Goals.{then-item-object, else-item-object}
+use Rattle.event_log.specs.Items.{Item}
+use Rattle.event_log.proofs.PartFacts.{IsParted, none-parted, parted-items, parted-other, parted-own}
+use Rattle.event_log.proofs.SlotLemmas.{split-entry}
+use Rattle.event_log.proofs.parting.part.Goals.{then-at-object, else-at-object}
 use Rattle.event_log.proofs.parting.part.Goals as goal
 
 pub loop-init : goal.loop-init
@@ -22,47 +24,50 @@ pub loop-preserved : goal.loop-preserved
 loop-preserved c =
     let l = c.loop in
     let all = c.args.items.now.items in
-    let x : Item = c.in-Some.item in
-    let rest = c.pop_front.new.self.items in
-    let popped : l.items.items ≡ x ∷ rest = c.in-Some.ensures.items in
-    let shorter = ap length popped in
+    let es = l.items.items in
+    let a = c.at.ensures in
+    let x : Item = a.0 in
+    let rest = drop 1 es in
     let long = l.invariant.long in
     let few = l.invariant.few in
     let more : l.counter < length all = omega (arith, c.len-end.ensures, c.loop-test.true) in
-    elim c.if-item-object.branch [
-      | then-item-object w ↦
-          (let dest : x.key.dest ≡ c.args.object = w.if-item-object.true in
-          let here : is_of c.args.object x.done ≡ true = is_here x.done c.args.object (ap (λ (k : Key). k.dest) (sym x.key_is) ∙ dest) in
-          let items_now : c.if-item-object.items.items ≡ rest = (λ i. (w.items-is i).items) in
-          let own_same : c.if-item-object.own.items ≡ w.push_back_reserved.new.self.items = (λ i. (w.own-is i).items) in
-          let own_now = own_same ∙ w.push_back_reserved.ensures.items in
+    let some : 0 < length es = omega arith in
+    let first : es ≡ x ∷ rest = split-entry 0 es x some a.1 in
+    let shorter = ap length first in
+    elim c.if-at-object.branch [
+      | then-at-object w ↦
+          (let dest : c.at.result.key.dest ≡ c.args.object = w.if-at-object.true in
+          let here : is_of c.args.object x.done ≡ true = is_here x.done c.args.object (ap (λ (k : Key). k.dest) (sym a.2.key_is) ∙ dest) in
+          let v = w.take_out.ensures.value in
+          let items_now : c.if-at-object.items.items ≡ rest = (λ i. (w.items-is i).items) ∙ w.take_out.ensures.items in
+          let own_same : c.if-at-object.own.items ≡ w.push_back.new.self.items = (λ i. (w.own-is i).items) in
+          let own_now = own_same ∙ w.push_back.ensures.items in
           let one = ap length items_now in
-          let two = ap length own_same in
-          let more_own = w.push_back_reserved.ensures.len in
-          let own_long = l.own.ok.0 in
-          let now_long = w.push_back_reserved.new.self.ok.0 in
-          let P : List Item → Type 0 = λ es. IsParted c.args.object (l.counter + 1) all es c.if-item-object.own.items in
+          let two = ap length own_now in
+          let parts = length-append l.own.items ((record { done = w.take_out.result; place = 0; held = 0 }) ∷ []) in
+          let taken : w.take_out.result ≡ x.done = v.2 ∙ ap (λ (i : Item). i.done) (same-read es 0 v.0 x some v.1 a.1) in
+          let P : List Item → Type 0 = λ is. IsParted c.args.object (l.counter + 1) all is c.if-at-object.own.items in
           record {
-            parted = subst P (sym items_now) (parted-own c.args.object l.counter all l.items.items l.own.items x rest l.invariant.parted more popped _ c.if-item-object.own.items here own_now refl);
+            parted = subst P (sym items_now) (parted-own c.args.object l.counter all es l.own.items x rest l.invariant.parted more first _ c.if-at-object.own.items here own_now (ap (λ (d : Done). record { done = d; place = 0 }) taken));
             long = omega arith;
             few = omega arith;
-            capacity = (λ i. deque_capacity (w.items-is i)) ∙ c.pop_front.ensures.capacity ∙ l.invariant.capacity;
-            own_capacity = (λ i. deque_capacity (w.own-is i)) ∙ w.push_back_reserved.ensures.capacity ∙ l.invariant.own_capacity;
+            capacity = (λ i. (w.items-is i).capacity) ∙ w.take_out.ensures.capacity ∙ l.invariant.capacity;
+            own_capacity = (λ i. (w.own-is i).capacity) ∙ w.push_back.ensures.capacity ∙ l.invariant.own_capacity;
           })
-      | else-item-object w ↦
-          (let there : is_of c.args.object x.done ≡ false = is_there x.done c.args.object (λ same. let dest : x.key.dest ≡ c.args.object = ap (λ (k : Key). k.dest) x.key_is ∙ same in absurd (omega (arith, w.if-item-object.false))) in
-          let items_now : c.if-item-object.items.items ≡ rest ++ x ∷ [] = (λ i. (w.items-is i).items) ∙ w.push_back_reserved-else-item-object.ensures.items in
-          let own_now : c.if-item-object.own.items ≡ l.own.items = (λ i. (w.own-is i).items) in
+      | else-at-object w ↦
+          (let there : is_of c.args.object x.done ≡ false = is_there x.done c.args.object (λ same. let dest : c.at.result.key.dest ≡ c.args.object = ap (λ (k : Key). k.dest) a.2.key_is ∙ same in absurd (omega (arith, w.if-at-object.false))) in
+          let items_now : c.if-at-object.items.items ≡ rest ++ x ∷ [] = (λ i. (w.items-is i).items) ∙ w.rotate_left.ensures.items ∙ ap (λ (is : List Item). rest ++ take 1 is) first in
+          let own_now : c.if-at-object.own.items ≡ l.own.items = (λ i. (w.own-is i).items) in
           let one = ap length items_now in
           let two = ap length own_now in
           let parts = length-append rest (x ∷ []) in
-          let P : List Item → Type 0 = λ es. IsParted c.args.object (l.counter + 1) all c.if-item-object.items.items es in
+          let P : List Item → Type 0 = λ is. IsParted c.args.object (l.counter + 1) all c.if-at-object.items.items is in
           record {
-            parted = subst P (sym own_now) (parted-other c.args.object l.counter all l.items.items l.own.items x rest l.invariant.parted more popped c.if-item-object.items.items there items_now);
+            parted = subst P (sym own_now) (parted-other c.args.object l.counter all es l.own.items x rest l.invariant.parted more first c.if-at-object.items.items there items_now);
             long = omega arith;
             few = omega arith;
-            capacity = (λ i. deque_capacity (w.items-is i)) ∙ w.push_back_reserved-else-item-object.ensures.capacity ∙ c.pop_front.ensures.capacity ∙ l.invariant.capacity;
-            own_capacity = (λ i. deque_capacity (w.own-is i)) ∙ l.invariant.own_capacity;
+            capacity = (λ i. (w.items-is i).capacity) ∙ w.rotate_left.ensures.capacity ∙ l.invariant.capacity;
+            own_capacity = (λ i. (w.own-is i).capacity) ∙ l.invariant.own_capacity;
           })
     ]
 

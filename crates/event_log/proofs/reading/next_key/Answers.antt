@@ -1,6 +1,5 @@
 -- The next of both lists, by their keys.
-use Rattle.std.proofs.Common.{◌≡◌, ◌≤◌, Some, List, length, map, sym, ap, ◌∙◌, subst, arith}
-use Rattle.std.specs.Prelude.{slice_get}
+use Rattle.std.proofs.Common.{Some, sym, ap, ◌∙◌, subst, arith}
 use Rattle.object_log.specs.Carrying.{placed_key}
 use Rattle.object_log.proofs.UndoLemmas.{get-map}
 use Rattle.event_log.specs.declared.reading.Reading.{Reading}

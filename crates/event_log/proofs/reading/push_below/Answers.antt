@@ -1,5 +1,5 @@
 -- One key more, or none that is below the horizon.
-use Rattle.std.proofs.Common.{◌≡◌, List, [], ◌∷◌, ◌++◌, length, refl, sym, ap, ◌∙◌, subst, arith}
+use Rattle.std.proofs.Common.{List, ◌++◌, refl, sym, ap, ◌∙◌, arith}
 use Rattle.std.specs.Prelude.{filter, nat_lt}
 use Rattle.event_key.specs.declared.key.Key.{Key}
 use Rattle.event_log.specs.Reading.{keys_from}

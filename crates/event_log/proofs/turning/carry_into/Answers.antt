@@ -2,7 +2,6 @@
 use Rattle.std.proofs.Common.{◌≡◌, ℕ, List, [], ◌∷◌, ◌++◌, length, take, refl, sym, ap, ◌∙◌, arith, length-append, append_assoc}
 use Rattle.std.proofs.lemmas.List.{append-nil, take_at}
 use Rattle.std.specs.Prelude.{option_to_list}
-use Rattle.std.specs.VecDeque.{deque_capacity}
 use Rattle.model_core.specs.declared.event.Event.{Event}
 use Rattle.object_log.specs.Dones.{Done}
 use Rattle.event_log.specs.Items.{CarriedView}
@@ -47,7 +46,7 @@ join-turned-requires-clause-new c =
     let v : NewsView = l.news in
     let v' : NewsView = c.pop-done.new.self in
     let d : Done = c.pop-done.result in
-    let k : CarriedView = turned_view l.turned l.items.items (deque_capacity l.items) in
+    let k : CarriedView = turned_view l.turned l.items.items l.items.capacity in
     let pops = c.pop.ensures.items ∙ ap (λ top. c.pop.new.self.items ++ option_to_list top) c.unwrap-place.ensures in
     carry-fresh l.places.items c.pop.new.self.items c.unwrap-place.result v v' k k d l.cells l.cells l.invariant.can pops c.pop-done.ensures.popped.done
 
@@ -59,8 +58,8 @@ loop-news-preserved c =
     let d : Done = c.pop-done.result in
     let joined = c.join-turned.ensures in
     let now = c.join-turned.new.items in
-    let k : CarriedView = turned_view l.turned l.items.items (deque_capacity l.items) in
-    let k' : CarriedView = turned_view c.join-turned.result now.items (deque_capacity now) in
+    let k : CarriedView = turned_view l.turned l.items.items l.items.capacity in
+    let k' : CarriedView = turned_view c.join-turned.result now.items now.capacity in
     let popped = c.pop-done.ensures.popped in
     let pops = c.pop.ensures.items ∙ ap (λ top. c.pop.new.self.items ++ option_to_list top) c.unwrap-place.ensures in
     let one = ap length popped.done in

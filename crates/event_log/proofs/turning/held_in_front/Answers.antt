@@ -1,5 +1,5 @@
 -- The first one knows what they send.
-use Rattle.std.proofs.Common.{take, sym, ap, arith}
+use Rattle.std.proofs.Common.{take, sym, ap, ◌∙◌, arith}
 use Rattle.event_log.specs.Items.{first_held}
 use Rattle.event_log.proofs.TurnLemmas.{front-held}
 use Rattle.event_log.proofs.turning.held_in_front.Goals as goal
@@ -11,4 +11,4 @@ pub returns : goal.returns
 returns c =
     let some = c.if-turned-eq0.false in
     let within = c.requires in
-    front-held c.args.turned c.args.items.now.items c.index.result.now (omega arith) within c.index.ensures
+    c.at.ensures.2.held_is ∙ front-held c.args.turned c.args.items.now.items c.at.ensures.0 (omega arith) within c.at.ensures.1

@@ -6,8 +6,7 @@ use Rattle.event_key.specs.Keys.{key_lt}
 use Rattle.key_order.specs.Keys.{times}
 use Rattle.object_log.specs.Carrying.{Placed, placed_key}
 use Rattle.object_log.specs.Weave.{insert}
-use Rattle.event_log.specs.declared.item.Item.{Item}
-use Rattle.event_log.specs.Items.{item_key, placed}
+use Rattle.event_log.specs.Items.{Item, item_key, placed}
 use Rattle.event_log.specs.Turning.{AreAfter, turned_back}
 use Rattle.event_log.proofs.TurnLemmas.{joined-after, joined-items, joined-turned}
 use Rattle.event_log.proofs.turning.join.Goals as goal
@@ -22,6 +21,13 @@ turn_past-turned-requires-clause-new c = ap (λ (k : Key). times placed_key k (p
 
 pub put_first-requires-clause-within : goal.put_first-requires-clause-within
 put_first-requires-clause-within c = c.turn_past-turned.ensures.turned.within
+
+pub overflow_add-result : goal.overflow_add-result
+overflow_add-result c =
+    let within = c.turn_past-turned.ensures.turned.within in
+    let more = ap length c.put_first.ensures.items.1 in
+    let few = c.put_first.ensures.few in
+    omega arith
 
 pub returns-clause-turned : goal.returns-clause-turned
 returns-clause-turned c =

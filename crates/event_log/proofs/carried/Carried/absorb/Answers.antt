@@ -1,13 +1,12 @@
 -- What has found its place is turned to the back, and the least stamps before it are mended.
 use Rattle.std.proofs.Common.{◌-◌, List, length, map, sym, ap, ◌∙◌, subst, arith, length-drop}
-use Rattle.std.proofs.lemmas.List.{append-nil, length-map}
+use Rattle.std.proofs.lemmas.List.{length-map}
 use Rattle.key_order.specs.Ascending.{Ascends}
 use Rattle.key_order.proofs.AscendingLemmas.{Ascends-map, Ascends-mapped}
 use Rattle.object_log.specs.Carrying.{Placed, placed_key}
 use Rattle.object_log.specs.Weave.{weave}
 use Rattle.object_log.proofs.WeaveLemmas.{weave-below}
-use Rattle.event_log.specs.declared.item.Item.{Item}
-use Rattle.event_log.specs.Items.{AreHeldBut, CarriedView, placed, placed_of}
+use Rattle.event_log.specs.Items.{AreHeldBut, CarriedView, Item, placed, placed_of}
 use Rattle.event_log.specs.Moves.{shifted}
 use Rattle.event_log.specs.Turning.{turned_back}
 use Rattle.event_log.proofs.TurnLemmas.{same-order, start-turned, turned-but, turned-long}

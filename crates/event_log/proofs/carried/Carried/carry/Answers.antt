@@ -1,11 +1,9 @@
 -- What has found its place is turned to the back, and the least stamps before it are mended.
 use Rattle.std.proofs.Common.{◌-◌, List, length, sym, ap, ◌∙◌, subst, arith, length-drop}
 use Rattle.std.proofs.lemmas.List.{append-nil}
-use Rattle.std.specs.VecDeque.{deque_capacity}
 use Rattle.key_order.specs.Ascending.{Ascends}
 use Rattle.object_log.specs.Carrying.{Placed, placed_key}
-use Rattle.event_log.specs.declared.item.Item.{Item}
-use Rattle.event_log.specs.Items.{AreHeldBut, CarriedView, placed}
+use Rattle.event_log.specs.Items.{AreHeldBut, CarriedView, Item, placed}
 use Rattle.event_log.specs.Processing.{CanCarry, merged}
 use Rattle.event_log.specs.Turning.{turned_back, turned_view}
 use Rattle.event_log.proofs.FailFacts.{carried-went}
@@ -18,7 +16,7 @@ carry_into-turned-requires-clause-turned c = start-turned c.self.inside.items.it
 pub carry_into-turned-requires-clause-can : goal.carry_into-turned-requires-clause-can
 carry_into-turned-requires-clause-can c =
     let es = c.self.inside.items.items in
-    let capacity = deque_capacity c.self.inside.items in
+    let capacity = c.self.inside.items.capacity in
     let inside : CarriedView = record { items = placed es; room = capacity - length es } in
     let R : CarriedView → Type 0 = λ v. CanCarry c.args.places.now.items c.args.news.now v c.args.cells.now in
     can-same c.args.places.now.items c.args.news.now inside (turned_view 0 es capacity) c.args.cells.now (subst R (sym c.self.view_is) c.requires.can) (ap placed (append-nil es)) (omega arith)
@@ -58,7 +56,7 @@ invariant_of-self c =
     let n = c.carry_into-turned.result in
     let es = c.carry_into-turned.new.items.items in
     let same = c.mend.ensures.same ∙ ap placed c.rotate_left.ensures.items in
-    let old : CarriedView = record { items = placed c.self.inside.items.items; room = deque_capacity c.self.inside.items - length c.self.inside.items.items } in
+    let old : CarriedView = record { items = placed c.self.inside.items.items; room = c.self.inside.items.capacity - length c.self.inside.items.items } in
     let C : CarriedView → Type 0 = λ v. CanCarry c.args.places.now.items c.args.news.now v c.args.cells.now in
     let can = subst C (sym c.self.view_is) c.requires.can in
     let can' = c.carry_into-turned.ensures.can in (
@@ -95,5 +93,5 @@ returns-clause-can c =
     let all = turned-long n es within in
     let capacity = c.mend.ensures.capacity in
     let kept = c.rotate_left.ensures.capacity in
-    let now : CarriedView = record { items = placed mended.items; room = deque_capacity mended - length mended.items } in
-    can-same c.carry_into-turned.new.places.items c.carry_into-turned.new.news (turned_view n es (deque_capacity items)) now c.carry_into-turned.new.cells c.carry_into-turned.ensures.can same (omega arith)
+    let now : CarriedView = record { items = placed mended.items; room = mended.capacity - length mended.items } in
+    can-same c.carry_into-turned.new.places.items c.carry_into-turned.new.news (turned_view n es items.capacity) now c.carry_into-turned.new.cells c.carry_into-turned.ensures.can same (omega arith)

@@ -1,6 +1,5 @@
 -- Both lists are parts of what was carried.
 use Rattle.std.proofs.Common.{◌≤◌, length, map, not, sym, ap, ◌∙◌, subst}
-use Rattle.std.specs.VecDeque.{deque_capacity}
 use Rattle.key_order.specs.Ascending.{Ascends}
 use Rattle.key_order.proofs.AscendingLemmas.{Ascends-filter, Ascends-map, Ascends-mapped}
 use Rattle.object_log.specs.Carrying.{Placed, placed_key}
@@ -11,7 +10,7 @@ use Rattle.event_log.proofs.carried.Carried.part.Goals as goal
 
 pub part-requires-clause-room : goal.part-requires-clause-room
 part-requires-clause-room c =
-    let R : CarriedView → Type 0 = λ v. length (own_items c.args.object v.items) ≤ deque_capacity c.args.own.now in
+    let R : CarriedView → Type 0 = λ v. length (own_items c.args.object v.items) ≤ c.args.own.now.capacity in
     subst R (sym c.self.view_is) c.requires.room
 
 pub invariant_of-self : goal.invariant_of-self

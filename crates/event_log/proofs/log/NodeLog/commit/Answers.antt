@@ -1,7 +1,9 @@
 -- What is due leaves the log.
-use Rattle.std.proofs.Common.{◌≡◌, ◌<◌, ◌^◌, length, None, sym, ap, ◌∙◌, subst}
+use Rattle.std.proofs.Common.{◌≡◌, ◌<◌, ◌^◌, length, None, not, sym, ap, ◌∙◌, subst}
 use Rattle.std.specs.List.{AllByRecursion as Each}
+use Rattle.key_order.specs.Due.{is_due}
 use Rattle.model_core.specs.declared.event.Event.{Event}
+use Rattle.object_log.specs.Carrying.{Placed, placed_key}
 use Rattle.object_log.specs.Logs.{fault_of, held_of}
 use Rattle.object_log.specs.Parts.{due_of}
 use Rattle.object_log.specs.Whole.{IsEventLog}
@@ -9,6 +11,8 @@ use Rattle.event_log.specs.Committing.{HasCommittedDue}
 use Rattle.event_log.specs.NodeLogs.{HasCommittedTo, NodeLogView, node_log_view}
 use Rattle.event_log.specs.Processing.{AreHomed, ProcessedView}
 use Rattle.event_log.proofs.LogFacts.{commits, commits-log, err-one, on-either, on-more}
+use Rattle.event_log.specs.Latest.{AreBounded}
+use Rattle.event_log.proofs.LatestFacts.{bounded-filter}
 use Rattle.event_log.proofs.log.NodeLog.commit.Goals as goal
 
 pub commit-requires-clause-went : goal.commit-requires-clause-went
@@ -32,7 +36,7 @@ commit-requires-clause-homes c =
     subst H (sym c.self.view_is) c.requires.homes
 
 pub commit-requires-clause-few : goal.commit-requires-clause-few
-commit-requires-clause-few c = c.self.invariant.few
+commit-requires-clause-few c = c.self.invariant.0.few
 
 pub commit-requires-clause-few_held : goal.commit-requires-clause-few_held
 commit-requires-clause-few_held c =
@@ -50,8 +54,12 @@ invariant_of-self c =
     let told = c.commit.new.told.items in
     let out = c.commit.new.out.items in
     let L : ProcessedView → Type 0 = λ v. IsEventLog objects v.items in
-    on-either c.commit.result (HasCommittedDue c.args.homes.now c.args.horizon c.args.cut.now old new told out) (new ≡ old) (IsEventLog objects new.items) c.commit.ensures.ok c.commit.ensures.err
-    (λ h. commits-log c.args.homes.now c.args.horizon c.args.cut.now objects old new told out h c.self.invariant) (λ same. subst L (sym same) c.self.invariant)
+    let bounds = c.self.inside.latest in
+    let B : ProcessedView → Type 0 = λ v. AreBounded bounds v.items in
+    (on-either c.commit.result (HasCommittedDue c.args.homes.now c.args.horizon c.args.cut.now old new told out) (new ≡ old) (IsEventLog objects new.items) c.commit.ensures.ok c.commit.ensures.err
+    (λ h. commits-log c.args.homes.now c.args.horizon c.args.cut.now objects old new told out h c.self.invariant.0) (λ same. subst L (sym same) c.self.invariant.0),
+    on-either c.commit.result (HasCommittedDue c.args.homes.now c.args.horizon c.args.cut.now old new told out) (new ≡ old) (AreBounded bounds new.items) c.commit.ensures.ok c.commit.ensures.err
+    (λ h. subst (AreBounded bounds) (sym h.items) (bounded-filter bounds (λ (p : Placed). not (is_due c.args.horizon c.args.cut.now (placed_key p))) old.items c.self.invariant.1)) (λ same. subst B (sym same) c.self.invariant.1))
 
 pub returns-clause-ok : goal.returns-clause-ok
 returns-clause-ok c =

@@ -52,7 +52,7 @@ returns-clause-none c = λ no.
     let low : nat_lt at.0.done.event.key.stamp h ≡ true = grind (arith, nat_tests) in
     let V : EventLogView → Type 0 = λ v. Each (λ (d : Done). nat_lt d.event.key.stamp h ≡ true) v.done in
     subst V (ap (λ (v : NodeLogView). v.log) c.self.view_is)
-    (below-last h ds (c.len-len.result - 1) at.0.done (Ascends-map done_key (λ (p : Placed). p.done) items c.self.invariant.ordered) (omega arith)
+    (below-last h ds (c.len-len.result - 1) at.0.done (Ascends-map done_key (λ (p : Placed). p.done) items c.self.invariant.0.ordered) (omega arith)
     (get-map (λ (p : Placed). p.done) items (c.len-len.result - 1) at.0 at.1) low)
 
 pub returns-then-len-eq0-clause-none : goal.returns-then-len-eq0-clause-none

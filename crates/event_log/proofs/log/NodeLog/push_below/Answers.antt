@@ -1,15 +1,14 @@
 -- The keys of the items are those of the events.
-use Rattle.std.proofs.Common.{◌≡◌, ◌++◌, List, map, sym, ap, ◌∙◌, subst, arith}
+use Rattle.std.proofs.Common.{◌≡◌, ◌++◌, List, ap, ◌∙◌, subst}
 use Rattle.std.specs.Prelude.{OnOk, filter, nat_lt}
 use Rattle.event_key.specs.declared.key.Key.{Key}
-use Rattle.object_log.specs.Carrying.{placed_key}
 use Rattle.object_log.specs.Logs.{keys_of}
 use Rattle.event_log.specs.NodeLogs.{NodeLogView}
 use Rattle.event_log.proofs.FirstFacts.{keys-placed}
 use Rattle.event_log.proofs.log.NodeLog.push_below.Goals as goal
 
 pub push_below-requires : goal.push_below-requires
-push_below-requires c = c.self.invariant.few
+push_below-requires c = c.self.invariant.0.few
 
 pub returns-clause-ok : goal.returns-clause-ok
 returns-clause-ok c =

@@ -1,5 +1,5 @@
 -- The object is replaced.
-use Rattle.std.proofs.Common.{◌≡◌, Some, List, [], length, map, sym, ap, ◌∙◌, subst, arith}
+use Rattle.std.proofs.Common.{Some, map, sym, ap, ◌∙◌, arith}
 use Rattle.std.specs.Prelude.{slice_set}
 use Rattle.object_log.specs.EventLogs.{EventLogView, ObjectView, dones_at, state_in}
 use Rattle.object_log.specs.Objects.{KeptObject, state_of}
@@ -22,8 +22,8 @@ invariant_of-self c =
     let view = ap (λ (v : NodeLogView). v.log) c.self.view_is in
     let within = placed-within s.objects.items s.events.items c.args.self.now.log c.args.place c.args.object view c.requires.place in
     let dest = placed-dest s.objects.items s.events.items c.args.self.now.log c.args.place c.args.object view c.requires.place o at in
-    set-log s.objects.items s.events.items c.args.place o c.new.result c.self.invariant within at (ap (λ (k : KeptObject). k.object) c.new.ensures ∙ dest)
-    (ap (λ n. dones_at n (dones_in s.events.items)) (sym dest) ∙ ap (λ (v : EventLogView). dones_at c.args.object v.done) view ∙ c.requires.none)
+    (set-log s.objects.items s.events.items c.args.place o c.new.result c.self.invariant.0 within at (ap (λ (k : KeptObject). k.object) c.new.ensures ∙ dest)
+    (ap (λ n. dones_at n (dones_in s.events.items)) (sym dest) ∙ ap (λ (v : EventLogView). dones_at c.args.object v.done) view ∙ c.requires.none), c.self.invariant.1)
 
 pub returns-clause-state : goal.returns-clause-state
 returns-clause-state c =
@@ -33,7 +33,7 @@ returns-clause-state c =
     let view = ap (λ (v : NodeLogView). v.log) c.self.view_is in
     let within = placed-within s.objects.items s.events.items c.args.self.now.log c.args.place c.args.object view c.requires.place in
     let dest = placed-dest s.objects.items s.events.items c.args.self.now.log c.args.place c.args.object view c.requires.place o at in
-    let is = changed s.objects.items s.events.items c.args.place o c.new.result c.self.invariant within at (ap (λ (k : KeptObject). k.object) c.new.ensures ∙ dest) in
+    let is = changed s.objects.items s.events.items c.args.place o c.new.result c.self.invariant.0 within at (ap (λ (k : KeptObject). k.object) c.new.ensures ∙ dest) in
     ap (state_in (map object_view (slice_set s.objects.items c.args.place c.new.result))) dest
     ∙ state-becomes s.objects.items c.args.place o c.new.result is
     ∙ ap (λ (k : KeptObject). Some (state_of k)) c.new.ensures
@@ -46,7 +46,7 @@ returns-clause-others c = λ other there.
     let view = ap (λ (v : NodeLogView). v.log) c.self.view_is in
     let within = placed-within s.objects.items s.events.items c.args.self.now.log c.args.place c.args.object view c.requires.place in
     let dest = placed-dest s.objects.items s.events.items c.args.self.now.log c.args.place c.args.object view c.requires.place o at in
-    let is = changed s.objects.items s.events.items c.args.place o c.new.result c.self.invariant within at (ap (λ (k : KeptObject). k.object) c.new.ensures ∙ dest) in
+    let is = changed s.objects.items s.events.items c.args.place o c.new.result c.self.invariant.0 within at (ap (λ (k : KeptObject). k.object) c.new.ensures ∙ dest) in
     state-others s.objects.items c.args.place o c.new.result is other (λ same. there (same ∙ sym dest))
     ∙ ap (λ (v : EventLogView). state_in v.objects other) view
 
@@ -58,6 +58,6 @@ returns-clause-numbers c =
     let view = ap (λ (v : NodeLogView). v.log) c.self.view_is in
     let within = placed-within s.objects.items s.events.items c.args.self.now.log c.args.place c.args.object view c.requires.place in
     let dest = placed-dest s.objects.items s.events.items c.args.self.now.log c.args.place c.args.object view c.requires.place o at in
-    let is = changed s.objects.items s.events.items c.args.place o c.new.result c.self.invariant within at (ap (λ (k : KeptObject). k.object) c.new.ensures ∙ dest) in
+    let is = changed s.objects.items s.events.items c.args.place o c.new.result c.self.invariant.0 within at (ap (λ (k : KeptObject). k.object) c.new.ensures ∙ dest) in
     numbers-stay s.objects.items c.args.place o c.new.result is
     ∙ ap (λ (v : EventLogView). map (λ (w : ObjectView). w.object) v.objects) view

@@ -1,13 +1,13 @@
 -- All is carried, and parts.
-use Rattle.std.proofs.Common.{◌≡◌, ◌≤◌, ◌-◌, ℕ, Some, List, [], ◌∷◌, length, sym, ap, ◌∙◌, subst, arith}
-use Rattle.std.specs.VecDeque.{deque_capacity}
+use Rattle.std.proofs.Common.{◌≤◌, ◌-◌, Some, List, length, sym, ap, ◌∙◌, subst, arith}
 use Rattle.object_log.specs.Carrying.{Placed}
-use Rattle.object_log.specs.Whole.{IsEventLog}
 use Rattle.object_log.proofs.EventLogLemmas.{placed-within}
 use Rattle.event_log.specs.Items.{placed}
 use Rattle.event_log.specs.Moves.{MovedLogView, own_items}
 use Rattle.event_log.specs.NodeLogs.{NodeLogView}
 use Rattle.event_log.proofs.MoveFacts.{own-room, taken}
+use Rattle.event_log.specs.Latest.{AreBounded}
+use Rattle.event_log.proofs.LatestFacts.{bounded-parted}
 use Rattle.event_log.proofs.log.NodeLog.take.Goals as goal
 
 pub overflow_sub-last : goal.overflow_sub-last
@@ -17,7 +17,7 @@ overflow_sub-last c =
 
 pub part-requires-clause-room : goal.part-requires-clause-room
 part-requires-clause-room c =
-    let R : List Placed → Type 0 = λ items. length (own_items c.args.object items) ≤ deque_capacity c.into_lists-objects.result.1 in
+    let R : List Placed → Type 0 = λ items. length (own_items c.args.object items) ≤ c.into_lists-objects.result.1.capacity in
     let room = c.requires.room in
     let same = own-room c.self.inside.objects.items c.self.inside.events.items c.args.self.now.log c.args.object (ap (λ (v : NodeLogView). v.log) c.self.view_is) in
     subst R (sym c.carry_all.ensures.same.items) (omega (arith, c.into_lists-objects.ensures.events))
@@ -32,53 +32,55 @@ new-requires-clause-log c =
     let s = c.self.inside in
     let x = c.swap_remove-object in
     (taken s.objects.items s.events.items c.carry_all.new.self.items c.args.self.now.log c.args.place c.args.object (c.len-last.result - 1) x.result x.new.self.items c.part.new.self.items (placed c.part.new.own.items)
-    (ap (λ (v : NodeLogView). v.log) c.self.view_is) c.self.invariant c.requires.place x.ensures.value x.ensures.items c.carry_all.ensures.same.items (omega arith) c.part.ensures.items c.part.ensures.own).moved
+    (ap (λ (v : NodeLogView). v.log) c.self.view_is) c.self.invariant.0 c.requires.place x.ensures.value x.ensures.items c.carry_all.ensures.same.items (omega arith) c.part.ensures.items c.part.ensures.own).moved
 
 pub invariant_of-self : goal.invariant_of-self
 invariant_of-self c =
     let s = c.self.inside in
     let x = c.swap_remove-object in
-    (taken s.objects.items s.events.items c.carry_all.new.self.items c.args.self.now.log c.args.place c.args.object (c.len-last.result - 1) x.result x.new.self.items c.part.new.self.items (placed c.part.new.own.items)
-    (ap (λ (v : NodeLogView). v.log) c.self.view_is) c.self.invariant c.requires.place x.ensures.value x.ensures.items c.carry_all.ensures.same.items (omega arith) c.part.ensures.items c.part.ensures.own).log
+    ((taken s.objects.items s.events.items c.carry_all.new.self.items c.args.self.now.log c.args.place c.args.object (c.len-last.result - 1) x.result x.new.self.items c.part.new.self.items (placed c.part.new.own.items)
+    (ap (λ (v : NodeLogView). v.log) c.self.view_is) c.self.invariant.0 c.requires.place x.ensures.value x.ensures.items c.carry_all.ensures.same.items (omega arith) c.part.ensures.items c.part.ensures.own).log,
+    subst (AreBounded s.latest) (sym c.part.ensures.items)
+    (bounded-parted s.latest c.args.object (c.len-last.result - 1) c.args.place c.carry_all.new.self.items (subst (AreBounded s.latest) (sym c.carry_all.ensures.same.items) c.self.invariant.1)))
 
 pub returns-clause-gone : goal.returns-clause-gone
 returns-clause-gone c =
     let s = c.self.inside in
     let x = c.swap_remove-object in
     (taken s.objects.items s.events.items c.carry_all.new.self.items c.args.self.now.log c.args.place c.args.object (c.len-last.result - 1) x.result x.new.self.items c.part.new.self.items (placed c.part.new.own.items)
-    (ap (λ (v : NodeLogView). v.log) c.self.view_is) c.self.invariant c.requires.place x.ensures.value x.ensures.items c.carry_all.ensures.same.items (omega arith) c.part.ensures.items c.part.ensures.own).gone
+    (ap (λ (v : NodeLogView). v.log) c.self.view_is) c.self.invariant.0 c.requires.place x.ensures.value x.ensures.items c.carry_all.ensures.same.items (omega arith) c.part.ensures.items c.part.ensures.own).gone
 
 pub returns-clause-others : goal.returns-clause-others
 returns-clause-others c =
     let s = c.self.inside in
     let x = c.swap_remove-object in
     (taken s.objects.items s.events.items c.carry_all.new.self.items c.args.self.now.log c.args.place c.args.object (c.len-last.result - 1) x.result x.new.self.items c.part.new.self.items (placed c.part.new.own.items)
-    (ap (λ (v : NodeLogView). v.log) c.self.view_is) c.self.invariant c.requires.place x.ensures.value x.ensures.items c.carry_all.ensures.same.items (omega arith) c.part.ensures.items c.part.ensures.own).states
+    (ap (λ (v : NodeLogView). v.log) c.self.view_is) c.self.invariant.0 c.requires.place x.ensures.value x.ensures.items c.carry_all.ensures.same.items (omega arith) c.part.ensures.items c.part.ensures.own).states
 
 pub returns-clause-done : goal.returns-clause-done
 returns-clause-done c =
     let s = c.self.inside in
     let x = c.swap_remove-object in
     (taken s.objects.items s.events.items c.carry_all.new.self.items c.args.self.now.log c.args.place c.args.object (c.len-last.result - 1) x.result x.new.self.items c.part.new.self.items (placed c.part.new.own.items)
-    (ap (λ (v : NodeLogView). v.log) c.self.view_is) c.self.invariant c.requires.place x.ensures.value x.ensures.items c.carry_all.ensures.same.items (omega arith) c.part.ensures.items c.part.ensures.own).done
+    (ap (λ (v : NodeLogView). v.log) c.self.view_is) c.self.invariant.0 c.requires.place x.ensures.value x.ensures.items c.carry_all.ensures.same.items (omega arith) c.part.ensures.items c.part.ensures.own).done
 
 pub returns-clause-places : goal.returns-clause-places
 returns-clause-places c =
     let s = c.self.inside in
     let x = c.swap_remove-object in
     (taken s.objects.items s.events.items c.carry_all.new.self.items c.args.self.now.log c.args.place c.args.object (c.len-last.result - 1) x.result x.new.self.items c.part.new.self.items (placed c.part.new.own.items)
-    (ap (λ (v : NodeLogView). v.log) c.self.view_is) c.self.invariant c.requires.place x.ensures.value x.ensures.items c.carry_all.ensures.same.items (omega arith) c.part.ensures.items c.part.ensures.own).places
+    (ap (λ (v : NodeLogView). v.log) c.self.view_is) c.self.invariant.0 c.requires.place x.ensures.value x.ensures.items c.carry_all.ensures.same.items (omega arith) c.part.ensures.items c.part.ensures.own).places
 
 pub returns-clause-count : goal.returns-clause-count
 returns-clause-count c =
     let s = c.self.inside in
     let x = c.swap_remove-object in
     (taken s.objects.items s.events.items c.carry_all.new.self.items c.args.self.now.log c.args.place c.args.object (c.len-last.result - 1) x.result x.new.self.items c.part.new.self.items (placed c.part.new.own.items)
-    (ap (λ (v : NodeLogView). v.log) c.self.view_is) c.self.invariant c.requires.place x.ensures.value x.ensures.items c.carry_all.ensures.same.items (omega arith) c.part.ensures.items c.part.ensures.own).count
+    (ap (λ (v : NodeLogView). v.log) c.self.view_is) c.self.invariant.0 c.requires.place x.ensures.value x.ensures.items c.carry_all.ensures.same.items (omega arith) c.part.ensures.items c.part.ensures.own).count
 
 pub returns-clause-log : goal.returns-clause-log
 returns-clause-log c =
     let s = c.self.inside in
     let x = c.swap_remove-object in
     (taken s.objects.items s.events.items c.carry_all.new.self.items c.args.self.now.log c.args.place c.args.object (c.len-last.result - 1) x.result x.new.self.items c.part.new.self.items (placed c.part.new.own.items)
-    (ap (λ (v : NodeLogView). v.log) c.self.view_is) c.self.invariant c.requires.place x.ensures.value x.ensures.items c.carry_all.ensures.same.items (omega arith) c.part.ensures.items c.part.ensures.own).slot ∙ ap (λ (m : MovedLogView). Some m.log) (sym c.new.ensures)
+    (ap (λ (v : NodeLogView). v.log) c.self.view_is) c.self.invariant.0 c.requires.place x.ensures.value x.ensures.items c.carry_all.ensures.same.items (omega arith) c.part.ensures.items c.part.ensures.own).slot ∙ ap (λ (m : MovedLogView). Some m.log) (sym c.new.ensures)

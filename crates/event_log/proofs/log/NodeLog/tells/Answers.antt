@@ -6,4 +6,4 @@ use Rattle.event_log.proofs.SoundFacts.{sound-log}
 use Rattle.event_log.proofs.log.NodeLog.tells.Goals as goal
 
 pub returns : goal.returns
-returns c = subst AreSound (ap (λ (v : NodeLogView). v.log) c.self.view_is) (sound-log c.self.inside.objects.items c.self.inside.events.items c.self.invariant)
+returns c = subst AreSound (ap (λ (v : NodeLogView). v.log) c.self.view_is) (sound-log c.self.inside.objects.items c.self.inside.events.items c.self.invariant.0)

@@ -1,5 +1,5 @@
 -- Each item is an event.
-use Rattle.std.proofs.Common.{length, sym, ap, ◌∙◌, arith}
+use Rattle.std.proofs.Common.{length, ap, arith}
 use Rattle.std.proofs.lemmas.List.{length-map}
 use Rattle.object_log.specs.Carrying.{Placed}
 use Rattle.event_log.specs.Items.{placed, placed_of}

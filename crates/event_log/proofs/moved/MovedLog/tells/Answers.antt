@@ -1,5 +1,5 @@
 -- It is a log of one object.
-use Rattle.std.proofs.Common.{◌≡◌, ◌<◌, ◌^◌, length, sym, ap, ◌∙◌, subst, arith}
+use Rattle.std.proofs.Common.{◌≡◌, length, ap, subst, arith}
 use Rattle.std.proofs.lemmas.List.{length-map}
 use Rattle.key_order.specs.Ascending.{Ascends}
 use Rattle.key_order.proofs.AscendingLemmas.{Ascends-map}

@@ -1,6 +1,5 @@
 -- All is carried.
 use Rattle.std.proofs.Common.{◌+◌, ◌≤◌, List, length, map, sym, ap, ◌∙◌, subst}
-use Rattle.std.specs.VecDeque.{deque_capacity}
 use Rattle.key_order.specs.Ascending.{Ascends}
 use Rattle.object_log.specs.Carrying.{Placed, placed_key}
 use Rattle.object_log.specs.Weave.{weave}
@@ -22,7 +21,7 @@ pub absorb-requires-clause-room : goal.absorb-requires-clause-room
 absorb-requires-clause-room c =
     let n = c.self.inside in
     let same = all-carried n.places.items n.news n.carried c.args.self.now c.self.view_is c.requires.news in
-    let R : List Placed → Type 0 = λ items. length items + length c.args.items.items ≤ deque_capacity c.args.items in
+    let R : List Placed → Type 0 = λ items. length items + length c.args.items.items ≤ c.args.items.capacity in
     subst R (sym same) c.requires.room
 
 pub invariant_of-self : goal.invariant_of-self

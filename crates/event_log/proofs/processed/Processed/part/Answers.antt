@@ -1,6 +1,5 @@
 -- All is carried.
 use Rattle.std.proofs.Common.{◌≤◌, List, length, map, not, sym, ap, ◌∙◌, subst}
-use Rattle.std.specs.VecDeque.{deque_capacity}
 use Rattle.key_order.specs.Ascending.{Ascends}
 use Rattle.key_order.proofs.AscendingLemmas.{Ascends-filter, Ascends-map}
 use Rattle.object_log.specs.Carrying.{Placed, placed_key}
@@ -14,7 +13,7 @@ pub part-requires-clause-room : goal.part-requires-clause-room
 part-requires-clause-room c =
     let n = c.self.inside in
     let same = all-carried n.places.items n.news n.carried c.args.self.now c.self.view_is c.requires.news in
-    let R : List Placed → Type 0 = λ items. length (own_items c.args.object items) ≤ deque_capacity c.args.own.now in
+    let R : List Placed → Type 0 = λ items. length (own_items c.args.object items) ≤ c.args.own.now.capacity in
     subst R (sym same) c.requires.room
 
 pub invariant_of-self : goal.invariant_of-self

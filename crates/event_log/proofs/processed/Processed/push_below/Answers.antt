@@ -1,5 +1,5 @@
 -- There is room for the keys of all.
-use Rattle.std.proofs.Common.{◌≡◌, ◌++◌, List, length, map, sym, ap, ◌∙◌, subst, arith}
+use Rattle.std.proofs.Common.{◌++◌, length, map, sym, ap, ◌∙◌, subst, arith}
 use Rattle.std.specs.Prelude.{filter, nat_lt}
 use Rattle.event_key.specs.declared.key.Key.{Key}
 use Rattle.key_order.specs.Ascending.{Ascends}

@@ -5,7 +5,7 @@ use Rattle.object_log.specs.Logs.{fault_of}
 use Rattle.event_log.specs.Faults.{lesser_fault}
 use Rattle.event_log.specs.Processing.{ProcessedView}
 use Rattle.event_log.proofs.FaultFacts.{merged-fault}
-use Rattle.event_log.proofs.processed.Processed.faulted.Goals as goal
+use Rattle.event_log.proofs.processed.Processed.first_fault.Goals as goal
 
 pub returns : goal.returns
 returns c =
