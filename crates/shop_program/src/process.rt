@@ -3,7 +3,7 @@ ghost use Rattle.std.specs.Prelude.{◌≤◌, IfOk, IfErr};
 ghost use Rattle.std.specs.Process.{exit_status};
 ghost use Rattle.program_answers.specs.declared.status.TheConstants.{STATE};
 ghost use Rattle.program_answers.specs.Answered.{streams};
-ghost use Rattle.program_answers.specs.Process.{AnswersStreams, LeavesStreams};
+ghost use Rattle.program_answers.specs.Process.{AnswersStreams, EndsProcess, LeavesStreams};
 ghost use Rattle.shop_program.specs.Answer.{asked_by};
 
 use crate::program::run_program;
@@ -49,7 +49,8 @@ where
     }
 }
 
-/// Does what `run_streams` does with the words of the process. The status is one of those that `run_program` lists.
+/// Does what `run_streams` does with the words of the process, which no contract can name: its status is the answer's to some
+/// words, or that of words that can't be read. It is one of those that `run_program` lists.
 pub fn run_process<R, I, O, N>(rt: &R, input: I, output: O, notes: N) -> ExitCode
 where
     R: AllocGlobal + Env + Threads + Sync,
@@ -57,6 +58,7 @@ where
     O: Write + Drop,
     N: Write + Drop,
     ensures known { exit_status result ≤ STATE }
+    ensures ends { EndsProcess I.remaining O.contents N.contents (exit_status result) (streams input output notes) asked_by }
 {
     let words = program_words(rt).map_err(|error| error.kind());
     let ended = run_streams(rt, words, input, output, notes);
