@@ -84,19 +84,19 @@ fn fresh_events_wait_until_the_horizon(rt: HostRuntime) -> Result<(), Fail> {
     for stamp in [30, 10, 20] {
         counted.push(rt.alloc(), stamp)?;
     }
-    assert_eq!(rt; counted.queue.fresh_least(), 10);
-    assert_eq!(rt; counted.queue.len(), 3);
-    assert_eq!(rt; counted.pop(), Some(10));
-    assert_eq!(rt; counted.queue.fresh_least(), NO_STAMP);
-    assert_eq!(rt; counted.queue.len(), 2);
+    assert!(rt; counted.queue.fresh_least() == 10);
+    assert!(rt; counted.queue.len() == 3);
+    assert!(rt; counted.pop() == Some(10));
+    assert!(rt; counted.queue.fresh_least() == NO_STAMP);
+    assert!(rt; counted.queue.len() == 2);
     let least = counted.queue.least().ok_or("empty")?;
-    assert_eq!(rt; least.stamp, 20);
+    assert!(rt; least.stamp == 20);
     counted.push(rt.alloc(), 25)?;
-    assert_eq!(rt; counted.pop(), Some(20));
-    assert_eq!(rt; counted.queue.fresh_least(), 25);
-    assert_eq!(rt; counted.pop(), Some(25));
-    assert_eq!(rt; counted.pop(), Some(30));
-    assert_eq!(rt; counted.pop(), None);
+    assert!(rt; counted.pop() == Some(20));
+    assert!(rt; counted.queue.fresh_least() == 25);
+    assert!(rt; counted.pop() == Some(25));
+    assert!(rt; counted.pop() == Some(30));
+    assert!(rt; counted.pop() == None);
     Ok(())
 }
 
@@ -114,13 +114,13 @@ fn events_come_in_the_order_of_a_sorted_list(rt: HostRuntime) -> Result<(), Fail
             } else {
                 Some(sorted.remove(0))
             };
-            assert_eq!(rt; counted.pop(), least);
+            assert!(rt; counted.pop() == least);
         } else {
             counted.push(rt.alloc(), stamp)?;
             sorted.push(stamp)?;
             sorted.sort_unstable();
         }
-        assert_eq!(rt; counted.queue.len(), sorted.len());
+        assert!(rt; counted.queue.len() == sorted.len());
     }
     Ok(())
 }
@@ -134,16 +134,16 @@ fn what_is_given_back_comes_again(rt: HostRuntime) -> Result<(), Fail> {
     }
     let Counted { mut queue, .. } = counted;
     queue.merge();
-    assert_eq!(rt; queue.fresh_least(), NO_STAMP);
+    assert!(rt; queue.fresh_least() == NO_STAMP);
     let first = queue.pop().ok_or("empty")?;
     assert!(rt; queue.len() < 9);
     let mut chain = Chain::new();
     chain.push_back(first);
     queue.give_back(chain);
-    assert_eq!(rt; queue.len(), 3);
+    assert!(rt; queue.len() == 3);
     for stamp in [10, 20, 30] {
         let cell = queue.pop().ok_or("empty")?;
-        assert_eq!(rt; cell.into_inner().key.stamp, stamp);
+        assert!(rt; cell.into_inner().key.stamp == stamp);
     }
     Ok(())
 }

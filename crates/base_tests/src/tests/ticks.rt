@@ -97,36 +97,36 @@ impl Counted {
 #[test]
 fn fresh_least_is_of_what_came_since_the_merge(rt: HostRuntime) -> Result<(), Fail> {
     let mut counted = Counted::new(rt.alloc())?;
-    assert_eq!(rt; counted.queue.fresh_least(), NO_STAMP);
+    assert!(rt; counted.queue.fresh_least() == NO_STAMP);
     for tick in [30, 10, 20] {
         counted.push(tick * STEPS)?;
     }
-    assert_eq!(rt; counted.queue.fresh_least(), 10 * STEPS);
+    assert!(rt; counted.queue.fresh_least() == 10 * STEPS);
     counted.queue.merge();
-    assert_eq!(rt; counted.queue.fresh_least(), NO_STAMP);
-    assert_eq!(rt; counted.take()?, Some(10 * STEPS));
+    assert!(rt; counted.queue.fresh_least() == NO_STAMP);
+    assert!(rt; counted.take()? == Some(10 * STEPS));
     counted.push(10 * STEPS + 1)?;
-    assert_eq!(rt; counted.queue.fresh_least(), 10 * STEPS + 1);
-    assert_eq!(rt; counted.take()?, Some(10 * STEPS + 1));
-    assert_eq!(rt; counted.take()?, Some(20 * STEPS));
-    assert_eq!(rt; counted.take()?, Some(30 * STEPS));
-    assert_eq!(rt; counted.take()?, None);
+    assert!(rt; counted.queue.fresh_least() == 10 * STEPS + 1);
+    assert!(rt; counted.take()? == Some(10 * STEPS + 1));
+    assert!(rt; counted.take()? == Some(20 * STEPS));
+    assert!(rt; counted.take()? == Some(30 * STEPS));
+    assert!(rt; counted.take()? == None);
     Ok(())
 }
 
 #[test]
 fn those_behind_the_first_are_seen_as_far_as_they_are_at_hand(rt: HostRuntime) -> Result<(), Fail> {
     let mut counted = Counted::new(rt.alloc())?;
-    assert_eq!(rt; counted.dest_after(0), None);
+    assert!(rt; counted.dest_after(0) == None);
     for dest in [4, 2, 3, 1] {
         counted.push_to(10 * STEPS, dest)?;
     }
     counted.push(20 * STEPS)?;
-    assert_eq!(rt; counted.take()?, Some(10 * STEPS));
-    assert_eq!(rt; counted.dest_after(0), Some(2));
-    assert_eq!(rt; counted.dest_after(1), Some(3));
-    assert_eq!(rt; counted.dest_after(2), Some(4));
-    assert_eq!(rt; counted.dest_after(3), None);
+    assert!(rt; counted.take()? == Some(10 * STEPS));
+    assert!(rt; counted.dest_after(0) == Some(2));
+    assert!(rt; counted.dest_after(1) == Some(3));
+    assert!(rt; counted.dest_after(2) == Some(4));
+    assert!(rt; counted.dest_after(3) == None);
     Ok(())
 }
 
@@ -140,14 +140,14 @@ fn an_event_before_those_at_hand_comes_first(rt: HostRuntime) -> Result<(), Fail
     for stamp in [90 * STEPS + 5, 90 * STEPS + 1, 90 * STEPS + 9, 12 * STEPS] {
         counted.push(stamp)?;
     }
-    assert_eq!(rt; counted.take()?, Some(12 * STEPS));
+    assert!(rt; counted.take()? == Some(12 * STEPS));
     for step in [1, 3, 5, 7, 9] {
-        assert_eq!(rt; counted.take()?, Some(90 * STEPS + step));
+        assert!(rt; counted.take()? == Some(90 * STEPS + step));
     }
     counted.push(2 * STEPS)?;
-    assert_eq!(rt; counted.take()?, Some(2 * STEPS));
-    assert_eq!(rt; counted.take()?, Some(95 * STEPS));
-    assert_eq!(rt; counted.take()?, None);
+    assert!(rt; counted.take()? == Some(2 * STEPS));
+    assert!(rt; counted.take()? == Some(95 * STEPS));
+    assert!(rt; counted.take()? == None);
     Ok(())
 }
 
@@ -166,7 +166,7 @@ fn events_come_in_the_order_of_a_sorted_list(rt: HostRuntime) -> Result<(), Fail
             } else {
                 Some(sorted.remove(0))
             };
-            assert_eq!(rt; counted.take()?, least);
+            assert!(rt; counted.take()? == least);
         } else {
             counted.push(stamp)?;
             sorted.push(stamp)?;
@@ -174,9 +174,9 @@ fn events_come_in_the_order_of_a_sorted_list(rt: HostRuntime) -> Result<(), Fail
         }
     }
     for stamp in sorted {
-        assert_eq!(rt; counted.take()?, Some(stamp));
+        assert!(rt; counted.take()? == Some(stamp));
     }
-    assert_eq!(rt; counted.take()?, None);
+    assert!(rt; counted.take()? == None);
     Ok(())
 }
 
@@ -196,10 +196,10 @@ fn sixty_events_of_a_tick_come_in_the_order_of_their_keys(rt: HostRuntime) -> Re
         let Some(key) = counted.take_key()? else {
             return Err(Fail::from("an event is missing"));
         };
-        assert_eq!(rt; key.stamp, stamp);
-        assert_eq!(rt; key.dest, dest);
-        assert_eq!(rt; key.serial, serial);
+        assert!(rt; key.stamp == stamp);
+        assert!(rt; key.dest == dest);
+        assert!(rt; key.serial == serial);
     }
-    assert_eq!(rt; counted.take()?, None);
+    assert!(rt; counted.take()? == None);
     Ok(())
 }
