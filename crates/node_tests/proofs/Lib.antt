@@ -1,1 +1,2 @@
 pub mod DriveFacts
+pub mod LoneStation

@@ -7,17 +7,16 @@ mod station;
 use driven::Driven;
 use model_core::model::Model as SimulationModel;
 use model_core::{Event, Part};
-use model_text::AnyModel;
 use node_core::{Step, Tallies};
 use std::alloc::Global;
 use std::process::Abort;
 use std::test::Fail;
 
 /// The next step processes this event, and this is the least stamp of what it sends.
-fn assert_step<R: Abort>(
+fn assert_step<R: Abort, M: SimulationModel>(
     rt: &R,
     alloc: Global,
-    driven: &mut Driven<AnyModel>,
+    driven: &mut Driven<M>,
     event: &Event,
     least: u64,
 ) -> Result<(), Fail> {

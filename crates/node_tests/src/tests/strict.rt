@@ -1,19 +1,38 @@
 //! A station whose line is strict, with the events that come to it.
 use super::initial;
 use event_key::{Key, stamp_of};
-use model_core::{Event, Part};
-use model_text::{AnyModel, read_model};
+use model_core::{Event, Name, Part};
+use queue_models::{Item, Kind, Network, Station};
+use random_streams::Law;
 use sim_spec::Terms;
 use std::alloc::Global;
 use std::test::Fail;
-use test_texts::STRICT_STATION;
 
-/// A station that serves a job for 4 ticks, has room for one more, and fails where a third one comes.
-pub fn station(alloc: Global) -> Result<(AnyModel, Terms), Fail> {
-    let Ok(read) = read_model(alloc, STRICT_STATION.as_bytes()) else {
-        return Err(Fail::from("the model is refused"));
+/// How far it goes.
+pub const TERMS: Terms = Terms {
+    end: 30,
+    limit: 1_000,
+};
+
+/// A station that serves a job for 4 ticks, has room for one more, and fails where a third one comes. Who is served comes back
+/// to it.
+pub fn station(alloc: Global) -> Result<Network, Fail> {
+    let station = Station {
+        servers: 1,
+        line: 1,
+        service: Law::Fixed { value: 4 },
+        strict: true,
+        next: 0,
     };
-    Ok(read)
+    let name = Name::new(vec![in alloc; b's']?);
+    let item = Item {
+        name,
+        kind: Kind::Station(station),
+        rank: 0,
+        quiet: false,
+        trace: false,
+    };
+    Ok(Network::make(alloc, 0, vec![in alloc; item]?, Vec::new(alloc))?)
 }
 
 /// The initial event at this place, at which a job arrives. Jobs are numbered from 1.

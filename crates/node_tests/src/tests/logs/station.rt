@@ -5,16 +5,11 @@ use crate::tests::strict::{self, arrival, first_done};
 use event_chain::Chain;
 use event_key::{NO_STAMP, stamp_of};
 use model_core::{Cells, Note, OutOfMemory};
-use model_text::AnyModel;
 use object_log::{ObjectLog, Verdict};
+use queue_models::Network;
 use std::alloc::Global;
 use std::process::Abort;
 use std::test::Fail;
-
-fn station(alloc: Global) -> Result<AnyModel, Fail> {
-    let (model, _) = strict::station(alloc)?;
-    Ok(model)
-}
 
 /// What is told of a job.
 fn told(word: u32, job: u64, waiting: u64) -> Verdict {
@@ -35,7 +30,7 @@ fn cells(alloc: Global) -> Result<Cells, Fail> {
 fn run_ahead<R: Abort>(
     rt: &R,
     alloc: Global,
-    model: &AnyModel,
+    model: &Network,
     log: &mut ObjectLog,
     shared: &mut Shared,
 ) -> Result<[u64; 3], Fail> {
@@ -49,7 +44,7 @@ fn run_ahead<R: Abort>(
 fn straggle<R: Abort>(
     rt: &R,
     alloc: Global,
-    model: &AnyModel,
+    model: &Network,
     log: &mut ObjectLog,
     shared: &mut Shared,
 ) -> Result<[u64; 3], Fail> {
@@ -83,7 +78,7 @@ fn assert_told<R: Abort>(rt: &R, log: &mut ObjectLog, shared: &mut Shared) -> Re
 #[test]
 fn a_straggler_takes_back_a_fault_that_never_happens(rt: HostRuntime) -> Result<(), Fail> {
     let alloc = rt.alloc();
-    let model = station(alloc)?;
+    let model = strict::station(alloc)?;
     let mut shared = make_shared(alloc)?;
     let mut log = ObjectLog::new(0, cells(alloc)?);
     let early = run_ahead(&rt, alloc, &model, &mut log, &mut shared)?;

@@ -4,39 +4,32 @@ use super::{assert_counts, assert_step, commit_one};
 use crate::tests::{at, initial};
 use event_key::NO_STAMP;
 use model_core::Event;
-use model_text::{AnyModel, read_model};
+use phold_model::Phold;
+use random_streams::Law;
+use sim_spec::Terms;
 use std::alloc::Global;
 use std::process::Abort;
 use std::test::Fail;
-
-/// Two objects whose events take 5 ticks from each to the other.
-const HOPS: &str = "format = 1
-model = \"phold\"
-end = 20
-seed = 0
-
-[phold]
-objects = 2
-delay = { law = \"fixed\", value = 5 }
-to = \"next\"
-start = []
-";
 
 /// An initial event of the model.
 fn hop(time: u32, dest: u32, place: u32) -> Event {
     initial(time, dest, place, 4, 0, 0)
 }
 
-/// One node that has both objects.
-fn hops<R: Abort>(rt: &R, alloc: Global) -> Result<Driven<AnyModel>, Fail> {
-    let Ok((model, terms)) = read_model(alloc, HOPS.as_bytes()) else {
-        return Err(Fail::from("the model is refused"));
+/// One node that has two objects, whose events take 5 ticks from each to the other.
+fn hops<R: Abort>(rt: &R, alloc: Global) -> Result<Driven<Phold>, Fail> {
+    let delay = Law::Fixed { value: 5 };
+    assert!(rt; delay.is_delay());
+    let model = Phold::make(0, 2, delay, false, 0, Vec::new(alloc), 0)?;
+    let terms = Terms {
+        end: 20,
+        limit: 1_000,
     };
     Driven::new(rt, alloc, model, terms, 0, 1)
 }
 
 /// The node with an event at 0, 7 and 8, all of which it has processed.
-fn ahead<R: Abort>(rt: &R, alloc: Global) -> Result<Driven<AnyModel>, Fail> {
+fn ahead<R: Abort>(rt: &R, alloc: Global) -> Result<Driven<Phold>, Fail> {
     let mut driven = hops(rt, alloc)?;
     driven.receive(rt, alloc, hop(0, 0, 0))?;
     driven.receive(rt, alloc, hop(7, 1, 1))?;

@@ -2,24 +2,23 @@
 use super::driven::Driven;
 use super::{assert_counts, assert_step, commit_one};
 use crate::tests::at;
-use crate::tests::strict::{self, arrival, first_done, told};
+use crate::tests::strict::{self, TERMS, arrival, first_done, told};
 use event_key::NO_STAMP;
-use model_text::AnyModel;
 use node_core::Step;
+use queue_models::Network;
 use std::alloc::Global;
 use std::process::Abort;
 use std::test::Fail;
 use test_models::Stingy;
 
 /// One node that has the whole model.
-fn station<R: Abort>(rt: &R, alloc: Global) -> Result<Driven<AnyModel>, Fail> {
-    let (model, terms) = strict::station(alloc)?;
-    Driven::new(rt, alloc, model, terms, 0, 1)
+fn station<R: Abort>(rt: &R, alloc: Global) -> Result<Driven<Network>, Fail> {
+    Driven::new(rt, alloc, strict::station(alloc)?, TERMS, 0, 1)
 }
 
 /// The node with a job at 5, 10 and 11, all of which it has processed. Without the end of job 1 at 9 job 2 waits, and
 /// job 3 finds the line full.
-fn ahead<R: Abort>(rt: &R, alloc: Global) -> Result<Driven<AnyModel>, Fail> {
+fn ahead<R: Abort>(rt: &R, alloc: Global) -> Result<Driven<Network>, Fail> {
     let mut driven = station(rt, alloc)?;
     driven.receive(rt, alloc, arrival(5, 0))?;
     driven.receive(rt, alloc, arrival(10, 1))?;
@@ -53,9 +52,9 @@ fn stingy_station<R: Abort>(
     rt: &R,
     alloc: Global,
     before: u64,
-) -> Result<Driven<Stingy<AnyModel>>, Fail> {
-    let (model, terms) = strict::station(alloc)?;
-    let mut driven = Driven::new(rt, alloc, Stingy::new(model, before), terms, 0, 1)?;
+) -> Result<Driven<Stingy<Network>>, Fail> {
+    let model = Stingy::new(strict::station(alloc)?, before);
+    let mut driven = Driven::new(rt, alloc, model, TERMS, 0, 1)?;
     driven.receive(rt, alloc, arrival(5, 0))?;
     driven.receive(rt, alloc, arrival(10, 1))?;
     driven.receive(rt, alloc, arrival(11, 2))?;
@@ -66,7 +65,7 @@ fn stingy_station<R: Abort>(
 fn step_to_idle<R: Abort>(
     rt: &R,
     alloc: Global,
-    driven: &mut Driven<Stingy<AnyModel>>,
+    driven: &mut Driven<Stingy<Network>>,
 ) -> Result<u32, Fail> {
     let mut refused: u32 = 0;
     for _ in 0..10 {
