@@ -35,6 +35,12 @@ impl Counted {
         }
     }
 
+    /// Makes room for so many events more.
+    fn reserve(&mut self, alloc: Global, count: usize) -> Result<(), Fail> {
+        self.queue.reserve(alloc, count)?;
+        Ok(())
+    }
+
     /// Pushes an event at a stamp.
     fn push(&mut self, alloc: Global, stamp: u64) -> Result<(), Fail> {
         if self.next == u32::MAX {
@@ -52,6 +58,35 @@ impl Counted {
         let cell = self.queue.pop()?;
         Some(cell.into_inner().key.stamp)
     }
+
+    /// Does what it is told, and answers whether that comes out as it is told.
+    fn act(&mut self, alloc: Global, act: &Act) -> Result<bool, Fail> {
+        match *act {
+            Act::Push(stamp) => self.push(alloc, stamp)?,
+            Act::Pop(stamp) => return Ok(self.pop() == stamp),
+            Act::Fresh(stamp) => return Ok(self.queue.fresh_least() == stamp),
+            Act::Holds(len) => return Ok(self.queue.len() == len),
+            Act::Least(stamp) => {
+                let least = self.queue.least().ok_or("empty")?;
+                return Ok(least.stamp == stamp);
+            }
+        }
+        Ok(true)
+    }
+}
+
+/// What is done with a queue.
+#[derive(Clone, Copy)]
+enum Act {
+    Push(u64),
+    /// Pops the first event, which has this stamp.
+    Pop(Option<u64>),
+    /// The least stamp of those that are fresh is this one.
+    Fresh(u64),
+    /// There are so many events.
+    Holds(usize),
+    /// The least stamp is this one.
+    Least(u64),
 }
 
 /// The cell of an event.
@@ -77,25 +112,30 @@ fn cell(alloc: Global, stamp: u64, serial: u32) -> Result<Cell<Event>, Fail>
     }
 }
 
+const FRESH: [Act; 14] = [
+    Act::Push(30),
+    Act::Push(10),
+    Act::Push(20),
+    Act::Fresh(10),
+    Act::Holds(3),
+    Act::Pop(Some(10)),
+    Act::Fresh(NO_STAMP),
+    Act::Holds(2),
+    Act::Least(20),
+    Act::Push(25),
+    Act::Pop(Some(20)),
+    Act::Fresh(25),
+    Act::Pop(Some(25)),
+    Act::Pop(Some(30)),
+];
+
 #[test]
 fn fresh_events_wait_until_the_horizon(rt: HostRuntime) -> Result<(), Fail> {
     let mut counted = Counted::new();
-    counted.queue.reserve(rt.alloc(), 4)?;
-    for stamp in [30, 10, 20] {
-        counted.push(rt.alloc(), stamp)?;
+    counted.reserve(rt.alloc(), 4)?;
+    for (place, act) in FRESH.iter().enumerate() {
+        assert!(rt; counted.act(rt.alloc(), act)?, "act {place}");
     }
-    assert!(rt; counted.queue.fresh_least() == 10);
-    assert!(rt; counted.queue.len() == 3);
-    assert!(rt; counted.pop() == Some(10));
-    assert!(rt; counted.queue.fresh_least() == NO_STAMP);
-    assert!(rt; counted.queue.len() == 2);
-    let least = counted.queue.least().ok_or("empty")?;
-    assert!(rt; least.stamp == 20);
-    counted.push(rt.alloc(), 25)?;
-    assert!(rt; counted.pop() == Some(20));
-    assert!(rt; counted.queue.fresh_least() == 25);
-    assert!(rt; counted.pop() == Some(25));
-    assert!(rt; counted.pop() == Some(30));
     assert!(rt; counted.pop() == None);
     Ok(())
 }
