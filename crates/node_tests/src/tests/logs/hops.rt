@@ -1,10 +1,10 @@
 //! A log of PHOLD.
-use super::{back_to, commit, make_shared, next_told, process};
+use super::{Shared, back_to, commit, make_shared, next_told, process};
 use crate::tests::{at, initial};
 use event_chain::Chain;
 use event_key::{NO_STAMP, stamp_of};
 use model_core::{Cells, Event, Note, OutOfMemory, Part};
-use object_log::{ObjectLog, Verdict};
+use object_log::{Done, ObjectLog, Verdict};
 use phold_model::Phold;
 use random_streams::Law;
 use std::alloc::Global;
@@ -54,93 +54,171 @@ fn hops<R: Abort>(rt: &R, alloc: Global) -> Result<Phold, Fail> {
     Ok(Phold::make(0, 1, delay, true, 0, Vec::new(alloc), 0)?)
 }
 
-// By an independent ChaCha20 with seed 0, stream 0: at the places 0, 2 and 4 a delay of 1 to 10 ticks is drawn as 5, 3
-// and 4, and each event reads two words.
-#[test]
-fn a_straggler_takes_the_draw_of_what_it_undoes(rt: HostRuntime) -> Result<(), Fail> {
-    let alloc = rt.alloc();
-    let model = hops(&rt, alloc)?;
-    let mut shared = make_shared(alloc)?;
-    let mut log = ObjectLog::new(0, cells(alloc)?);
-    process(&rt, alloc, &model, &mut log, &mut shared, event(0, 0))?;
-    let late = process(&rt, alloc, &model, &mut log, &mut shared, event(2, 2))?;
-    assert!(rt; late == at(5));
-    let back = back_to(&mut log, event(1, 1).key, &mut shared);
-    assert!(rt; back.front() == Some(&event(2, 2)));
-    let straggler = process(&rt, alloc, &model, &mut log, &mut shared, event(1, 1))?;
-    assert!(rt; straggler == at(4));
-    let again = process(&rt, alloc, &model, &mut log, &mut shared, event(2, 2))?;
-    assert!(rt; again == at(6));
-    assert!(rt; counts(&log) == (3, 3));
-    assert!(rt; log.held_least() == at(4));
+/// A log of such a model, and what was committed and isn't yet taken out.
+#[derive(Drop)]
+struct Run {
+    model: Phold,
+    log: ObjectLog,
+    shared: Shared,
+    done: Chain<Done>,
+}
+
+/// The time of an event, and its place among the initial ones.
+type Hop = (u32, u32);
+
+/// What is done with a log.
+#[derive(Clone, Copy)]
+enum Act {
+    /// An event is processed, and what it sends first comes at this time.
+    Process(Hop, u32),
+    /// The log goes back to the key of an event, and the first one that is undone is this one.
+    Back(Hop, Hop),
+    /// What is below a horizon and a cut is committed.
+    Commit(u32, Option<Hop>),
+    /// The first committed event is this one, of which a hop of so many ticks is told.
+    Told(Hop, u64),
+    /// The least that is held comes at this time, or nothing is held.
+    Held(Option<u32>),
+    /// So many events are processed, and so many are sent.
+    Counts(usize, u64),
+    /// The pool has so many entries.
+    Entries(usize),
+    /// Another log takes the place of the first one.
+    Anew,
+}
+
+impl Run {
+    fn new<R: Abort>(rt: &R, alloc: Global) -> Result<Run, Fail> {
+        Ok(Run {
+            model: hops(rt, alloc)?,
+            log: ObjectLog::new(0, cells(alloc)?),
+            shared: make_shared(alloc)?,
+            done: Chain::new(),
+        })
+    }
+
+    fn process<R: Abort>(&mut self, rt: &R, alloc: Global, hop: Hop) -> Result<u64, Fail> {
+        let event = event(hop.0, hop.1);
+        process(
+            rt,
+            alloc,
+            &self.model,
+            &mut self.log,
+            &mut self.shared,
+            event,
+        )
+    }
+
+    /// Does what it is told, and answers whether that comes out as it is told.
+    fn act<R: Abort>(&mut self, rt: &R, alloc: Global, act: &Act) -> Result<bool, Fail> {
+        match *act {
+            Act::Process(hop, least) => return Ok(self.process(rt, alloc, hop)? == at(least)),
+            Act::Back(hop, first) => {
+                let back = back_to(&mut self.log, event(hop.0, hop.1).key, &mut self.shared);
+                return Ok(back.front() == Some(&event(first.0, first.1)));
+            }
+            Act::Commit(horizon, cut) => {
+                let cut = cut.map(|hop| event(hop.0, hop.1).key);
+                commit(rt, &mut self.log, at(horizon), cut, &mut self.done);
+            }
+            Act::Told(hop_of, delay) => {
+                let told = next_told(&mut self.done, &mut self.shared)?;
+                return Ok(told == (event(hop_of.0, hop_of.1), hop(delay)));
+            }
+            Act::Held(time) => return Ok(self.log.held_least() == time.map_or(NO_STAMP, at)),
+            Act::Counts(processed, sent) => return Ok(counts(&self.log) == (processed, sent)),
+            Act::Entries(count) => return Ok(self.shared.pool.entries() == count),
+            Act::Anew => self.log = ObjectLog::new(0, cells(alloc)?),
+        }
+        Ok(true)
+    }
+}
+
+/// Each of these comes out as it is told.
+fn assert_acts<R: Abort>(rt: &R, alloc: Global, acts: &[Act]) -> Result<(), Fail> {
+    let mut run = Run::new(rt, alloc)?;
+    for (place, act) in acts.iter().enumerate() {
+        assert!(rt; run.act(rt, alloc, act)?, "act {place}");
+    }
     Ok(())
 }
+
+// By an independent ChaCha20 with seed 0, stream 0: at the places 0, 2 and 4 a delay of 1 to 10 ticks is drawn as 5, 3
+// and 4, and each event reads two words.
+const STRAGGLER: [Act; 7] = [
+    Act::Process((0, 0), 5),
+    Act::Process((2, 2), 5),
+    Act::Back((1, 1), (2, 2)),
+    Act::Process((1, 1), 4),
+    Act::Process((2, 2), 6),
+    Act::Counts(3, 3),
+    Act::Held(Some(4)),
+];
+
+#[test]
+fn a_straggler_takes_the_draw_of_what_it_undoes(rt: HostRuntime) -> Result<(), Fail> {
+    assert_acts(&rt, rt.alloc(), &STRAGGLER)
+}
+
+const COMMITS: [Act; 9] = [
+    Act::Process((0, 0), 5),
+    Act::Process((1, 0), 4),
+    Act::Process((2, 0), 6),
+    Act::Commit(2, None),
+    Act::Counts(1, 3),
+    Act::Commit(4, Some((2, 0))),
+    Act::Counts(1, 3),
+    Act::Told((0, 0), 5),
+    Act::Told((1, 0), 3),
+];
 
 #[test]
 fn a_commit_takes_what_is_below_the_horizon_and_the_cut(rt: HostRuntime) -> Result<(), Fail> {
-    let alloc = rt.alloc();
-    let model = hops(&rt, alloc)?;
-    let mut shared = make_shared(alloc)?;
-    let mut log = ObjectLog::new(0, cells(alloc)?);
-    for time in 0..3 {
-        process(&rt, alloc, &model, &mut log, &mut shared, event(time, 0))?;
-    }
-    let mut done = Chain::new();
-    commit(&rt, &mut log, at(2), None, &mut done);
-    assert!(rt; counts(&log) == (1, 3));
-    commit(&rt, &mut log, at(4), Some(event(2, 0).key), &mut done);
-    assert!(rt; counts(&log) == (1, 3));
-    assert!(rt; next_told(&mut done, &mut shared)? == (event(0, 0), hop(5)));
-    assert!(rt; next_told(&mut done, &mut shared)? == (event(1, 0), hop(3)));
-    Ok(())
+    assert_acts(&rt, rt.alloc(), &COMMITS)
 }
 
 // The same draws: events 0, 1 and 2 at the times 0, 1 and 2 send to 5, 4 and 6.
+const HELD: [Act; 15] = [
+    Act::Process((0, 0), 5),
+    Act::Held(Some(5)),
+    Act::Process((1, 0), 4),
+    Act::Held(Some(4)),
+    Act::Process((2, 0), 6),
+    Act::Held(Some(4)),
+    Act::Commit(1, None),
+    Act::Held(Some(4)),
+    Act::Back((2, 0), (2, 0)),
+    Act::Held(Some(4)),
+    Act::Process((2, 0), 6),
+    Act::Commit(2, None),
+    Act::Held(Some(6)),
+    Act::Commit(3, None),
+    Act::Held(None),
+];
+
 #[test]
 fn the_least_that_is_held_follows_each_commit_and_each_undoing(
     rt: HostRuntime,
 ) -> Result<(), Fail> {
-    let alloc = rt.alloc();
-    let model = hops(&rt, alloc)?;
-    let mut shared = make_shared(alloc)?;
-    let mut log = ObjectLog::new(0, cells(alloc)?);
-    let mut least = [0; 3];
-    for time in 0..3 {
-        process(&rt, alloc, &model, &mut log, &mut shared, event(time, 0))?;
-        least[time as usize] = log.held_least();
-    }
-    assert!(rt; least == [at(5), at(4), at(4)]);
-    let mut done = Chain::new();
-    commit(&rt, &mut log, at(1), None, &mut done);
-    assert!(rt; log.held_least() == at(4));
-    let _newest = back_to(&mut log, event(2, 0).key, &mut shared);
-    assert!(rt; log.held_least() == at(4));
-    process(&rt, alloc, &model, &mut log, &mut shared, event(2, 0))?;
-    commit(&rt, &mut log, at(2), None, &mut done);
-    assert!(rt; log.held_least() == at(6));
-    commit(&rt, &mut log, at(3), None, &mut done);
-    assert!(rt; log.held_least() == NO_STAMP);
-    Ok(())
+    assert_acts(&rt, rt.alloc(), &HELD)
 }
+
+const LEFT: [Act; 10] = [
+    Act::Process((0, 0), 5),
+    Act::Process((1, 0), 4),
+    Act::Back((1, 0), (1, 0)),
+    Act::Entries(1),
+    Act::Commit(1, None),
+    Act::Told((0, 0), 5),
+    Act::Entries(2),
+    Act::Anew,
+    Act::Process((0, 0), 5),
+    Act::Entries(1),
+];
 
 #[test]
 fn what_one_log_leaves_another_takes(rt: HostRuntime) -> Result<(), Fail> {
-    let alloc = rt.alloc();
-    let model = hops(&rt, alloc)?;
-    let mut shared = make_shared(alloc)?;
-    let mut first = ObjectLog::new(0, cells(alloc)?);
-    let mut second = ObjectLog::new(0, cells(alloc)?);
-    process(&rt, alloc, &model, &mut first, &mut shared, event(0, 0))?;
-    process(&rt, alloc, &model, &mut first, &mut shared, event(1, 0))?;
-    let _newest = back_to(&mut first, event(1, 0).key, &mut shared);
-    assert!(rt; shared.pool.entries() == 1);
-    let mut done = Chain::new();
-    commit(&rt, &mut first, at(1), None, &mut done);
-    next_told(&mut done, &mut shared)?;
-    assert!(rt; shared.pool.entries() == 2);
-    process(&rt, alloc, &model, &mut second, &mut shared, event(0, 0))?;
-    assert!(rt; shared.pool.entries() == 1);
-    Ok(())
+    assert_acts(&rt, rt.alloc(), &LEFT)
 }
 
 // What is sent without delay from step 65535 of a tick has no step left.
