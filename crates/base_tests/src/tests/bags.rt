@@ -8,15 +8,15 @@ fn values_come_back_from_the_front_of_their_bags(rt: HostRuntime) -> Result<(), 
     bags.push(0, 10u64);
     bags.push(2, 20);
     bags.push(0, 11);
-    assert_eq!(rt; bags.pop(0), Some(11));
+    assert!(rt; bags.pop(0) == Some(11));
     bags.push(2, 21);
     bags.push(1, 30);
-    assert_eq!(rt; bags.pop(2), Some(21));
-    assert_eq!(rt; bags.pop(2), Some(20));
+    assert!(rt; bags.pop(2) == Some(21));
+    assert!(rt; bags.pop(2) == Some(20));
     assert!(rt; bags.is_empty(2));
-    assert_eq!(rt; bags.pop(2), None);
-    assert_eq!(rt; bags.pop(0), Some(10));
-    assert_eq!(rt; bags.pop(1), Some(30));
+    assert!(rt; bags.pop(2) == None);
+    assert!(rt; bags.pop(0) == Some(10));
+    assert!(rt; bags.pop(1) == Some(30));
     assert!(rt; bags.is_empty(1));
     Ok(())
 }

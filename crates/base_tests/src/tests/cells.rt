@@ -20,8 +20,8 @@ fn cell(alloc: Global, value: u64) -> Result<Cell<u64>, Fail>
 #[test]
 fn a_cell_holds_its_value(rt: HostRuntime) -> Result<(), Fail> {
     let cell = cell(rt.alloc(), 7)?;
-    assert_eq!(rt; *cell.get(), 7);
-    assert_eq!(rt; cell.into_inner(), 7);
+    assert!(rt; *cell.get() == 7);
+    assert!(rt; cell.into_inner() == 7);
     Ok(())
 }
 
@@ -35,30 +35,30 @@ fn a_chain_is_its_values_in_order(rt: HostRuntime) -> Result<(), Fail> {
     let mut more = Chain::new();
     more.push_back(cell(rt.alloc(), 3)?);
     chain.append(more);
-    assert_eq!(rt; chain.len(), 3);
-    assert_eq!(rt; chain.front(), Some(&1));
+    assert!(rt; chain.len() == 3);
+    assert!(rt; chain.front() == Some(&1));
     for value in 1..4 {
         let cell = chain.pop_front().ok_or("empty")?;
-        assert_eq!(rt; cell.into_inner(), value);
+        assert!(rt; cell.into_inner() == value);
     }
-    assert_eq!(rt; chain.len(), 0);
+    assert!(rt; chain.len() == 0);
     Ok(())
 }
 
 #[test]
 fn a_pool_hands_out_the_cells_that_it_gets_back(rt: HostRuntime) -> Result<(), Fail> {
     let mut pool = CellPool::new();
-    assert_eq!(rt; pool.spare(), 0);
+    assert!(rt; pool.spare() == 0);
     pool.reserve(rt.alloc(), 2)?;
-    assert_eq!(rt; pool.spare(), 2);
+    assert!(rt; pool.spare() == 2);
     let first: Cell<u64> = pool.fill(7);
     let second = pool.fill(8);
-    assert_eq!(rt; pool.spare(), 0);
-    assert_eq!(rt; pool.recycle(first), 7);
+    assert!(rt; pool.spare() == 0);
+    assert!(rt; pool.recycle(first) == 7);
     let third = pool.fill(9);
-    assert_eq!(rt; pool.recycle(second), 8);
-    assert_eq!(rt; pool.recycle(third), 9);
-    assert_eq!(rt; pool.spare(), 2);
+    assert!(rt; pool.recycle(second) == 8);
+    assert!(rt; pool.recycle(third) == 9);
+    assert!(rt; pool.spare() == 2);
     Ok(())
 }
 
@@ -68,11 +68,11 @@ fn cells_cross_threads(rt: HostRuntime) -> Result<(), Fail> {
     chain.push_back(cell(rt.alloc(), 5)?);
     let cell = cell(rt.alloc(), 6)?;
     let (len, first) = join(&rt, || chain.len(), || chain.front().copied());
-    assert_eq!(rt; len, 1);
-    assert_eq!(rt; first, Some(5));
+    assert!(rt; len == 1);
+    assert!(rt; first == Some(5));
     let (len, value) = join(&rt, move || chain.len(), move || cell.into_inner());
-    assert_eq!(rt; len, 1);
-    assert_eq!(rt; value, 6);
+    assert!(rt; len == 1);
+    assert!(rt; value == 6);
     Ok(())
 }
 
@@ -87,9 +87,9 @@ fn two_sorted_chains_become_one(rt: HostRuntime) -> Result<(), Fail> {
     chain.merge_sorted(other);
     for value in 1..5 {
         let cell = chain.pop_front().ok_or("empty")?;
-        assert_eq!(rt; cell.into_inner(), value);
+        assert!(rt; cell.into_inner() == value);
     }
-    assert_eq!(rt; chain.len(), 0);
+    assert!(rt; chain.len() == 0);
     Ok(())
 }
 
@@ -174,8 +174,8 @@ fn a_chain_takes_the_steps_of_a_plain_list(rt: HostRuntime) -> Result<(), Fail> 
     for _ in 0..20_000 {
         random = following(random);
         beside.step(rt.alloc(), (random >> 33) % 6, random)?;
-        assert_eq!(rt; beside.chain.len(), beside.plain.len());
-        assert_eq!(rt; beside.chain.front(), beside.plain.front());
+        assert!(rt; beside.chain.len() == beside.plain.len());
+        assert!(rt; beside.chain.front() == beside.plain.front());
     }
     Ok(())
 }

@@ -12,30 +12,30 @@ fn part(word: u32) -> Part {
 #[test]
 fn a_note_tells_its_parts_in_order(rt: HostRuntime) {
     let mut note = Note::none();
-    assert_eq!(rt; note.len(), 0);
+    assert!(rt; note.len() == 0);
     note.add(part(1));
-    assert_eq!(rt; note, Note::of(part(1)));
+    assert!(rt; note == Note::of(part(1)));
     note.add(part(2));
     note.add(part(3));
     note.add(part(4));
-    assert_eq!(rt; note.len(), 4);
-    assert_eq!(rt; note.at(0), part(1));
-    assert_eq!(rt; note.at(1), part(2));
-    assert_eq!(rt; note.at(2), part(3));
-    assert_eq!(rt; note.at(3), part(4));
+    assert!(rt; note.len() == 4);
+    assert!(rt; note.at(0) == part(1));
+    assert!(rt; note.at(1) == part(2));
+    assert!(rt; note.at(2) == part(3));
+    assert!(rt; note.at(3) == part(4));
 }
 
 #[test]
 fn a_name_is_its_bytes(rt: HostRuntime) -> Result<(), Fail> {
     let name = Name::new(b"desk".to_vec(rt.alloc())?);
-    assert_eq!(rt; name.bytes(), b"desk".as_slice());
+    assert!(rt; name.bytes() == b"desk".as_slice());
     Ok(())
 }
 
 #[test]
 fn a_sequence_is_its_values(rt: HostRuntime) -> Result<(), Fail> {
     let sends = Sequence::new(vec![in rt.alloc(); 3, 1, 2]?);
-    assert_eq!(rt; sends.as_slice(), [3, 1, 2].as_slice());
+    assert!(rt; sends.as_slice() == [3, 1, 2].as_slice());
     Ok(())
 }
 
@@ -47,11 +47,8 @@ fn a_sheet_is_written_again(rt: HostRuntime) -> Result<(), Fail> {
     sheet.note = Note::of(part(1));
     sheet.clear();
     assert!(rt; sheet.sends.as_slice().is_empty());
-    assert_eq!(rt; sheet.note, Note::none());
+    assert!(rt; sheet.note == Note::none());
     sheet.changes.push(Change::Pop { line: 2 });
-    assert_eq!(rt;
-        sheet.changes.as_slice(),
-        [Change::Pop { line: 2 }].as_slice()
-    );
+    assert!(rt; sheet.changes.as_slice() == [Change::Pop { line: 2 }].as_slice());
     Ok(())
 }

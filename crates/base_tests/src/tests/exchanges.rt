@@ -96,8 +96,8 @@ fn rounds<L: Lanes>(rt: &impl Abort, alloc: Global, lanes: &mut L) -> Result<(),
 {
     for _ in 0..3 {
         let (first, second) = round(alloc, lanes)?;
-        assert_eq!(rt; first, 1);
-        assert_eq!(rt; second, 2);
+        assert!(rt; first == 1);
+        assert!(rt; second == 2);
     }
     Ok(())
 }
@@ -152,7 +152,7 @@ fn a_thread_takes_early_what_another_posts(rt: HostRuntime) -> Result<(), Fail> 
     let alloc = rt.alloc();
     let mut lanes = RingLanes::new(alloc, 2)?;
     let mut ends = lanes.ready(alloc)?;
-    assert_eq!(rt; ends.len(), 2);
+    assert!(rt; ends.len() == 2);
     let mut sender = Inbox::new(alloc, 2)?;
     let mut receiver = Inbox::new(alloc, 2)?;
     let mut out = out_of_two(alloc, Chain::new(), one_event(alloc, 9)?)?;
@@ -165,8 +165,8 @@ fn a_thread_takes_early_what_another_posts(rt: HostRuntime) -> Result<(), Fail> 
         &mut receiver,
         &mut right[0],
     );
-    assert_eq!(rt; receiver.early.len(), 1);
-    assert_eq!(rt; receiver.early[0].from, 0);
+    assert!(rt; receiver.early.len() == 1);
+    assert!(rt; receiver.early[0].from == 0);
     assert!(rt;
         receiver.early[0]
             .events

@@ -46,15 +46,15 @@ fn hands_over<L: Lanes>(rt: &impl Abort, alloc: Global, lanes: &mut L) -> Result
     requires at_rest { L.are_at_rest lanes.old }
 {
     let mut ends = lanes.ready(alloc)?;
-    assert_eq!(rt; ends.len(), 2);
+    assert!(rt; ends.len() == 2);
     let events = one_event(alloc, 7)?;
     ends[0].post(1, Parcel { from: 0, events });
     lanes.give_back(ends);
     let Some(parcel) = lanes.rest(1) else {
         panic!(rt; "nothing came")
     };
-    assert_eq!(rt; parcel.from, 0);
-    assert_eq!(rt; parcel.events.len(), 1);
+    assert!(rt; parcel.from == 0);
+    assert!(rt; parcel.events.len() == 1);
     assert!(rt; parcel.events.front().is_some_and(|event| event.kind == 7));
     assert!(rt; lanes.rest(1).is_none());
     assert!(rt; lanes.rest(0).is_none());
@@ -109,13 +109,13 @@ fn a_thread_finds_what_another_posts(rt: HostRuntime) -> Result<(), Fail> {
     let mut lanes = RingLanes::new(rt.alloc(), 2)?;
     let mut ends = lanes.ready(rt.alloc())?;
     let events = one_event(rt.alloc(), 9)?;
-    assert_eq!(rt; ends.len(), 2);
+    assert!(rt; ends.len() == 2);
     let parcel = Parcel { from: 0, events };
     let (left, right) = ends.as_mut_slice().split_at_mut(1);
     let Some(parcel) = post_and_poll(&rt, &mut left[0], &mut right[0], parcel) else {
         panic!(rt; "nothing came")
     };
-    assert_eq!(rt; parcel.from, 0);
+    assert!(rt; parcel.from == 0);
     assert!(rt; parcel.events.front().is_some_and(|event| event.kind == 9));
     Ok(())
 }

@@ -35,6 +35,12 @@ impl Counted {
         }
     }
 
+    /// Makes room for so many events more.
+    fn reserve(&mut self, alloc: Global, count: usize) -> Result<(), Fail> {
+        self.queue.reserve(alloc, count)?;
+        Ok(())
+    }
+
     /// Pushes an event at a stamp.
     fn push(&mut self, alloc: Global, stamp: u64) -> Result<(), Fail> {
         if self.next == u32::MAX {
@@ -52,6 +58,35 @@ impl Counted {
         let cell = self.queue.pop()?;
         Some(cell.into_inner().key.stamp)
     }
+
+    /// Does what it is told, and answers whether that comes out as it is told.
+    fn act(&mut self, alloc: Global, act: &Act) -> Result<bool, Fail> {
+        match *act {
+            Act::Push(stamp) => self.push(alloc, stamp)?,
+            Act::Pop(stamp) => return Ok(self.pop() == stamp),
+            Act::Fresh(stamp) => return Ok(self.queue.fresh_least() == stamp),
+            Act::Holds(len) => return Ok(self.queue.len() == len),
+            Act::Least(stamp) => {
+                let least = self.queue.least().ok_or("empty")?;
+                return Ok(least.stamp == stamp);
+            }
+        }
+        Ok(true)
+    }
+}
+
+/// What is done with a queue.
+#[derive(Clone, Copy)]
+enum Act {
+    Push(u64),
+    /// Pops the first event, which has this stamp.
+    Pop(Option<u64>),
+    /// The least stamp of those that are fresh is this one.
+    Fresh(u64),
+    /// There are so many events.
+    Holds(usize),
+    /// The least stamp is this one.
+    Least(u64),
 }
 
 /// The cell of an event.
@@ -77,26 +112,31 @@ fn cell(alloc: Global, stamp: u64, serial: u32) -> Result<Cell<Event>, Fail>
     }
 }
 
+const FRESH: [Act; 14] = [
+    Act::Push(30),
+    Act::Push(10),
+    Act::Push(20),
+    Act::Fresh(10),
+    Act::Holds(3),
+    Act::Pop(Some(10)),
+    Act::Fresh(NO_STAMP),
+    Act::Holds(2),
+    Act::Least(20),
+    Act::Push(25),
+    Act::Pop(Some(20)),
+    Act::Fresh(25),
+    Act::Pop(Some(25)),
+    Act::Pop(Some(30)),
+];
+
 #[test]
 fn fresh_events_wait_until_the_horizon(rt: HostRuntime) -> Result<(), Fail> {
     let mut counted = Counted::new();
-    counted.queue.reserve(rt.alloc(), 4)?;
-    for stamp in [30, 10, 20] {
-        counted.push(rt.alloc(), stamp)?;
+    counted.reserve(rt.alloc(), 4)?;
+    for (place, act) in FRESH.iter().enumerate() {
+        assert!(rt; counted.act(rt.alloc(), act)?, "act {place}");
     }
-    assert_eq!(rt; counted.queue.fresh_least(), 10);
-    assert_eq!(rt; counted.queue.len(), 3);
-    assert_eq!(rt; counted.pop(), Some(10));
-    assert_eq!(rt; counted.queue.fresh_least(), NO_STAMP);
-    assert_eq!(rt; counted.queue.len(), 2);
-    let least = counted.queue.least().ok_or("empty")?;
-    assert_eq!(rt; least.stamp, 20);
-    counted.push(rt.alloc(), 25)?;
-    assert_eq!(rt; counted.pop(), Some(20));
-    assert_eq!(rt; counted.queue.fresh_least(), 25);
-    assert_eq!(rt; counted.pop(), Some(25));
-    assert_eq!(rt; counted.pop(), Some(30));
-    assert_eq!(rt; counted.pop(), None);
+    assert!(rt; counted.pop() == None);
     Ok(())
 }
 
@@ -114,13 +154,13 @@ fn events_come_in_the_order_of_a_sorted_list(rt: HostRuntime) -> Result<(), Fail
             } else {
                 Some(sorted.remove(0))
             };
-            assert_eq!(rt; counted.pop(), least);
+            assert!(rt; counted.pop() == least);
         } else {
             counted.push(rt.alloc(), stamp)?;
             sorted.push(stamp)?;
             sorted.sort_unstable();
         }
-        assert_eq!(rt; counted.queue.len(), sorted.len());
+        assert!(rt; counted.queue.len() == sorted.len());
     }
     Ok(())
 }
@@ -134,16 +174,16 @@ fn what_is_given_back_comes_again(rt: HostRuntime) -> Result<(), Fail> {
     }
     let Counted { mut queue, .. } = counted;
     queue.merge();
-    assert_eq!(rt; queue.fresh_least(), NO_STAMP);
+    assert!(rt; queue.fresh_least() == NO_STAMP);
     let first = queue.pop().ok_or("empty")?;
     assert!(rt; queue.len() < 9);
     let mut chain = Chain::new();
     chain.push_back(first);
     queue.give_back(chain);
-    assert_eq!(rt; queue.len(), 3);
+    assert!(rt; queue.len() == 3);
     for stamp in [10, 20, 30] {
         let cell = queue.pop().ok_or("empty")?;
-        assert_eq!(rt; cell.into_inner().key.stamp, stamp);
+        assert!(rt; cell.into_inner().key.stamp == stamp);
     }
     Ok(())
 }

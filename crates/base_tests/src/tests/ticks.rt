@@ -5,6 +5,7 @@ use event_key::{Key, NO_STAMP, STEPS};
 use model_core::Event;
 use std::alloc::Global;
 use std::marker::Model;
+use std::process::Abort;
 use std::test::Fail;
 use tick_queue::TickQueue;
 
@@ -92,63 +93,128 @@ impl Counted {
         };
         Ok(Some(key.stamp))
     }
+
+    fn settle(&mut self) -> Result<(), Fail> {
+        self.queue.settle()?;
+        Ok(())
+    }
+
+    fn merge(&mut self) {
+        self.queue.merge();
+    }
+
+    /// Does what it is told, and answers whether that comes out as it is told.
+    fn act(&mut self, act: &Act) -> Result<bool, Fail> {
+        match *act {
+            Act::Push(stamp) => self.push(stamp)?,
+            Act::PushTo(stamp, dest) => self.push_to(stamp, dest)?,
+            Act::Settle => self.settle()?,
+            Act::Merge => self.merge(),
+            Act::Take(stamp) => return Ok(self.take()? == stamp),
+            Act::Fresh(stamp) => return Ok(self.queue.fresh_least() == stamp),
+            Act::After(place, dest) => return Ok(self.dest_after(place) == dest),
+        }
+        Ok(true)
+    }
 }
+
+/// What is done with a queue.
+#[derive(Clone, Copy)]
+enum Act {
+    Push(u64),
+    PushTo(u64, u32),
+    Settle,
+    Merge,
+    /// Takes the first event, which has this stamp.
+    Take(Option<u64>),
+    /// The least stamp of those that are fresh is this one.
+    Fresh(u64),
+    /// So many places behind the first event is one of this object, if it is at hand.
+    After(usize, Option<u32>),
+}
+
+/// Each of these comes out as it is told.
+fn assert_acts<R: Abort>(rt: &R, alloc: Global, acts: &[Act]) -> Result<(), Fail> {
+    let mut counted = Counted::new(alloc)?;
+    for (place, act) in acts.iter().enumerate() {
+        assert!(rt; counted.act(act)?, "act {place}");
+    }
+    Ok(())
+}
+
+const FRESH: [Act; 14] = [
+    Act::Fresh(NO_STAMP),
+    Act::Push(30 * STEPS),
+    Act::Push(10 * STEPS),
+    Act::Push(20 * STEPS),
+    Act::Fresh(10 * STEPS),
+    Act::Merge,
+    Act::Fresh(NO_STAMP),
+    Act::Take(Some(10 * STEPS)),
+    Act::Push(10 * STEPS + 1),
+    Act::Fresh(10 * STEPS + 1),
+    Act::Take(Some(10 * STEPS + 1)),
+    Act::Take(Some(20 * STEPS)),
+    Act::Take(Some(30 * STEPS)),
+    Act::Take(None),
+];
 
 #[test]
 fn fresh_least_is_of_what_came_since_the_merge(rt: HostRuntime) -> Result<(), Fail> {
-    let mut counted = Counted::new(rt.alloc())?;
-    assert_eq!(rt; counted.queue.fresh_least(), NO_STAMP);
-    for tick in [30, 10, 20] {
-        counted.push(tick * STEPS)?;
-    }
-    assert_eq!(rt; counted.queue.fresh_least(), 10 * STEPS);
-    counted.queue.merge();
-    assert_eq!(rt; counted.queue.fresh_least(), NO_STAMP);
-    assert_eq!(rt; counted.take()?, Some(10 * STEPS));
-    counted.push(10 * STEPS + 1)?;
-    assert_eq!(rt; counted.queue.fresh_least(), 10 * STEPS + 1);
-    assert_eq!(rt; counted.take()?, Some(10 * STEPS + 1));
-    assert_eq!(rt; counted.take()?, Some(20 * STEPS));
-    assert_eq!(rt; counted.take()?, Some(30 * STEPS));
-    assert_eq!(rt; counted.take()?, None);
-    Ok(())
+    assert_acts(&rt, rt.alloc(), &FRESH)
 }
+
+const BEHIND: [Act; 11] = [
+    Act::After(0, None),
+    Act::PushTo(10 * STEPS, 4),
+    Act::PushTo(10 * STEPS, 2),
+    Act::PushTo(10 * STEPS, 3),
+    Act::PushTo(10 * STEPS, 1),
+    Act::Push(20 * STEPS),
+    Act::Take(Some(10 * STEPS)),
+    Act::After(0, Some(2)),
+    Act::After(1, Some(3)),
+    Act::After(2, Some(4)),
+    Act::After(3, None),
+];
 
 #[test]
 fn those_behind_the_first_are_seen_as_far_as_they_are_at_hand(rt: HostRuntime) -> Result<(), Fail> {
-    let mut counted = Counted::new(rt.alloc())?;
-    assert_eq!(rt; counted.dest_after(0), None);
-    for dest in [4, 2, 3, 1] {
-        counted.push_to(10 * STEPS, dest)?;
-    }
-    counted.push(20 * STEPS)?;
-    assert_eq!(rt; counted.take()?, Some(10 * STEPS));
-    assert_eq!(rt; counted.dest_after(0), Some(2));
-    assert_eq!(rt; counted.dest_after(1), Some(3));
-    assert_eq!(rt; counted.dest_after(2), Some(4));
-    assert_eq!(rt; counted.dest_after(3), None);
-    Ok(())
+    assert_acts(&rt, rt.alloc(), &BEHIND)
 }
+
+const BEFORE: [Act; 18] = [
+    Act::Push(90 * STEPS + 3),
+    Act::Push(90 * STEPS + 7),
+    Act::Push(95 * STEPS),
+    Act::Settle,
+    Act::Push(90 * STEPS + 5),
+    Act::Push(90 * STEPS + 1),
+    Act::Push(90 * STEPS + 9),
+    Act::Push(12 * STEPS),
+    Act::Take(Some(12 * STEPS)),
+    Act::Take(Some(90 * STEPS + 1)),
+    Act::Take(Some(90 * STEPS + 3)),
+    Act::Take(Some(90 * STEPS + 5)),
+    Act::Take(Some(90 * STEPS + 7)),
+    Act::Take(Some(90 * STEPS + 9)),
+    Act::Push(2 * STEPS),
+    Act::Take(Some(2 * STEPS)),
+    Act::Take(Some(95 * STEPS)),
+    Act::Take(None),
+];
 
 #[test]
 fn an_event_before_those_at_hand_comes_first(rt: HostRuntime) -> Result<(), Fail> {
-    let mut counted = Counted::new(rt.alloc())?;
-    for stamp in [90 * STEPS + 3, 90 * STEPS + 7, 95 * STEPS] {
-        counted.push(stamp)?;
+    assert_acts(&rt, rt.alloc(), &BEFORE)
+}
+
+/// Takes the first of these stamps.
+fn front_of(sorted: &mut Vec<u64>) -> Option<u64> {
+    if sorted.is_empty() {
+        return None;
     }
-    counted.queue.settle()?;
-    for stamp in [90 * STEPS + 5, 90 * STEPS + 1, 90 * STEPS + 9, 12 * STEPS] {
-        counted.push(stamp)?;
-    }
-    assert_eq!(rt; counted.take()?, Some(12 * STEPS));
-    for step in [1, 3, 5, 7, 9] {
-        assert_eq!(rt; counted.take()?, Some(90 * STEPS + step));
-    }
-    counted.push(2 * STEPS)?;
-    assert_eq!(rt; counted.take()?, Some(2 * STEPS));
-    assert_eq!(rt; counted.take()?, Some(95 * STEPS));
-    assert_eq!(rt; counted.take()?, None);
-    Ok(())
+    Some(sorted.remove(0))
 }
 
 #[test]
@@ -161,12 +227,7 @@ fn events_come_in_the_order_of_a_sorted_list(rt: HostRuntime) -> Result<(), Fail
         // stamps of all lengths, so that all levels have some
         let stamp = (random | 1) >> (random % 48);
         if random >> 62 == 0 {
-            let least = if sorted.is_empty() {
-                None
-            } else {
-                Some(sorted.remove(0))
-            };
-            assert_eq!(rt; counted.take()?, least);
+            assert!(rt; counted.take()? == front_of(&mut sorted));
         } else {
             counted.push(stamp)?;
             sorted.push(stamp)?;
@@ -174,9 +235,9 @@ fn events_come_in_the_order_of_a_sorted_list(rt: HostRuntime) -> Result<(), Fail
         }
     }
     for stamp in sorted {
-        assert_eq!(rt; counted.take()?, Some(stamp));
+        assert!(rt; counted.take()? == Some(stamp));
     }
-    assert_eq!(rt; counted.take()?, None);
+    assert!(rt; counted.take()? == None);
     Ok(())
 }
 
@@ -193,13 +254,9 @@ fn sixty_events_of_a_tick_come_in_the_order_of_their_keys(rt: HostRuntime) -> Re
     }
     sorted.sort_unstable();
     for (stamp, dest, serial) in sorted {
-        let Some(key) = counted.take_key()? else {
-            return Err(Fail::from("an event is missing"));
-        };
-        assert_eq!(rt; key.stamp, stamp);
-        assert_eq!(rt; key.dest, dest);
-        assert_eq!(rt; key.serial, serial);
+        let key = counted.take_key()?.ok_or("an event is missing")?;
+        assert!(rt; (key.stamp, key.dest, key.serial) == (stamp, dest, serial));
     }
-    assert_eq!(rt; counted.take()?, None);
+    assert!(rt; counted.take()? == None);
     Ok(())
 }

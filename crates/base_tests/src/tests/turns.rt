@@ -80,9 +80,9 @@ fn each_turn_is_done_once_and_stands_at_its_place(rt: HostRuntime) -> Result<(),
             turns.push(Doubling { number, doubled: 0 })?;
         }
         let done = run_turns(&rt, rt.alloc(), turns, workers)?;
-        assert_eq!(rt; done.len(), count as usize);
+        assert!(rt; done.len() == count as usize);
         for (place, one) in done.iter().enumerate() {
-            assert_eq!(rt; one.doubled, 2 * place as u64);
+            assert!(rt; one.doubled == 2 * place as u64);
         }
     }
     Ok(())
@@ -100,7 +100,7 @@ fn a_turn_that_waits_in_a_deque_is_stolen(rt: HostRuntime) -> Result<(), Fail> {
         })?;
     }
     let done = run_turns(&rt, rt.alloc(), turns, 2)?;
-    assert_eq!(rt; done.len(), 4);
+    assert!(rt; done.len() == 4);
     assert!(rt; stick.seen.load(Ordering::SeqCst));
     Ok(())
 }

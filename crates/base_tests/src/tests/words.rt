@@ -2,15 +2,16 @@ use random_streams::{
     DelayLaw, Divisor, Law, PreparedLaw, Shares, Stream, Values, Weights, are_shares, choose_by,
     draw,
 };
+use std::alloc::Global;
 use std::test::Fail;
 
 #[test]
 fn the_first_words_under_seed_0(rt: HostRuntime) {
     let mut words = Stream::new(0, 0, 0);
     for want in [2917185654, 2419978656, 3848953152, 683509331, 3088700093] {
-        assert_eq!(rt; words.word(), want);
+        assert!(rt; words.word() == want);
     }
-    assert_eq!(rt; words.place(), 5);
+    assert!(rt; words.place() == 5);
 }
 
 /// The words of test vectors 1 and 2 of RFC 8439, appendix A.1: key and nonce are zero, and the block counter is 0 and 1.
@@ -52,11 +53,11 @@ fn the_words_of_the_standard_by_every_way(rt: HostRuntime) {
         for back in [0, 7, 16] {
             words.move_to(0, 0, back as u64);
             for want in bytes.iter().skip(back) {
-                assert_eq!(rt; words.word().to_le_bytes(), *want);
+                assert!(rt; words.word().to_le_bytes() == *want);
             }
         }
     }
-    assert_eq!(rt; words.place(), 18);
+    assert!(rt; words.place() == 18);
 }
 
 #[test]
@@ -71,7 +72,7 @@ fn draws_under_seed_0(rt: HostRuntime) {
     ];
     for (law, place, want) in &laws {
         assert!(rt; law.check());
-        assert_eq!(rt; draw(0, 0, *place, law), *want);
+        assert!(rt; draw(0, 0, *place, law) == *want);
     }
 }
 
@@ -79,21 +80,21 @@ fn draws_under_seed_0(rt: HostRuntime) {
 #[tactic(auto, unfolding(random_streams::specs::Laws::is_drawable))]
 fn choices_under_seed_0(rt: HostRuntime) -> Result<(), Fail> {
     let weights = Weights::new(vec![in rt.alloc(); 1, 2, 3]?);
-    assert_eq!(rt; weights.as_slice(), [1, 2, 3].as_slice());
+    assert!(rt; weights.as_slice() == [1, 2, 3].as_slice());
     let law = Law::Choice { weights };
     assert!(rt; law.check());
-    assert_eq!(rt; draw(0, 0, 0, &law), (0, 1));
-    assert_eq!(rt; draw(0, 0, 3, &law), (2, 4));
+    assert!(rt; draw(0, 0, 0, &law) == (0, 1));
+    assert!(rt; draw(0, 0, 3, &law) == (2, 4));
     if let Law::Choice { weights } = &law {
         let mut words = Stream::new(1, 1, 1);
-        assert_eq!(rt; choose_by(&mut words, 0, 0, 3, weights), (2, 4));
-        assert_eq!(rt; choose_by(&mut words, 0, 0, 0, weights), (0, 1));
+        assert!(rt; choose_by(&mut words, 0, 0, 3, weights) == (2, 4));
+        assert!(rt; choose_by(&mut words, 0, 0, 0, weights) == (0, 1));
     }
     Ok(())
 }
 
 #[test]
-fn a_law_is_checked_at_its_bounds(rt: HostRuntime) -> Result<(), Fail> {
+fn a_law_is_checked_at_its_bounds(rt: HostRuntime) {
     let most = 1 << 40;
     let laws = [
         (Law::Fixed { value: most }, true),
@@ -127,20 +128,27 @@ fn a_law_is_checked_at_its_bounds(rt: HostRuntime) -> Result<(), Fail> {
         (Law::Geometric { p: 1, cap: 65537 }, false),
     ];
     for (law, want) in &laws {
-        assert_eq!(rt; law.check(), *want, "{law:?}");
-        assert_eq!(rt; law.is_delay(), *want, "{law:?}");
+        assert!(rt; law.check() == *want, "{law:?}");
+        assert!(rt; law.is_delay() == *want, "{law:?}");
     }
-    for (list, want) in [
-        (vec![in rt.alloc(); 65535; 64]?, true),
-        (vec![in rt.alloc(); 1; 65]?, false),
-        (vec![in rt.alloc(); 0, 1]?, true),
-        (vec![in rt.alloc(); 0, 0]?, false),
-        (vec![in rt.alloc(); 65536]?, false),
-        (Vec::new(rt.alloc()), false),
-    ] {
-        let weights = Weights::new(list);
+}
+
+/// Weights, and whether a law may choose by them.
+const WEIGHTS: [(&[u32], bool); 6] = [
+    (&[65535; 64], true),
+    (&[1; 65], false),
+    (&[0, 1], true),
+    (&[0, 0], false),
+    (&[65536], false),
+    (&[], false),
+];
+
+#[test]
+fn weights_are_checked_at_their_bounds(rt: HostRuntime) -> Result<(), Fail> {
+    for (list, want) in &WEIGHTS {
+        let weights = Weights::new(list.to_vec(rt.alloc())?);
         let law = Law::Choice { weights };
-        assert_eq!(rt; law.check(), want, "{law:?}");
+        assert!(rt; law.check() == *want, "{law:?}");
         assert!(rt; !law.is_delay());
     }
     Ok(())
@@ -159,7 +167,7 @@ fn a_remainder_at_the_bounds_of_words_and_divisors(rt: HostRuntime) {
         (4294967295, 4294967295, 0),
         (4294967296, 4294967295, 4294967295),
     ] {
-        assert_eq!(rt; Divisor::new(divisor).remainder(word), want);
+        assert!(rt; Divisor::new(divisor).remainder(word) == want);
     }
 }
 
@@ -168,38 +176,39 @@ fn a_remainder_at_the_bounds_of_words_and_divisors(rt: HostRuntime) {
 fn a_prepared_law_draws_as_the_law(rt: HostRuntime) {
     let prepared = PreparedLaw::new(Law::Uniform { low: 1, high: 10 });
     let mut words = Stream::new(0, 0, 2);
-    assert_eq!(rt; words.draw_prepared(&prepared), 3);
-    assert_eq!(rt; words.place(), 3);
+    assert!(rt; words.draw_prepared(&prepared) == 3);
+    assert!(rt; words.place() == 3);
     let prepared = PreparedLaw::new(Law::Geometric {
         p: 2147483648,
         cap: 5,
     });
     words.move_to(0, 0, 0);
-    assert_eq!(rt; words.draw_prepared(&prepared), 4);
-    assert_eq!(rt; words.place(), 4);
+    assert!(rt; words.draw_prepared(&prepared) == 4);
+    assert!(rt; words.place() == 4);
+}
+
+/// These weights, as shares.
+fn shares_of(alloc: Global, list: &[u32]) -> Result<Shares, Fail> {
+    let weights = list.to_vec(alloc)?;
+    if !are_shares(&weights) {
+        return Err(Fail::from("no shares"));
+    }
+    Ok(Shares::new(alloc, weights)?)
 }
 
 #[test]
 #[tactic(auto, unfolding(random_streams::specs::Laws::is_drawable))]
 fn delays_under_seed_0(rt: HostRuntime) -> Result<(), Fail> {
+    let alloc = rt.alloc();
     let half = 2147483648;
-    let mut words = Stream::new(0, 0, 0);
-    let values = Values::new(vec![in rt.alloc(); 5, 9, 30]?);
-    let weights = vec![in rt.alloc(); 3, 5, 2]?;
-    assert!(rt; are_shares(&weights));
-    if !are_shares(&weights) {
-        return Ok(());
-    }
-    let weights = Shares::new(rt.alloc(), weights)?;
-    let table = DelayLaw::Table { values, weights };
-    let bounds = Values::new(vec![in rt.alloc(); 0, 10, 40]?);
-    let weights = vec![in rt.alloc(); 1, 1]?;
-    assert!(rt; are_shares(&weights));
-    if !are_shares(&weights) {
-        return Ok(());
-    }
-    let weights = Shares::new(rt.alloc(), weights)?;
-    let steps = DelayLaw::Steps { bounds, weights };
+    let table = DelayLaw::Table {
+        values: Values::new(vec![in alloc; 5, 9, 30]?),
+        weights: shares_of(alloc, &[3, 5, 2])?,
+    };
+    let steps = DelayLaw::Steps {
+        bounds: Values::new(vec![in alloc; 0, 10, 40]?),
+        weights: shares_of(alloc, &[1, 1])?,
+    };
     let five = DelayLaw::Spread {
         p: half,
         cap: 5,
@@ -213,6 +222,7 @@ fn delays_under_seed_0(rt: HostRuntime) -> Result<(), Fail> {
     let fixed = DelayLaw::Plain {
         law: PreparedLaw::new(Law::Fixed { value: 6 }),
     };
+    let mut words = Stream::new(0, 0, 0);
     for (law, place, want) in [
         (&table, 0, (9, 1)),
         (&table, 2, (5, 3)),
@@ -223,44 +233,51 @@ fn delays_under_seed_0(rt: HostRuntime) -> Result<(), Fail> {
         (&fixed, 9, (6, 9)),
     ] {
         assert!(rt; law.check());
-        if law.check() {
-            words.move_to(0, 0, place);
-            let value = words.draw_delay(law);
-            assert_eq!(rt; (value, words.place()), want, "{law:?}");
-        }
+        words.move_to(0, 0, place);
+        let value = words.draw_delay(law);
+        assert!(rt; (value, words.place()) == want, "{law:?}");
     }
     Ok(())
 }
 
+/// The greatest delay.
+const MOST: u64 = 1 << 40;
+
+/// Bounds of steps, and whether a law may have them with one weight.
+const BOUNDS: [(&[u64], bool); 8] = [
+    (&[0, 1], true),
+    (&[1, 1], false),
+    (&[2, 1], false),
+    (&[0, 4294967296], true),
+    (&[0, 4294967297], false),
+    (&[MOST - 1, MOST], true),
+    (&[MOST, MOST + 1], false),
+    (&[0, 1, 2], false),
+];
+
 #[test]
 fn a_law_of_delays_is_checked_at_its_bounds(rt: HostRuntime) -> Result<(), Fail> {
-    let most = 1 << 40;
-    for (list, want) in [
-        (vec![in rt.alloc(); 0, 1]?, true),
-        (vec![in rt.alloc(); 1, 1]?, false),
-        (vec![in rt.alloc(); 2, 1]?, false),
-        (vec![in rt.alloc(); 0, 4294967296]?, true),
-        (vec![in rt.alloc(); 0, 4294967297]?, false),
-        (vec![in rt.alloc(); most - 1, most]?, true),
-        (vec![in rt.alloc(); most, most + 1]?, false),
-        (vec![in rt.alloc(); 0, 1, 2]?, false),
-    ] {
-        let weights = vec![in rt.alloc(); 1]?;
-        if are_shares(&weights) {
-            let weights = Shares::new(rt.alloc(), weights)?;
-            let bounds = Values::new(list);
-            let law = DelayLaw::Steps { bounds, weights };
-            assert_eq!(rt; law.check(), want, "{law:?}");
-        }
-    }
-    for (list, want) in [
-        (vec![in rt.alloc(); 65535; 1024]?, true),
-        (vec![in rt.alloc(); 1; 1025]?, false),
-        (vec![in rt.alloc(); 0, 0]?, false),
-        (vec![in rt.alloc(); 65536]?, false),
-        (Vec::new(rt.alloc()), false),
-    ] {
-        assert_eq!(rt; are_shares(&list), want);
+    for (list, want) in &BOUNDS {
+        let weights = shares_of(rt.alloc(), &[1])?;
+        let bounds = Values::new(list.to_vec(rt.alloc())?);
+        let law = DelayLaw::Steps { bounds, weights };
+        assert!(rt; law.check() == *want, "{law:?}");
     }
     Ok(())
+}
+
+/// Weights, and whether they are shares.
+const SHARES: [(&[u32], bool); 5] = [
+    (&[65535; 1024], true),
+    (&[1; 1025], false),
+    (&[0, 0], false),
+    (&[65536], false),
+    (&[], false),
+];
+
+#[test]
+fn shares_are_checked_at_their_bounds(rt: HostRuntime) {
+    for (list, want) in &SHARES {
+        assert!(rt; are_shares(list) == *want);
+    }
 }
