@@ -9,6 +9,7 @@ mod few;
 mod limits;
 pub mod model;
 mod name;
+mod merging;
 mod note;
 mod place;
 mod record_head;
