@@ -1,9 +1,9 @@
--- Records, and one more behind them.
-use Rattle.std.proofs.Common.{◌≡◌, ℕ, suc, zero, ◌+◌, ◌*◌, ◌<◌, ◌≤◌, map, sym, subst, ◌∙◌, List, [], ◌∷◌, ◌++◌, length, take, drop, refl, ap, ◌∙◌, arith, length-append, length-drop}
+-- Records, with others behind them.
+use Rattle.std.proofs.Common.{◌≡◌, ℕ, suc, ◌+◌, ◌*◌, ◌<◌, ◌≤◌, map, sym, subst, ◌∙◌, List, [], ◌∷◌, ◌++◌, length, take, drop, refl, ap, ◌∙◌, arith, length-append, length-drop}
 use Rattle.std.proofs.lemmas.List.{length-map, nil_from_length, take_all, drop_at, take-append-le, drop-append-le}
 use Rattle.std.proofs.lemmas.List.Elements.{All-append, All-head, All-map, All-tail, All-weaker}
 use Rattle.std.proofs.lemmas.List.Sorted.{All-permutation, IsPermutation-map, length_permutation}
-use Rattle.std.specs.Prelude.{All, IsPermutation, slice_get, Some}
+use Rattle.std.specs.Prelude.{All, IsPermutation}
 use Rattle.event_key.specs.declared.key.Key.{Key}
 use Rattle.model_core.specs.declared.note.Note.{Note}
 use Rattle.model_core.specs.declared.note.Part.{Part}
@@ -92,13 +92,3 @@ pub no-parts : (heads : List RecordHead) (parts : List Part) → records_of head
 no-parts heads parts none few =
     let long = sym (length-map heads (record_of parts)) ∙ ap length none in
     nil_from_length parts (omega (arith, long, few))
-
--- what stands at a place of a list, and what stands behind it
-pub record StandsAt {X : Type 0} (xs : List X) (i : ℕ) (x : X) : Type 0 where
-  pub there : slice_get xs i ≡ Some x
-  pub left : drop i xs ≡ x ∷ drop (suc i) xs
-
-pub stands-at : {X : Type 0} (xs : List X) (i : ℕ) → i < length xs → (x : X) × StandsAt xs i x
-stands-at [] i within = absurd (omega (arith, within))
-stands-at (x ∷ xs) zero within = (x, record { there = refl; left = refl })
-stands-at (x ∷ xs) (suc i) within = let rest = stands-at xs i (omega (arith, within)) in (rest.0, record { there = rest.1.there; left = rest.1.left })

@@ -124,7 +124,7 @@ key_lt-by-place a b a_rank a_dest b_rank b_dest apart =
           sym (turned b a (lt-by-place b a b_rank b_dest a_rank a_dest (omega arith)))
     ] refl
 
--- heads of two lists, the second with its parts so much further on
+-- heads of two lists that are merged, the second with its parts so much further on
 module _ (left right : List RecordHead) (by i j : ℕ) (merged : List RecordHead) (so_far : IsMerging head_key left (map (shifted by) right) i j merged) where
   module _ (d e : RecordHead) (i_in : i < length left) (j_in : j < length right) where
     there : get_or (map (shifted by) right) j e ≡ shifted by (get_or right j e)
@@ -148,7 +148,7 @@ module _ (left right : List RecordHead) (by i j : ℕ) (merged : List RecordHead
         → IsMerging head_key left (map (shifted by) right) (i + from_bool is_left) (j + from_bool (not is_left)) (merged ++ (if is_left then get_or left i d else shifted by (get_or right j e)) ∷ [])
     heads-chosen is_left =
         elim is_left as (λ b. b ≡ key_lt (get_or left i d).key (get_or right j e).key
-            → IsMerging head_key left (map (shifted by) right) (i + from_bool b) (j + from_bool (not b)) (merged ++ (if b then get_or left i d else shifted by (get_or right j e)) ∷ [])) [
+        → IsMerging head_key left (map (shifted by) right) (i + from_bool b) (j + from_bool (not b)) (merged ++ (if b then get_or left i d else shifted by (get_or right j e)) ∷ [])) [
           | true ↦ λ is.
               let P : ℕ → Type 0 = λ n. IsMerging head_key left (map (shifted by) right) (i + 1) n (merged ++ get_or left i d ∷ []) in
               let same : j ≡ j + 0 = omega arith in
@@ -171,6 +171,7 @@ module _ (left right : List RecordHead) (by i j : ℕ) (merged : List RecordHead
       let P : List RecordHead → Type 0 = λ rest. IsPermutation (left ++ map (shifted by) right) (merged ++ (drop i left ++ rest)) in
       subst P (drop-map (shifted by) j right) so_far.moves
 
+-- heads whose parts stay where they are
 pub put-by-none : (heads : List RecordHead) → map (shifted 0) heads ≡ heads
 put-by-none [] = refl
 put-by-none (head ∷ heads) =

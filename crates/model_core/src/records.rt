@@ -1,5 +1,5 @@
 //! What is told of events, one after another.
-ghost use Rattle.std.specs.Prelude.{◌≡◌, ℕ, ◌+◌, ◌-◌, ◌*◌, ◌<◌, ◌≤◌, ◌==◌, [], ◌∷◌, ◌++◌, length, drop, slice_get, vec_len, vec_capacity, Some, OnOk, OnErr, IsPermutation};
+ghost use Rattle.std.specs.Prelude.{◌≡◌, ℕ, ◌+◌, ◌-◌, ◌*◌, ◌<◌, ◌≤◌, ◌==◌, [], ◌∷◌, ◌++◌, length, slice_get, vec_len, vec_capacity, Some, OnOk, OnErr, IsPermutation};
 ghost use Rattle.event_key.specs.declared.key.Key.{Key};
 ghost use Rattle.model_core.specs.declared.note.Note.{Note};
 ghost use Rattle.model_core.specs.Records.{record_key};
@@ -97,18 +97,6 @@ impl RecordBuffer {
         self.grow(records)
     }
 
-    /// Makes room for the records of two others together.
-    pub fn reserve_for(
-        &mut self,
-        one: &RecordBuffer,
-        other: &RecordBuffer,
-    ) -> Result<(), OutOfMemory>
-        ensures room { OnOk result (length one.now.items + length other.now.items ≤ self.new.room) }
-        ensures same { self.new.items ≡ self.old.items }
-    {
-        self.reserve(one.heads.len() + other.heads.len())
-    }
-
     /// Finds room for so many records more.
     fn grow(&mut self, records: usize) -> Result<(), OutOfMemory>
         ensures room { OnOk result (records ≤ self.new.room) }
@@ -165,17 +153,6 @@ impl RecordBuffer {
             count,
         });
         self.room -= 1;
-    }
-
-    /// Puts the records of another buffer from a place on behind the others, where there is room for them.
-    pub fn extend_from(&mut self, other: &RecordBuffer, from: usize)
-        requires from { from ≤ length other.now.items }
-        requires room { length other.now.items ≤ self.old.room + from }
-        ensures { self.new.items ≡ self.old.items ++ drop from other.now.items }
-    {
-        for i in from..other.len() {
-            self.push_from(other, i);
-        }
     }
 
     /// The records of two others as one list: their parts are copied, and their heads merged. Both are left empty.

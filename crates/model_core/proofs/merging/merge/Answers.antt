@@ -73,8 +73,8 @@ returns-clause-ordered c =
     let right = c.args.right.now in
     let by = c.args.by in
     let none : c.loop-i.i < length left → c.loop-i.j < length right → ⊥ = λ i_in j_in. elim c.loop-i-test.branch [
-          | then-loop-i-test+else-j-right w ↦ let no = w.if-j-right in omega arith
-          | else-loop-i-test w ↦ let no = w.loop-i-test in omega arith
-        ] in
+      | then-loop-i-test+else-j-right w ↦ let no = w.if-j-right in omega arith
+      | else-loop-i-test w ↦ let no = w.loop-i-test in omega arith
+    ] in
     subst (AreSorted head_key) (all-items c.loop-i.merged.items c.put_heads.new.into.items c.put_heads-2.new.into.items left right by c.loop-i.i c.loop-i.j c.put_heads.ensures.items c.put_heads-2.ensures.items)
     (heads-end left right by c.loop-i.i c.loop-i.j c.loop-i.merged.items c.loop-i.invariant.merging none)

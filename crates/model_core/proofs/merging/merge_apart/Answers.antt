@@ -24,8 +24,8 @@ loop-i-preserved c =
     let there = c.place_of-there.result in
     let apart : place x.key ≢ place y.key = λ same. c.if-here-there.false (c.place_of-here.ensures.place ∙ same ∙ sym c.place_of-there.ensures.place) in
     let is : nat_lt here there ≡ key_lt x.key y.key =
-        ap (λ n. nat_lt n there) c.place_of-here.ensures.place ∙ ap (λ n. nat_lt (place x.key) n) c.place_of-there.ensures.place
-        ∙ key_lt-by-place x.key y.key c.place_of-here.ensures.rank c.place_of-here.ensures.dest c.place_of-there.ensures.rank c.place_of-there.ensures.dest apart in
+    ap (λ n. nat_lt n there) c.place_of-here.ensures.place ∙ ap (λ n. nat_lt (place x.key) n) c.place_of-there.ensures.place
+    ∙ key_lt-by-place x.key y.key c.place_of-here.ensures.rank c.place_of-here.ensures.dest c.place_of-there.ensures.rank c.place_of-there.ensures.dest apart in
     let more = heads-chosen c.args.left.now c.args.right.now c.args.by c.loop-i.i c.loop-i.j c.loop-i.merged.items c.loop-i.invariant.merging blank blank c.loop-i-test.true c.if-j-right.true (nat_lt here there) is in
     let right = map (shifted c.args.by) c.args.right.now in
     let head = if nat_lt here there then x else shifted c.args.by y in
