@@ -169,8 +169,7 @@ impl RecordBuffer {
         ensures left { OnOk result (left.new.items ≡ []) }
         ensures right { OnOk result (right.new.items ≡ []) }
     {
-        self.heads.reserve(left.heads.len() + right.heads.len())?;
-        self.parts.reserve(left.parts.len() + right.parts.len())?;
+        self.reserve(left.heads.len() + right.heads.len())?;
         let by = left.parts.len() as u64;
         merge(
             left.heads.as_slice(),

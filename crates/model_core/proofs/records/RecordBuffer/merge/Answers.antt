@@ -1,4 +1,4 @@
-use Rattle.std.proofs.Common.{◌≡◌, ℕ, ◌++◌, List, [], length, map, sym, ap, ◌∙◌, subst, arith, rules}
+use Rattle.std.proofs.Common.{◌≡◌, ℕ, ◌++◌, List, [], length, map, refl, sym, ap, ◌∙◌, subst, arith, rules}
 use Rattle.std.specs.Prelude.{IsPermutation}
 use Rattle.event_key.specs.declared.key.Key.{Key}
 use Rattle.model_core.specs.declared.note.Note.{Note}
@@ -33,8 +33,8 @@ all-of : (own reserved parts more slice slice' first all : List Part) → own �
 all-of own reserved parts more slice slice' first all none same here there is_first is_all =
     is_all ∙ ap (λ ps. ps ++ slice') (is_first ∙ ap (λ ps. ps ++ slice) (same ∙ none) ∙ here) ∙ ap (λ ps. parts ++ ps) there
 
-pub invariant_of-self-2 : goal.invariant_of-self-2
-invariant_of-self-2 c =
+pub invariant_of-self : goal.invariant_of-self
+invariant_of-self c =
     let heads = c.left.inside.heads.items in
     let others = c.right.inside.heads.items in
     let parts = c.left.inside.parts.items in
@@ -42,9 +42,9 @@ invariant_of-self-2 c =
     let merged = c.merge.new.merged.items in
     let all = c.copy_parts-2.new.into.items in
     let by = c.len-by.result in
-    let none = no-parts c.self.inside.heads.items c.self.inside.parts.items (ap (λ (v : RecordsView). v.items) c.self.view_is ∙ c.requires.empty) c.self.invariant.few_parts in
+    let none = no-parts c.self.inside.heads.items c.self.inside.parts.items (ap (λ (v : RecordsView). v.items) c.self.view_is ∙ c.reserve.ensures.same ∙ c.requires.empty) c.self.invariant.few_parts in
     let moves = moved-of heads others c.as_slice.result.now c.as_slice-2.result.now merged by c.as_slice.ensures.value c.as_slice-2.ensures.value c.merge.ensures.permutes in
-    let is_all = all-of c.self.inside.parts.items c.reserve-2.new.self.items parts more c.as_slice-3.result.now c.as_slice-4.result.now c.copy_parts.new.into.items all none c.reserve-2.ensures.items c.as_slice-3.ensures.value c.as_slice-4.ensures.value c.copy_parts.ensures.items c.copy_parts-2.ensures.items in
+    let is_all = all-of c.self.inside.parts.items c.self.inside.parts.items parts more c.as_slice-3.result.now c.as_slice-4.result.now c.copy_parts.new.into.items all none refl c.as_slice-3.ensures.value c.as_slice-4.ensures.value c.copy_parts.ensures.items c.copy_parts-2.ensures.items in
     let is_by : by ≡ length parts = omega (arith, c.len-by.ensures, c.left.inside.parts.ok) in
     let for_heads = c.room_of-self-inside.ensures.heads in
     let for_parts = c.room_of-self-inside.ensures.parts in
@@ -64,9 +64,9 @@ returns-clause-permutes c =
     let merged = c.merge.new.merged.items in
     let all = c.copy_parts-2.new.into.items in
     let by = c.len-by.result in
-    let none = no-parts c.self.inside.heads.items c.self.inside.parts.items (ap (λ (v : RecordsView). v.items) c.self.view_is ∙ c.requires.empty) c.self.invariant.few_parts in
+    let none = no-parts c.self.inside.heads.items c.self.inside.parts.items (ap (λ (v : RecordsView). v.items) c.self.view_is ∙ c.reserve.ensures.same ∙ c.requires.empty) c.self.invariant.few_parts in
     let moves = moved-of heads others c.as_slice.result.now c.as_slice-2.result.now merged by c.as_slice.ensures.value c.as_slice-2.ensures.value c.merge.ensures.permutes in
-    let is_all = all-of c.self.inside.parts.items c.reserve-2.new.self.items parts more c.as_slice-3.result.now c.as_slice-4.result.now c.copy_parts.new.into.items all none c.reserve-2.ensures.items c.as_slice-3.ensures.value c.as_slice-4.ensures.value c.copy_parts.ensures.items c.copy_parts-2.ensures.items in
+    let is_all = all-of c.self.inside.parts.items c.self.inside.parts.items parts more c.as_slice-3.result.now c.as_slice-4.result.now c.copy_parts.new.into.items all none refl c.as_slice-3.ensures.value c.as_slice-4.ensures.value c.copy_parts.ensures.items c.copy_parts-2.ensures.items in
     let is_by : by ≡ length parts = omega (arith, c.len-by.ensures, c.left.inside.parts.ok) in
     let P : List (Key × Note) → List (Key × Note) → Type 0 = λ xs ys. IsPermutation (xs ++ ys) (records_of merged all) in
     subst (λ ys. P c.args.left.now.items ys) (ap (λ (v : RecordsView). v.items) c.right.view_is)
