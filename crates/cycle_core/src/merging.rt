@@ -31,24 +31,7 @@ fn merge_two(
         mem::swap(right, merged);
         return Ok(());
     }
-    merged.reserve_for(left, right)?;
-    let (mut i, mut j) = (0, 0);
-    while i < left.len() && j < right.len() {
-        if left.at(i).0.is_before(right.at(j).0) {
-            merged.push_from(left, i);
-            i += 1;
-        } else {
-            merged.push_from(right, j);
-            j += 1;
-        }
-    }
-    merged.extend_from(left, i);
-    // takes no memory, since all found room before
-    merged.reserve(right.len() - j)?;
-    merged.extend_from(right, j);
-    left.clear();
-    right.clear();
-    Ok(())
+    merged.merge(left, right)
 }
 
 /// The records of two commits, in the first one.

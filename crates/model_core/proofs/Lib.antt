@@ -1,5 +1,6 @@
 pub mod Numbers
 pub mod RecordLemmas
 pub mod Results
+pub mod SortedLemmas
 pub mod DigitLemmas
 pub mod WritingLemmas

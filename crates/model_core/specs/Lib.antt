@@ -5,6 +5,7 @@ pub mod Meaning
 pub mod Notes
 pub mod Places
 pub mod Records
+pub mod Sorted
 pub mod SpacedWords
 pub mod Words
 pub mod Writing

@@ -1,5 +1,5 @@
 -- Records whose parts stand in one list.
-use Rattle.std.specs.Prelude.{ℕ, ◌+◌, ◌*◌, ◌≤◌, List, length, map, take, drop, All}
+use Rattle.std.specs.Prelude.{ℕ, ◌+◌, ◌*◌, ◌^◌, ◌≤◌, List, length, map, take, drop, All}
 use Rattle.std.specs.Vec.{vec_capacity}
 use Rattle.std.specs.declared.vec.Vec.{Vec}
 use Rattle.event_key.specs.declared.key.Key.{Key}
@@ -18,6 +18,20 @@ record_of parts head = (head.key, take head.count (drop head.start parts))
 
 abbrev pub records_of : List RecordHead → List Part → List (Key × Note)
 records_of heads parts = map (record_of parts) heads
+
+abbrev pub record_key : Key × Note → Key
+record_key told = told.0
+
+abbrev pub head_key : RecordHead → Key
+head_key head = head.key
+
+-- where an event comes among others, but for its source and serial
+abbrev pub place : Key → ℕ
+place key = key.stamp * 2 ^ 64 + key.rank * 2 ^ 32 + key.dest
+
+-- a head whose parts lie so much further on
+abbrev pub shifted : ℕ → RecordHead → RecordHead
+shifted by head = record head { start = head.start + by }
 
 -- the parts of a record are among these, and at most four
 pub record IsAmong (parts : List Part) (head : RecordHead) : Type 0 where

@@ -7,6 +7,7 @@ mod entry;
 mod event;
 mod few;
 mod limits;
+mod merging;
 pub mod model;
 mod name;
 mod note;

@@ -1,8 +1,11 @@
 //! What is told of events, one after another.
-ghost use Rattle.std.specs.Prelude.{◌≡◌, ℕ, ◌+◌, ◌-◌, ◌*◌, ◌<◌, ◌≤◌, ◌==◌, [], ◌∷◌, ◌++◌, length, drop, slice_get, vec_len, vec_capacity, Some, OnOk, OnErr};
+ghost use Rattle.std.specs.Prelude.{◌≡◌, ℕ, ◌+◌, ◌-◌, ◌*◌, ◌<◌, ◌≤◌, ◌==◌, [], ◌∷◌, ◌++◌, length, slice_get, vec_len, vec_capacity, Some, OnOk, OnErr, IsPermutation};
 ghost use Rattle.event_key.specs.declared.key.Key.{Key};
 ghost use Rattle.model_core.specs.declared.note.Note.{Note};
+ghost use Rattle.model_core.specs.Records.{record_key};
+ghost use Rattle.model_core.specs.Sorted.{AreSorted};
 
+use crate::merging::merge;
 use crate::note::{Note, Part};
 use crate::record_head::RecordHead;
 use delta_exchange::OutOfMemory;
@@ -94,18 +97,6 @@ impl RecordBuffer {
         self.grow(records)
     }
 
-    /// Makes room for the records of two others together.
-    pub fn reserve_for(
-        &mut self,
-        one: &RecordBuffer,
-        other: &RecordBuffer,
-    ) -> Result<(), OutOfMemory>
-        ensures room { OnOk result (length one.now.items + length other.now.items ≤ self.new.room) }
-        ensures same { self.new.items ≡ self.old.items }
-    {
-        self.reserve(one.heads.len() + other.heads.len())
-    }
-
     /// Finds room for so many records more.
     fn grow(&mut self, records: usize) -> Result<(), OutOfMemory>
         ensures room { OnOk result (records ≤ self.new.room) }
@@ -164,15 +155,34 @@ impl RecordBuffer {
         self.room -= 1;
     }
 
-    /// Puts the records of another buffer from a place on behind the others, where there is room for them.
-    pub fn extend_from(&mut self, other: &RecordBuffer, from: usize)
-        requires from { from ≤ length other.now.items }
-        requires room { length other.now.items ≤ self.old.room + from }
-        ensures { self.new.items ≡ self.old.items ++ drop from other.now.items }
+    /// The records of two others as one list: their parts are copied, and their heads merged. Both are left empty.
+    pub fn merge(
+        &mut self,
+        left: &mut RecordBuffer,
+        right: &mut RecordBuffer,
+    ) -> Result<(), OutOfMemory>
+        requires empty { self.old.items ≡ [] }
+        requires left { AreSorted record_key left.old.items }
+        requires right { AreSorted record_key right.old.items }
+        ensures permutes { OnOk result (IsPermutation (left.old.items ++ right.old.items) self.new.items) }
+        ensures ordered { OnOk result (AreSorted record_key self.new.items) }
+        ensures left { OnOk result (left.new.items ≡ []) }
+        ensures right { OnOk result (right.new.items ≡ []) }
     {
-        for i in from..other.len() {
-            self.push_from(other, i);
-        }
+        self.reserve(left.heads.len() + right.heads.len())?;
+        let by = left.parts.len() as u64;
+        merge(
+            left.heads.as_slice(),
+            right.heads.as_slice(),
+            by,
+            &mut self.heads,
+        );
+        copy_parts(left.parts.as_slice(), &mut self.parts);
+        copy_parts(right.parts.as_slice(), &mut self.parts);
+        self.room = room_of(&self.heads, &self.parts);
+        left.clear();
+        right.clear();
+        Ok(())
     }
 
     /// Lets all records go, and keeps the room.
@@ -194,6 +204,16 @@ fn put_parts(parts: &[Part], into: &mut Vec<Part>)
     for part in parts {
         into.push_reserved(*part);
     }
+}
+
+/// Appends the parts of many records at once to a list that has room for them.
+fn copy_parts(parts: &[Part], into: &mut Vec<Part>)
+    requires { vec_len into.old + length parts.now ≤ vec_capacity into.old }
+    ensures items { into.new.items ≡ into.old.items ++ parts.now }
+    ensures capacity { vec_capacity into.old ≤ vec_capacity into.new }
+{
+    // takes no memory, since there is room
+    let _ = into.extend_from_slice(parts);
 }
 
 /// Records in results, in their order.

@@ -1,36 +1,21 @@
-use Rattle.std.proofs.Common.{◌∙◌, suc, add-one, sym, subst, arith}
-use Rattle.std.proofs.lemmas.Option.{get_or_from_slice_get}
-use Rattle.event_key.specs.declared.key.Key.{Key}
-use Rattle.model_core.specs.declared.note.Note.{Note}
-use Rattle.cycle_core.proofs.MergeLemmas.{IsMerging, merging-left, merging-right}
+use Rattle.std.proofs.Common.{◌++◌}
+use Rattle.std.specs.Prelude.{IsPermutation}
+use Rattle.key_order.proofs.KeyLemmas.{Differ-permutation}
+use Rattle.model_core.specs.Sorted.{AreSorted}
+use Rattle.cycle_core.specs.Records.{AreInOrder, record_key}
+use Rattle.cycle_core.proofs.MergeLemmas.{in-order-sorted, sorted-in-order}
+use Rattle.cycle_core.proofs.ValueLemmas.{both-done}
 use Rattle.cycle_core.proofs.merging.merge_two.Goals as goal
 
-pub loop-i-preserved-then-is_before : goal.loop-i-preserved-then-is_before
-loop-i-preserved-then-is_before c =
-    let left = c.args.left.now.items in
-    let right = c.args.right.now.items in
-    let x : Key × Note = (c.at.result.0.now, c.at.result.1.now) in
-    let y : Key × Note = (c.at-in-loop-i.result.0.now, c.at-in-loop-i.result.1.now) in
-    let more = merging-left left right c.loop-i.i c.loop-i.j c.loop-i.merged.items c.loop-i.invariant.merging x y x y (omega arith) (omega arith)
-    (sym (get_or_from_slice_get left c.loop-i.i x x c.at.ensures.told)) (sym (get_or_from_slice_get right c.loop-i.j y y c.at-in-loop-i.ensures.told)) (sym c.is_before.ensures ∙ c.if-is_before.true) in
-    let room = c.push_from.ensures.room in
-    let before = c.loop-i.invariant.room in
-    record {
-      merging = rw add-one (subst (IsMerging left right (suc c.loop-i.i) c.loop-i.j) (sym (c.push_from.ensures.items x c.at.ensures.told)) more);
-      room = omega (arith, room, before);
-    }
+pub merge-requires-clause-left : goal.merge-requires-clause-left
+merge-requires-clause-left c = sorted-in-order c.args.left.now.items c.requires.left
 
-pub loop-i-preserved : goal.loop-i-preserved
-loop-i-preserved c =
-    let left = c.args.left.now.items in
-    let right = c.args.right.now.items in
-    let x : Key × Note = (c.at.result.0.now, c.at.result.1.now) in
-    let y : Key × Note = (c.at-in-loop-i.result.0.now, c.at-in-loop-i.result.1.now) in
-    let more = merging-right left right c.loop-i.i c.loop-i.j c.loop-i.merged.items c.loop-i.invariant.merging x y x y (omega arith) (omega arith)
-    (sym (get_or_from_slice_get left c.loop-i.i x x c.at.ensures.told)) (sym (get_or_from_slice_get right c.loop-i.j y y c.at-in-loop-i.ensures.told)) (sym c.is_before.ensures ∙ c.if-is_before.false) c.requires.differ in
-    let room = c.push_from-else-is_before.ensures.room in
-    let before = c.loop-i.invariant.room in
-    record {
-      merging = rw add-one (subst (IsMerging left right c.loop-i.i (suc c.loop-i.j)) (sym (c.push_from-else-is_before.ensures.items y c.at-in-loop-i.ensures.told)) more);
-      room = omega (arith, room, before);
-    }
+pub merge-requires-clause-right : goal.merge-requires-clause-right
+merge-requires-clause-right c = sorted-in-order c.args.right.now.items c.requires.right
+
+pub returns-clause-ordered : goal.returns-clause-ordered
+returns-clause-ordered c =
+    let all = c.args.left.now.items ++ c.args.right.now.items in
+    let merged = c.merge.new.self.items in
+    both-done (AreSorted record_key merged) (IsPermutation all merged) (AreInOrder merged) c.merge.result c.merge.ensures.ordered c.merge.ensures.permutes
+    (λ sorted moves. in-order-sorted merged sorted (Differ-permutation record_key all merged moves c.requires.differ))
