@@ -1,5 +1,5 @@
 -- All is carried, and comes to the list of the object that comes.
-use Rattle.std.proofs.Common.{ap, ◌∙◌, subst, arith}
+use Rattle.std.proofs.Common.{sym, ap, ◌∙◌, subst, arith}
 use Rattle.std.proofs.lemmas.List.{length-map}
 use Rattle.std.specs.Vec.{vec_capacity}
 use Rattle.event_log.specs.Items.{placed, placed_of}
