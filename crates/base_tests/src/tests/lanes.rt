@@ -46,7 +46,7 @@ fn hands_over<L: Lanes>(rt: &impl Abort, alloc: Global, lanes: &mut L) -> Result
     requires at_rest { L.are_at_rest lanes.old }
 {
     let mut ends = lanes.ready(alloc)?;
-    assert!(rt; ends.len() == 2);
+    assert_eq!(rt; ends.len(), 2);
     let events = one_event(alloc, 7)?;
     ends[0].post(1, Parcel { from: 0, events });
     lanes.give_back(ends);

@@ -3,7 +3,7 @@ use super::{sink_of, source_of, text_of};
 use model_program::{ModelProgram, run_program};
 use model_text::ModelTexts;
 use node_team::Open;
-use std::alloc::{AllocGlobal, Global};
+use std::alloc::AllocGlobal;
 use std::process::Abort;
 use std::test::Fail;
 use std::thread::Threads;
