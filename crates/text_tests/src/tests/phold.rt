@@ -68,7 +68,7 @@ fn an_object_sends_to_itself_after_drawn_delays(rt: HostRuntime) -> Result<(), F
     let delay = Law::Uniform { low: 1, high: 10 };
     assert!(rt; delay.is_delay());
     let model = Phold::make(0, 1, delay, true, 0, Vec::new(alloc), 0)?;
-    assert!(rt; model.objects() == 1);
+    assert_eq!(rt; model.objects(), 1);
     for (place, delay, value) in [(0, 5, 2), (2, 3, 4), (4, 4, 6)] {
         let cells = Cells::new(alloc, vec![in alloc; place]?, Vec::new(alloc))?;
         let changes = [Change::Set { word: 0, value }];
@@ -84,7 +84,7 @@ fn the_next_object_after_a_fixed_delay(rt: HostRuntime) -> Result<(), Fail> {
     let delay = Law::Fixed { value: 5 };
     assert!(rt; delay.is_delay());
     let model = Phold::make(0, 3, delay, false, 0, Vec::new(alloc), 7)?;
-    assert!(rt; model.objects() == 3);
+    assert_eq!(rt; model.objects(), 3);
     for (object, dest) in [(0, 1), (1, 2), (2, 0)] {
         let cells = model.first_cells(alloc, object)?;
         let send = hop_to(dest, 5, 7);
@@ -118,7 +118,7 @@ fn initial_events_come_object_by_object_and_then_as_listed(rt: HostRuntime) -> R
         (9, 1, 3),
         (2, 0, 4),
     ];
-    assert!(rt; model.starts() == 6);
+    assert_eq!(rt; model.starts(), 6);
     for i in 0..model.starts() {
         let (time, dest, rank) = want[i as usize];
         let wanted = Start {
@@ -139,8 +139,8 @@ fn objects_are_named_by_their_numbers(rt: HostRuntime) -> Result<(), Fail> {
     let delay = Law::Fixed { value: 0 };
     assert!(rt; delay.is_delay());
     let model = Phold::make(0, 65536, delay, true, 4, Vec::new(rt.alloc()), 255)?;
-    assert!(rt; model.objects() == 65536);
-    assert!(rt; model.starts() == 262144);
+    assert_eq!(rt; model.objects(), 65536);
+    assert_eq!(rt; model.starts(), 262144);
     let mut text = Vec::new(rt.alloc());
     model.put_name(rt.alloc(), 0, &mut text)?;
     model.put_name(rt.alloc(), 65535, &mut text)?;
