@@ -55,11 +55,12 @@ invariant_of-self c =
     let out = c.commit.new.out.items in
     let L : ProcessedView → Type 0 = λ v. IsEventLog objects v.items in
     let bounds = c.self.inside.latest in
-    let B : ProcessedView → Type 0 = λ v. AreBounded bounds v.items in
-    (on-either c.commit.result (HasCommittedDue c.args.homes.now c.args.horizon c.args.cut.now old new told out) (new ≡ old) (IsEventLog objects new.items) c.commit.ensures.ok c.commit.ensures.err
-    (λ h. commits-log c.args.homes.now c.args.horizon c.args.cut.now objects old new told out h c.self.invariant.0) (λ same. subst L (sym same) c.self.invariant.0),
-    on-either c.commit.result (HasCommittedDue c.args.homes.now c.args.horizon c.args.cut.now old new told out) (new ≡ old) (AreBounded bounds new.items) c.commit.ensures.ok c.commit.ensures.err
-    (λ h. subst (AreBounded bounds) (sym h.items) (bounded-filter bounds (λ (p : Placed). not (is_due c.args.horizon c.args.cut.now (placed_key p))) old.items c.self.invariant.1)) (λ same. subst B (sym same) c.self.invariant.1))
+    let B : ProcessedView → Type 0 = λ v. AreBounded bounds v.items in (
+      on-either c.commit.result (HasCommittedDue c.args.homes.now c.args.horizon c.args.cut.now old new told out) (new ≡ old) (IsEventLog objects new.items) c.commit.ensures.ok c.commit.ensures.err
+          (λ h. commits-log c.args.homes.now c.args.horizon c.args.cut.now objects old new told out h c.self.invariant.0) (λ same. subst L (sym same) c.self.invariant.0),
+      on-either c.commit.result (HasCommittedDue c.args.homes.now c.args.horizon c.args.cut.now old new told out) (new ≡ old) (AreBounded bounds new.items) c.commit.ensures.ok c.commit.ensures.err
+          (λ h. subst (AreBounded bounds) (sym h.items) (bounded-filter bounds (λ (p : Placed). not (is_due c.args.horizon c.args.cut.now (placed_key p))) old.items c.self.invariant.1)) (λ same. subst B (sym same) c.self.invariant.1),
+    )
 
 pub returns-clause-ok : goal.returns-clause-ok
 returns-clause-ok c =

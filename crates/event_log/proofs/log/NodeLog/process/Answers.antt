@@ -70,16 +70,17 @@ invariant_of-self g c =
     let key = c.args.event.key in
     let K : Event → Type 0 = λ e. e.key.stamp ≤ bound_of bounds e.key.dest in
     let here : key.stamp ≤ bound_of bounds key.dest = subst K c.get.ensures c.raise.ensures.reached in
-    let higher = bounded-higher c.self.inside.latest bounds old.items c.raise.ensures.kept c.self.invariant.1 in
-    (either c.process.result (λ least. HasCome m c.args.event c.args.place o later old new least) (IsSameProcessed old new) (IsSameObject o later) (IsEventLog (slice_set objects c.args.place later) new.items)
-    c.process.ensures.ok c.process.ensures.err c.process.ensures.same
-    (λ least h. come-log m objects c.args.place o later c.args.event old new least h
-    (firing m objects old.items c.args.self.now.log c.args.place o later c.args.event h.entry (ap (λ (v : NodeLogView). v.log) c.self.view_is) c.self.invariant.0 c.requires.place c.index_mut-object.ensures.value h.fired c.requires.above c.requires.went c.requires.few))
-    (λ same is. kept-log m objects c.args.place o later c.args.event old new same is c.self.invariant.0 within c.index_mut-object.ensures.value),
-    either c.process.result (λ least. HasCome m c.args.event c.args.place o later old new least) (IsSameProcessed old new) (IsSameObject o later) (AreBounded bounds new.items)
-    c.process.ensures.ok c.process.ensures.err c.process.ensures.same
-    (λ least h. subst (AreBounded bounds) (sym h.items) (bounded-insert bounds (record { done = h.entry; place = c.args.place }) old.items (subst K (sym h.fired.event_is) here) higher))
-    (λ same is. subst (AreBounded bounds) (sym same.items) higher))
+    let higher = bounded-higher c.self.inside.latest bounds old.items c.raise.ensures.kept c.self.invariant.1 in (
+      either c.process.result (λ least. HasCome m c.args.event c.args.place o later old new least) (IsSameProcessed old new) (IsSameObject o later) (IsEventLog (slice_set objects c.args.place later) new.items)
+          c.process.ensures.ok c.process.ensures.err c.process.ensures.same
+          (λ least h. come-log m objects c.args.place o later c.args.event old new least h
+          (firing m objects old.items c.args.self.now.log c.args.place o later c.args.event h.entry (ap (λ (v : NodeLogView). v.log) c.self.view_is) c.self.invariant.0 c.requires.place c.index_mut-object.ensures.value h.fired c.requires.above c.requires.went c.requires.few))
+          (λ same is. kept-log m objects c.args.place o later c.args.event old new same is c.self.invariant.0 within c.index_mut-object.ensures.value),
+      either c.process.result (λ least. HasCome m c.args.event c.args.place o later old new least) (IsSameProcessed old new) (IsSameObject o later) (AreBounded bounds new.items)
+          c.process.ensures.ok c.process.ensures.err c.process.ensures.same
+          (λ least h. subst (AreBounded bounds) (sym h.items) (bounded-insert bounds (record { done = h.entry; place = c.args.place }) old.items (subst K (sym h.fired.event_is) here) higher))
+          (λ same is. subst (AreBounded bounds) (sym same.items) higher),
+    )
 
 pub returns-clause-ok : goal.returns-clause-ok
 returns-clause-ok g c =

@@ -33,13 +33,14 @@ absorb-requires-clause-room c =
 pub invariant_of-self : goal.invariant_of-self
 invariant_of-self c =
     let s = c.self.inside in
-    let p = c.into_parts-object.result in
-    ((put-all s.objects.items s.events.items c.carry_all.new.self.items (placed p.1.items) c.args.self.now.log p.0 c.len-place.result p.1.capacity (vec_capacity p.2) c.args.moved
-    (ap (λ (v : NodeLogView). v.log) c.self.view_is) c.self.invariant.0 c.into_parts-object.ensures.log c.into_parts-object.ensures.view c.requires.away c.carry_all.ensures.same.items (c.len-place.ensures ∙ s.objects.ok.0)
-    c.push_object.new.objects.items c.absorb.new.self.items c.requires.few c.push_object.ensures c.absorb.ensures.items).log,
-    subst (AreBounded c.raise_all.new.self) (sym c.absorb.ensures.items)
-    (bounded-joined s.latest c.raise_all.new.self 0 c.len-place.result c.carry_all.new.self.items (placed p.1.items) c.raise_all.ensures.kept
-    (subst (AreBounded s.latest) (sym c.carry_all.ensures.same.items) c.self.invariant.1) c.raise_all.ensures.reached))
+    let p = c.into_parts-object.result in (
+      (put-all s.objects.items s.events.items c.carry_all.new.self.items (placed p.1.items) c.args.self.now.log p.0 c.len-place.result p.1.capacity (vec_capacity p.2) c.args.moved
+          (ap (λ (v : NodeLogView). v.log) c.self.view_is) c.self.invariant.0 c.into_parts-object.ensures.log c.into_parts-object.ensures.view c.requires.away c.carry_all.ensures.same.items (c.len-place.ensures ∙ s.objects.ok.0)
+          c.push_object.new.objects.items c.absorb.new.self.items c.requires.few c.push_object.ensures c.absorb.ensures.items).log,
+      subst (AreBounded c.raise_all.new.self) (sym c.absorb.ensures.items)
+          (bounded-joined s.latest c.raise_all.new.self 0 c.len-place.result c.carry_all.new.self.items (placed p.1.items) c.raise_all.ensures.kept
+          (subst (AreBounded s.latest) (sym c.carry_all.ensures.same.items) c.self.invariant.1) c.raise_all.ensures.reached),
+    )
 
 pub returns-clause-slot : goal.returns-clause-slot
 returns-clause-slot c =

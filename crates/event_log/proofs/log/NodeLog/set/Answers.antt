@@ -21,9 +21,11 @@ invariant_of-self c =
     let at = c.index_mut.ensures.value in
     let view = ap (λ (v : NodeLogView). v.log) c.self.view_is in
     let within = placed-within s.objects.items s.events.items c.args.self.now.log c.args.place c.args.object view c.requires.place in
-    let dest = placed-dest s.objects.items s.events.items c.args.self.now.log c.args.place c.args.object view c.requires.place o at in
-    (set-log s.objects.items s.events.items c.args.place o c.new.result c.self.invariant.0 within at (ap (λ (k : KeptObject). k.object) c.new.ensures ∙ dest)
-    (ap (λ n. dones_at n (dones_in s.events.items)) (sym dest) ∙ ap (λ (v : EventLogView). dones_at c.args.object v.done) view ∙ c.requires.none), c.self.invariant.1)
+    let dest = placed-dest s.objects.items s.events.items c.args.self.now.log c.args.place c.args.object view c.requires.place o at in (
+      set-log s.objects.items s.events.items c.args.place o c.new.result c.self.invariant.0 within at (ap (λ (k : KeptObject). k.object) c.new.ensures ∙ dest)
+          (ap (λ n. dones_at n (dones_in s.events.items)) (sym dest) ∙ ap (λ (v : EventLogView). dones_at c.args.object v.done) view ∙ c.requires.none),
+      c.self.invariant.1,
+    )
 
 pub returns-clause-state : goal.returns-clause-state
 returns-clause-state c =

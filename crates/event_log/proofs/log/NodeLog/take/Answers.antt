@@ -37,11 +37,12 @@ new-requires-clause-log c =
 pub invariant_of-self : goal.invariant_of-self
 invariant_of-self c =
     let s = c.self.inside in
-    let x = c.swap_remove-object in
-    ((taken s.objects.items s.events.items c.carry_all.new.self.items c.args.self.now.log c.args.place c.args.object (c.len-last.result - 1) x.result x.new.self.items c.part.new.self.items (placed c.part.new.own.items)
-    (ap (λ (v : NodeLogView). v.log) c.self.view_is) c.self.invariant.0 c.requires.place x.ensures.value x.ensures.items c.carry_all.ensures.same.items (omega arith) c.part.ensures.items c.part.ensures.own).log,
-    subst (AreBounded s.latest) (sym c.part.ensures.items)
-    (bounded-parted s.latest c.args.object (c.len-last.result - 1) c.args.place c.carry_all.new.self.items (subst (AreBounded s.latest) (sym c.carry_all.ensures.same.items) c.self.invariant.1)))
+    let x = c.swap_remove-object in (
+      (taken s.objects.items s.events.items c.carry_all.new.self.items c.args.self.now.log c.args.place c.args.object (c.len-last.result - 1) x.result x.new.self.items c.part.new.self.items (placed c.part.new.own.items)
+          (ap (λ (v : NodeLogView). v.log) c.self.view_is) c.self.invariant.0 c.requires.place x.ensures.value x.ensures.items c.carry_all.ensures.same.items (omega arith) c.part.ensures.items c.part.ensures.own).log,
+      subst (AreBounded s.latest) (sym c.part.ensures.items)
+          (bounded-parted s.latest c.args.object (c.len-last.result - 1) c.args.place c.carry_all.new.self.items (subst (AreBounded s.latest) (sym c.carry_all.ensures.same.items) c.self.invariant.1)),
+    )
 
 pub returns-clause-gone : goal.returns-clause-gone
 returns-clause-gone c =

@@ -35,9 +35,10 @@ invariant_of-self c =
     let same = c.take-done.ensures.value.2 ∙ ap (λ (p : Placed). p.done) (same-found items c.args.index c.take-done.ensures.value.0 at.0 c.take-done.ensures.value.1 at.1) in
     let P : ℕ → Type 0 = λ k. IsEventLog (slice_set objects k later) c.undo.new.self.items in
     let Q : List Placed → Type 0 = IsEventLog (slice_set objects at.0.place later) in
-    let left = sym (ap (λ (v : ProcessedView). v.items) c.undo.ensures.same ∙ c.take-done.ensures.left) in
-    (subst P (sym at.3) (subst Q left (left-log objects items c.args.index at.0 o g later (subst (HasUndone o later) same c.undo.ensures.undone))),
-    subst (AreBounded c.self.inside.latest) left (bounded-removed c.self.inside.latest items c.args.index c.self.invariant.1))
+    let left = sym (ap (λ (v : ProcessedView). v.items) c.undo.ensures.same ∙ c.take-done.ensures.left) in (
+      subst P (sym at.3) (subst Q left (left-log objects items c.args.index at.0 o g later (subst (HasUndone o later) same c.undo.ensures.undone))),
+      subst (AreBounded c.self.inside.latest) left (bounded-removed c.self.inside.latest items c.args.index c.self.invariant.1),
+    )
 
 pub returns-clause-undone : goal.returns-clause-undone
 returns-clause-undone c =
