@@ -14,16 +14,16 @@ use crate::formats::Format;
 use crate::kinds::{known_keys, named_kind};
 use crate::named::NamedItem;
 use std::alloc::Global;
-use text_fields::{Directory, Place, Refusal, name_of, new_name, only, required, table_of, text};
+use text_fields::{Directory, Place, Refusal, new_name, only, required, table_of, text};
 use toml::Value;
 
 /// The object with this number, counted from 0, which may have none of the names in the directory and is taken in there.
 #[tactic(auto, unfolding(crate::specs::Objects::object))]
-fn object<'a>(
+fn object(
     alloc: Global,
-    value: &'a Value,
+    value: &Value,
     format: Format,
-    directory: &mut Directory<'a>,
+    directory: &mut Directory,
     number: u32,
 ) -> Result<NamedItem, Refusal>
     requires { number < MOST_OBJECTS }
@@ -34,7 +34,7 @@ fn object<'a>(
 {
     let item = number + 1;
     let table = table_of(value, item)?;
-    let name = new_name(required(table, "name", item)?, directory, item)?;
+    let name = new_name(alloc, required(table, "name", item)?, directory, item)?;
     let word = text(required(table, "kind", item)?, item)?;
     let kind = named_kind(alloc, table, word, item)?;
     let rank = rank(table, format, item)?;
@@ -43,14 +43,15 @@ fn object<'a>(
     only(table, known_keys(format, &kind), item)?;
     let takes_links = !kind.is_source();
     directory.add(
-        name.as_bytes(),
+        alloc,
+        name.bytes(),
         Place {
             number,
             takes_links,
         },
     )?;
     Ok(NamedItem {
-        name: name_of(alloc, name)?,
+        name,
         kind,
         rank,
         quiet,
@@ -59,11 +60,11 @@ fn object<'a>(
 }
 
 /// The objects one after another, the first with item 1, and a directory of them.
-pub(crate) fn objects<'a>(
+pub(crate) fn objects(
     alloc: Global,
-    values: &'a [Value],
+    values: &[Value],
     format: Format,
-) -> Result<(Vec<NamedItem>, Directory<'a>), Refusal>
+) -> Result<(Vec<NamedItem>, Directory), Refusal>
     requires { length values.now ≤ MOST_OBJECTS }
     ensures read { Gives (λ read. read.0.items) result (objects format (items_view values.now)) }
     ensures found { IfOk result (λ read. finder read.1 ≡ place_in read.0.items) }
