@@ -1,0 +1,3 @@
+pub mod DriveFacts
+pub mod SavedRuns
+mod WatchedLemmas

@@ -1,2 +1,0 @@
-pub mod DriveFacts
-pub mod LoneStation

@@ -1,6 +1,0 @@
-//! Models that the tests of several crates run.
-#![tactic(auto)]
-
-mod stingy;
-
-pub use stingy::Stingy;

@@ -1,2 +1,0 @@
-pub mod SavedRuns
-mod WatchedLemmas
