@@ -9,4 +9,5 @@ pub mod LeastFloor
 pub mod RiseLemmas
 pub mod SeatingLemmas
 pub mod RunningLemmas
+pub mod ReceiptLemmas
 pub mod ReleaseLemmas

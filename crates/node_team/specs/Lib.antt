@@ -6,6 +6,7 @@ pub mod Floors
 pub mod Forks
 pub mod Handings
 pub mod Readiness
+pub mod Receipts
 pub mod Releases
 pub mod Rises
 pub mod Teams

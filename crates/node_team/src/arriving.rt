@@ -1,8 +1,7 @@
 //! How nodes receive what has come to them.
-ghost use Rattle.std.specs.Prelude.{◌≡◌, [], length, map, OnOk};
-ghost use Rattle.cycle_core.specs.Ends.{AllCanReceive, ReceiveUpto};
-ghost use Rattle.cycle_core.specs.Places.{AtEach};
-ghost use Rattle.node_team.specs.Releases.{AreClear, arrived_in};
+ghost use Rattle.std.specs.Prelude.{◌≡◌, ◌<◌, length, OnOk};
+ghost use Rattle.std.specs.Thread.{IsSend, IsSync};
+ghost use Rattle.node_team.specs.Receipts.{CanReceiveAll, HaveReceivedAll};
 
 use cycle_core::receive;
 use event_chain::Chain;
@@ -12,22 +11,93 @@ use node_core::Node;
 use parcel_exchange::Inbox;
 use std::alloc::Global;
 use std::mem;
+use std::thread::{Threads, join_mut};
 
-/// Hands each node what has come to it, and leaves its inbox empty.
-pub fn receive_arrived<M: SimulationModel>(
+/// Some nodes that stand in a row, and for each of them its inbox.
+struct Row<'a, M: SimulationModel> {
+    nodes: &'a mut [Node<M>],
+    inboxes: &'a mut [Inbox],
+}
+
+/// Hands each node what has come to it, and leaves its inbox empty, one after another, on the calling thread.
+fn receive_in_turn<M: SimulationModel>(
     alloc: Global,
     nodes: &mut [Node<M>],
     inboxes: &mut [Inbox],
 ) -> Result<(), OutOfMemory>
-    requires can { AllCanReceive M.meaning (map arrived_in inboxes.old) nodes.old }
-    requires many { length inboxes.old ≡ length nodes.old }
-    requires early { AtEach (λ place inbox. inbox.early.items ≡ []) inboxes.old }
-    ensures received { OnOk result (ReceiveUpto M.meaning (length nodes.old) (map arrived_in inboxes.old) nodes.old nodes.new) }
-    ensures clear { OnOk result (AreClear (length nodes.old) inboxes.new) }
+    requires { CanReceiveAll M.meaning nodes.old inboxes.old }
+    ensures { OnOk result (HaveReceivedAll M.meaning nodes.old inboxes.old nodes.new inboxes.new) }
 {
     for i in 0..nodes.len() {
         let events = mem::replace(&mut inboxes[i].arrived, Chain::new());
         receive(alloc, &mut nodes[i], events)?;
     }
     Ok(())
+}
+
+/// Hands each node what has come to it, and leaves its inbox empty. At most so many nodes, at least one, receive in one thread: of
+/// more of them both halves receive side by side.
+#[cycle(halves)]
+pub fn receive_arrived<R: Threads + Sync, M: SimulationModel>(
+    rt: &R,
+    alloc: Global,
+    most: usize,
+    nodes: &mut [Node<M>],
+    inboxes: &mut [Inbox],
+) -> Result<(), OutOfMemory>
+    requires most { 0 < most }
+    requires can { CanReceiveAll M.meaning nodes.old inboxes.old }
+    ensures { OnOk result (HaveReceivedAll M.meaning nodes.old inboxes.old nodes.new inboxes.new) }
+{
+    if nodes.len() <= most {
+        return receive_in_turn(alloc, nodes, inboxes);
+    }
+    let half = nodes.len() / 2;
+    let (n1, n2) = nodes.split_at_mut(half);
+    let (i1, i2) = inboxes.split_at_mut(half);
+    let low = Row {
+        nodes: n1,
+        inboxes: i1,
+    };
+    let high = Row {
+        nodes: n2,
+        inboxes: i2,
+    };
+    receive_both(rt, alloc, most, low, high)
+}
+
+/// Two rows receive side by side.
+#[cycle(halves)]
+fn receive_both<R: Threads + Sync, M: SimulationModel>(
+    rt: &R,
+    alloc: Global,
+    most: usize,
+    low: Row<M>,
+    high: Row<M>,
+) -> Result<(), OutOfMemory>
+    requires most { 0 < most }
+    requires sizes { (0 < length low.nodes.now) × (0 < length high.nodes.now) }
+    requires low { CanReceiveAll M.meaning low.nodes.now low.inboxes.now }
+    requires high { CanReceiveAll M.meaning high.nodes.now high.inboxes.now }
+    ensures low { OnOk result (HaveReceivedAll M.meaning low.entry.nodes.now low.entry.inboxes.now low.exit.0.now low.exit.1.0.now) }
+    ensures high { OnOk result (HaveReceivedAll M.meaning high.entry.nodes.now high.entry.inboxes.now high.exit.0.now high.exit.1.0.now) }
+{
+    let Row {
+        nodes: n1,
+        inboxes: i1,
+    } = low;
+    let Row {
+        nodes: n2,
+        inboxes: i2,
+    } = high;
+    let mut first = || -> Result<(), OutOfMemory>
+        requires { IsSync R.row × IsSend M.row × IsSync M.row × (0 < most) × CanReceiveAll M.meaning n1.now i1.now }
+        ensures { OnOk result (HaveReceivedAll M.meaning n1.entry.now i1.entry.now n1.exit.now i1.exit.now) }
+    { receive_arrived(rt, alloc, most, n1, i1) };
+    let mut second = || -> Result<(), OutOfMemory>
+        requires { IsSync R.row × IsSend M.row × IsSync M.row × (0 < most) × CanReceiveAll M.meaning n2.now i2.now }
+        ensures { OnOk result (HaveReceivedAll M.meaning n2.entry.now i2.entry.now n2.exit.now i2.exit.now) }
+    { receive_arrived(rt, alloc, most, n2, i2) };
+    let (front, back) = join_mut(rt, &mut first, &mut second);
+    front.and(back)
 }

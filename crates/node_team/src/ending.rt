@@ -46,7 +46,13 @@ fn end_nodes<R: Threads + Sync, M: SimulationModel, L: Lanes, G>(
 {
     release_all(setting, due, nodes, lists.committed.as_mut_slice(), kept)?;
     know_all(nodes);
-    receive_arrived(setting.alloc, nodes, kept.inboxes.as_mut_slice())?;
+    receive_arrived(
+        setting.rt,
+        setting.alloc,
+        due.most,
+        nodes,
+        kept.inboxes.as_mut_slice(),
+    )?;
     know_all(nodes);
     let told = mem::replace(&mut lists.told, RecordBuffer::new(setting.alloc));
     let records = merge(lists.committed.as_mut_slice(), told, &mut lists.spare)?;

@@ -6,12 +6,12 @@ use Rattle.std.proofs.lemmas.List.{length-map, with_items_is}
 use Rattle.parcel_exchange.specs.declared.inbox.Inbox.{Inbox}
 use Rattle.node_core.specs.declared.committed.Committed.{Committed}
 use Rattle.cycle_core.specs.Blank.{AreBlank}
-use Rattle.cycle_core.specs.Ends.{AllCanReceive, ReceiveUpto, told_by}
-use Rattle.cycle_core.specs.Places.{AtEach}
+use Rattle.cycle_core.specs.Ends.{ReceiveUpto, told_by}
 use Rattle.cycle_core.specs.Records.{AreInOrder, RecordsDiffer, HaveGiven}
 use Rattle.cycle_core.proofs.CyclingLemmas.{sends-to}
 use Rattle.cycle_core.proofs.GivenLemmas.{blank-again, ordered-sent, told-sent}
 use Rattle.cycle_core.proofs.RecordLemmas.{parts-ordered}
+use Rattle.node_team.specs.Receipts.{CanReceiveAll}
 use Rattle.node_team.specs.Releases.{arrived_in, AreClear}
 use Rattle.node_team.proofs.ending.end_nodes.Goals as goal
 
@@ -20,12 +20,11 @@ receive_arrived-requires-clause-can g c κs within =
     let come = c.in_ok-release_all.ensures.come in
     let left = c.release_all.new in
     let boxes = left.kept.inboxes.items in
-    let can = c.requires.can.arrives left.nodes come.handed (map arrived_in boxes) come.committed (length-map boxes arrived_in ∙ come.many) come.comes (λ place x at. c.know_all.ensures place x at) in
-    subst (λ l. AllCanReceive g.M.Model.meaning (map arrived_in l) left.nodes) (sym c.as_mut_slice-2.ensures.value) can
-
-pub receive_arrived-requires-clause-early : goal.receive_arrived-requires-clause-early
-receive_arrived-requires-clause-early g c κs within =
-    subst (λ l. AtEach (λ place (inbox : Inbox). inbox.early.items ≡ []) l) (sym c.as_mut_slice-2.ensures.value) (λ place x at. c.in_ok-release_all.ensures.come.early place x at)
+    subst (CanReceiveAll g.M.Model.meaning left.nodes) (sym c.as_mut_slice-2.ensures.value) (record {
+      can = c.requires.can.arrives left.nodes come.handed (map arrived_in boxes) come.committed (length-map boxes arrived_in ∙ come.many) come.comes (λ place x at. c.know_all.ensures place x at);
+      many = come.many ∙ sym c.release_all.auto.nodes;
+      early = λ place x at. come.early place x at;
+    })
 
 pub merge-requires-clause-ordered : goal.merge-requires-clause-ordered
 merge-requires-clause-ordered g c =

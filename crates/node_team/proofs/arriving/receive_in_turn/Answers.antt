@@ -3,8 +3,9 @@ use Rattle.std.proofs.lemmas.Option.{slice_get-get_or, slice_get_within}
 use Rattle.std.specs.Prelude.{Some}
 use Rattle.cycle_core.proofs.EndingLemmas.{receive-none, receive-more}
 use Rattle.node_team.specs.Releases.{arrived_in}
+use Rattle.node_team.proofs.ReceiptLemmas.{received-all}
 use Rattle.node_team.proofs.ReleaseLemmas.{at-mapped, taken-none, taken-more}
-use Rattle.node_team.proofs.arriving.receive_arrived.Goals as goal
+use Rattle.node_team.proofs.arriving.receive_in_turn.Goals as goal
 
 pub loop-i-init : goal.loop-i-init
 loop-i-init g c = (receive-none (g.M.Model.meaning) (map arrived_in c.args.inboxes.now) c.args.nodes.now, taken-none c.args.inboxes.now (λ number inbox at. c.requires.early number inbox at))
@@ -32,12 +33,16 @@ loop-i-preserved g c =
       taken-more place c.args.inboxes.now c.loop-i.inboxes _ _ c.loop-i.invariant.1 box refl (c.replace-events.ensures.after ∙ c.new.ensures),
     )
 
-pub returns-clause-clear : goal.returns-clause-clear
-returns-clause-clear g c =
+pub returns : goal.returns
+returns g c =
     let taken = c.loop-i.invariant.1 in
+    let nodes = c.loop-i.invariant.0 in
     let many = c.requires.many in
     record {
-      many = taken.many ∙ c.requires.many;
-      early = taken.early;
-      arrived = λ place inbox at. taken.taken place inbox (let lt = slice_get_within c.loop-i.inboxes place inbox at in let boxes = taken.many in omega arith) at;
+      received = received-all (g.M.Model.meaning) c.loop-i.i (map arrived_in c.args.inboxes.now) c.args.nodes.now c.loop-i.nodes (let same = nodes.many in omega arith) nodes;
+      clear = record {
+        many = taken.many ∙ c.requires.many;
+        early = taken.early;
+        arrived = λ place inbox at. taken.taken place inbox (let lt = slice_get_within c.loop-i.inboxes place inbox at in let boxes = taken.many in let same = nodes.many in omega arith) at;
+      };
     }
