@@ -11,7 +11,7 @@ use Rattle.node_core.specs.Nodes.{NodeView}
 use Rattle.cycle_core.specs.Ends.{AllCanReceive, Receives, ReceiveUpto}
 use Rattle.cycle_core.specs.Places.{AtEach}
 use Rattle.node_team.specs.Receipts.{CanReceiveAll, HaveReceivedAll}
-use Rattle.node_team.specs.Releases.{AreClear, arrived_in}
+use Rattle.node_team.specs.Releases.{arrived_in}
 
 module _ {A : Type 0} where
   front-at : (xs ys : List A) (k : ℕ) (x : A) → slice_get xs k ≡ Some x → slice_get (xs ++ ys) k ≡ Some x
@@ -77,14 +77,11 @@ module _ {M : Type 0} (meaning_of : M → Meaning) where
 
   -- nodes and inboxes of two rows, one behind the other, of which the first has an inbox for each node
   pub record AreRows (nodes n₁ n₂ : List (NodeView M)) (inboxes i₁ i₂ : List Inbox) : Type 0 where
-    pub nodes : nodes ≡ n₁ ++ n₂
-    pub inboxes : inboxes ≡ i₁ ++ i₂
+    pub all_nodes : nodes ≡ n₁ ++ n₂
+    pub all_inboxes : inboxes ≡ i₁ ++ i₂
     pub many : length i₁ ≡ length n₁
 
   module _ (nodes n₁ n₂ : List (NodeView M)) (inboxes i₁ i₂ : List Inbox) (rows : AreRows nodes n₁ n₂ inboxes i₁ i₂) where
-    whole : {P : List (NodeView M) → List Inbox → Type 0} → P nodes inboxes → P (n₁ ++ n₂) (i₁ ++ i₂)
-    whole {P} is = subst (λ l. P (n₁ ++ n₂) l) rows.inboxes (subst (λ l. P l inboxes) rows.nodes is)
-
     parted : map arrived_in (i₁ ++ i₂) ≡ map arrived_in i₁ ++ map arrived_in i₂
     parted = map-append arrived_in i₁ i₂
 
@@ -94,20 +91,20 @@ module _ {M : Type 0} (meaning_of : M → Meaning) where
     -- nodes that can all receive can do so in two rows
     pub both-can : CanReceiveAll meaning_of nodes inboxes → CanReceiveAll meaning_of n₁ i₁ × CanReceiveAll meaning_of n₂ i₂
     both-can before = (
-          record {
-            can = λ number n es at_n at_es. can number n es (front-at n₁ n₂ number n at_n) (front-at (map arrived_in i₁) (map arrived_in i₂) number es at_es);
-            many = rows.many;
-            early = each-front (λ inbox. inbox.early.items ≡ []) i₁ i₂ all.early;
-          },
-          record {
-            can = λ number n es at_n at_es. can (length n₁ + number) n es (back-at (length n₁) n₁ n₂ number n refl at_n) (back-at (length n₁) (map arrived_in i₁) (map arrived_in i₂) number es as-long at_es);
-            many = (let many = all.many in let a = length-append i₁ i₂ in let b = length-append n₁ n₂ in let c = rows.many in omega arith);
-            early = each-back (λ inbox. inbox.early.items ≡ []) i₁ i₂ all.early;
-          },
-        )
+      record {
+        can = λ number n es at_n at_es. can number n es (front-at n₁ n₂ number n at_n) (front-at (map arrived_in i₁) (map arrived_in i₂) number es at_es);
+        many = rows.many;
+        early = each-front (λ inbox. inbox.early.items ≡ []) i₁ i₂ all.early;
+      },
+      record {
+        can = λ number n es at_n at_es. can (length n₁ + number) n es (back-at (length n₁) n₁ n₂ number n refl at_n) (back-at (length n₁) (map arrived_in i₁) (map arrived_in i₂) number es as-long at_es);
+        many = (let many = all.many in let a = length-append i₁ i₂ in let b = length-append n₁ n₂ in let c = rows.many in omega arith);
+        early = each-back (λ inbox. inbox.early.items ≡ []) i₁ i₂ all.early;
+      },
+    )
       where
         all : CanReceiveAll meaning_of (n₁ ++ n₂) (i₁ ++ i₂)
-        all = whole {P = CanReceiveAll meaning_of} before
+        all = subst (CanReceiveAll meaning_of (n₁ ++ n₂)) rows.all_inboxes (subst (λ l. CanReceiveAll meaning_of l inboxes) rows.all_nodes before)
 
         can : AllCanReceive meaning_of (map arrived_in i₁ ++ map arrived_in i₂) (n₁ ++ n₂)
         can = subst (λ l. AllCanReceive meaning_of l (n₁ ++ n₂)) parted all.can
@@ -116,7 +113,7 @@ module _ {M : Type 0} (meaning_of : M → Meaning) where
     pub both-received : (m₁ m₂ : List (NodeView M)) (l₁ l₂ : List Inbox) → HaveReceivedAll meaning_of n₁ i₁ m₁ l₁ → HaveReceivedAll meaning_of n₂ i₂ m₂ l₂ → HaveReceivedAll meaning_of nodes inboxes (m₁ ++ m₂) (l₁ ++ l₂)
     both-received m₁ m₂ l₁ l₂ first second =
         let Q : List (NodeView M) → List Inbox → Type 0 = λ n i. HaveReceivedAll meaning_of n i (m₁ ++ m₂) (l₁ ++ l₂) in
-        subst (λ l. Q nodes l) (sym rows.inboxes) (subst (λ l. Q l (i₁ ++ i₂)) (sym rows.nodes) (record {
+        subst (λ l. Q nodes l) (sym rows.all_inboxes) (subst (λ l. Q l (i₁ ++ i₂)) (sym rows.all_nodes) (record {
           received = subst (λ l. ReceiveUpto meaning_of (length (n₁ ++ n₂)) l (n₁ ++ n₂) (m₁ ++ m₂)) (sym parted) (whole-received (map arrived_in i₁) (map arrived_in i₂) n₁ n₂ m₁ m₂ as-long first.received second.received);
           clear = record {
             many = (let a = length-append l₁ l₂ in let b = length-append n₁ n₂ in let c = first.clear.many in let d = second.clear.many in omega arith);

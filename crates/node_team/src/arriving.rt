@@ -1,5 +1,5 @@
 //! How nodes receive what has come to them.
-ghost use Rattle.std.specs.Prelude.{◌≡◌, ◌<◌, length, OnOk};
+ghost use Rattle.std.specs.Prelude.{◌<◌, length, OnOk};
 ghost use Rattle.std.specs.Thread.{IsSend, IsSync};
 ghost use Rattle.node_team.specs.Receipts.{CanReceiveAll, HaveReceivedAll};
 
@@ -12,6 +12,14 @@ use parcel_exchange::Inbox;
 use std::alloc::Global;
 use std::mem;
 use std::thread::{Threads, join_mut};
+
+/// How nodes receive.
+#[derive(Clone, Copy, Debug)]
+pub struct Receipt {
+    pub alloc: Global,
+    /// So many nodes at most, at least one, receive in one thread. More of them are halved.
+    pub most: usize,
+}
 
 /// Some nodes that stand in a row, and for each of them its inbox.
 struct Row<'a, M: SimulationModel> {
@@ -35,22 +43,21 @@ fn receive_in_turn<M: SimulationModel>(
     Ok(())
 }
 
-/// Hands each node what has come to it, and leaves its inbox empty. At most so many nodes, at least one, receive in one thread: of
-/// more of them both halves receive side by side.
+/// Hands each node what has come to it, and leaves its inbox empty. Of more nodes than one thread serves both halves receive side
+/// by side.
 #[cycle(halves)]
 pub fn receive_arrived<R: Threads + Sync, M: SimulationModel>(
     rt: &R,
-    alloc: Global,
-    most: usize,
+    receipt: &Receipt,
     nodes: &mut [Node<M>],
     inboxes: &mut [Inbox],
 ) -> Result<(), OutOfMemory>
-    requires most { 0 < most }
+    requires most { 0 < receipt.now.most }
     requires can { CanReceiveAll M.meaning nodes.old inboxes.old }
     ensures { OnOk result (HaveReceivedAll M.meaning nodes.old inboxes.old nodes.new inboxes.new) }
 {
-    if nodes.len() <= most {
-        return receive_in_turn(alloc, nodes, inboxes);
+    if nodes.len() <= receipt.most {
+        return receive_in_turn(receipt.alloc, nodes, inboxes);
     }
     let half = nodes.len() / 2;
     let (n1, n2) = nodes.split_at_mut(half);
@@ -63,19 +70,18 @@ pub fn receive_arrived<R: Threads + Sync, M: SimulationModel>(
         nodes: n2,
         inboxes: i2,
     };
-    receive_both(rt, alloc, most, low, high)
+    receive_both(rt, receipt, low, high)
 }
 
 /// Two rows receive side by side.
 #[cycle(halves)]
 fn receive_both<R: Threads + Sync, M: SimulationModel>(
     rt: &R,
-    alloc: Global,
-    most: usize,
+    receipt: &Receipt,
     low: Row<M>,
     high: Row<M>,
 ) -> Result<(), OutOfMemory>
-    requires most { 0 < most }
+    requires most { 0 < receipt.now.most }
     requires sizes { (0 < length low.nodes.now) × (0 < length high.nodes.now) }
     requires low { CanReceiveAll M.meaning low.nodes.now low.inboxes.now }
     requires high { CanReceiveAll M.meaning high.nodes.now high.inboxes.now }
@@ -91,13 +97,13 @@ fn receive_both<R: Threads + Sync, M: SimulationModel>(
         inboxes: i2,
     } = high;
     let mut first = || -> Result<(), OutOfMemory>
-        requires { IsSync R.row × IsSend M.row × IsSync M.row × (0 < most) × CanReceiveAll M.meaning n1.now i1.now }
+        requires { IsSync R.row × IsSend M.row × IsSync M.row × (0 < receipt.now.most) × CanReceiveAll M.meaning n1.now i1.now }
         ensures { OnOk result (HaveReceivedAll M.meaning n1.entry.now i1.entry.now n1.exit.now i1.exit.now) }
-    { receive_arrived(rt, alloc, most, n1, i1) };
+    { receive_arrived(rt, receipt, n1, i1) };
     let mut second = || -> Result<(), OutOfMemory>
-        requires { IsSync R.row × IsSend M.row × IsSync M.row × (0 < most) × CanReceiveAll M.meaning n2.now i2.now }
+        requires { IsSync R.row × IsSend M.row × IsSync M.row × (0 < receipt.now.most) × CanReceiveAll M.meaning n2.now i2.now }
         ensures { OnOk result (HaveReceivedAll M.meaning n2.entry.now i2.entry.now n2.exit.now i2.exit.now) }
-    { receive_arrived(rt, alloc, most, n2, i2) };
+    { receive_arrived(rt, receipt, n2, i2) };
     let (front, back) = join_mut(rt, &mut first, &mut second);
     front.and(back)
 }

@@ -11,7 +11,7 @@ ghost use Rattle.cycle_core.specs.Places.{AtEach};
 ghost use Rattle.cycle_core.specs.Worlds.{HasNodes, IsSameWorld, StandsAt};
 ghost use Rattle.node_team.specs.Readiness.{IsReady};
 
-use crate::arriving::receive_arrived;
+use crate::arriving::{Receipt, receive_arrived};
 use crate::kept::Kept;
 use crate::paying::share;
 use crate::releasing::{Due, release_all};
@@ -46,13 +46,11 @@ fn end_nodes<R: Threads + Sync, M: SimulationModel, L: Lanes, G>(
 {
     release_all(setting, due, nodes, lists.committed.as_mut_slice(), kept)?;
     know_all(nodes);
-    receive_arrived(
-        setting.rt,
-        setting.alloc,
-        due.most,
-        nodes,
-        kept.inboxes.as_mut_slice(),
-    )?;
+    let receipt = Receipt {
+        alloc: setting.alloc,
+        most: due.most,
+    };
+    receive_arrived(setting.rt, &receipt, nodes, kept.inboxes.as_mut_slice())?;
     know_all(nodes);
     let told = mem::replace(&mut lists.told, RecordBuffer::new(setting.alloc));
     let records = merge(lists.committed.as_mut_slice(), told, &mut lists.spare)?;

@@ -8,7 +8,7 @@ receive_arrived-receive_both-requires-clause-low g t c lifetimes outlives =
     let n = c.split_at_mut-n1 in
     let i = c.split_at_mut-i1 in
     let rows : AreRows g.M.Model.meaning c.args.nodes.now n.result.0.now n.result.1.now c.args.inboxes.now i.result.0.now i.result.1.now =
-        record { nodes = n.ensures.value; inboxes = i.ensures.value; many = i.ensures.front_len ∙ sym n.ensures.front_len } in
+    record { all_nodes = n.ensures.value; all_inboxes = i.ensures.value; many = i.ensures.front_len ∙ sym n.ensures.front_len } in
     (both-can g.M.Model.meaning c.args.nodes.now n.result.0.now n.result.1.now c.args.inboxes.now i.result.0.now i.result.1.now rows c.requires.can).0
 
 pub receive_arrived-receive_both-requires-clause-high : goal.receive_arrived-receive_both-requires-clause-high
@@ -16,7 +16,7 @@ receive_arrived-receive_both-requires-clause-high g t c lifetimes outlives =
     let n = c.split_at_mut-n1 in
     let i = c.split_at_mut-i1 in
     let rows : AreRows g.M.Model.meaning c.args.nodes.now n.result.0.now n.result.1.now c.args.inboxes.now i.result.0.now i.result.1.now =
-        record { nodes = n.ensures.value; inboxes = i.ensures.value; many = i.ensures.front_len ∙ sym n.ensures.front_len } in
+    record { all_nodes = n.ensures.value; all_inboxes = i.ensures.value; many = i.ensures.front_len ∙ sym n.ensures.front_len } in
     (both-can g.M.Model.meaning c.args.nodes.now n.result.0.now n.result.1.now c.args.inboxes.now i.result.0.now i.result.1.now rows c.requires.can).1
 
 pub receive_arrived-returns : goal.receive_arrived-returns
@@ -24,7 +24,7 @@ receive_arrived-returns g t c =
     let n = c.split_at_mut-n1 in
     let i = c.split_at_mut-i1 in
     let rows : AreRows g.M.Model.meaning c.args.nodes.now n.result.0.now n.result.1.now c.args.inboxes.now i.result.0.now i.result.1.now =
-        record { nodes = n.ensures.value; inboxes = i.ensures.value; many = i.ensures.front_len ∙ sym n.ensures.front_len } in
+    record { all_nodes = n.ensures.value; all_inboxes = i.ensures.value; many = i.ensures.front_len ∙ sym n.ensures.front_len } in
     let both = c.receive_both.ensures in
     let left = c.receive_both.new in
     on-ok-both c.receive_both.result (both-received g.M.Model.meaning c.args.nodes.now n.result.0.now n.result.1.now c.args.inboxes.now i.result.0.now i.result.1.now rows left.low.0 left.high.0 left.low.1.0 left.high.1.0) both.low both.high
