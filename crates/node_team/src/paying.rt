@@ -8,9 +8,9 @@ ghost use Rattle.node_team.specs.declared.paying.TheConstants.{MANY_EVENTS, MOST
 const MOST_THREADS: usize = 4;
 
 /// From so many events on, which all nodes together processed in the last cycle, the advance forks, and from so many that
-/// they committed, the commit. A new thread pulls the data of its nodes to another processor, where the commit then finds
-/// them as little as the advance does. So it is both forks together that are paid back: by 560 events where these are cold
-/// in memory, and by 1,340 where they are warm. It takes more with two nodes, and on a busy machine.
+/// they committed, the commit, and then the receipts. A new thread pulls the data of its nodes to another processor, where the
+/// commit then finds them as little as the advance does. So it is these two forks together that are paid back: by 560 events
+/// where these are cold in memory, and by 1,340 where they are warm. It takes more with two nodes, and on a busy machine.
 const MANY_EVENTS: u64 = 1_536;
 
 /// What the nodes of a team did together in their last cycle. It stands for what they will do in the next one.
@@ -65,7 +65,7 @@ impl Load {
         threads(self.processed >= MANY_EVENTS)
     }
 
-    /// In how many threads they commit.
+    /// In how many threads they commit, and receive.
     pub fn commit_threads(&self) -> usize
         ensures some { 0 < result }
         ensures forks { MANY_EVENTS ≤ self.now.committed → result ≡ MOST_THREADS }
