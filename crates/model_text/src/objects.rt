@@ -14,16 +14,16 @@ use crate::formats::Format;
 use crate::kinds::{known_keys, named_kind};
 use crate::named::NamedItem;
 use std::alloc::Global;
-use text_fields::{Directory, Place, Refusal, new_name, only, required, table_of, text};
+use text_fields::{Directory, Place, Refusal, name_of, new_name, only, required, table_of, text};
 use toml::Value;
 
 /// The object with this number, counted from 0, which may have none of the names in the directory and is taken in there.
 #[tactic(auto, unfolding(crate::specs::Objects::object))]
-fn object(
+fn object<'a>(
     alloc: Global,
-    value: &Value,
+    value: &'a Value,
     format: Format,
-    directory: &mut Directory,
+    directory: &mut Directory<'a>,
     number: u32,
 ) -> Result<NamedItem, Refusal>
     requires { number < MOST_OBJECTS }
@@ -34,7 +34,7 @@ fn object(
 {
     let item = number + 1;
     let table = table_of(value, item)?;
-    let name = new_name(alloc, required(table, "name", item)?, directory, item)?;
+    let name = new_name(required(table, "name", item)?, directory, item)?;
     let word = text(required(table, "kind", item)?, item)?;
     let kind = named_kind(alloc, table, word, item)?;
     let rank = rank(table, format, item)?;
@@ -43,15 +43,14 @@ fn object(
     only(table, known_keys(format, &kind), item)?;
     let takes_links = !kind.is_source();
     directory.add(
-        alloc,
-        name.bytes(),
+        name.as_bytes(),
         Place {
             number,
             takes_links,
         },
     )?;
     Ok(NamedItem {
-        name,
+        name: name_of(alloc, name)?,
         kind,
         rank,
         quiet,
@@ -60,11 +59,11 @@ fn object(
 }
 
 /// The objects one after another, the first with item 1, and a directory of them.
-pub(crate) fn objects(
+pub(crate) fn objects<'a>(
     alloc: Global,
-    values: &[Value],
+    values: &'a [Value],
     format: Format,
-) -> Result<(Vec<NamedItem>, Directory), Refusal>
+) -> Result<(Vec<NamedItem>, Directory<'a>), Refusal>
     requires { length values.now ≤ MOST_OBJECTS }
     ensures read { Gives (λ read. read.0.items) result (objects format (items_view values.now)) }
     ensures found { IfOk result (λ read. finder read.1 ≡ place_in read.0.items) }

@@ -16,7 +16,8 @@ use model_core::{Name, Sequence};
 use shop_model::{Class, MOST_DUE, MOST_PRIORITY};
 use std::alloc::Global;
 use text_fields::{
-    Directory, Place, Refusal, new_name, number_or, only, optional_number, required, table_of,
+    Directory, Place, Refusal, name_of, new_name, number_or, only, optional_number, required,
+    table_of,
 };
 use toml::Value;
 
@@ -47,13 +48,13 @@ fn class_with(
 /// The class with this item, which may have none of the names in the directory and is taken in there, where the classes
 /// before name so many ticks.
 #[tactic(auto, unfolding(crate::specs::ClassTexts::class))]
-fn class(
+fn class<'a>(
     alloc: Global,
-    value: &Value,
-    directory: &mut Directory,
+    value: &'a Value,
+    directory: &mut Directory<'a>,
     times: usize,
     item: u32,
-) -> Result<NamedClass, Refusal>
+) -> Result<NamedClass<'a>, Refusal>
     requires item { 1 ≤ item }
     requires times { times ≤ MOST_TIMES }
     ensures read { Gives (λ named. (class_text named, record { find = finder directory.new; times = times + length named.class.times }))
@@ -63,7 +64,7 @@ fn class(
     ensures links { (most : ℕ) → LinksBelow most (finder directory.old) → IfOk result (λ _. LinksBelow most (finder directory.new)) }
 {
     let table = table_of(value, item)?;
-    let name = new_name(alloc, required(table, "name", item)?, directory, item)?;
+    let name = new_name(required(table, "name", item)?, directory, item)?;
     let arrivals = read_arrivals(alloc, table, times, item)?;
     let most = u64::from(MOST_PRIORITY);
     let priority = number_or(table, "priority", item, 0, 0, most)? as u32;
@@ -81,7 +82,8 @@ fn class(
         number: item - 1,
         takes_links: false,
     };
-    directory.add(alloc, name.bytes(), place)?;
+    directory.add(name.as_bytes(), place)?;
+    let name = name_of(alloc, name)?;
     Ok(NamedClass {
         class: class_with(alloc, name, arrivals, priority, due),
         route,
@@ -90,12 +92,12 @@ fn class(
 }
 
 /// The classes one after another, with items from this one on. They are taken in by the directory.
-pub(crate) fn classes(
+pub(crate) fn classes<'a>(
     alloc: Global,
-    values: &[Value],
-    directory: &mut Directory,
+    values: &'a [Value],
+    directory: &mut Directory<'a>,
     first: u32,
-) -> Result<Vec<NamedClass>, Refusal>
+) -> Result<Vec<NamedClass<'a>>, Refusal>
     requires first { 1 ≤ first }
     requires few { first + length values.now ≤ MOST_OBJECTS + 1 }
     ensures read { Gives (λ named. (class_texts named.items, record { find = finder directory.new; times = sum_by (λ (named : NamedClass). length named.class.times) named.items }))
@@ -105,7 +107,7 @@ pub(crate) fn classes(
     ensures few_times { IfOk result (λ named. sum_by (λ (named : NamedClass). length named.class.times) named.items ≤ MOST_TIMES) }
     ensures links { (most : ℕ) → LinksBelow most (finder directory.old) → IfOk result (λ _. LinksBelow most (finder directory.new)) }
 {
-    let mut classes: Vec<NamedClass> = Vec::new(alloc);
+    let mut classes: Vec<NamedClass<'a>> = Vec::new(alloc);
     let mut times = 0;
     for value in values {
         let item = first + classes.len() as u32;

@@ -32,10 +32,10 @@ pub(crate) enum NamedStep {
 
 /// A class.
 #[derive(Drop)]
-pub(crate) struct NamedClass {
+pub(crate) struct NamedClass<'a> {
     /// What it is but for its route, which is empty until it is linked.
     pub(crate) class: Class,
     pub(crate) route: Vec<NamedStep>,
     /// The labels of its steps.
-    pub(crate) labels: Directory,
+    pub(crate) labels: Directory<'a>,
 }

@@ -19,26 +19,20 @@ use text_fields::{
 use toml::{Table, Value};
 
 /// A label stands for the step with this number.
-fn take_in(
-    alloc: Global,
-    labels: &mut Directory,
-    label: &[u8],
-    number: u32,
-) -> Result<(), AllocError>
+fn take_in<'a>(labels: &mut Directory<'a>, label: &'a [u8], number: u32) -> Result<(), AllocError>
     ensures { OnOk result (finder labels.new ≡ taken_in (finder labels.old) label.now (step_place number)) }
 {
     let place = Place {
         number,
         takes_links: true,
     };
-    labels.add(alloc, label, place)
+    labels.add(label, place)
 }
 
 /// Takes in the label of the step with this number, if it has one.
-fn label(
-    alloc: Global,
-    table: &Table,
-    labels: &mut Directory,
+fn label<'a>(
+    table: &'a Table,
+    labels: &mut Directory<'a>,
     number: u32,
     item: u32,
 ) -> Result<(), Refusal>
@@ -46,8 +40,8 @@ fn label(
 {
     match field(table, "label") {
         Some(value) => {
-            let name = new_name(alloc, value, labels, item)?;
-            Ok(take_in(alloc, labels, name.bytes(), number)?)
+            let name = new_name(value, labels, item)?;
+            Ok(take_in(labels, name.as_bytes(), number)?)
         }
         None => Ok(()),
     }
@@ -55,10 +49,10 @@ fn label(
 
 /// The step with this number, which may have none of the labels before it.
 #[tactic(auto, unfolding(crate::specs::StepTexts::step))]
-fn step(
+fn step<'a>(
     alloc: Global,
-    value: &Value,
-    labels: &mut Directory,
+    value: &'a Value,
+    labels: &mut Directory<'a>,
     number: u32,
     item: u32,
 ) -> Result<NamedStep, Refusal>
@@ -66,23 +60,27 @@ fn step(
     ensures in_range { IfOk result IsNamedStep }
 {
     let table = table_of(value, item)?;
-    label(alloc, table, labels, number, item)?;
+    label(table, labels, number, item)?;
     step_form(alloc, table, item)
 }
 
 /// The labels of the two ends of a route of so many steps.
-fn route_ends(alloc: Global, steps: u32) -> Result<Directory, AllocError>
+fn route_ends<'a>(alloc: Global, steps: u32) -> Result<Directory<'a>, AllocError>
     requires { steps ≤ MOST_STEPS }
     ensures { IfOk result (λ labels. finder labels ≡ route_ends steps) }
 {
     let mut labels = Directory::new(alloc);
-    take_in(alloc, &mut labels, b"out", steps)?;
-    take_in(alloc, &mut labels, b"drop", steps + 1)?;
+    take_in(&mut labels, b"out", steps)?;
+    take_in(&mut labels, b"drop", steps + 1)?;
     Ok(labels)
 }
 
 /// The steps one after another, and their labels.
-fn steps(alloc: Global, values: &[Value], item: u32) -> Result<(Vec<NamedStep>, Directory), Refusal>
+fn steps<'a>(
+    alloc: Global,
+    values: &'a [Value],
+    item: u32,
+) -> Result<(Vec<NamedStep>, Directory<'a>), Refusal>
     requires { length values.now ≤ MOST_STEPS }
     ensures read { Gives (λ read. (read.0.items, finder read.1)) result (steps item (items_view values.now)) }
     ensures count { IfOk result (λ read. length read.0.items ≡ length values.now) }
@@ -100,11 +98,11 @@ fn steps(alloc: Global, values: &[Value], item: u32) -> Result<(Vec<NamedStep>, 
 
 /// A route, and its labels.
 #[tactic(auto, unfolding(crate::specs::StepTexts::route))]
-pub(crate) fn route(
+pub(crate) fn route<'a>(
     alloc: Global,
-    value: &Value,
+    value: &'a Value,
     item: u32,
-) -> Result<(Vec<NamedStep>, Directory), Refusal>
+) -> Result<(Vec<NamedStep>, Directory<'a>), Refusal>
     ensures read { Gives (λ read. (read.0.items, finder read.1)) result (route item (view value.now)) }
     ensures in_range { IfOk result (λ read. IsRoute read.0.items (finder read.1)) }
 {

@@ -15,7 +15,8 @@ use crate::shifts::{most_open, read_timetable};
 use shop_model::{Breakdowns, MOST_LINE, MOST_OPEN, Order, Station};
 use std::alloc::Global;
 use text_fields::{
-    Cause, Directory, Place, Refusal, field, new_name, number_or, only, required, table_of, text,
+    Cause, Directory, Place, Refusal, field, name_of, new_name, number_or, only, required,
+    table_of, text,
 };
 use toml::{Table, Value};
 
@@ -52,10 +53,10 @@ fn breakdowns(alloc: Global, table: &Table, item: u32) -> Result<Option<Breakdow
 /// The station with this item, which may have none of the names in the directory and is taken in there. Its line has one
 /// level until all classes are known.
 #[tactic(auto, unfolding(crate::specs::StationTexts::station))]
-fn station(
+fn station<'a>(
     alloc: Global,
-    value: &Value,
-    directory: &mut Directory,
+    value: &'a Value,
+    directory: &mut Directory<'a>,
     item: u32,
 ) -> Result<Station, Refusal>
     requires { 1 ≤ item }
@@ -64,7 +65,7 @@ fn station(
     ensures links { LinksBelow (item - 1) (finder directory.old) → IfOk result (λ _. LinksBelow item (finder directory.new)) }
 {
     let table = table_of(value, item)?;
-    let name = new_name(alloc, required(table, "name", item)?, directory, item)?;
+    let name = new_name(required(table, "name", item)?, directory, item)?;
     let most = u64::from(MOST_OPEN);
     let servers = number_or(table, "servers", item, 1, 0, most)? as u32;
     let most = u64::from(MOST_LINE);
@@ -83,9 +84,9 @@ fn station(
         number: item - 1,
         takes_links: true,
     };
-    directory.add(alloc, name.bytes(), place)?;
+    directory.add(name.as_bytes(), place)?;
     Ok(Station {
-        name,
+        name: name_of(alloc, name)?,
         servers,
         most: most_open(servers, timetable.shifts.as_slice()),
         line,
@@ -98,10 +99,10 @@ fn station(
 }
 
 /// The stations one after another, the first with item 1, and a directory of them.
-pub(crate) fn stations(
+pub(crate) fn stations<'a>(
     alloc: Global,
-    values: &[Value],
-) -> Result<(Vec<Station>, Directory), Refusal>
+    values: &'a [Value],
+) -> Result<(Vec<Station>, Directory<'a>), Refusal>
     requires { length values.now ≤ MOST_OBJECTS }
     ensures read { Gives (λ read. (read.0.items, finder read.1)) result (stations (items_view values.now)) }
     ensures count { IfOk result (λ read. length read.0.items ≡ length values.now) }

@@ -5,4 +5,4 @@ use Rattle.text_fields.specs.declared.directory.Directory.{Directory}
 use Rattle.text_fields.specs.Names.{Finder}
 
 abbrev pub finder : Directory → Finder
-finder directory name = get_by (λ key. bytes_eq name key.items) directory.places
+finder directory name = get_by (λ key. bytes_eq name key.now) directory.places

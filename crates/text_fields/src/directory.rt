@@ -13,18 +13,18 @@ pub struct Place {
     pub takes_links: bool,
 }
 
-/// What was read so far, by its names.
+/// What was read so far, by its names, which stand in what is read.
 #[derive(Drop)]
-pub struct Directory {
-    places: HashMap<Vec<u8>, Place>,
+pub struct Directory<'a> {
+    places: HashMap<&'a [u8], Place>,
 }
 
-impl Directory {
+impl<'a> Directory<'a> {
     ghost use Rattle.text_fields.specs.Directories.{finder};
     ghost use Rattle.text_fields.specs.Names.{TakesIn, nothing, taken_in};
 
     /// A directory of nothing.
-    pub fn new(alloc: Global) -> Directory
+    pub fn new(alloc: Global) -> Directory<'a>
         ensures { finder result ≡ nothing }
     {
         Directory {
@@ -40,12 +40,11 @@ impl Directory {
     }
 
     /// Takes in what has a name that it doesn't have yet.
-    pub fn add(&mut self, alloc: Global, name: &[u8], place: Place) -> Result<(), AllocError>
+    pub fn add(&mut self, name: &'a [u8], place: Place) -> Result<(), AllocError>
         ensures others { OnOk result (TakesIn (finder self.old) (finder self.new) name.now place) }
         ensures taken_in { OnOk result (finder self.new ≡ taken_in (finder self.old) name.now place) }
     {
-        let key = Vec::from_slice(alloc, name)?;
-        self.places.insert(key, place)?;
+        self.places.insert(name, place)?;
         Ok(())
     }
 }

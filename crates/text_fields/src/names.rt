@@ -61,15 +61,10 @@ pub fn names_of(alloc: Global, values: &[Value], item: u32) -> Result<Vec<Name>,
 
 /// A name that no object before has.
 #[tactic(auto, unfolding(crate::specs::Names::new_name))]
-pub fn new_name(
-    alloc: Global,
-    value: &Value,
-    directory: &Directory,
-    item: u32,
-) -> Result<Name, Refusal>
-    ensures read { Gives (λ name. name) result (new_name (finder directory.now) item (view value.now)) }
-    ensures named { IfOk result (λ name. IsTrue (is_name name)) }
-    ensures new { IfOk result (λ name. finder directory.now name ≡ None) }
+pub fn new_name<'a>(value: &'a Value, directory: &Directory, item: u32) -> Result<&'a str, Refusal>
+    ensures read { Gives (λ name. name.now) result (new_name (finder directory.now) item (view value.now)) }
+    ensures named { IfOk result (λ name. IsTrue (is_name name.now)) }
+    ensures new { IfOk result (λ name. finder directory.now name.now ≡ None) }
 {
     let name = text(value, item)?;
     if !is_name(name) {
@@ -78,5 +73,5 @@ pub fn new_name(
     if directory.find(name.as_bytes()).is_some() {
         return Err(Cause::BadValue.at(item));
     }
-    Ok(name_of(alloc, name)?)
+    Ok(name)
 }

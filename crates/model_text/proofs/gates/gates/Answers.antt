@@ -41,14 +41,15 @@ loop-value-preserved c =
     let before = c.loop-value.gates.items in
     let g = c.in_ok-gate.gate in
     let directory = c.loop-value.directory in
+    let more = finder c.gate.new.directory in
     let pushed : c.push.new.self.items ≡ before ++ g ∷ [] = c.in_ok-push.ensures.items in
     let number : c.len-number.result ≡ length before = omega arith in
     let same = same_check before (finder directory) c.loop-value.flips c.len-number.result (view c.value-item.result) c.loop-value.invariant.found c.loop-value.invariant.flips number in
     let turns : length c.as_slice.result.now ≡ length g.flips = ap length c.as_slice.ensures in
     record {
       count = rw pushed (omega (arith, length_push before g));
-      found = rw pushed (finder-more (λ (gate : NamedGate). gate.name) gate_place (finder directory) (finder c.add.new.self) before g c.loop-value.invariant.found c.in_ok-gate.ensures.new
-          (subst (λ n. TakesIn (finder directory) (finder c.add.new.self) g.name (gate_place n g)) number (rw c.bytes.ensures at c.in_ok-add.ensures.others)));
+      found = rw pushed (finder-more (λ (gate : NamedGate). gate.name) gate_place (finder directory) more before g c.loop-value.invariant.found c.in_ok-gate.ensures.new
+          (subst (λ n. TakesIn (finder directory) more g.name (gate_place n g)) number c.in_ok-gate.ensures.taken_in));
       in_range = rw pushed (All-push IsNamedGate before g c.loop-value.invariant.in_range c.in_ok-gate.ensures.in_range);
       flips = rw pushed (omega (arith, turns, sum_by_push (λ (gate : NamedGate). length gate.flips) before g, c.loop-value.invariant.flips));
       few_flips = omega (arith, turns, c.in_ok-gate.ensures.few);
