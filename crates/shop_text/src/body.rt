@@ -76,7 +76,7 @@ fn linked_shop(
     requires classes { All (λ (class : NamedClass). IsClassText (class_text class)) named.items }
     requires few_times { sum_by (λ (class : NamedClass). length class.class.times) named.items ≤ MOST_TIMES }
     requires links { LinksBelow (length stations.items) (finder directory.now) }
-    ensures { Gives parts_of result (linked_shop seed (finder directory.now) stations.items (class_texts named.items)) }
+    ensures { Gives parts_of result (linked_shop seed (finder directory.now) stations.items (class_texts named.entry.items)) }
 {
     let first = stations.len() as u32 + 1;
     let classes = linked_classes(alloc, directory, named, first)?;

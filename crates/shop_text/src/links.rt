@@ -84,7 +84,7 @@ fn linked_class(
     named: NamedClass,
     item: u32,
 ) -> Result<Class, Refusal>
-    ensures { Gives (λ class. class) result (linked_class (finder stations.now) item (class_text named)) }
+    ensures { Gives (λ class. class) result (linked_class (finder stations.now) item (class_text named.entry)) }
 {
     let NamedClass {
         class,
@@ -106,7 +106,7 @@ pub(crate) fn linked_classes(
     first: u32,
 ) -> Result<Vec<Class>, Refusal>
     requires { first + length classes.items ≤ MOST_OBJECTS + 1 }
-    ensures { Gives (λ classes. classes.items) result (linked_named (finder stations.now) first classes.items) }
+    ensures { Gives (λ classes. classes.items) result (linked_named (finder stations.now) first classes.entry.items) }
 {
     let mut linked = Vec::with_capacity(alloc, classes.len())?;
     for class in classes {
