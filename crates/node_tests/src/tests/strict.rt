@@ -1,12 +1,14 @@
 //! A station whose line is strict, with the events that come to it.
-use super::initial;
-use event_key::{Key, stamp_of};
+use event_key::{INITIAL, Key};
 use model_core::{Event, Name, Part};
 use queue_models::{Item, Kind, Network, Station};
 use random_streams::Law;
 use sim_spec::Terms;
 use std::alloc::Global;
 use std::test::Fail;
+
+/// Step 0 of a time has the stamp that is so many times the time.
+const TICK: u64 = 65_536;
 
 /// How far it goes.
 pub const TERMS: Terms = Terms {
@@ -35,26 +37,63 @@ pub fn station(alloc: Global) -> Result<Network, Fail> {
     Ok(Network::make(alloc, 0, vec![in alloc; item]?, Vec::new(alloc))?)
 }
 
-/// The initial event at this place, at which a job arrives. Jobs are numbered from 1.
-pub fn arrival(time: u32, place: u32) -> Event {
-    initial(time, 0, place, 3, u64::from(place) + 1, u64::from(time))
-}
+/// Job 1 arrives at 5.
+pub const JOB_1: Event = Event {
+    key: Key {
+        stamp: 5 * TICK,
+        rank: 0,
+        dest: 0,
+        src: INITIAL,
+        serial: 0,
+    },
+    kind: 3,
+    a: 1,
+    b: 5,
+};
 
-/// The service of the first job, taken at time 5, is over: the first event that the station sends.
-pub fn first_done() -> Event {
-    Event {
-        key: Key {
-            stamp: stamp_of(9, 0),
-            rank: 0,
-            dest: 0,
-            src: 0,
-            serial: 0,
-        },
-        kind: 2,
-        a: 1,
-        b: 5,
-    }
-}
+/// Job 2 arrives at 10.
+pub const JOB_2: Event = Event {
+    key: Key {
+        stamp: 10 * TICK,
+        rank: 0,
+        dest: 0,
+        src: INITIAL,
+        serial: 1,
+    },
+    kind: 3,
+    a: 2,
+    b: 10,
+};
+
+pub const KEY_3: Key = Key {
+    stamp: 11 * TICK,
+    rank: 0,
+    dest: 0,
+    src: INITIAL,
+    serial: 2,
+};
+
+/// Job 3 arrives at 11.
+pub const JOB_3: Event = Event {
+    key: KEY_3,
+    kind: 3,
+    a: 3,
+    b: 11,
+};
+
+/// The service of job 1 is over: the first event that the station sends.
+pub const FIRST_DONE: Event = Event {
+    key: Key {
+        stamp: 9 * TICK,
+        rank: 0,
+        dest: 0,
+        src: 0,
+        serial: 0,
+    },
+    kind: 2,
+    a: 1,
+    b: 5,
+};
 
 /// What the station tells of a job.
 pub fn told(word: u32, job: u64, waiting: u64) -> Part {

@@ -8,6 +8,7 @@ use phold_model::Phold;
 use random_streams::Law;
 use sim_spec::{Bucket, Stop, Terms};
 use std::alloc::Global;
+use std::process::Abort;
 use std::sync::Arc;
 use std::test::Fail;
 
@@ -51,21 +52,24 @@ fn ring_engine(alloc: Global, terms: Terms) -> Result<OneThread<Phold>, Fail> {
     Ok(OneThread::new(alloc, model, terms)?)
 }
 
-#[test]
-fn an_event_at_the_horizon_waits(rt: HostRuntime) -> Result<(), Fail> {
-    let terms = Terms { end: 9, limit: 100 };
-    let mut engine = ring_engine(rt.alloc(), terms)?;
+/// The ring does its two buckets.
+fn do_both<R: Abort, M: SimulationModel>(
+    rt: &R,
+    alloc: Global,
+    engine: OneThread<M>,
+) -> Result<(), Fail> {
+    let mut engine = engine;
     assert!(rt; engine.terms().end == 9);
     assert!(rt; engine.model().objects() == 3);
 
-    let first = next_bucket(rt.alloc(), &mut engine)?;
-    let hops = told(rt.alloc(), &first)?;
+    let first = next_bucket(alloc, &mut engine)?;
+    let hops = told(alloc, &first)?;
     assert!(rt; hops.as_slice() == [hop(0, 1, 5, 2)].as_slice());
     assert!(rt; first.horizon == 5 * 65536);
     assert!(rt; engine.count() == 1);
 
-    let second = next_bucket(rt.alloc(), &mut engine)?;
-    let hops = told(rt.alloc(), &second)?;
+    let second = next_bucket(alloc, &mut engine)?;
+    let hops = told(alloc, &second)?;
     assert!(rt; hops.as_slice() == [hop(5, 0, 5, 1), hop(5, 2, 5, 0)].as_slice());
     assert!(rt; second.horizon == 10 * 65536);
     assert!(rt; second.fault == None);
@@ -76,18 +80,67 @@ fn an_event_at_the_horizon_waits(rt: HostRuntime) -> Result<(), Fail> {
 }
 
 #[test]
-fn the_limit_cuts_a_bucket(rt: HostRuntime) -> Result<(), Fail> {
-    let terms = Terms { end: 9, limit: 2 };
-    let mut engine = ring_engine(rt.alloc(), terms)?;
-    let first = next_bucket(rt.alloc(), &mut engine)?;
+fn an_event_at_the_horizon_waits(rt: HostRuntime) -> Result<(), Fail> {
+    let engine = ring_engine(rt.alloc(), Terms { end: 9, limit: 100 })?;
+    do_both(&rt, rt.alloc(), engine)
+}
+
+/// The ring does a bucket, and the first event of the next one.
+fn do_two_events<R: Abort, M: SimulationModel>(
+    rt: &R,
+    alloc: Global,
+    engine: OneThread<M>,
+) -> Result<(), Fail> {
+    let mut engine = engine;
+    let first = next_bucket(alloc, &mut engine)?;
     assert!(rt; !first.limited);
-    let second = next_bucket(rt.alloc(), &mut engine)?;
-    let hops = told(rt.alloc(), &second)?;
+    let second = next_bucket(alloc, &mut engine)?;
+    let hops = told(alloc, &second)?;
     assert!(rt; hops.as_slice() == [hop(5, 0, 5, 1)].as_slice());
     assert!(rt; second.horizon == 0);
     assert!(rt; second.limited);
     assert!(rt; engine.ended() == Some(Stop::Limit));
     assert!(rt; engine.count() == 2);
+    Ok(())
+}
+
+#[test]
+fn the_limit_cuts_a_bucket(rt: HostRuntime) -> Result<(), Fail> {
+    let engine = ring_engine(rt.alloc(), Terms { end: 9, limit: 2 })?;
+    do_two_events(&rt, rt.alloc(), engine)
+}
+
+/// The event that has no step left.
+const LAST_KEY: Key = Key {
+    stamp: 65_535,
+    rank: 0,
+    dest: 0,
+    src: 0,
+    serial: 65_534,
+};
+
+/// An object that sends to itself without delay goes through all steps of a tick.
+fn do_all_steps<R: Abort, M: SimulationModel>(
+    rt: &R,
+    alloc: Global,
+    engine: OneThread<M>,
+) -> Result<(), Fail> {
+    let mut engine = engine;
+    for step in 0..65535 {
+        let bucket = next_bucket(alloc, &mut engine)?;
+        assert!(rt; bucket.done.as_buffer().len() == 1);
+        assert!(rt; bucket.horizon == step + 1);
+    }
+    let last = next_bucket(alloc, &mut engine)?;
+    assert!(rt; last.done.as_buffer().is_empty());
+    assert!(rt; last.horizon == 0);
+    assert!(rt; last.fault == Some((LAST_KEY, 1)));
+    let stop = Stop::Fault {
+        key: LAST_KEY,
+        code: 1,
+    };
+    assert!(rt; engine.ended() == Some(stop));
+    assert!(rt; engine.count() == 65535);
     Ok(())
 }
 
@@ -107,24 +160,6 @@ fn a_tick_has_no_step_after_the_last(rt: HostRuntime) -> Result<(), Fail> {
         end: 3,
         limit: 1000000,
     };
-    let mut engine = OneThread::new(rt.alloc(), Arc::new(rt.alloc(), model)?, terms)?;
-    for step in 0..65535 {
-        let bucket = next_bucket(rt.alloc(), &mut engine)?;
-        assert!(rt; bucket.done.as_buffer().len() == 1);
-        assert!(rt; bucket.horizon == step + 1);
-    }
-    let last = next_bucket(rt.alloc(), &mut engine)?;
-    let key = Key {
-        stamp: 65535,
-        rank: 0,
-        dest: 0,
-        src: 0,
-        serial: 65534,
-    };
-    assert!(rt; last.done.as_buffer().is_empty());
-    assert!(rt; last.horizon == 0);
-    assert!(rt; last.fault == Some((key, 1)));
-    assert!(rt; engine.ended() == Some(Stop::Fault { key, code: 1 }));
-    assert!(rt; engine.count() == 65535);
-    Ok(())
+    let engine = OneThread::new(rt.alloc(), Arc::new(rt.alloc(), model)?, terms)?;
+    do_all_steps(&rt, rt.alloc(), engine)
 }

@@ -5,8 +5,10 @@ mod watched;
 use super::hops;
 use super::team_run::TeamRun;
 use event_key::Key;
+use model_core::model::Model as SimulationModel;
 use node_team::{Gate, Open};
 use release_lanes::RingLanes;
+use sim_spec::Terms;
 use std::alloc::Global;
 use std::hint;
 use std::process::Abort;
@@ -19,17 +21,16 @@ use watched::{Watch, WatchedLanes};
 /// How often a gate or an end asks before it gives up.
 const TURNS: u64 = 200_000_000;
 
-/// After each of three cycles of four nodes with so many objects, so many ends have met, and so many parcels were taken
-/// early.
-fn assert_taken<R: Abort + Threads + Sync>(
+/// After each of three cycles of four nodes with this model, so many ends have met, and so many parcels were taken early.
+fn assert_taken<R: Abort + Threads + Sync, M: SimulationModel>(
     rt: &R,
     alloc: Global,
-    objects: u32,
+    model: Arc<M>,
+    terms: Terms,
     wanted: [u64; 3],
 ) -> Result<(), Fail> {
     let watch = Arc::new(alloc, Watch::new(4, TURNS))?;
     let lanes = WatchedLanes::new(alloc, RingLanes::new(alloc, 4)?, 4, Arc::clone(&watch)?);
-    let (model, terms) = hops(alloc, objects)?;
     let mut run = TeamRun::new(alloc, model, terms, 4, 0, lanes)?;
     for ends in wanted {
         let before = watch.polls();
@@ -46,13 +47,15 @@ fn assert_taken<R: Abort + Threads + Sync>(
 // all four post in threads of their own, and then finds what was posted to it.
 #[test]
 fn a_wide_cycle_ends_in_threads_that_take_parcels_early(rt: HostRuntime) -> Result<(), Fail> {
-    assert_taken(&rt, rt.alloc(), 2_048, [4, 8, 12])
+    let (model, terms) = hops(rt.alloc(), 2_048)?;
+    assert_taken(&rt, rt.alloc(), model, terms, [4, 8, 12])
 }
 
 // The first cycle is taken for a wide one.
 #[test]
 fn a_narrow_cycle_takes_no_parcel_early_but_for_the_first(rt: HostRuntime) -> Result<(), Fail> {
-    assert_taken(&rt, rt.alloc(), 64, [4, 4, 4])
+    let (model, terms) = hops(rt.alloc(), 64)?;
+    assert_taken(&rt, rt.alloc(), model, terms, [4, 4, 4])
 }
 
 /// Holds node 0 where it enters until all others have entered in the same cycle, for so many turns at most, and counts the
@@ -105,18 +108,27 @@ impl Gate for Stick {
     fn did(&self, _node: u32, _key: &Key) {}
 }
 
+/// In each of three cycles of eight nodes that two workers do the gate sees all others.
+fn assert_stolen<R: Abort + Threads + Sync, M: SimulationModel>(
+    rt: &R,
+    alloc: Global,
+    model: Arc<M>,
+    terms: Terms,
+) -> Result<(), Fail> {
+    let gate = Stick::new(7);
+    let lanes = RingLanes::new(alloc, 8)?;
+    let mut run = TeamRun::new(alloc, model, terms, 8, 0, lanes)?;
+    for _ in 0..3 {
+        assert!(rt; run.next_by_two(rt, alloc, &gate)?.is_some());
+    }
+    assert!(rt; gate.seen.load(Ordering::SeqCst) == 3);
+    Ok(())
+}
+
 // Three turns wait behind that of node 0 in one deque. So node 0 sees them only where the other worker steals them; and not
 // where threads take fixed parts of the nodes, of which one would have node 0 and node 1.
 #[test]
 fn turns_behind_one_that_waits_are_stolen_in_each_wide_cycle(rt: HostRuntime) -> Result<(), Fail> {
-    let alloc = rt.alloc();
-    let gate = Stick::new(7);
-    let (model, terms) = hops(alloc, 2_048)?;
-    let lanes = RingLanes::new(alloc, 8)?;
-    let mut run = TeamRun::new(alloc, model, terms, 8, 0, lanes)?;
-    for _ in 0..3 {
-        assert!(rt; run.next_by_two(&rt, alloc, &gate)?.is_some());
-    }
-    assert!(rt; gate.seen.load(Ordering::SeqCst) == 3);
-    Ok(())
+    let (model, terms) = hops(rt.alloc(), 2_048)?;
+    assert_stolen(&rt, rt.alloc(), model, terms)
 }

@@ -10,6 +10,7 @@ use object_moves::{Move, move_objects, plan_by_load};
 use phold_model::Phold;
 use sim_spec::{Placement, Terms};
 use std::alloc::Global;
+use std::process::Abort;
 use std::sync::Arc;
 use std::test::Fail;
 
@@ -44,16 +45,28 @@ fn homes_of<M: SimulationModel>(alloc: Global, world: &World<M>) -> Result<Vec<u
     Ok(homes)
 }
 
+/// The least object goes from the first node to the second, and then no other.
+fn balance_twice<R: Abort, M: SimulationModel>(
+    rt: &R,
+    alloc: Global,
+    world: World<M>,
+) -> Result<(), Fail>
+    requires { (s : State) × StandsAt (M.meaning world.model) world s }
+{
+    let mut world = world;
+    assert!(rt; homes_of(alloc, &world)?.as_slice() == [0, 0, 1].as_slice());
+    let first = balance(alloc, &mut world)?;
+    assert!(rt; first.as_slice() == [Move { object: 0, node: 1 }].as_slice());
+    assert!(rt; homes_of(alloc, &world)?.as_slice() == [1, 0, 1].as_slice());
+    let second = balance(alloc, &mut world)?;
+    assert!(rt; second.len() == 0);
+    Ok(())
+}
+
 #[test]
 fn the_least_object_goes_from_the_fullest_node_to_the_emptiest(
     rt: HostRuntime,
 ) -> Result<(), Fail> {
-    let mut world = uneven(rt.alloc())?;
-    assert!(rt; homes_of(rt.alloc(), &world)?.as_slice() == [0, 0, 1].as_slice());
-    let first = balance(rt.alloc(), &mut world)?;
-    assert!(rt; first.as_slice() == [Move { object: 0, node: 1 }].as_slice());
-    assert!(rt; homes_of(rt.alloc(), &world)?.as_slice() == [1, 0, 1].as_slice());
-    let second = balance(rt.alloc(), &mut world)?;
-    assert!(rt; second.len() == 0);
-    Ok(())
+    let world = uneven(rt.alloc())?;
+    balance_twice(&rt, rt.alloc(), world)
 }

@@ -1,7 +1,7 @@
 //! A log of a station whose line is strict.
 use super::{Shared, back_to, commit, make_shared, next_told, process};
 use crate::tests::at;
-use crate::tests::strict::{self, arrival, first_done};
+use crate::tests::strict::{self, FIRST_DONE, JOB_1, JOB_2, JOB_3};
 use event_chain::Chain;
 use event_key::{NO_STAMP, stamp_of};
 use model_core::{Cells, Note, OutOfMemory};
@@ -34,9 +34,9 @@ fn run_ahead<R: Abort>(
     log: &mut ObjectLog,
     shared: &mut Shared,
 ) -> Result<[u64; 3], Fail> {
-    let first = process(rt, alloc, model, log, shared, arrival(5, 0))?;
-    let second = process(rt, alloc, model, log, shared, arrival(10, 1))?;
-    let third = process(rt, alloc, model, log, shared, arrival(11, 2))?;
+    let first = process(rt, alloc, model, log, shared, JOB_1)?;
+    let second = process(rt, alloc, model, log, shared, JOB_2)?;
+    let third = process(rt, alloc, model, log, shared, JOB_3)?;
     Ok([first, second, third])
 }
 
@@ -48,9 +48,9 @@ fn straggle<R: Abort>(
     log: &mut ObjectLog,
     shared: &mut Shared,
 ) -> Result<[u64; 3], Fail> {
-    let first = process(rt, alloc, model, log, shared, first_done())?;
-    let second = process(rt, alloc, model, log, shared, arrival(10, 1))?;
-    let third = process(rt, alloc, model, log, shared, arrival(11, 2))?;
+    let first = process(rt, alloc, model, log, shared, FIRST_DONE)?;
+    let second = process(rt, alloc, model, log, shared, JOB_2)?;
+    let third = process(rt, alloc, model, log, shared, JOB_3)?;
     Ok([first, second, third])
 }
 
@@ -61,10 +61,10 @@ fn assert_told<R: Abort>(rt: &R, log: &mut ObjectLog, shared: &mut Shared) -> Re
     assert!(rt; done.len() == 2);
     commit(rt, log, at(12), None, &mut done);
     for wanted in [
-        (arrival(5, 0), told(3, 1, 0)),
-        (first_done(), told(6, 1, 0)),
-        (arrival(10, 1), told(3, 2, 0)),
-        (arrival(11, 2), told(4, 3, 1)),
+        (JOB_1, told(3, 1, 0)),
+        (FIRST_DONE, told(6, 1, 0)),
+        (JOB_2, told(3, 2, 0)),
+        (JOB_3, told(4, 3, 1)),
     ] {
         let (event, verdict) = next_told(&mut done, shared)?;
         assert!(rt; event == wanted.0 && verdict == wanted.1);
@@ -83,9 +83,9 @@ fn a_straggler_takes_back_a_fault_that_never_happens(rt: HostRuntime) -> Result<
     let mut log = ObjectLog::new(0, cells(alloc)?);
     let early = run_ahead(&rt, alloc, &model, &mut log, &mut shared)?;
     assert!(rt; early == [at(9), NO_STAMP, NO_STAMP]);
-    assert!(rt; log.faulted() == Some((arrival(11, 2).key, 2)));
-    let undone = back_to(&mut log, first_done().key, &mut shared);
-    assert!(rt; undone.front() == Some(&arrival(10, 1)));
+    assert!(rt; log.faulted() == Some((JOB_3.key, 2)));
+    let undone = back_to(&mut log, FIRST_DONE.key, &mut shared);
+    assert!(rt; undone.front() == Some(&JOB_2));
     assert!(rt; log.faulted().is_none());
     let late = straggle(&rt, alloc, &model, &mut log, &mut shared)?;
     assert!(rt; late == [stamp_of(9, 1), at(14), NO_STAMP]);

@@ -1,4 +1,5 @@
-//! A node that is driven by hand: each call is made once all that the node asks is seen to hold.
+//! A node that is driven by hand: each call is made once all that the node asks is seen to hold. What the calls mean is no clause
+//! of those that tests make, since a clause over a model of its own costs each test that calls.
 ghost use Rattle.std.specs.Prelude.{◌≡◌, IfOk};
 ghost use Rattle.std.specs.List.{list_any};
 ghost use Rattle.event_key.specs.Stamps.{end_stamp};
@@ -7,10 +8,10 @@ ghost use Rattle.node_core.specs.Steps.{HasStepped};
 ghost use Rattle.node_tests.specs.Drives.{fault_is_due};
 
 use event_chain::{Cell, Chain};
-use event_key::{Key, end_bound};
+use event_key::{Key, NO_STAMP, end_bound};
 use model_core::model::Model as SimulationModel;
 use model_core::{Event, OutOfMemory};
-use node_core::{Committed, Homes, Node, Step};
+use node_core::{Committed, Homes, Node, Step, Tallies};
 use sim_spec::{Placement, Terms};
 use std::alloc::Global;
 use std::marker::Model;
@@ -22,7 +23,7 @@ use std::test::Fail;
 /// its processed ones.
 #[derive(Drop)]
 pub struct Driven<M: SimulationModel> {
-    pub node: Node<M>,
+    node: Node<M>,
     homes: Arc<Homes>,
     keys: Vec<Key>,
     sent: u64,
@@ -139,7 +140,34 @@ impl<M: SimulationModel> Driven<M> {
     }
 
     /// Processes the least event that waits below the end.
-    pub fn step<R: Abort>(&mut self, rt: &R, alloc: Global) -> Result<Step, OutOfMemory>
+    pub fn step<R: Abort>(&mut self, rt: &R, alloc: Global) -> Result<Step, OutOfMemory> {
+        self.next_step(rt, alloc)
+    }
+
+    /// The least fault.
+    pub fn faulted(&self) -> Option<(Key, u32)> {
+        self.node.faulted()
+    }
+
+    /// The least key of all events.
+    pub fn least(&self) -> Option<Key> {
+        self.node.least()
+    }
+
+    /// What the node counted.
+    pub fn tallies(&self) -> Tallies {
+        self.node.tallies()
+    }
+
+    /// The keys of the processed events.
+    pub fn keys(&self, alloc: Global) -> Result<Vec<Key>, OutOfMemory> {
+        let mut keys = Vec::new(alloc);
+        self.node.keys_below(NO_STAMP, &mut keys)?;
+        Ok(keys)
+    }
+
+    /// Processes the least event that waits below the end, and tells what that means.
+    fn next_step<R: Abort>(&mut self, rt: &R, alloc: Global) -> Result<Step, OutOfMemory>
         ensures { IfOk result (λ step. HasStepped (M.meaning self.old.model) (end_stamp self.old.terms.end) self.old self.new step) }
     {
         self.node.tells_sent();
@@ -159,7 +187,7 @@ impl<M: SimulationModel> Driven<M> {
         horizon: u64,
         cut: Option<Key>,
     ) -> Result<Committed, Fail> {
-        let step = self.step(rt, alloc)?;
+        let step = self.next_step(rt, alloc)?;
         let Step::Idle = step else {
             return Err(Fail::from("an event waits"));
         };

@@ -131,13 +131,13 @@ fn nodes_of<R: Abort>(rt: &R, count: u32, placement: Placement) -> Nodes {
 }
 
 /// A model does the same where it is saved after any of these numbers of cycles.
-fn assert_same<R: Abort>(
+fn assert_same<R: Abort, M: SimulationModel>(
     rt: &R,
     alloc: Global,
-    model: &str,
+    model: M,
+    terms: Terms,
     saved_after: &[usize],
 ) -> Result<(), Fail> {
-    let (model, terms) = model_of(alloc, model)?;
     let model = Arc::new(alloc, model)?;
     let one = nodes_of(rt, 1, Placement::Round);
     let whole = done_whole(alloc, &model, terms, one)?;
@@ -160,8 +160,9 @@ fn assert_same<R: Abort>(
 fn a_run_goes_on_from_its_state_on_other_nodes(rt: HostRuntime) -> Result<(), Fail> {
     let alloc = rt.alloc();
     let all = [0, 1, 2, 3, 4, 5, 6, 7, 8];
-    for model in [SHOP, SHOP_OF_TEN, STRICT_LINE, FALSE_FAULT] {
-        assert_same(&rt, alloc, model, &all)?;
+    for text in [SHOP, SHOP_OF_TEN, STRICT_LINE, FALSE_FAULT] {
+        let (model, terms) = model_of(alloc, text)?;
+        assert_same(&rt, alloc, model, terms, &all)?;
     }
     Ok(())
 }
@@ -169,7 +170,8 @@ fn a_run_goes_on_from_its_state_on_other_nodes(rt: HostRuntime) -> Result<(), Fa
 // A thousand customers with draws at each, who are in lines and on their way at each cycle.
 #[test]
 fn a_bank_goes_on_from_its_state_on_other_nodes(rt: HostRuntime) -> Result<(), Fail> {
-    assert_same(&rt, rt.alloc(), SHORT_BANK, &[1, 10, 100, 1000])
+    let (model, terms) = model_of(rt.alloc(), SHORT_BANK)?;
+    assert_same(&rt, rt.alloc(), model, terms, &[1, 10, 100, 1000])
 }
 
 // Both jobs come at 4: one is served till 6, and the other one waits in line.

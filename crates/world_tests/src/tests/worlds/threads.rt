@@ -2,6 +2,7 @@
 use crate::tests::hops;
 use crate::tests::team_run::TeamRun;
 use event_key::Key;
+use model_core::model::Model as SimulationModel;
 use model_text::AnyModel;
 use node_team::Gate;
 use release_lanes::RingLanes;
@@ -10,6 +11,7 @@ use std::hint;
 use std::process::Abort;
 use std::sync::atomic::{AtomicU64, Ordering};
 use std::test::Fail;
+use std::thread::Threads;
 
 const NODES: u64 = 4;
 
@@ -63,27 +65,42 @@ impl Gate for Gathering {
     fn did(&self, _node: u32, _key: &Key) {}
 }
 
+/// Three cycles with so many events each, in which so many entries see all others.
+fn assert_met<R: Abort + Threads + Sync, M: SimulationModel>(
+    rt: &R,
+    alloc: Global,
+    run: TeamRun<M, RingLanes>,
+    gate: &Gathering,
+    events: u64,
+    met: u64,
+) -> Result<(), Fail> {
+    let mut run = run;
+    for _ in 0..3 {
+        assert!(rt; run.next(rt, alloc, gate)?.is_some());
+    }
+    assert!(rt; run.count() == events.saturating_mul(3));
+    assert!(rt; gate.met() == met);
+    Ok(())
+}
+
 #[test]
 fn a_wide_cycle_runs_in_as_many_threads_as_there_are_nodes(rt: HostRuntime) -> Result<(), Fail> {
     let gate = Gathering::new(200_000_000);
-    let mut run = team_of(rt.alloc(), ENOUGH)?;
-    for _ in 0..3 {
-        assert!(rt; run.next(&rt, rt.alloc(), &gate)?.is_some());
-    }
-    assert!(rt; run.count() == 3 * u64::from(ENOUGH));
-    assert!(rt; gate.met() == 3 * NODES);
-    Ok(())
+    let run = team_of(rt.alloc(), ENOUGH)?;
+    assert_met(&rt, rt.alloc(), run, &gate, u64::from(ENOUGH), 3 * NODES)
 }
 
 // Where nodes enter one after another the last one alone sees all others.
 #[test]
 fn a_narrow_cycle_runs_in_one_thread_but_for_the_first(rt: HostRuntime) -> Result<(), Fail> {
     let gate = Gathering::new(1_000);
-    let mut run = team_of(rt.alloc(), ENOUGH - 1)?;
-    for _ in 0..3 {
-        assert!(rt; run.next(&rt, rt.alloc(), &gate)?.is_some());
-    }
-    assert!(rt; run.count() == 3 * u64::from(ENOUGH - 1));
-    assert!(rt; gate.met() == NODES + 2);
-    Ok(())
+    let run = team_of(rt.alloc(), ENOUGH - 1)?;
+    assert_met(
+        &rt,
+        rt.alloc(),
+        run,
+        &gate,
+        u64::from(ENOUGH - 1),
+        NODES + 2,
+    )
 }

@@ -9,7 +9,7 @@ use Rattle.node_tests.proofs.tests.nodes.driven.Driven.commit.Goals as goal
 pub commit-requires-clause-done : goal.commit-requires-clause-done
 commit-requires-clause-done g c lifetimes within =
     let node = c.self.inside.node in
-    let idle = idle-now g.M.Model.meaning c.args.self.now c.step.new.self node c.in_ok-step.step c.in-Idle.is c.in_ok-step.ensures (sym c.self.view_is) in
+    let idle = idle-now g.M.Model.meaning c.args.self.now c.next_step.new.self node c.in_ok-step.step c.in-Idle.is c.in_ok-step.ensures (sym c.self.view_is) in
     let bound = c.end_bound.ensures ∙ ap (λ (t : Terms). end_stamp t.end) c.terms.ensures in
     may-commit (g.M.Model.meaning node.model) node c.args.horizon (end_stamp node.terms.end) c.args.cut c.faulted-fault.result c.faulted-fault.ensures (sym c.is_due.ensures ∙ c.if-is_due.false) idle (omega (arith, bound))
 

@@ -2,7 +2,7 @@
 use Rattle.std.proofs.Common.{arith}
 use Rattle.std.specs.Arc.{arc_value}
 use Rattle.node_tests.proofs.DriveFacts.{driven-few, keeps-same, keeps-step}
-use Rattle.node_tests.proofs.tests.nodes.driven.Driven.step.Goals as goal
+use Rattle.node_tests.proofs.tests.nodes.driven.Driven.next_step.Goals as goal
 
 pub step-requires-clause-sent : goal.step-requires-clause-sent
 step-requires-clause-sent g c lifetimes within =
