@@ -1,6 +1,7 @@
 //! What the tests share.
 mod logs;
 mod nodes;
+mod outbox;
 mod strict;
 
 use event_key::{INITIAL, Key, stamp_of};

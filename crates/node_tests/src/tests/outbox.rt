@@ -1,9 +1,10 @@
+//! Messages that lie in the chains of their homes.
 ghost use Rattle.std.specs.Prelude.{◌≡◌, length, IfOk};
 ghost use Rattle.event_log.specs.Outboxes.{AreBlank};
 
-use super::*;
 use event_chain::{Cell, Chain};
 use event_key::Key;
+use event_log::Outbox;
 use model_core::Event;
 use std::alloc::Global;
 use std::test::Fail;
@@ -59,15 +60,12 @@ fn messages_lie_in_the_chains_of_their_homes_the_newest_first(rt: HostRuntime) -
     outbox.push(1, message(alloc, 10)?);
     outbox.push(0, message(alloc, 11)?);
     outbox.push(1, message(alloc, 12)?);
-    assert_eq!(rt; outbox.len(), 3);
+    assert!(rt; outbox.len() == 3);
     let mut chains = two_chains(alloc)?;
     outbox.hand_out(&mut chains);
-    assert_eq!(rt; outbox.len(), 0);
-    assert_eq!(rt; kinds(alloc, &mut chains[0])?.as_slice(), [11].as_slice());
-    assert_eq!(rt;
-        kinds(alloc, &mut chains[1])?.as_slice(),
-        [12, 10].as_slice()
-    );
+    assert!(rt; outbox.len() == 0);
+    assert!(rt; kinds(alloc, &mut chains[0])?.as_slice() == [11].as_slice());
+    assert!(rt; kinds(alloc, &mut chains[1])?.as_slice() == [12, 10].as_slice());
     Ok(())
 }
 
@@ -78,9 +76,9 @@ fn the_last_message_comes_back(rt: HostRuntime) -> Result<(), Fail> {
     outbox.reserve(2)?;
     outbox.push(0, message(alloc, 10)?);
     outbox.push(1, message(alloc, 11)?);
-    assert_eq!(rt; outbox.pop().get().kind, 11);
-    assert_eq!(rt; outbox.len(), 1);
-    assert_eq!(rt; outbox.pop().get().kind, 10);
-    assert_eq!(rt; outbox.len(), 0);
+    assert!(rt; outbox.pop().get().kind == 11);
+    assert!(rt; outbox.len() == 1);
+    assert!(rt; outbox.pop().get().kind == 10);
+    assert!(rt; outbox.len() == 0);
     Ok(())
 }
