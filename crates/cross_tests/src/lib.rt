@@ -1,5 +1,4 @@
-//! Tests of several crates together, a file for each subject: whole runs of the program, the engine for one thread, logs of
-//! objects, nodes, worlds of nodes on one thread and in threads, and objects that move.
+//! Tests of whole programs: what they read, write and note, over sources and sinks in memory.
 #![tactic(auto)]
 
 #[cfg(test)]

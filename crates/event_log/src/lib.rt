@@ -28,6 +28,3 @@ pub use moved::{LogRoom, MovedLog};
 pub use news::News;
 pub use outbox::Outbox;
 pub use row::Row;
-
-#[cfg(test)]
-mod tests;

@@ -205,9 +205,8 @@ fn assert_case<R: Abort + Threads + Sync>(
         let Ok(_) = ran else {
             return Err(Fail::from("the text isn't whole"));
         };
-        assert_eq!(rt;
-            std::str::from_utf8(out.bytes())?,
-            text,
+        assert!(rt;
+            std::str::from_utf8(out.bytes())? == text,
             "{} by {machine:?}",
             case.what
         );

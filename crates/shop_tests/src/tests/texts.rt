@@ -4,7 +4,9 @@ mod refusals;
 
 use super::models::MILL;
 use model_core::model::Model;
+use shop_model::Shop;
 use shop_text::{Refusal, read_shop};
+use sim_spec::Terms;
 use std::alloc::Global;
 use std::process::Abort;
 use std::test::Fail;
@@ -24,9 +26,17 @@ fn answer_of(alloc: Global, text: &[u8]) -> Option<Answer> {
     }
 }
 
+/// The shop of a text, with its terms.
+fn shop_of(alloc: Global, text: &str) -> Result<(Shop, Terms), Fail> {
+    let Ok(read) = read_shop(alloc, text.as_bytes()) else {
+        return Err(Fail::from("the shop is refused"));
+    };
+    Ok(read)
+}
+
 /// A text has this answer.
 fn assert_answer<R: Abort>(rt: &R, alloc: Global, text: &str, wanted: Answer) {
-    assert_eq!(rt; answer_of(alloc, text.as_bytes()), Some(wanted), "{text}");
+    assert!(rt; answer_of(alloc, text.as_bytes()) == Some(wanted), "{text}");
 }
 
 /// The text with the first place of `old` replaced.
@@ -105,9 +115,9 @@ fn shops_have_their_objects_and_starts(rt: HostRuntime) -> Result<(), Fail> {
     let alloc = rt.alloc();
     let nothing = "format = 1\nmodel = \"shop\"\nend = 0\n";
     for (text, objects, starts) in [(MILL, 2, 1), (CLINIC, 4, 7), (nothing, 0, 0)] {
-        let (shop, _terms) = read_shop(alloc, text.as_bytes()).ok().ok_or("it is read")?;
-        assert_eq!(rt; shop.objects(), objects, "{text}");
-        assert_eq!(rt; shop.starts(), starts, "{text}");
+        let (shop, _terms) = shop_of(alloc, text)?;
+        assert!(rt; shop.objects() == objects, "{text}");
+        assert!(rt; shop.starts() == starts, "{text}");
     }
     Ok(())
 }
@@ -116,8 +126,8 @@ fn shops_have_their_objects_and_starts(rt: HostRuntime) -> Result<(), Fail> {
 fn a_shop_has_its_terms(rt: HostRuntime) -> Result<(), Fail> {
     let alloc = rt.alloc();
     for (text, end, limit) in [(MILL, 20, 10_000_000), (CLINIC, 480, 1_000)] {
-        let (_shop, terms) = read_shop(alloc, text.as_bytes()).ok().ok_or("it is read")?;
-        assert_eq!(rt; (terms.end, terms.limit), (end, limit), "{text}");
+        let (_shop, terms) = shop_of(alloc, text)?;
+        assert!(rt; (terms.end, terms.limit) == (end, limit), "{text}");
     }
     Ok(())
 }
@@ -125,9 +135,7 @@ fn a_shop_has_its_terms(rt: HostRuntime) -> Result<(), Fail> {
 #[test]
 fn a_line_has_a_level_for_each_priority(rt: HostRuntime) -> Result<(), Fail> {
     let alloc = rt.alloc();
-    let (shop, _terms) = read_shop(alloc, CLINIC.as_bytes())
-        .ok()
-        .ok_or("it is read")?;
+    let (shop, _terms) = shop_of(alloc, CLINIC)?;
     // Six words, one for each level, and one for each of the most servers.
     for (object, words, lines) in [(0, 6 + 2 + 3, 9), (1, 6 + 1 + 1, 5), (2, 3, 0)] {
         assert!(rt; object < shop.objects());
@@ -135,7 +143,10 @@ fn a_line_has_a_level_for_each_priority(rt: HostRuntime) -> Result<(), Fail> {
             .first_cells(alloc, object)
             .ok()
             .ok_or("there is memory")?;
-        assert_eq!(rt; (cells.words(), cells.lines()), (words, lines), "{object}");
+        assert!(rt;
+            (cells.words(), cells.lines()) == (words, lines),
+            "{object}"
+        );
     }
     Ok(())
 }
@@ -143,9 +154,7 @@ fn a_line_has_a_level_for_each_priority(rt: HostRuntime) -> Result<(), Fail> {
 #[test]
 fn names_are_told(rt: HostRuntime) -> Result<(), Fail> {
     let alloc = rt.alloc();
-    let (shop, _terms) = read_shop(alloc, CLINIC.as_bytes())
-        .ok()
-        .ok_or("it is read")?;
+    let (shop, _terms) = shop_of(alloc, CLINIC)?;
     let mut names = Vec::new(alloc);
     for object in 0..shop.objects() {
         shop.put_name(alloc, object, &mut names)
@@ -153,6 +162,6 @@ fn names_are_told(rt: HostRuntime) -> Result<(), Fail> {
             .ok_or("there is memory")?;
         names.push(b' ')?;
     }
-    assert_eq!(rt; names.as_slice(), b"desk room calm urgent ".as_slice());
+    assert!(rt; names.as_slice() == b"desk room calm urgent ".as_slice());
     Ok(())
 }

@@ -22,7 +22,7 @@ fn words_that_are_refused(rt: HostRuntime) -> Result<(), Fail> {
         ("replicate 2 3", "extra word"),
         ("replicated 2", "unknown command"),
     ] {
-        let line = format!(in rt.alloc(); "words: {fault}\n")?;
+        let line = ["words: ", fault, "\n"].concat(rt.alloc())?;
         told_by(&rt, words, MILL)?.assert(&rt, 2, "", line.as_str(), words);
     }
     Ok(())
@@ -107,7 +107,7 @@ fn changed_models_are_refused(rt: HostRuntime) -> Result<(), Fail> {
         ),
     ] {
         let model = MILL.replace(rt.alloc(), old, new)?;
-        let line = format!(in rt.alloc(); "model: {fault}\n")?;
+        let line = ["model: ", fault, "\n"].concat(rt.alloc())?;
         told_by(&rt, "run", model.as_str())?.assert(&rt, 3, "", line.as_str(), new);
     }
     Ok(())

@@ -16,15 +16,12 @@ fn small_writes_are_handed_on_at_the_end(rt: HostRuntime) -> Result<(), Fail> {
     // The second call would fail.
     let mut sink = behind(alloc, &[2], &[])?;
     for piece in [b"0.0 p1 ".as_slice(), b"hop 5 2\n", b"end 9 events 1\n"] {
-        assert_eq!(rt; sink.write(piece), Ok(piece.len()));
+        assert!(rt; sink.write(piece) == Ok(piece.len()));
         assert!(rt; sink.inner().bytes().is_empty());
     }
-    assert_eq!(rt; sink.flush(), Ok(()));
-    assert_eq!(rt;
-        sink.inner().bytes(),
-        b"0.0 p1 hop 5 2\nend 9 events 1\n".as_slice()
-    );
-    assert_eq!(rt; sink.flush(), Ok(()));
+    assert!(rt; sink.flush() == Ok(()));
+    assert!(rt; sink.inner().bytes() == b"0.0 p1 hop 5 2\nend 9 events 1\n".as_slice());
+    assert!(rt; sink.flush() == Ok(()));
     Ok(())
 }
 
@@ -37,12 +34,12 @@ fn what_has_no_room_follows_what_was_gathered(rt: HostRuntime) -> Result<(), Fai
     write_all(&mut sink, b"a")?;
     // A piece that would fill the buffer by itself goes straight on.
     write_all(&mut sink, long.as_slice())?;
-    assert_eq!(rt; sink.inner().bytes().len(), 16_385);
+    assert!(rt; sink.inner().bytes().len() == 16_385);
     write_all(&mut sink, short.as_slice())?;
     write_all(&mut sink, b"d")?;
-    assert_eq!(rt; sink.inner().bytes().len(), 16_385);
+    assert!(rt; sink.inner().bytes().len() == 16_385);
     write_all(&mut sink, b"e")?;
-    assert_eq!(rt; sink.inner().bytes().len(), 32_769);
+    assert!(rt; sink.inner().bytes().len() == 32_769);
     sink.flush()?;
     let mut expected = Vec::new(alloc);
     for piece in [b"a".as_slice(), long.as_slice(), short.as_slice(), b"de"] {
@@ -63,11 +60,11 @@ fn what_could_not_be_handed_on_is_kept(rt: HostRuntime) -> Result<(), Fail> {
     let mut sink = GatheringSink::new(alloc, inner);
     write_all(&mut sink, b"end 9 events 3\n")?;
     for _ in 0..2 {
-        assert_eq!(rt; sink.flush(), Err(Failed));
-        assert_eq!(rt; sink.inner().bytes(), b"end 9 even".as_slice());
+        assert!(rt; sink.flush() == Err(Failed));
+        assert!(rt; sink.inner().bytes() == b"end 9 even".as_slice());
     }
-    assert_eq!(rt; sink.flush(), Ok(()));
-    assert_eq!(rt; sink.inner().bytes(), b"end 9 events 3\n".as_slice());
+    assert!(rt; sink.flush() == Ok(()));
+    assert!(rt; sink.inner().bytes() == b"end 9 events 3\n".as_slice());
     Ok(())
 }
 
@@ -78,10 +75,10 @@ fn a_write_that_finds_no_room_may_fail(rt: HostRuntime) -> Result<(), Fail> {
     let long = vec![in alloc; b'b'; 20_000]?;
     write_all(&mut sink, b"a")?;
     // Neither the byte that was gathered nor the others could be handed on.
-    assert_eq!(rt; sink.write(long.as_slice()), Err(Failed));
-    assert_eq!(rt; sink.write(long.as_slice()), Err(Failed));
-    assert_eq!(rt; sink.write(long.as_slice()), Ok(20_000));
-    assert_eq!(rt; sink.inner().bytes().len(), 20_001);
+    assert!(rt; sink.write(long.as_slice()) == Err(Failed));
+    assert!(rt; sink.write(long.as_slice()) == Err(Failed));
+    assert!(rt; sink.write(long.as_slice()) == Ok(20_000));
+    assert!(rt; sink.inner().bytes().len() == 20_001);
     Ok(())
 }
 
@@ -96,6 +93,6 @@ fn any_sink_may_stand_behind(rt: HostRuntime) -> Result<(), Fail> {
     write_all(&mut sink, b"end 9 events 3\n")?;
     sink.flush()?;
     drop(sink);
-    assert_eq!(rt; written.as_slice(), b"end 9 events 3\n".as_slice());
+    assert!(rt; written.as_slice() == b"end 9 events 3\n".as_slice());
     Ok(())
 }

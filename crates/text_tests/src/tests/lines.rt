@@ -60,7 +60,7 @@ fn the_lines_of_a_run(rt: HostRuntime) -> Result<(), Fail> {
     }
     put_stop(alloc, &Named, &terms, 3, &Stop::End, &mut text)?;
     let wanted = "0.0 p1 hop 5 2\n5.0 p0 hop 5 1\n5.0 p2 hop 5 0\nend 9 events 3\n";
-    assert_eq!(rt; text.as_slice(), wanted.as_bytes());
+    assert!(rt; text.as_slice() == wanted.as_bytes());
     Ok(())
 }
 
@@ -95,7 +95,7 @@ fn each_word_of_a_note(rt: HostRuntime) -> Result<(), Fail> {
     ] {
         let text = lines_of(alloc, &Named, &key(4, 0, 1), &[part(word, 7, 0)])?;
         let wanted = format!(in alloc; "4.0 p1 {name} 7 0\n")?;
-        assert_eq!(rt; text.as_slice(), wanted.as_bytes());
+        assert!(rt; text.as_slice() == wanted.as_bytes());
     }
     Ok(())
 }
@@ -124,7 +124,7 @@ fn a_record_has_a_line_for_each_part(rt: HostRuntime) -> Result<(), Fail> {
         ),
     ] {
         let text = lines_of(rt.alloc(), &Named, &key(time, step, dest), parts)?;
-        assert_eq!(rt; text.as_slice(), wanted.as_bytes(), "{name}");
+        assert!(rt; text.as_slice() == wanted.as_bytes(), "{name}");
     }
     Ok(())
 }
@@ -135,7 +135,7 @@ fn the_counts_of_a_demo(rt: HostRuntime) -> Result<(), Fail> {
     let mut text = Vec::new(alloc);
     put_demo(alloc, 1, 1501, 1500, stamp_of(1000, 2), &mut text)?;
     let wanted = "demo 1 events 1501 cycles 1500 last 1000.2\n";
-    assert_eq!(rt; text.as_slice(), wanted.as_bytes());
+    assert!(rt; text.as_slice() == wanted.as_bytes());
     Ok(())
 }
 
@@ -155,7 +155,7 @@ fn a_cycle_with_its_horizon(rt: HostRuntime) -> Result<(), Fail> {
     let mut text = Vec::new(alloc);
     put_cycle(2, &bucket, &mut text)?;
     let wanted = "cycle 2 horizon 10.1 events 2\n";
-    assert_eq!(rt; text.as_slice(), wanted.as_bytes());
+    assert!(rt; text.as_slice() == wanted.as_bytes());
     Ok(())
 }
 
@@ -166,7 +166,7 @@ fn why_a_simulation_stopped(rt: HostRuntime) -> Result<(), Fail> {
         (Stop::Limit, "limit 2\n"),
     ] {
         let text = last_line(rt.alloc(), &Named, &stop)?;
-        assert_eq!(rt; text.as_slice(), wanted.as_bytes());
+        assert!(rt; text.as_slice() == wanted.as_bytes());
     }
     for (time, step, dest, code, wanted) in [
         (0, 65535, 0, 1, "fault 0.65535 p0 chain\n"),
@@ -176,7 +176,7 @@ fn why_a_simulation_stopped(rt: HostRuntime) -> Result<(), Fail> {
     ] {
         let key = key(time, step, dest);
         let text = last_line(rt.alloc(), &Named, &Stop::Fault { key, code })?;
-        assert_eq!(rt; text.as_slice(), wanted.as_bytes());
+        assert!(rt; text.as_slice() == wanted.as_bytes());
     }
     Ok(())
 }

@@ -8,13 +8,7 @@ use run_save::{StateRefusal, put_state, read_state, state_code_name};
 use std::alloc::Global;
 use std::process::Abort;
 use std::test::Fail;
-use test_texts::{TWO_JOBS_STATE, two_jobs};
-
-/// The text of a station with two jobs after the first cycle.
-fn saved(alloc: Global) -> Result<String, Fail> {
-    let model = two_jobs(alloc)?;
-    Ok(format!(in alloc; "{TWO_JOBS_STATE}{model}")?)
-}
+use test_texts::{SAVED_TWO_JOBS, TWO_JOBS};
 
 /// The code and the line with which a text is refused, and code 0 where it is read.
 fn refusal_of(alloc: Global, text: &[u8]) -> Option<(u8, u64)> {
@@ -31,11 +25,10 @@ fn assert_changed<R: Abort>(
     alloc: Global,
     changes: &[(&str, &str, (u8, u64))],
 ) -> Result<(), Fail> {
-    let saved = saved(alloc)?;
     for (old, new, wanted) in changes {
-        let text = replaced(alloc, saved.as_str(), old, new)?;
+        let text = replaced(alloc, SAVED_TWO_JOBS, old, new)?;
         let refusal = refusal_of(alloc, text.as_bytes());
-        assert_eq!(rt; refusal, Some(*wanted), "{text}");
+        assert!(rt; refusal == Some(*wanted), "{text}");
     }
     Ok(())
 }
@@ -43,25 +36,23 @@ fn assert_changed<R: Abort>(
 #[test]
 fn a_saved_state_is_read_and_written_again(rt: HostRuntime) -> Result<(), Fail> {
     let alloc = rt.alloc();
-    let text = saved(alloc)?;
-    let saved = read_state(&ModelTexts, alloc, text.as_bytes())
+    let saved = read_state(&ModelTexts, alloc, SAVED_TWO_JOBS.as_bytes())
         .ok()
         .ok_or("it is read")?;
-    assert_eq!(rt; saved.terms.end, 10);
-    assert_eq!(rt; saved.model.objects(), 2);
-    assert_eq!(rt; saved.state.count, 2);
+    assert!(rt; saved.terms.end == 10);
+    assert!(rt; saved.model.objects() == 2);
+    assert!(rt; saved.state.count == 2);
     let mut into = Vec::from_slice(alloc, b"before ")?;
-    let model = two_jobs(alloc)?;
-    let written = put_state(&saved.state, model.as_bytes(), &mut into);
-    assert_eq!(rt; written, Ok(()));
-    let wanted = format!(in alloc; "before {text}")?;
+    let written = put_state(&saved.state, TWO_JOBS.as_bytes(), &mut into);
+    assert!(rt; written == Ok(()));
+    let wanted = ["before ", SAVED_TWO_JOBS].concat(alloc)?;
     assert!(rt; into.as_slice() == wanted.as_bytes());
     Ok(())
 }
 
 #[test]
 fn the_first_check_that_fails_is_told(rt: HostRuntime) -> Result<(), Fail> {
-    assert_eq!(rt; refusal_of(rt.alloc(), b""), Some((2, 1)));
+    assert!(rt; refusal_of(rt.alloc(), b"") == Some((2, 1)));
     let key = "6.0 0 0 0 0";
     let changes = [
         ("state 1", "state 1", (0, 0)),
@@ -113,8 +104,8 @@ fn events_come_in_the_order_of_their_keys(rt: HostRuntime) -> Result<(), Fail> {
 #[test]
 fn bytes_behind_the_model_are_refused(rt: HostRuntime) -> Result<(), Fail> {
     let alloc = rt.alloc();
-    let text = format!(in alloc; "{}\n", saved(alloc)?)?;
-    assert_eq!(rt; refusal_of(alloc, text.as_bytes()), Some((2, 8)));
+    let text = [SAVED_TWO_JOBS, "\n"].concat(alloc)?;
+    assert!(rt; refusal_of(alloc, text.as_bytes()) == Some((2, 8)));
     Ok(())
 }
 
@@ -122,6 +113,6 @@ fn bytes_behind_the_model_are_refused(rt: HostRuntime) -> Result<(), Fail> {
 fn what_a_code_is_called(rt: HostRuntime) {
     let names = ["", "TooLong", "BadLine", "BadModel", "Unlawful", ""];
     for (code, name) in (0..).zip(names) {
-        assert_eq!(rt; state_code_name(code), name);
+        assert!(rt; state_code_name(code) == name);
     }
 }

@@ -17,11 +17,11 @@ fn a_read_that_fails_in_mid_stream(rt: HostRuntime) -> Result<(), Fail> {
         let mut source = MemSource::new(TEXT.to_vec(alloc)?, vec![in alloc; call]?, 16);
         match read_all(alloc, &mut source) {
             Ok(_) => panic!(rt; "read {call} fails"),
-            Err(end) => assert_eq!(rt; end, ReadEnd::Failed),
+            Err(end) => assert!(rt; end == ReadEnd::Failed),
         }
     }
     let mut source = MemSource::new(TEXT.to_vec(alloc)?, vec![in alloc; 5]?, 16);
-    assert_eq!(rt; read_all(alloc, &mut source)?.as_slice(), TEXT);
+    assert!(rt; read_all(alloc, &mut source)?.as_slice() == TEXT);
     Ok(())
 }
 
@@ -31,11 +31,11 @@ fn one_byte_more_tells_that_an_input_is_too_long(rt: HostRuntime) -> Result<(), 
     for most in [0, 15, 16, 46] {
         let mut source = MemSource::new(TEXT.to_vec(alloc)?, Vec::new(alloc), 16);
         let (taken, left) = TEXT.split_at(most + 1);
-        assert_eq!(rt; read_some(alloc, &mut source, most)?.as_slice(), taken);
-        assert_eq!(rt; read_all(alloc, &mut source)?.as_slice(), left);
+        assert!(rt; read_some(alloc, &mut source, most)?.as_slice() == taken);
+        assert!(rt; read_all(alloc, &mut source)?.as_slice() == left);
     }
     let mut source = MemSource::new(TEXT.to_vec(alloc)?, Vec::new(alloc), 16);
-    assert_eq!(rt; read_some(alloc, &mut source, 47)?.as_slice(), TEXT);
+    assert!(rt; read_some(alloc, &mut source, 47)?.as_slice() == TEXT);
     Ok(())
 }
 
@@ -44,15 +44,15 @@ fn a_write_that_fails_in_mid_stream(rt: HostRuntime) -> Result<(), Fail> {
     let alloc = rt.alloc();
     for (call, taken) in [(1, 0), (2, 16), (3, 32)] {
         let mut failing = MemSink::new(alloc, 100, vec![in alloc; call]?, Vec::new(alloc), 16)?;
-        assert_eq!(rt; write_all(&mut failing, TEXT), Err(Failed));
-        assert_eq!(rt; failing.bytes(), TEXT.get(..taken).ok_or("taken")?);
+        assert!(rt; write_all(&mut failing, TEXT) == Err(Failed));
+        assert!(rt; failing.bytes() == TEXT.get(..taken).ok_or("taken")?);
         let mut idle = MemSink::new(alloc, 100, Vec::new(alloc), vec![in alloc; call]?, 16)?;
-        assert_eq!(rt; write_all(&mut idle, TEXT), Err(Failed));
-        assert_eq!(rt; idle.bytes(), TEXT.get(..taken).ok_or("taken")?);
+        assert!(rt; write_all(&mut idle, TEXT) == Err(Failed));
+        assert!(rt; idle.bytes() == TEXT.get(..taken).ok_or("taken")?);
     }
     let mut sink = MemSink::new(alloc, 47, vec![in alloc; 4]?, vec![in alloc; 4]?, 16)?;
-    assert_eq!(rt; write_all(&mut sink, TEXT), Ok(()));
-    assert_eq!(rt; sink.bytes(), TEXT);
+    assert!(rt; write_all(&mut sink, TEXT) == Ok(()));
+    assert!(rt; sink.bytes() == TEXT);
     Ok(())
 }
 
@@ -60,8 +60,8 @@ fn a_write_that_fails_in_mid_stream(rt: HostRuntime) -> Result<(), Fail> {
 fn a_sink_that_is_full(rt: HostRuntime) -> Result<(), Fail> {
     let alloc = rt.alloc();
     let mut sink = MemSink::new(alloc, 40, Vec::new(alloc), Vec::new(alloc), 16)?;
-    assert_eq!(rt; write_all(&mut sink, TEXT), Err(Failed));
-    assert_eq!(rt; sink.bytes(), TEXT.get(..40).ok_or("room")?);
+    assert!(rt; write_all(&mut sink, TEXT) == Err(Failed));
+    assert!(rt; sink.bytes() == TEXT.get(..40).ok_or("room")?);
     Ok(())
 }
 
@@ -69,8 +69,8 @@ fn a_sink_that_is_full(rt: HostRuntime) -> Result<(), Fail> {
 fn what_never_fails(rt: HostRuntime) -> Result<(), Fail> {
     let alloc = rt.alloc();
     let mut source = CleanSource::new(TEXT.to_vec(alloc)?);
-    assert_eq!(rt; read_all(alloc, &mut source)?.as_slice(), TEXT);
-    assert_eq!(rt; write_all(&mut CleanSink::new(), TEXT), Ok(()));
+    assert!(rt; read_all(alloc, &mut source)?.as_slice() == TEXT);
+    assert!(rt; write_all(&mut CleanSink::new(), TEXT) == Ok(()));
     Ok(())
 }
 
@@ -78,10 +78,10 @@ fn what_never_fails(rt: HostRuntime) -> Result<(), Fail> {
 fn what_passes_through_a_reader_and_a_writer(rt: HostRuntime) -> Result<(), Fail> {
     let alloc = rt.alloc();
     let mut source = StdSource::new(TEXT);
-    assert_eq!(rt; read_all(alloc, &mut source)?.as_slice(), TEXT);
+    assert!(rt; read_all(alloc, &mut source)?.as_slice() == TEXT);
     let mut written = Vec::new(alloc);
     write_all(&mut StdSink::new(&mut written), TEXT)?;
-    assert_eq!(rt; written.as_slice(), TEXT);
+    assert!(rt; written.as_slice() == TEXT);
     Ok(())
 }
 
@@ -110,15 +110,14 @@ fn a_reader_and_a_writer_that_fail(rt: HostRuntime) -> Result<(), Fail> {
     let alloc = rt.alloc();
     match read_all(alloc, &mut StdSource::new(Broken)) {
         Ok(_) => panic!(rt; "the reader fails"),
-        Err(end) => assert_eq!(rt; end, ReadEnd::Failed),
+        Err(end) => assert!(rt; end == ReadEnd::Failed),
     }
-    assert_eq!(rt; write_all(&mut StdSink::new(Broken), TEXT), Err(Failed));
+    assert!(rt; write_all(&mut StdSink::new(Broken), TEXT) == Err(Failed));
     let mut small = [0u8; 5];
-    assert_eq!(rt;
-        write_all(&mut StdSink::new(Cursor::new(small.as_mut_slice())), TEXT),
-        Err(Failed)
+    assert!(rt;
+        write_all(&mut StdSink::new(Cursor::new(small.as_mut_slice())), TEXT) == Err(Failed)
     );
-    assert_eq!(rt; small.as_slice(), b"in ar".as_slice());
+    assert!(rt; small.as_slice() == b"in ar".as_slice());
     Ok(())
 }
 
@@ -161,15 +160,12 @@ fn a_call_that_fails_once_is_told_and_not_tried_again(rt: HostRuntime) -> Result
     let mut reader = FailsOnce { calls: 0 };
     match read_all(rt.alloc(), &mut StdSource::new(&mut reader)) {
         Ok(_) => panic!(rt; "the reader fails"),
-        Err(end) => assert_eq!(rt; end, ReadEnd::Failed),
+        Err(end) => assert!(rt; end == ReadEnd::Failed),
     }
-    assert_eq!(rt; reader.calls, 2);
+    assert!(rt; reader.calls == 2);
     let mut writer = FailsOnce { calls: 0 };
-    assert_eq!(rt;
-        write_all(&mut StdSink::new(&mut writer), TEXT),
-        Err(Failed)
-    );
-    assert_eq!(rt; writer.calls, 2);
+    assert!(rt; write_all(&mut StdSink::new(&mut writer), TEXT) == Err(Failed));
+    assert!(rt; writer.calls == 2);
     Ok(())
 }
 
@@ -197,8 +193,8 @@ fn what_a_writer_keeps_back_is_handed_on_by_a_flush(rt: HostRuntime) -> Result<(
     let mut writer = KeepsBack { kept: 0, handed: 0 };
     let mut sink = StdSink::new(&mut writer);
     write_all(&mut sink, TEXT)?;
-    assert_eq!(rt; sink.flush(), Ok(()));
+    assert!(rt; sink.flush() == Ok(()));
     drop(sink);
-    assert_eq!(rt; (writer.kept, writer.handed), (47, 47));
+    assert!(rt; (writer.kept, writer.handed) == (47, 47));
     Ok(())
 }

@@ -52,7 +52,10 @@ fn a_command_and_its_options(rt: HostRuntime) -> Result<(), Fail> {
         ("save 9999999", Settings::Save { c: 9_999_999 }),
         ("resume", Settings::Resume),
     ] {
-        assert_eq!(rt; read_words(&words_of(alloc, line)?), Ok(settings), "{line}");
+        assert!(rt;
+            read_words(&words_of(alloc, line)?) == Ok(settings),
+            "{line}"
+        );
     }
     Ok(())
 }
@@ -60,7 +63,7 @@ fn a_command_and_its_options(rt: HostRuntime) -> Result<(), Fail> {
 #[test]
 fn the_first_faulty_word_is_judged(rt: HostRuntime) -> Result<(), Fail> {
     let alloc = rt.alloc();
-    assert_eq!(rt; read_words(&Vec::new(alloc)), Err(WordFault::NoCommand));
+    assert!(rt; read_words(&Vec::new(alloc)) == Err(WordFault::NoCommand));
     for (line, fault) in [
         ("go", WordFault::UnknownCommand),
         ("go run", WordFault::UnknownCommand),
@@ -115,7 +118,7 @@ fn the_first_faulty_word_is_judged(rt: HostRuntime) -> Result<(), Fail> {
         ("resume 1", WordFault::ExtraWord),
         ("resume resume -", WordFault::ExtraWord),
     ] {
-        assert_eq!(rt; read_words(&words_of(alloc, line)?), Err(fault), "{line}");
+        assert!(rt; read_words(&words_of(alloc, line)?) == Err(fault), "{line}");
     }
     Ok(())
 }
@@ -123,10 +126,7 @@ fn the_first_faulty_word_is_judged(rt: HostRuntime) -> Result<(), Fail> {
 #[test]
 fn demo_is_no_command_of_a_program_without_demos(rt: HostRuntime) -> Result<(), Fail> {
     let alloc = rt.alloc();
-    assert_eq!(rt;
-        read_model_words(&Vec::new(alloc)),
-        Err(WordFault::NoCommand)
-    );
+    assert!(rt; read_model_words(&Vec::new(alloc)) == Err(WordFault::NoCommand));
     for (line, said) in [
         ("demo", Err(WordFault::UnknownCommand)),
         ("demo 1", Err(WordFault::UnknownCommand)),
@@ -134,7 +134,7 @@ fn demo_is_no_command_of_a_program_without_demos(rt: HostRuntime) -> Result<(), 
         ("save 3", Ok(Settings::Save { c: 3 })),
         ("run --nodes 0", Err(WordFault::BadValue)),
     ] {
-        assert_eq!(rt; read_model_words(&words_of(alloc, line)?), said, "{line}");
+        assert!(rt; read_model_words(&words_of(alloc, line)?) == said, "{line}");
     }
     Ok(())
 }
@@ -150,8 +150,8 @@ fn what_a_fault_is_called(rt: HostRuntime) -> Result<(), Fail> {
         (WordFault::BadValue, "bad value"),
         (WordFault::ExtraWord, "extra word"),
     ] {
-        assert_eq!(rt; fault.name(), name);
-        assert_eq!(rt; fault.to_string(rt.alloc())?.as_str(), name);
+        assert!(rt; fault.name() == name);
+        assert!(rt; fault.to_string(rt.alloc())?.as_str() == name);
     }
     Ok(())
 }

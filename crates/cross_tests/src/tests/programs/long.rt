@@ -1,14 +1,14 @@
 //! Long texts: a tick up to its last step, a thousand customers, and a model of many pieces.
 ghost use Rattle.std.specs.Prelude.{◌≤◌};
 
-use super::{Ended, assert_by_all, ended_by, ring, sink_of, told_by};
+use super::{Ended, assert_by_all, ended_by, sink_of, told_by};
 use node_team::Open;
 use sim_io::MemSource;
 use std::alloc::{AllocGlobal, Global};
 use std::process::Abort;
 use std::test::Fail;
 use std::thread::Threads;
-use test_texts::{bank, endless, network, router_loop};
+use test_texts::{BANK, ENDLESS, GATE_RING, LONG_ROUTER_LOOP, network};
 
 /// The text of what goes on without delay and tells these lines in turn, up to the step that has no next one.
 fn text_of_tick(alloc: Global, even: &str, odd: &str, object: &str) -> Result<String, Fail> {
@@ -25,18 +25,12 @@ fn text_of_tick(alloc: Global, even: &str, odd: &str, object: &str) -> Result<St
 
 #[test]
 fn a_tick_has_no_step_after_the_last(rt: HostRuntime) -> Result<(), Fail> {
-    let alloc = rt.alloc();
     let all = ["one", "run", "run --nodes 1 --ahead 0"];
     for (model, even, odd, object) in [
-        (endless(alloc)?.as_str(), "p0 hop 0 0", "p0 hop 0 0", "p0"),
-        (
-            ring(alloc, "end = 5")?.as_str(),
-            "n level 1 0",
-            "n level 0 0",
-            "n",
-        ),
+        (ENDLESS, "p0 hop 0 0", "p0 hop 0 0", "p0"),
+        (GATE_RING, "n level 1 0", "n level 0 0", "n"),
     ] {
-        let text = text_of_tick(alloc, even, odd, object)?;
+        let text = text_of_tick(rt.alloc(), even, odd, object)?;
         assert_by_all(&rt, &all, model, 1, text.as_str())?;
     }
     Ok(())
@@ -47,10 +41,8 @@ fn assert_to_and_fro<R: Abort + AllocGlobal + Threads + Sync>(
     rt: &R,
     all: &[&str],
 ) -> Result<(), Fail> {
-    let alloc = rt.alloc();
-    let text = text_of_tick(alloc, "r0 route 1 1", "r1 route 1 0", "r1")?;
-    let model = router_loop(alloc, 100_000)?;
-    assert_by_all(rt, all, model.as_str(), 1, text.as_str())
+    let text = text_of_tick(rt.alloc(), "r0 route 1 1", "r1 route 1 0", "r1")?;
+    assert_by_all(rt, all, LONG_ROUTER_LOOP, 1, text.as_str())
 }
 
 #[test]
@@ -78,8 +70,7 @@ fn two_nodes_come_to_the_last_step_at_any_depth(rt: HostRuntime) -> Result<(), F
 // More cycles than events that are pending at once, with draws at each.
 #[test]
 fn a_bank_has_one_text(rt: HostRuntime) -> Result<(), Fail> {
-    let bank = bank(rt.alloc(), 100_000)?;
-    let one = told_by(&rt, "one", bank.as_str())?;
+    let one = told_by(&rt, "one", BANK)?;
     assert!(rt; one.text.as_str().starts_with("0.0 door make 1 999\n"));
     assert!(rt; one.text.as_str().ends_with("\nend 100000 events 5416\n"));
     for words in [
@@ -88,7 +79,7 @@ fn a_bank_has_one_text(rt: HostRuntime) -> Result<(), Fail> {
         "run --nodes 1 --ahead 0",
         "run --nodes 16 --ahead 1024 --placement block",
     ] {
-        told_by(&rt, words, bank.as_str())?.assert(&rt, 0, one.text.as_str(), "", words);
+        told_by(&rt, words, BANK)?.assert(&rt, 0, one.text.as_str(), "", words);
     }
     Ok(())
 }

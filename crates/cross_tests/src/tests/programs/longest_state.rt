@@ -4,7 +4,7 @@ use node_team::Open;
 use sim_io::MemSource;
 use std::alloc::Global;
 use std::test::Fail;
-use test_texts::two_jobs;
+use test_texts::TWO_JOBS;
 
 /// How many bytes the text of a state has at most.
 const MOST: usize = 67_108_864;
@@ -46,13 +46,12 @@ fn a_state_of_64_mebibytes_goes_on_and_a_longer_one_is_refused(
 ) -> Result<(), Fail> {
     let alloc = rt.alloc();
     let front = crowded(alloc)?;
-    let model = two_jobs(alloc)?;
     for (more, status, text, notes) in [
         (0, 0, "end 10 events 50000\n", ""),
         (1, 8, "", "state: 1 TooLong line 0\n"),
     ] {
-        let state = filled(alloc, front.as_str(), model.as_str(), more)?;
-        assert_eq!(rt; state.len(), MOST + usize::from(more));
+        let state = filled(alloc, front.as_str(), TWO_JOBS, more)?;
+        assert!(rt; state.len() == MOST + usize::from(more));
         let source = MemSource::new(state.into_bytes(), Vec::new(alloc), 65_536);
         let out = sink_of(alloc, &[], &[])?;
         ended_by(&rt, "resume", source, out, &Open)?.assert(&rt, status, text, notes, "resume");

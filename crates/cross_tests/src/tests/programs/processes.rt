@@ -1,12 +1,11 @@
 //! What a process makes of its words, its streams and its status.
-use crate::tests::wanted::TIE_TEXT;
 use btb_program::run_process;
 use std::alloc::{Alloc, AllocGlobal, Global};
 use std::env::{Env, FillError};
 use std::process::{Abort, ExitCode};
-use std::test::Fail;
 use std::thread::Threads;
-use test_texts::TIE;
+use test_texts::wanted::TIE_TEXT;
+use test_texts::{SHORT_TIE, TIE};
 
 /// The runtime of a process with these words, of which the first one is the program's name.
 #[derive(Drop)]
@@ -66,29 +65,47 @@ fn assert_process<R: Abort + AllocGlobal + Threads + Sync>(
     assert!(rt; notes.as_slice() == line.as_bytes(), "{line}");
 }
 
+/// The words of a process, its input, and with which status, text and note it ends.
+type Process = (
+    &'static [&'static [u8]],
+    &'static str,
+    u8,
+    &'static str,
+    &'static str,
+);
+
+const PROCESSES: [Process; 7] = [
+    (&[b"one", b"run"], TIE, 0, TIE_TEXT, ""),
+    (
+        &[b"btb", b"run"],
+        SHORT_TIE,
+        7,
+        "0.0 p1 hop 5 2\n5.0 p0 hop 5 1\nlimit 2\n",
+        "",
+    ),
+    (
+        &[b"btb", b"one"],
+        "format = 3",
+        3,
+        "",
+        "model: 5 BadValue item 0\n",
+    ),
+    (
+        &[b"btb", b"resume"],
+        TIE,
+        8,
+        "",
+        "state: 2 BadLine line 1\n",
+    ),
+    (&[b"btb"], TIE, 2, "", "words: no command\n"),
+    // neither of them is text
+    (&[b"btb", b"\xff"], TIE, 2, "", "words: bad value\n"),
+    (&[b"btb", b"run", b"\xc3"], TIE, 2, "", "words: bad value\n"),
+];
+
 #[test]
-fn the_words_behind_the_name_are_answered_to(rt: HostRuntime) -> Result<(), Fail> {
-    let limited = TIE.replace(rt.alloc(), "end = 9", "end = 9\nlimit = 2")?;
-    let cut = "0.0 p1 hop 5 2\n5.0 p0 hop 5 1\nlimit 2\n";
-    let unlawful = "state: 2 BadLine line 1\n";
-    let cases: [(&[&[u8]], &str, u8, &str, &str); 7] = [
-        (&[b"one", b"run"], TIE, 0, TIE_TEXT, ""),
-        (&[b"btb", b"run"], limited.as_str(), 7, cut, ""),
-        (
-            &[b"btb", b"one"],
-            "format = 3",
-            3,
-            "",
-            "model: 5 BadValue item 0\n",
-        ),
-        (&[b"btb", b"resume"], TIE, 8, "", unlawful),
-        (&[b"btb"], TIE, 2, "", "words: no command\n"),
-        // neither of them is text
-        (&[b"btb", b"\xff"], TIE, 2, "", "words: bad value\n"),
-        (&[b"btb", b"run", b"\xc3"], TIE, 2, "", "words: bad value\n"),
-    ];
-    for (words, input, status, text, line) in cases {
-        assert_process(&rt, words, input, status, text, line);
+fn the_words_behind_the_name_are_answered_to(rt: HostRuntime) {
+    for (words, input, status, text, line) in &PROCESSES {
+        assert_process(&rt, words, input, *status, text, line);
     }
-    Ok(())
 }

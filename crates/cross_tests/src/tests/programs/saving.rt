@@ -1,11 +1,11 @@
 //! Simulations that are saved after some cycles, and go on from there.
 use super::told_by;
-use crate::tests::wanted::SHOP_TEXT;
 use std::alloc::AllocGlobal;
 use std::process::Abort;
 use std::test::Fail;
 use std::thread::Threads;
-use test_texts::{TWO_JOBS_STATE, shop, strict_line, two_jobs};
+use test_texts::wanted::SHOP_TEXT;
+use test_texts::{SAVED_TWO_JOBS, SHOP, STRICT_LINE, TWO_JOBS};
 
 /// The records and the state of a model that is saved after so many cycles.
 fn saved<R: Abort + AllocGlobal + Threads + Sync>(
@@ -16,25 +16,22 @@ fn saved<R: Abort + AllocGlobal + Threads + Sync>(
     let alloc = rt.alloc();
     let words = format!(in alloc; "save {cycles}")?;
     let saved = told_by(rt, words.as_str(), model)?;
-    assert_eq!(rt; saved.status, 0);
-    assert_eq!(rt; saved.notes.as_str(), "");
+    assert!(rt; saved.status == 0);
+    assert!(rt; saved.notes.as_str() == "");
     let (records, state) = saved
         .text
         .as_str()
         .split_once("state 1\n")
         .ok_or("no state")?;
     let records = String::from_str(alloc, records)?;
-    Ok((records, format!(in alloc; "state 1\n{state}")?))
+    Ok((records, ["state 1\n", state].concat(alloc)?))
 }
 
 #[test]
 fn a_state_is_saved_behind_the_records_of_its_cycles(rt: HostRuntime) -> Result<(), Fail> {
-    let alloc = rt.alloc();
-    let model = two_jobs(alloc)?;
-    let (records, state) = saved(&rt, model.as_str(), 1)?;
-    assert_eq!(rt; records.as_str(), "4.0 s take 1 0\n4.0 s wait 2 1\n");
-    let wanted = format!(in alloc; "{TWO_JOBS_STATE}{model}")?;
-    assert_eq!(rt; state.as_str(), wanted.as_str());
+    let (records, state) = saved(&rt, TWO_JOBS, 1)?;
+    assert!(rt; records.as_str() == "4.0 s take 1 0\n4.0 s wait 2 1\n");
+    assert!(rt; state.as_str() == SAVED_TWO_JOBS);
     told_by(&rt, "resume", state.as_str())?.assert(
         &rt,
         0,
@@ -45,42 +42,39 @@ fn a_state_is_saved_behind_the_records_of_its_cycles(rt: HostRuntime) -> Result<
     Ok(())
 }
 
-#[test]
-fn a_state_that_no_simulation_meets_is_refused(rt: HostRuntime) -> Result<(), Fail> {
-    let alloc = rt.alloc();
-    let model = two_jobs(alloc)?;
-    let state = format!(in alloc; "{TWO_JOBS_STATE}{model}")?;
-    let source = "event 6.0 0 0 0 0";
-    for (text, line) in [
-        ("", "state: 2 BadLine line 1\n"),
-        (model.as_str(), "state: 2 BadLine line 1\n"),
-        (
-            state
-                .replacen(alloc, "object 1 ", "object 01 ", 1)?
-                .as_str(),
-            "state: 2 BadLine line 4\n",
-        ),
-        (
-            state
-                .replacen(alloc, source, "event 6.0 0 0 0 1", 1)?
-                .as_str(),
-            "state: 4 Unlawful line 7\n",
-        ),
-        (
-            format!(in alloc; "{state}\n")?.as_str(),
-            "state: 2 BadLine line 8\n",
-        ),
-    ] {
-        told_by(&rt, "resume", text)?.assert(&rt, 8, "", line, text);
-    }
+/// A text is refused as a state with this note.
+fn assert_refused<R: Abort + AllocGlobal + Threads + Sync>(
+    rt: &R,
+    text: &str,
+    line: &str,
+) -> Result<(), Fail> {
+    told_by(rt, "resume", text)?.assert(rt, 8, "", line, text);
     Ok(())
 }
 
 #[test]
+fn a_state_that_no_simulation_meets_is_refused(rt: HostRuntime) -> Result<(), Fail> {
+    assert_refused(&rt, "", "state: 2 BadLine line 1\n")?;
+    assert_refused(&rt, TWO_JOBS, "state: 2 BadLine line 1\n")?;
+    for (old, new, line) in [
+        ("object 1 ", "object 01 ", "state: 2 BadLine line 4\n"),
+        (
+            "event 6.0 0 0 0 0",
+            "event 6.0 0 0 0 1",
+            "state: 4 Unlawful line 7\n",
+        ),
+    ] {
+        let text = SAVED_TWO_JOBS.replacen(rt.alloc(), old, new, 1)?;
+        assert_refused(&rt, text.as_str(), line)?;
+    }
+    let longer = [SAVED_TWO_JOBS, "\n"].concat(rt.alloc())?;
+    assert_refused(&rt, longer.as_str(), "state: 2 BadLine line 8\n")
+}
+
+#[test]
 fn a_fault_is_told_by_what_goes_on(rt: HostRuntime) -> Result<(), Fail> {
-    let model = strict_line(rt.alloc())?;
-    let (records, state) = saved(&rt, model.as_str(), 9)?;
-    assert_eq!(rt; records.as_str(), "5.0 s take 1 0\n6.0 s wait 2 1\n");
+    let (records, state) = saved(&rt, STRICT_LINE, 9)?;
+    assert!(rt; records.as_str() == "5.0 s take 1 0\n6.0 s wait 2 1\n");
     assert!(rt; state.as_str().starts_with("state 1\ncount 2\n"));
     assert!(rt; state.as_str().contains("\nevents 2\nevent 7.0 "));
     assert!(rt; state.as_str().contains("\nevent 105.0 "));
@@ -90,14 +84,12 @@ fn a_fault_is_told_by_what_goes_on(rt: HostRuntime) -> Result<(), Fail> {
 
 #[test]
 fn what_is_told_before_and_after_is_the_whole(rt: HostRuntime) -> Result<(), Fail> {
-    let alloc = rt.alloc();
-    let shop = shop(alloc, "end = 20")?;
     for cycles in 0..9 {
-        let (records, state) = saved(&rt, shop.as_str(), cycles)?;
+        let (records, state) = saved(&rt, SHOP, cycles)?;
         let resumed = told_by(&rt, "resume", state.as_str())?;
-        assert_eq!(rt; resumed.status, 0);
-        let whole = format!(in alloc; "{records}{}", resumed.text)?;
-        assert_eq!(rt; whole.as_str(), SHOP_TEXT);
+        assert!(rt; resumed.status == 0);
+        let whole = [records.as_str(), resumed.text.as_str()].concat(rt.alloc())?;
+        assert!(rt; whole.as_str() == SHOP_TEXT);
     }
     Ok(())
 }

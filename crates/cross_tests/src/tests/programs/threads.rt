@@ -1,8 +1,5 @@
 //! What the threads of a run do, as gates are told.
-ghost use Rattle.std.specs.Prelude.{◌<◌};
-
 use super::told_at;
-use crate::tests::wanted::{FALSE_FAULT_TEXT, SHOP_TEXT};
 use event_key::Key;
 use node_team::Gate;
 use std::alloc::{AllocGlobal, Global};
@@ -11,7 +8,8 @@ use std::process::Abort;
 use std::sync::atomic::{AtomicBool, AtomicU64, Ordering};
 use std::test::Fail;
 use std::thread::Threads;
-use test_texts::{TIE, false_fault, shop};
+use test_texts::wanted::{FALSE_FAULT_TEXT, SHOP_TEXT};
+use test_texts::{FALSE_FAULT, LONGER_TIE, SHOP};
 
 /// How often a gate asks before it gives up.
 const TURNS: u64 = 200_000_000;
@@ -77,19 +75,18 @@ impl Gate for Meet {
 
 #[test]
 fn two_nodes_run_at_once_each_with_its_own_objects(rt: HostRuntime) -> Result<(), Fail> {
-    let shop = shop(rt.alloc(), "end = 20")?;
     // round puts the station on node 1, block the sink
     for (words, object) in [
         ("run --nodes 2 --placement round", 1),
         ("run --nodes 2 --placement block", 2),
     ] {
         let gate = Meet::new(object);
-        let run = told_at(&rt, words, shop.as_str(), &gate)?;
+        let run = told_at(&rt, words, SHOP, &gate)?;
         run.assert(&rt, 0, SHOP_TEXT, "", words);
         assert!(rt; gate.zero_met.load(Ordering::SeqCst));
         assert!(rt; gate.one_met.load(Ordering::SeqCst));
         assert!(rt; gate.told.load(Ordering::SeqCst) >= 12);
-        assert_eq!(rt; gate.astray.load(Ordering::SeqCst), 0);
+        assert!(rt; gate.astray.load(Ordering::SeqCst) == 0);
     }
     Ok(())
 }
@@ -115,11 +112,13 @@ impl Trace {
         })
     }
 
-    fn told(&self, alloc: Global) -> Result<Vec<u64>, Fail> {
+    /// The tick and the step of each.
+    fn told(&self, alloc: Global) -> Result<Vec<(u64, u64)>, Fail> {
         let count = self.next.load(Ordering::SeqCst) as usize;
         let mut told = Vec::new(alloc);
         for stamp in self.stamps.iter().take(count) {
-            told.push(stamp.load(Ordering::SeqCst))?;
+            let stamp = stamp.load(Ordering::SeqCst);
+            told.push((stamp / 65_536, stamp % 65_536))?;
         }
         Ok(told)
     }
@@ -145,82 +144,66 @@ fn assert_trace<R: Abort + AllocGlobal + Threads + Sync>(
     model: &str,
     text: &str,
     node: u32,
-    stamps: &[u64],
+    stamps: &[(u64, u64)],
 ) -> Result<(), Fail> {
     let alloc = rt.alloc();
     let gate = Trace::new(alloc, node)?;
     let run = told_at(rt, words, model, &gate)?;
     run.assert(rt, 0, text, "", words);
-    assert_eq!(rt; gate.told(alloc)?.as_slice(), stamps);
+    assert!(rt; gate.told(alloc)?.as_slice() == stamps);
     Ok(())
 }
 
-/// The stamp of a tick and a step.
-fn at(tick: u64, step: u64) -> u64
-    requires tick { tick < 100 }
-    requires step { step < 65536 }
-{
-    tick * 65536 + step
-}
+/// What a node does that doesn't run ahead, and one that does, at a station that meets a fault only where it runs ahead.
+const PLAIN: [(u64, u64); 9] = [
+    (5, 0),
+    (9, 0),
+    (9, 1),
+    (10, 0),
+    (11, 0),
+    (14, 0),
+    (14, 1),
+    (18, 0),
+    (18, 1),
+];
+
+const AHEAD: [(u64, u64); 11] = [
+    (5, 0),
+    (10, 0),
+    (11, 0),
+    (9, 0),
+    (10, 0),
+    (11, 0),
+    (9, 1),
+    (14, 0),
+    (14, 1),
+    (18, 0),
+    (18, 1),
+];
 
 #[test]
 fn a_node_processes_again_what_a_straggler_undid(rt: HostRuntime) -> Result<(), Fail> {
-    let alloc = rt.alloc();
-    let model = false_fault(alloc)?;
-    let plain = [
-        at(5, 0),
-        at(9, 0),
-        at(9, 1),
-        at(10, 0),
-        at(11, 0),
-        at(14, 0),
-        at(14, 1),
-        at(18, 0),
-        at(18, 1),
-    ];
-    let ahead = [
-        at(5, 0),
-        at(10, 0),
-        at(11, 0),
-        at(9, 0),
-        at(10, 0),
-        at(11, 0),
-        at(9, 1),
-        at(14, 0),
-        at(14, 1),
-        at(18, 0),
-        at(18, 1),
-    ];
-    for (words, stamps) in [
-        ("run --nodes 1 --ahead 0", plain.as_slice()),
-        ("run --nodes 1 --ahead 8", ahead.as_slice()),
-    ] {
-        assert_trace(&rt, words, model.as_str(), FALSE_FAULT_TEXT, 0, stamps)?;
-    }
-    Ok(())
+    let words = "run --nodes 1 --ahead 0";
+    assert_trace(&rt, words, FALSE_FAULT, FALSE_FAULT_TEXT, 0, &PLAIN)?;
+    let words = "run --nodes 1 --ahead 8";
+    assert_trace(&rt, words, FALSE_FAULT, FALSE_FAULT_TEXT, 0, &AHEAD)
 }
 
 // The source goes to node 1 after the first cycle, the station to node 2 after the second, the sink to node 0 after the
 // third.
 #[test]
 fn an_object_is_processed_at_the_node_whose_turn_it_was(rt: HostRuntime) -> Result<(), Fail> {
-    let shop = shop(rt.alloc(), "end = 20")?;
-    let zero = [at(1, 0), at(4, 1), at(7, 1), at(10, 1)];
-    let one = [at(1, 1), at(3, 0), at(5, 0)];
+    let zero = [(1, 0), (4, 1), (7, 1), (10, 1)];
+    let one = [(1, 1), (3, 0), (5, 0)];
     // what it does at 7.0 it undoes once the third job has come
-    let two = [at(3, 1), at(4, 0), at(7, 0), at(5, 1), at(7, 0), at(10, 0)];
+    let two = [(3, 1), (4, 0), (7, 0), (5, 1), (7, 0), (10, 0)];
     let words = "run --nodes 3 --moves turn";
-    for (node, stamps) in [
-        (0, zero.as_slice()),
-        (1, one.as_slice()),
-        (2, two.as_slice()),
-    ] {
-        assert_trace(&rt, words, shop.as_str(), SHOP_TEXT, node, stamps)?;
-    }
-    Ok(())
+    assert_trace(&rt, words, SHOP, SHOP_TEXT, 0, &zero)?;
+    assert_trace(&rt, words, SHOP, SHOP_TEXT, 1, &one)?;
+    assert_trace(&rt, words, SHOP, SHOP_TEXT, 2, &two)
 }
 
-/// The text of `TIE` up to the tick 20.
+/// The text of `LONGER_TIE`.
 const LONGER_TIE_TEXT: &str = "0.0 p1 hop 5 2
 5.0 p0 hop 5 1
 5.0 p2 hop 5 0
@@ -237,14 +220,11 @@ end 20 events 9
 // 5, and back after the second cycle; and to node 1 again after the fourth.
 #[test]
 fn an_object_goes_to_a_node_that_has_less_to_do(rt: HostRuntime) -> Result<(), Fail> {
-    let model = TIE.replace(rt.alloc(), "end = 9", "end = 20")?;
-    let zero = [at(5, 0), at(5, 0), at(10, 0), at(15, 0), at(20, 0)];
-    let one = [at(0, 0), at(10, 0), at(15, 0), at(20, 0)];
+    let zero = [(5, 0), (5, 0), (10, 0), (15, 0), (20, 0)];
+    let one = [(0, 0), (10, 0), (15, 0), (20, 0)];
     let words = "run --nodes 2 --moves load";
-    for (node, stamps) in [(0, zero.as_slice()), (1, one.as_slice())] {
-        assert_trace(&rt, words, model.as_str(), LONGER_TIE_TEXT, node, stamps)?;
-    }
-    Ok(())
+    assert_trace(&rt, words, LONGER_TIE, LONGER_TIE_TEXT, 0, &zero)?;
+    assert_trace(&rt, words, LONGER_TIE, LONGER_TIE_TEXT, 1, &one)
 }
 
 /// Holds the first entry of node 1 until node 0 has processed an event, and keeps the stamps of node 1.
@@ -294,11 +274,8 @@ start = [ { time = 0, at = 0 }, { time = 2, at = 1 }, { time = 6, at = 1 } ]
     let words = "run --nodes 2 --ahead 0";
     let text = "0.0 p0 hop 5 1\n2.0 p1 hop 5 0\n5.0 p1 hop 5 0\n6.0 p1 hop 5 0\nend 6 events 4\n";
     told_at(&rt, words, model, &gate)?.assert(&rt, 0, text, "", words);
-    assert_eq!(rt; gate.zero.told(alloc)?.as_slice(), [at(0, 0)].as_slice());
-    assert_eq!(rt;
-        gate.one.told(alloc)?.as_slice(),
-        [at(2, 0), at(5, 0), at(6, 0)].as_slice()
-    );
+    assert!(rt; gate.zero.told(alloc)?.as_slice() == [(0, 0)].as_slice());
+    assert!(rt; gate.one.told(alloc)?.as_slice() == [(2, 0), (5, 0), (6, 0)].as_slice());
     Ok(())
 }
 
@@ -336,10 +313,9 @@ impl Gate for Stick {
 // The turn of node 2 begins behind that of node 0, so node 0 sees node 2 enter only where another worker steals its turn.
 #[test]
 fn a_turn_that_waits_behind_another_is_stolen(rt: HostRuntime) -> Result<(), Fail> {
-    let shop = shop(rt.alloc(), "end = 20")?;
     let gate = Stick::new();
     let words = "run --nodes 4 --workers 2";
-    told_at(&rt, words, shop.as_str(), &gate)?.assert(&rt, 0, SHOP_TEXT, "", words);
+    told_at(&rt, words, SHOP, &gate)?.assert(&rt, 0, SHOP_TEXT, "", words);
     assert!(rt; gate.seen.load(Ordering::SeqCst));
     Ok(())
 }

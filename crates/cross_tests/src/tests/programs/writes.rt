@@ -1,11 +1,13 @@
 //! When the text is written, and what a failing end of it answers.
-use super::{ended_by, source_of, text_of};
+use super::{Ended, ended_by, source_of, text_of};
 use btb_program::btb;
 use node_team::Open;
 use sim_io::{GatheringSink, MemSink};
-use std::alloc::Global;
+use std::alloc::AllocGlobal;
+use std::process::Abort;
 use std::test::Fail;
-use test_texts::{TIE, words_of};
+use std::thread::Threads;
+use test_texts::{LONG_TIE, words_of};
 
 /// What each bucket of three tells, and why the simulation stopped.
 const PIECES: [&str; 4] = [
@@ -15,57 +17,70 @@ const PIECES: [&str; 4] = [
     "end 12 events 5\n",
 ];
 
-/// The model with these buckets, of the ticks 0, 5 and 10.
-fn three(alloc: Global) -> Result<String, Fail> {
-    Ok(TIE.replace(alloc, "end = 9", "end = 12")?)
+/// A run by these words over the model with these buckets, of the ticks 0, 5 and 10, whose write of this number fails.
+fn run_failing<R: AllocGlobal + Threads + Sync>(
+    rt: &R,
+    words: &str,
+    call: u64,
+) -> Result<Ended, Fail> {
+    let alloc = rt.alloc();
+    let out = MemSink::new(alloc, 4096, vec![in alloc; call]?, Vec::new(alloc), 4096)?;
+    ended_by(
+        rt,
+        words,
+        source_of(alloc, LONG_TIE.as_bytes(), &[])?,
+        out,
+        &Open,
+    )
 }
 
 #[test]
 fn each_bucket_is_written_after_its_cycle(rt: HostRuntime) -> Result<(), Fail> {
-    let alloc = rt.alloc();
-    let model = three(alloc)?;
     for words in ["run", "one"] {
-        let mut written = String::new(alloc);
+        let mut written = String::new(rt.alloc());
         for (call, piece) in (1..).zip(PIECES) {
-            let fails = vec![in alloc; call]?;
-            let out = MemSink::new(alloc, 4096, fails, Vec::new(alloc), 4096)?;
-            let source = source_of(alloc, model.as_bytes(), &[])?;
-            let run = ended_by(&rt, words, source, out, &Open)?;
+            let run = run_failing(&rt, words, call)?;
             run.assert(&rt, 5, written.as_str(), "write failed\n", words);
             written.push_str(piece)?;
         }
-        let out = MemSink::new(alloc, 4096, vec![in alloc; 5]?, Vec::new(alloc), 4096)?;
-        let source = source_of(alloc, model.as_bytes(), &[])?;
-        let run = ended_by(&rt, words, source, out, &Open)?;
+        let run = run_failing(&rt, words, 5)?;
         run.assert(&rt, 0, written.as_str(), "", words);
     }
     Ok(())
 }
 
+/// A run over the same model into a sink that gathers what it is given, and hands it on to one that fails at this call. The
+/// run has this status, text and note.
+fn assert_gathered<R: Abort + AllocGlobal + Threads + Sync>(
+    rt: &R,
+    call: u64,
+    status: u8,
+    text: &[u8],
+    line: &str,
+) -> Result<(), Fail> {
+    let alloc = rt.alloc();
+    let inner = MemSink::new(alloc, 4096, vec![in alloc; call]?, Vec::new(alloc), 10)?;
+    let mut out = GatheringSink::new(alloc, inner);
+    let mut notes = MemSink::new(alloc, 4096, Vec::new(alloc), Vec::new(alloc), 4096)?;
+    let mut source = source_of(alloc, LONG_TIE.as_bytes(), &[])?;
+    let words = words_of(alloc, "run")?;
+    let ended = btb(rt, &words, &mut source, &mut out, &mut notes, &Open);
+    assert!(rt; ended == status, "{call}");
+    assert!(rt; out.inner().bytes() == text);
+    assert!(rt; text_of(alloc, &notes)?.as_str() == line);
+    Ok(())
+}
+
 #[test]
 fn text_that_is_not_handed_on_is_a_write_that_failed(rt: HostRuntime) -> Result<(), Fail> {
-    let alloc = rt.alloc();
-    let model = three(alloc)?;
-    let words = words_of(alloc, "run")?;
-    let text = PIECES.concat(alloc)?;
+    let text = PIECES.concat(rt.alloc())?;
     // The text has 93 bytes, which are gathered until the end: ten writes.
-    for call in 1..=11 {
-        let inner = MemSink::new(alloc, 4096, vec![in alloc; call]?, Vec::new(alloc), 10)?;
-        let mut out = GatheringSink::new(alloc, inner);
-        let mut notes = MemSink::new(alloc, 4096, Vec::new(alloc), Vec::new(alloc), 4096)?;
-        let mut source = source_of(alloc, model.as_bytes(), &[])?;
-        let status = btb(&rt, &words, &mut source, &mut out, &mut notes, &Open);
-        let (expected, length, line) = if call <= 10 {
-            (5, (call as usize - 1) * 10, "write failed\n")
-        } else {
-            (0, text.len(), "")
-        };
-        assert_eq!(rt; status, expected, "{call}");
-        assert_eq!(rt;
-            out.inner().bytes(),
-            text.as_bytes().get(..length).ok_or("length")?
-        );
-        assert_eq!(rt; text_of(alloc, &notes)?.as_str(), line);
+    for call in 1..=10 {
+        let taken = text
+            .as_bytes()
+            .get(..(call as usize - 1) * 10)
+            .ok_or("length")?;
+        assert_gathered(&rt, call, 5, taken, "write failed\n")?;
     }
-    Ok(())
+    assert_gathered(&rt, 11, 0, text.as_bytes(), "")
 }

@@ -1,19 +1,16 @@
 //! Texts of circuits, and what they are refused for.
-use super::{assert_answer, assert_changed, start, start_of};
+use super::{assert_answer, assert_changed, model_of, start, start_of};
 use model_core::model::Model;
-use model_text::read_model;
 use std::test::Fail;
 use test_texts::{PULSE, circuit};
 
 #[test]
 fn a_circuit_has_its_gates_and_starts(rt: HostRuntime) -> Result<(), Fail> {
-    let (model, terms) = read_model(rt.alloc(), PULSE.as_bytes())
-        .ok()
-        .ok_or("it is read")?;
-    assert_eq!(rt; terms.end, 5);
-    assert_eq!(rt; model.objects(), 3);
-    assert_eq!(rt; model.starts(), 3);
-    assert_eq!(rt; start_of(&model, 2), start(2, 0, 7));
+    let (model, terms) = model_of(rt.alloc(), PULSE)?;
+    assert!(rt; terms.end == 5);
+    assert!(rt; model.objects() == 3);
+    assert!(rt; model.starts() == 3);
+    assert!(rt; start_of(&model, 2) == start(2, 0, 7));
     Ok(())
 }
 

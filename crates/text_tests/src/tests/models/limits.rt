@@ -1,7 +1,6 @@
 //! Both sides of each limit of a model's text: the numbers that are just read and just refused, and the longest lists.
-use super::{answer_of, assert_answer, assert_changed};
+use super::{answer_of, assert_answer, assert_changed, model_of};
 use model_core::model::Model;
-use model_text::read_model;
 use std::alloc::Global;
 use std::process::Abort;
 use std::test::Fail;
@@ -220,12 +219,12 @@ fn crowded(alloc: Global, objects: u32, entries: usize) -> Result<String, Fail> 
 fn a_model_of_phold_is_read_with_as_much_as_it_can_have(rt: HostRuntime) -> Result<(), Fail> {
     let alloc = rt.alloc();
     let text = crowded(alloc, 65_536, 65_536)?;
-    let (model, _terms) = read_model(alloc, text.as_bytes()).ok().ok_or("it is read")?;
-    assert_eq!(rt; model.objects(), 65_536);
-    assert_eq!(rt; model.starts(), 4 * 65_536 + 65_536);
+    let (model, _terms) = model_of(alloc, text.as_str())?;
+    assert!(rt; model.objects() == 65_536);
+    assert!(rt; model.starts() == 4 * 65_536 + 65_536);
     for (objects, entries) in [(65_537, 65_536), (65_536, 65_537)] {
         let text = crowded(alloc, objects, entries)?;
-        assert_eq!(rt; answer_of(alloc, text.as_bytes()), Some((7, 0)));
+        assert!(rt; answer_of(alloc, text.as_bytes()) == Some((7, 0)));
     }
     Ok(())
 }
@@ -264,9 +263,8 @@ fn all_inputs_have_at_most_300000_flips(rt: HostRuntime) -> Result<(), Fail> {
         ([150_000, 150_001].as_slice(), "", (7, 2)),
     ] {
         let text = flipping(alloc, before, last)?;
-        assert_eq!(rt;
-            answer_of(alloc, text.as_bytes()),
-            Some(wanted),
+        assert!(rt;
+            answer_of(alloc, text.as_bytes()) == Some(wanted),
             "{before:?} and {last}"
         );
     }

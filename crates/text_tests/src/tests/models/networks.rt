@@ -1,26 +1,27 @@
 //! Texts of networks, and what they are refused for.
-use super::{assert_answer, assert_by_format, assert_changed, start_of};
+use super::{assert_answer, assert_by_format, assert_changed, model_of, start_of};
 use crate::tests::replaced;
 use model_core::model::Model;
-use model_text::read_model;
 use std::test::Fail;
-use test_texts::{NOTHING, bank, late, losing, router_loop, shop, two_jobs};
+use test_texts::{BANK, LATE, LOSING, NOTHING, ROUTER_LOOP, SHOP, TWO_JOBS};
+
+/// Networks, how many objects they have, and how many initial events.
+const SIZES: [(&str, u32, u32); 7] = [
+    (SHOP, 3, 1),
+    (TWO_JOBS, 2, 2),
+    (LOSING, 2, 2),
+    (ROUTER_LOOP, 2, 1),
+    (LATE, 2, 1),
+    (BANK, 5, 1),
+    (NOTHING, 0, 0),
+];
 
 #[test]
 fn networks_have_their_objects_and_starts(rt: HostRuntime) -> Result<(), Fail> {
-    let alloc = rt.alloc();
-    for (text, objects, starts) in [
-        (shop(alloc, "end = 20")?.as_str(), 3, 1),
-        (two_jobs(alloc)?.as_str(), 2, 2),
-        (losing(alloc)?.as_str(), 2, 2),
-        (router_loop(alloc, 10)?.as_str(), 2, 1),
-        (late(alloc)?.as_str(), 2, 1),
-        (bank(alloc, 100_000)?.as_str(), 5, 1),
-        (NOTHING, 0, 0),
-    ] {
-        let (model, _terms) = read_model(alloc, text.as_bytes()).ok().ok_or("it is read")?;
-        assert_eq!(rt; model.objects(), objects, "{text}");
-        assert_eq!(rt; model.starts(), starts, "{text}");
+    for (text, objects, starts) in &SIZES {
+        let (model, _terms) = model_of(rt.alloc(), text)?;
+        assert!(rt; model.objects() == *objects, "{text}");
+        assert!(rt; model.starts() == *starts, "{text}");
     }
     Ok(())
 }
@@ -45,7 +46,6 @@ fn the_top_of_a_network_is_checked_first(rt: HostRuntime) -> Result<(), Fail> {
 
 #[test]
 fn objects_are_checked_in_their_order(rt: HostRuntime) -> Result<(), Fail> {
-    let shop = shop(rt.alloc(), "end = 20")?;
     let changes = [
         ("name = \"s\"\n", "name = \"s\"\ncolor = 1\n", (4, 2)),
         ("name = \"s\"\n", "color = 1\n", (3, 2)),
@@ -62,12 +62,11 @@ fn objects_are_checked_in_their_order(rt: HostRuntime) -> Result<(), Fail> {
         ("name = \"in\"\n", "name = \"the door\"\n", (5, 1)),
         ("kind = \"sink\"\n", "kind = \"sink\"\ndue = -1\n", (5, 3)),
     ];
-    assert_changed(&rt, rt.alloc(), shop.as_str(), &changes)
+    assert_changed(&rt, rt.alloc(), SHOP, &changes)
 }
 
 #[test]
 fn links_and_jobs_are_checked_after_the_objects(rt: HostRuntime) -> Result<(), Fail> {
-    let shop = shop(rt.alloc(), "end = 20")?;
     let changes = [
         ("next = \"s\"\n", "next = \"x\"\n", (6, 1)),
         ("next = \"s\"\n", "next = \"in\"\n", (6, 1)),
@@ -77,14 +76,14 @@ fn links_and_jobs_are_checked_after_the_objects(rt: HostRuntime) -> Result<(), F
             (4, 2),
         ),
     ];
-    assert_changed(&rt, rt.alloc(), shop.as_str(), &changes)?;
+    assert_changed(&rt, rt.alloc(), SHOP, &changes)?;
     for (job, wanted) in [
         ("time = 1\nat = \"in\"\n", (6, 4)),
         ("time = 1\nat = \"s\"\n", (0, 0)),
         ("time = 1\nat = \"in\"\ncolor = 1\n", (4, 4)),
         ("at = \"in\"\ncolor = 1\n", (3, 4)),
     ] {
-        let text = format!(in rt.alloc(); "{shop}[[job]]\n{job}")?;
+        let text = [SHOP, "[[job]]\n", job].concat(rt.alloc())?;
         assert_answer(&rt, rt.alloc(), text.as_str(), wanted);
     }
     Ok(())
@@ -92,7 +91,6 @@ fn links_and_jobs_are_checked_after_the_objects(rt: HostRuntime) -> Result<(), F
 
 #[test]
 fn a_router_has_a_weight_for_each_way(rt: HostRuntime) -> Result<(), Fail> {
-    let routers = router_loop(rt.alloc(), 10)?;
     let next = "next = [\"r1\"]";
     let changes = [
         (next, "next = []", (5, 1)),
@@ -105,24 +103,22 @@ fn a_router_has_a_weight_for_each_way(rt: HostRuntime) -> Result<(), Fail> {
         (next, "next = [\"r1\"]\nweights = [0]", (5, 1)),
         (next, "next = [\"r1\", \"x\"]\nweights = [0, 1]", (6, 1)),
     ];
-    assert_changed(&rt, rt.alloc(), routers.as_str(), &changes)
+    assert_changed(&rt, rt.alloc(), ROUTER_LOOP, &changes)
 }
 
 #[test]
 fn a_router_has_at_most_64_ways(rt: HostRuntime) -> Result<(), Fail> {
-    let routers = router_loop(rt.alloc(), 10)?;
     let ways = "\"r1\",".repeat(rt.alloc(), 64)?;
     for (more, wanted) in [("", (0, 0)), ("\"r1\"", (7, 1)), ("7", (7, 1))] {
         let next = format!(in rt.alloc(); "next = [{ways}{more}]")?;
         let change = ("next = [\"r1\"]", next.as_str(), wanted);
-        assert_changed(&rt, rt.alloc(), routers.as_str(), &[change])?;
+        assert_changed(&rt, rt.alloc(), ROUTER_LOOP, &[change])?;
     }
     Ok(())
 }
 
 #[test]
 fn the_second_format_adds_fields_of_objects(rt: HostRuntime) -> Result<(), Fail> {
-    let shop = shop(rt.alloc(), "end = 20")?;
     let (count, line, sink) = ("count = 3\n", "line = 10\n", "kind = \"sink\"\n");
     let changes = [
         (count, "count = 3\nrank = 0\n", (4, 1), (0, 0)),
@@ -144,12 +140,11 @@ fn the_second_format_adds_fields_of_objects(rt: HostRuntime) -> Result<(), Fail>
             (5, 3),
         ),
     ];
-    assert_by_format(&rt, rt.alloc(), shop.as_str(), &changes)
+    assert_by_format(&rt, rt.alloc(), SHOP, &changes)
 }
 
 #[test]
 fn the_second_format_adds_a_rank_of_jobs(rt: HostRuntime) -> Result<(), Fail> {
-    let jobs = two_jobs(rt.alloc())?;
     let time = "time = 4\n";
     let changes = [
         (time, "time = 4\nrank = 1\n", (4, 3), (0, 0)),
@@ -158,21 +153,20 @@ fn the_second_format_adds_a_rank_of_jobs(rt: HostRuntime) -> Result<(), Fail> {
         (time, "rank = 256\n", (3, 3), (3, 3)),
         (time, "time = 4\nquiet = true\n", (4, 3), (4, 3)),
     ];
-    assert_by_format(&rt, rt.alloc(), jobs.as_str(), &changes)
+    assert_by_format(&rt, rt.alloc(), TWO_JOBS, &changes)
 }
 
 #[test]
 fn initial_events_have_the_ranks_of_sources_and_jobs(rt: HostRuntime) -> Result<(), Fail> {
     let alloc = rt.alloc();
-    let shop = shop(alloc, "end = 20")?;
-    let shop = replaced(alloc, shop.as_str(), "format = 1", "format = 2")?;
+    let shop = replaced(alloc, SHOP, "format = 1", "format = 2")?;
     let shop = replaced(alloc, shop.as_str(), "count = 3\n", "count = 3\nrank = 7\n")?;
     let text = format!(in alloc; "{shop}\n[[job]]\ntime = 2\nat = \"s\"\nrank = 9\n")?;
-    let (model, _terms) = read_model(alloc, text.as_bytes()).ok().ok_or("it is read")?;
-    assert_eq!(rt; model.starts(), 2);
+    let (model, _terms) = model_of(alloc, text.as_str())?;
+    assert!(rt; model.starts() == 2);
     for (place, rank) in [(0, 7), (1, 9)] {
         let start = start_of(&model, place).ok_or("no such event")?;
-        assert_eq!(rt; start.rank, rank);
+        assert!(rt; start.rank == rank);
     }
     Ok(())
 }

@@ -2,7 +2,7 @@
 use super::{assert_changed, refusal_of};
 use std::alloc::Global;
 use std::test::Fail;
-use test_texts::{TWO_JOBS_STATE, phold, two_jobs};
+use test_texts::{SAVED_TWO_JOBS, TWO_JOBS, phold};
 
 #[test]
 fn each_number_of_a_state_has_bounds(rt: HostRuntime) -> Result<(), Fail> {
@@ -93,28 +93,19 @@ fn a_count_asks_for_no_memory_before_its_values_come(rt: HostRuntime) -> Result<
 #[test]
 fn a_model_in_a_state_has_at_most_a_mebibyte(rt: HostRuntime) -> Result<(), Fail> {
     let alloc = rt.alloc();
-    let (front, _length) = TWO_JOBS_STATE.split_once("model").ok_or("its model")?;
-    let model = two_jobs(alloc)?;
-    let spaces = "\n".repeat(alloc, 1_048_576 - 223)?;
-    for (length, model, wanted) in [
-        (0, "", (2, 8)),
-        (1, "x", (3, 8)),
-        (223, model.as_str(), (0, 0)),
-        (
-            1_048_576,
-            format!(in alloc; "{model}{spaces}")?.as_str(),
-            (0, 0),
-        ),
-        (
-            1_048_577,
-            format!(in alloc; "{model}\n{spaces}")?.as_str(),
-            (2, 8),
-        ),
+    let (front, _length) = SAVED_TWO_JOBS.split_once("model").ok_or("its model")?;
+    for (model, breaks, wanted) in [
+        ("", 0, (2, 8)),
+        ("x", 0, (3, 8)),
+        (TWO_JOBS, 0, (0, 0)),
+        (TWO_JOBS, 1_048_576 - 223, (0, 0)),
+        (TWO_JOBS, 1_048_577 - 223, (2, 8)),
     ] {
-        let text = format!(in alloc; "{front}model {length}\n{model}")?;
-        assert_eq!(rt;
-            refusal_of(alloc, text.as_bytes()),
-            Some(wanted),
+        let length = model.len() + breaks;
+        let breaks = "\n".repeat(alloc, breaks)?;
+        let text = format!(in alloc; "{front}model {length}\n{model}{breaks}")?;
+        assert!(rt;
+            refusal_of(alloc, text.as_bytes()) == Some(wanted),
             "{length} bytes"
         );
     }
@@ -133,9 +124,8 @@ fn a_state_has_at_most_65536_objects(rt: HostRuntime) -> Result<(), Fail> {
             "state 1\ncount 0\nobjects {objects}\n{lines}events 0\nmodel {}\n{model}",
             model.len()
         )?;
-        assert_eq!(rt;
-            refusal_of(alloc, text.as_bytes()),
-            Some(wanted),
+        assert!(rt;
+            refusal_of(alloc, text.as_bytes()) == Some(wanted),
             "{objects} objects"
         );
     }
@@ -154,9 +144,9 @@ fn crowded(alloc: Global, events: u32, last: &str) -> Result<String, Fail> {
             text.push_str(event.as_str())?;
         }
     }
-    let model = two_jobs(alloc)?;
-    let rest = format!(in alloc; "{last}model 223\n{model}")?;
-    text.push_str(rest.as_str())?;
+    for rest in [last, "model 223\n", TWO_JOBS] {
+        text.push_str(rest)?;
+    }
     Ok(text)
 }
 
@@ -168,9 +158,8 @@ fn a_state_has_400000_pending_events_and_eight_for_each_that_is_done(
     let initial = "event 9.0 0 0 4294967295 0 3 0 0\n";
     for (events, last, wanted) in [(800_000, "", (0, 0)), (800_001, initial, (4, 6))] {
         let text = crowded(alloc, events, last)?;
-        assert_eq!(rt;
-            refusal_of(alloc, text.as_bytes()),
-            Some(wanted),
+        assert!(rt;
+            refusal_of(alloc, text.as_bytes()) == Some(wanted),
             "{events} events"
         );
     }
@@ -180,8 +169,8 @@ fn a_state_has_400000_pending_events_and_eight_for_each_that_is_done(
 #[test]
 fn a_state_has_at_most_64_mebibytes(rt: HostRuntime) -> Result<(), Fail> {
     let mut zeros = vec![in rt.alloc(); b'0'; 67_108_864]?;
-    assert_eq!(rt; refusal_of(rt.alloc(), &zeros), Some((2, 1)));
+    assert!(rt; refusal_of(rt.alloc(), &zeros) == Some((2, 1)));
     zeros.push(b'0')?;
-    assert_eq!(rt; refusal_of(rt.alloc(), &zeros), Some((1, 0)));
+    assert!(rt; refusal_of(rt.alloc(), &zeros) == Some((1, 0)));
     Ok(())
 }

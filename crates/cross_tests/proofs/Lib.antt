@@ -1,3 +1,0 @@
-pub mod DriveFacts
-pub mod SavedRuns
-mod WatchedLemmas

@@ -1,0 +1,2 @@
+pub mod DriveFacts
+pub mod LoneStation
