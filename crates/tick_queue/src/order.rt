@@ -40,7 +40,9 @@ fn put_words(words: &mut Vec<u64>, events: &Vec<Event>) -> Result<bool, OutOfMem
     words.clear();
     words.reserve(events.len())?;
     let stamp = events[0].key.stamp;
-    let (mut same, mut ranks, mut objects) = (true, 0u32, 0u32);
+    let mut same = true;
+    let mut ranks = 0;
+    let mut objects = 0;
     for i in 0..events.len() {
         let event = &events[i];
         same &= event.key.stamp == stamp;
@@ -51,6 +53,13 @@ fn put_words(words: &mut Vec<u64>, events: &Vec<Event>) -> Result<bool, OutOfMem
     Ok(same & (ranks < 256) & (objects < 65_536))
 }
 
+/// What a word has of a rank, a destination and a source.
+fn head(word: u64) -> u64
+    ensures { result ≡ head_at word }
+{
+    word / 16_777_216
+}
+
 /// Whether the heads of words rise, if ranks and objects fit into them: then no event comes before the one ahead of it.
 fn rise(words: &Vec<u64>, fit: bool) -> bool
     ensures fit { OnTrue result (fit ≡ true) }
@@ -59,7 +68,7 @@ fn rise(words: &Vec<u64>, fit: bool) -> bool
     let words = words.as_slice();
     let mut all = fit;
     for i in 1..words.len() {
-        all &= words[i - 1] / 16_777_216 < words[i] / 16_777_216;
+        all &= head(words[i - 1]) < head(words[i]);
     }
     all
 }

@@ -1,4 +1,4 @@
-use Rattle.std.proofs.Common.{◌≡◌, ◌++◌, ◌∷◌, [], List, ℕ, length, ap, sym, ◌∙◌, map, subst, arith, rules}
+use Rattle.std.proofs.Common.{List, ℕ, ap, sym, ◌∙◌, map, subst, arith, rules}
 use Rattle.std.specs.List.{AllByRecursion as Each}
 use Rattle.tick_queue.specs.Order.{place_at, IsHeaded}
 use Rattle.tick_queue.proofs.OrderLemmas.{words_more}
