@@ -7,3 +7,4 @@ pub mod OrderLemmas
 pub mod QueueLemmas
 pub mod SlotLemmas
 pub mod SpreadLemmas
+pub mod WordLemmas
