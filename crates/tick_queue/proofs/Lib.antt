@@ -7,4 +7,3 @@ pub mod OrderLemmas
 pub mod QueueLemmas
 pub mod SlotLemmas
 pub mod SpreadLemmas
-pub mod WordLemmas

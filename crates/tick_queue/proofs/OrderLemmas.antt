@@ -1,5 +1,5 @@
 -- Words that stand for events.
-use Rattle.std.proofs.Common.{◌≡◌, ℕ, zero, suc, ◌+◌, ◌<◌, ◌≤◌, ◌%◌, Bool, false, List, [], ◌∷◌, ◌++◌, length, map, get_or, sym, refl, ap, ◌∙◌, subst, arith}
+use Rattle.std.proofs.Common.{◌≡◌, ℕ, zero, suc, ◌+◌, ◌<◌, ◌≤◌, ◌%◌, false, List, [], ◌∷◌, ◌++◌, length, map, get_or, sym, refl, ap, ◌∙◌, subst, arith}
 use Rattle.std.specs.Prelude.{IsPermutation, Result, Ok, Err, OnOk}
 use Rattle.std.specs.List.{AllByRecursion as Each, range_with_len}
 use Rattle.std.proofs.lemmas.List.{map-append, get_or-map, get_or_default, get_or_read}
@@ -73,22 +73,22 @@ pub lone_order : (es : List Event) → KeysDiffer es → length es ≡ 1 → es 
 lone_order es differ one = unturned_order es differ (λ k lt. absurd (omega (arith, one, lt)))
 
 -- sorted words have the same places in another order
-places_move : (es : List Event) (ws sorted : List ℕ) {fit : Bool} → HaveWords es ws fit → IsPermutation ws sorted → IsPermutation (numbers es) (map place_at sorted)
+places_move : (es : List Event) (ws sorted : List ℕ) → HaveWords es ws → IsPermutation ws sorted → IsPermutation (numbers es) (map place_at sorted)
 places_move es ws sorted have moves =
     let P : List ℕ → Type 0 = λ ps. IsPermutation ps (map place_at sorted) in
-    subst P have.places (IsPermutation-map place_at ws sorted moves)
+    subst P have (IsPermutation-map place_at ws sorted moves)
 
-pub words_inside : (es : List Event) (ws sorted places : List ℕ) {fit : Bool} → HaveWords es ws fit → IsPermutation ws sorted → places ≡ map place_at sorted → AreInside es places
+pub words_inside : (es : List Event) (ws sorted places : List ℕ) → HaveWords es ws → IsPermutation ws sorted → places ≡ map place_at sorted → AreInside es places
 words_inside es ws sorted places have moves is =
     let P : List ℕ → Type 0 = AreInside es in
     subst P (sym is) (Each-permutation (λ (k : ℕ). k < length es) (numbers es) (map place_at sorted) (places_move es ws sorted have moves) (all_inside es))
 
-events_move : (es : List Event) (ws sorted : List ℕ) {fit : Bool} → HaveWords es ws fit → IsPermutation ws sorted → IsPermutation es (shown es (map place_at sorted))
+events_move : (es : List Event) (ws sorted : List ℕ) → HaveWords es ws → IsPermutation ws sorted → IsPermutation es (shown es (map place_at sorted))
 events_move es ws sorted have moves =
     let P : List Event → Type 0 = λ xs. IsPermutation xs (shown es (map place_at sorted)) in
     subst P (all_shown es) (IsPermutation-map (event_at es) (numbers es) (map place_at sorted) (places_move es ws sorted have moves))
 
-pub words_show : (es : List Event) (ws sorted places : List ℕ) {fit : Bool} → KeysDiffer es → HaveWords es ws fit → IsPermutation ws sorted → places ≡ map place_at sorted → AreUnturned (shown es places) → Shows es places (in_order es)
+pub words_show : (es : List Event) (ws sorted places : List ℕ) → KeysDiffer es → HaveWords es ws → IsPermutation ws sorted → places ≡ map place_at sorted → AreUnturned (shown es places) → Shows es places (in_order es)
 words_show es ws sorted places differ have moves is unturned =
     let P : List Event → Type 0 = IsPermutation es in
     let to : IsPermutation es (shown es places) = subst P (ap (shown es) (sym is)) (events_move es ws sorted have moves) in
@@ -98,7 +98,7 @@ words_show es ws sorted places differ have moves is unturned =
     }
 
 -- the event at one of the places
-pub each_at : (P : ℕ → Type 0) (ws : List ℕ) (i : ℕ) → Each P ws → i < length ws → P (get_or ws i 0)
+each_at : (P : ℕ → Type 0) (ws : List ℕ) (i : ℕ) → Each P ws → i < length ws → P (get_or ws i 0)
 each_at P [] i all lt = absurd (omega arith)
 each_at P (w ∷ ws) zero all lt = all.0
 each_at P (w ∷ ws) (suc i) all lt = each_at P ws i all.1 (omega arith)

@@ -1,7 +1,6 @@
 -- Words that stand for events.
-use Rattle.std.specs.Prelude.{◌≡◌, ℕ, ◌+◌, ◌*◌, ◌/◌, ◌<◌, ◌%◌, Bool, true, false, List, length, map, slice_index, slice_index_or}
+use Rattle.std.specs.Prelude.{◌≡◌, ℕ, ◌+◌, ◌<◌, ◌%◌, false, List, length, map, slice_index_or}
 use Rattle.std.specs.List.{AllByRecursion, range_with_len}
-use Rattle.event_key.specs.declared.key.Key.{Key}
 use Rattle.event_key.specs.Keys.{key_lt}
 use Rattle.model_core.specs.declared.event.Event.{Event}
 
@@ -30,30 +29,9 @@ pub record Shows (es : List Event) (places : List ℕ) (list : List Event) : Typ
   pub inside : AreInside es places
   pub is : shown es places ≡ list
 
--- what a word has ahead of the last bits of a serial and its place
-abbrev pub head_at : ℕ → ℕ
-head_at w = w / 16777216
-
--- rank, destination and source
-abbrev pub head_of : Key → ℕ
-head_of key = (key.rank * 65536 + key.dest) * 65536 + key.src
-
--- a word whose head is that of its event
-pub record IsHeaded (stamp : ℕ) (es : List Event) (w : ℕ) : Type 0 where
-  pub stamp_is : (event_at es (place_at w)).key.stamp ≡ stamp
-  pub dest_fits : (event_at es (place_at w)).key.dest < 65536
-  pub src_fits : (event_at es (place_at w)).key.src < 65536
-  pub head_is : head_at w ≡ head_of (event_at es (place_at w)).key
-
--- these words have the places of all events, from the first one on, and their heads, if these fit
-pub record HaveWords (es : List Event) (ws : List ℕ) (fit : Bool) : Type 0 where
-  pub stamp : ℕ
-  pub places : map place_at ws ≡ map (λ k. k) (range_with_len 0 (length es))
-  pub heads : fit ≡ true → AllByRecursion (IsHeaded stamp es) ws
-
--- each head is greater than the one ahead of it
-abbrev pub Rise : List ℕ → Type 0
-Rise ws = (k : ℕ) → k + 1 < length ws → head_at (slice_index ws k) < head_at (slice_index ws (k + 1))
+-- these words have the places of all events, from the first one on
+abbrev pub HaveWords : List Event → List ℕ → Type 0
+HaveWords es ws = map place_at ws ≡ map (λ k. k) (range_with_len 0 (length es))
 
 -- no event comes before the one ahead of it
 abbrev pub AreUnturned : List Event → Type 0

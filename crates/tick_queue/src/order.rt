@@ -1,11 +1,11 @@
 //! Events of one tick are put in order by words that stand for them, since a word is moved and compared in one instruction.
 //! The events themselves stay where they are: in the end each word is the place of its event.
-ghost use Rattle.std.specs.Prelude.{◌≡◌, ◌<◌, ◌≤◌, ◌%◌, true, length, map, IfOk, OnOk};
+ghost use Rattle.std.specs.Prelude.{◌≡◌, ◌<◌, ◌≤◌, ◌%◌, length, map, OnOk};
 ghost use Rattle.std.specs.Bool.{OnTrue};
 ghost use Rattle.std.specs.List.{AllByRecursion, range_with_len};
 ghost use Rattle.key_order.specs.Keys.{KeysDiffer};
 ghost use Rattle.key_order.specs.Pending.{in_order};
-ghost use Rattle.tick_queue.specs.Order.{HaveWords, Rise, place_at, head_at, head_of, event_at, shown, AreInside, AreUnturned, Shows};
+ghost use Rattle.tick_queue.specs.Order.{HaveWords, place_at, event_at, shown, AreInside, AreUnturned, Shows};
 
 use delta_exchange::OutOfMemory;
 use model_core::Event;
@@ -21,8 +21,7 @@ const MOST: usize = 16_384;
 /// sends to another at one time, as gates do, would be in the order in which they were put into their slots.
 fn word_of(event: &Event, place: u64) -> u64
     requires { place < 16384 }
-    ensures place { result % 16384 ≡ place }
-    ensures head { event.now.key.rank < 256 → event.now.key.dest < 65536 → event.now.key.src < 65536 → head_at result ≡ head_of event.now.key }
+    ensures { result % 16384 ≡ place }
 {
     let rank = u64::from(event.key.rank) % 256;
     let dest = u64::from(event.key.dest) % 65_536;
@@ -31,46 +30,17 @@ fn word_of(event: &Event, place: u64) -> u64
     (((rank * 65_536 + dest) * 65_536 + src) * 1_024 + serial) * 16_384 + place
 }
 
-/// Makes the words of events. Whether ranks and objects fit into them, and all events have one stamp.
-fn put_words(words: &mut Vec<u64>, events: &Vec<Event>) -> Result<bool, OutOfMemory>
-    requires some { 0 < length events.now.items }
-    requires few { length events.now.items ≤ 16384 }
-    ensures { IfOk result (λ fit. HaveWords events.now.items words.new.items fit) }
+/// Makes the words of events.
+fn put_words(words: &mut Vec<u64>, events: &Vec<Event>) -> Result<(), OutOfMemory>
+    requires { length events.now.items ≤ 16384 }
+    ensures { OnOk result (HaveWords events.now.items words.new.items) }
 {
     words.clear();
     words.reserve(events.len())?;
-    let stamp = events[0].key.stamp;
-    let mut same = true;
-    let mut ranks = 0;
-    let mut objects = 0;
     for i in 0..events.len() {
-        let event = &events[i];
-        same &= event.key.stamp == stamp;
-        ranks |= event.key.rank;
-        objects |= event.key.dest | event.key.src;
-        words.push_reserved(word_of(event, i as u64));
+        words.push_reserved(word_of(&events[i], i as u64));
     }
-    Ok(same & (ranks < 256) & (objects < 65_536))
-}
-
-/// What a word has of a rank, a destination and a source.
-fn head(word: u64) -> u64
-    ensures { result ≡ head_at word }
-{
-    word / 16_777_216
-}
-
-/// Whether the heads of words rise, if ranks and objects fit into them: then no event comes before the one ahead of it.
-fn rise(words: &Vec<u64>, fit: bool) -> bool
-    ensures fit { OnTrue result (fit ≡ true) }
-    ensures heads { OnTrue result (Rise words.now.items) }
-{
-    let words = words.as_slice();
-    let mut all = fit;
-    for i in 1..words.len() {
-        all &= head(words[i - 1]) < head(words[i]);
-    }
-    all
+    Ok(())
 }
 
 /// Leaves of each word its place.
@@ -148,13 +118,9 @@ fn sort_many(events: &mut Vec<Event>, places: &mut Vec<u64>) -> Result<(), OutOf
     if events.len() <= FEW || events.len() > MOST {
         return sort_events(events, places);
     }
-    let fit = put_words(places, events)?;
+    put_words(places, events)?;
     places.sort_unstable();
-    let told = rise(places, fit);
     keep_places(places);
-    if told {
-        return Ok(());
-    }
     // words that leave out what doesn't fit may be in another order
     if is_in_order(events, places) {
         return Ok(());
