@@ -33,7 +33,7 @@ use Rattle.text_fields.specs.Names.{Finder, new_name}
 use Rattle.model_text.specs.Names.{NamedItem, NamedKind, place_in}
 use Rattle.model_text.specs.Networks.{linked_network, network}
 use Rattle.model_text.specs.Kinds.{named_kind}
-use Rattle.model_text.specs.Objects.{known_keys, object, objects_after, objects, linked_from}
+use Rattle.model_text.specs.Objects.{known_keys, object, object_named, objects_after, objects, linked_from}
 use Rattle.model_text.specs.Phold.{destination, phold_keys, phold}
 use Rattle.model_text.specs.Starts.{start_entry, start_entries}
 use Rattle.text_fields.proofs.Found.{bound}
@@ -145,7 +145,7 @@ trace_absent (Station station) at ms none = flag_absent at (codes "trace") ms no
 trace_absent other at ms none = refl
 
 object_grows : (find : Finder) (at : ℕ) (d : Data) (x : NamedItem) → object One find at d ≡ Ok x → object Two find at d ≡ Ok x
-unfolding object
+unfolding object object_named
 object_grows find at d x gives =
     let ms = bound (table_of at d) _ x gives in
     let name = bound (required at (codes "name") ms.0 >>= new_name find at) _ x ms.2 in

@@ -1,7 +1,7 @@
 -- The objects. Pass one: one after another, each with its name, its kind, the fields of its kind, and then unknown keys. Pass
 -- two: each with the objects that it names.
 use Rattle.std.specs.Prelude.{ℕ, ◌+◌, List, [], ◌∷◌, ◌++◌, length, Ok, codes, if◌then◌else◌}
-use Rattle.toml.specs.Data.{Data, Items, no_items, item}
+use Rattle.toml.specs.Data.{Data, Items, Members, no_items, item}
 use Rattle.queue_models.specs.Kinds.{is_station}
 use Rattle.queue_models.specs.Objects.{Item}
 use Rattle.model_text.specs.declared.formats.Format.{Format}
@@ -20,11 +20,9 @@ added_keys kind = if is_station kind then codes "rank" ∷ codes "quiet" ∷ cod
 abbrev pub known_keys : Format → NamedKind → List (List ℕ)
 known_keys format kind = codes "name" ∷ codes "kind" ∷ kind_keys kind ++ added format (added_keys kind)
 
--- an object, where the names before it are found so
-unfoldable pub object : Format → Finder → ℕ → Data → Checked NamedItem
-object format find at d = do
-  ms ← table_of at d
-  name ← required at (codes "name") ms >>= new_name find at
+-- an object with this name
+unfoldable pub object_named : Format → ℕ → List ℕ → Members → Checked NamedItem
+object_named format at name ms = do
   word ← required at (codes "kind") ms >>= text at
   kind ← named_kind at ms word
   rank ← rank format at ms
@@ -32,6 +30,13 @@ object format find at d = do
   trace ← trace format kind at ms
   known ← only at (known_keys format kind) ms
   Ok (record { name = name; kind = kind; rank = rank; quiet = quiet; trace = trace })
+
+-- an object, where the names before it are found so
+unfoldable pub object : Format → Finder → ℕ → Data → Checked NamedItem
+object format find at d = do
+  ms ← table_of at d
+  name ← required at (codes "name") ms >>= new_name find at
+  object_named format at name ms
 
 -- each further object, whose item is the number of those before it and 1
 abbrev pub objects_after : Format → List NamedItem → Items → Checked (List NamedItem)

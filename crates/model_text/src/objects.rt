@@ -1,13 +1,13 @@
 //! Pass one: the objects with their fields.
-ghost use Rattle.std.specs.Prelude.{◌≡◌, ◌≢◌, ◌+◌, ◌<◌, ◌≤◌, length, All, AllPairs, IfOk, None};
-ghost use Rattle.toml.specs.View.{view, items_view};
+ghost use Rattle.std.specs.Prelude.{◌≡◌, ◌≢◌, ◌+◌, ◌<◌, ◌≤◌, length, All, AllPairs, IfOk, IsTrue, None};
+ghost use Rattle.toml.specs.View.{view, items_view, table_view};
 ghost use Rattle.model_core.specs.declared.limits.TheConstants.{MOST_OBJECTS};
 ghost use Rattle.text_fields.specs.Checks.{Gives};
 ghost use Rattle.text_fields.specs.Directories.{finder};
 ghost use Rattle.model_text.specs.NamedItems.{IsNamedItem};
-ghost use Rattle.text_fields.specs.Names.{TakesIn};
+ghost use Rattle.text_fields.specs.Names.{TakesIn, is_name};
 ghost use Rattle.model_text.specs.Names.{NamedItem, place_in, place_of};
-ghost use Rattle.model_text.specs.Objects.{object, objects};
+ghost use Rattle.model_text.specs.Objects.{object, object_named, objects};
 
 use crate::additions::{flag, rank, trace};
 use crate::formats::Format;
@@ -15,7 +15,36 @@ use crate::kinds::{known_keys, named_kind};
 use crate::named::NamedItem;
 use std::alloc::Global;
 use text_fields::{Directory, Place, Refusal, name_of, new_name, only, required, table_of, text};
-use toml::Value;
+use toml::{Table, Value};
+
+/// The object with this name.
+#[tactic(auto, unfolding(crate::specs::Objects::object_named))]
+fn object_named(
+    alloc: Global,
+    table: &Table,
+    name: &str,
+    format: Format,
+    item: u32,
+) -> Result<NamedItem, Refusal>
+    requires { IsTrue (is_name name.now) }
+    ensures read { Gives (λ object. object) result (object_named format item name.now (table_view table.now)) }
+    ensures in_range { IfOk result IsNamedItem }
+    ensures name { IfOk result (λ object. object.name ≡ name.now) }
+{
+    let word = text(required(table, "kind", item)?, item)?;
+    let kind = named_kind(alloc, table, word, item)?;
+    let rank = rank(table, format, item)?;
+    let quiet = flag(table, "quiet", format, item)?;
+    let trace = trace(table, &kind, format, item)?;
+    only(table, known_keys(format, &kind), item)?;
+    Ok(NamedItem {
+        name: name_of(alloc, name)?,
+        kind,
+        rank,
+        quiet,
+        trace,
+    })
+}
 
 /// The object with this number, counted from 0, which may have none of the names in the directory and is taken in there.
 #[tactic(auto, unfolding(crate::specs::Objects::object))]
@@ -35,27 +64,13 @@ fn object<'a>(
     let item = number + 1;
     let table = table_of(value, item)?;
     let name = new_name(required(table, "name", item)?, directory, item)?;
-    let word = text(required(table, "kind", item)?, item)?;
-    let kind = named_kind(alloc, table, word, item)?;
-    let rank = rank(table, format, item)?;
-    let quiet = flag(table, "quiet", format, item)?;
-    let trace = trace(table, &kind, format, item)?;
-    only(table, known_keys(format, &kind), item)?;
-    let takes_links = !kind.is_source();
-    directory.add(
-        name.as_bytes(),
-        Place {
-            number,
-            takes_links,
-        },
-    )?;
-    Ok(NamedItem {
-        name: name_of(alloc, name)?,
-        kind,
-        rank,
-        quiet,
-        trace,
-    })
+    let object = object_named(alloc, table, name, format, item)?;
+    let place = Place {
+        number,
+        takes_links: !object.kind.is_source(),
+    };
+    directory.add(name.as_bytes(), place)?;
+    Ok(object)
 }
 
 /// The objects one after another, the first with item 1, and a directory of them.

@@ -10,7 +10,7 @@ ghost use Rattle.shop_text.specs.StepTexts.{visit, service, hold, free, delay, g
 use crate::laws::{delay_law, optional_law};
 use crate::named::{NamedStep, NamedVisit};
 use random_streams::DelayLaw;
-use std::alloc::Global;
+use std::alloc::{AllocError, Global};
 use text_fields::{
     Cause, Refusal, field, name_of, only, optional_weights, required, text, text_or, ways,
 };
@@ -18,6 +18,29 @@ use toml::Table;
 
 /// Where a job goes that isn't served, if its class doesn't say it: it is given up.
 const UNSERVED: &str = "drop";
+
+/// A visit with these names of its station and of the steps to which the job goes if it isn't served.
+fn named_visit(
+    alloc: Global,
+    station: &str,
+    service: Option<DelayLaw>,
+    patience: Option<DelayLaw>,
+    away: &str,
+    full: &str,
+) -> Result<NamedVisit, AllocError>
+    ensures { IfOk result (λ visit. visit ≡ record { station = station.now; service = service; patience = patience; away = away.now; full = full.now }) }
+{
+    let station = name_of(alloc, station)?;
+    let away = name_of(alloc, away)?;
+    let full = name_of(alloc, full)?;
+    Ok(NamedVisit {
+        station,
+        service,
+        patience,
+        away,
+        full,
+    })
+}
 
 /// How long a job waits, and where it goes if it isn't served.
 #[tactic(auto, unfolding(crate::specs::StepTexts::visit))]
@@ -35,13 +58,7 @@ fn visit(
     let patience = optional_law(alloc, table, "patience", item)?;
     let away = text_or(table, "away", item, UNSERVED)?;
     let full = text_or(table, "full", item, UNSERVED)?;
-    Ok(NamedVisit {
-        station: name_of(alloc, station)?,
-        service,
-        patience,
-        away: name_of(alloc, away)?,
-        full: name_of(alloc, full)?,
-    })
+    Ok(named_visit(alloc, station, service, patience, away, full)?)
 }
 
 /// A server serves the job.
