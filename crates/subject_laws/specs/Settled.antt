@@ -42,7 +42,7 @@ unfoldable pub arriving : ℕ → ℕ → ℕ → List Event → ℕ
 arriving number place level [] = level
 arriving number place level (e ∷ es) = arriving number place (if is_for number place e then e.b % 2 else level) es
 
--- the event at which a gate computes what it puts out first
+-- an event at which a gate computes what it puts out
 pub record IsToCompute (number : ℕ) (e : Event) : Type 0 where
   pub kind : e.kind ≡ 6
   pub dest : e.key.dest ≡ number
@@ -50,15 +50,16 @@ pub record IsToCompute (number : ℕ) (e : Event) : Type 0 where
 abbrev pub WillCompute : ℕ → List Event → Type 0
 WillCompute number es = (e : Event) × Contains es e × IsToCompute number e
 
--- what is on its way to a pin makes it what its gate puts out now, and each gate puts out the value of its pins or has yet to compute
-pub record Settles (gates : List LogicGate) (s : State) : Type 0 where
+-- what is on its way to a pin makes it what the gate that feeds it puts out now, and each gate puts out the value of its pins or has yet
+-- to compute at the start
+pub record IsSettling (gates : List LogicGate) (s : State) : Type 0 where
   pub pins : (number place : ℕ) → number < length gates → place < length (gate_at gates number).from
       → arriving number place (level_at s number place) s.pending ≡ output_at s (feeder gates (pin number place))
   pub values : (number : ℕ) → number < length gates → IsComputed gates s number ⊎ WillCompute number s.pending
 
 -- so it is in every reached state
-abbrev pub SettlesLaw : Type 0
-SettlesLaw = (gates : List LogicGate) (t : Terms) (s : State) → IsCircuit gates → Reaches (circuit_meaning gates) t s → Settles gates s
+abbrev pub SettlingLaw : Type 0
+SettlingLaw = (gates : List LogicGate) (t : Terms) (s : State) → IsCircuit gates → Reaches (circuit_meaning gates) t s → IsSettling gates s
 
 -- no level is on its way to the pin
 abbrev pub NoneOnItsWay : State → ℕ → ℕ → Type 0

@@ -12,7 +12,7 @@ use Rattle.circuit_model.specs.Meaning.{circuit_meaning}
 use Rattle.circuit_model.specs.Parts.{IsCircuit}
 use Rattle.run_laws.specs.Reached.{Reaches}
 use Rattle.run_laws.proofs.Induction.{each_reached}
-use Rattle.subject_laws.specs.Settled.{level_at, IsSettled, is_for, arriving, Settles, SettlesLaw, StillPinsLaw, SettledLaw}
+use Rattle.subject_laws.specs.Settled.{level_at, IsSettled, is_for, arriving, IsSettling, SettlingLaw, StillPinsLaw, SettledLaw}
 use Rattle.subject_laws.proofs.CircuitLemmas.Arriving.{arriving-none, arriving-others}
 use Rattle.subject_laws.proofs.CircuitLemmas.CircuitSteps.{IsCircuitStep, circuit_step}
 use Rattle.subject_laws.proofs.CircuitLemmas.Pins.{pins-kept}
@@ -24,7 +24,7 @@ use Rattle.subject_laws.proofs.CircuitLemmas.Values.{values-kept}
 record SettlesInTime (gates : List LogicGate) (s : State) : Type 0 where
   now : ℕ
   timely : Each (IsTimely gates now) s.pending
-  settles : Settles gates s
+  settles : IsSettling gates s
 
 settles_in_time : (gates : List LogicGate) (t : Terms) → IsCircuit gates → (s : State) → Reaches (circuit_meaning gates) t s → SettlesInTime gates s
 settles_in_time gates t fine =
@@ -46,10 +46,10 @@ settles_in_time gates t fine =
       };
     })
 
-pub settles_law : SettlesLaw
-settles_law gates t s fine reached = (settles_in_time gates t fine s reached).settles
+pub settling_law : SettlingLaw
+settling_law gates t s fine reached = (settles_in_time gates t fine s reached).settles
 
-settled : (gates : List LogicGate) (s : State) → s.pending ≡ [] → Settles gates s → IsSettled gates s
+settled : (gates : List LogicGate) (s : State) → s.pending ≡ [] → IsSettling gates s → IsSettled gates s
 settled gates s nothing settles = record {
   pins = λ number place exists within.
       sym (ap (arriving number place (level_at s number place)) nothing ∙ arriving-none number place (level_at s number place))
@@ -61,10 +61,10 @@ settled gates s nothing settles = record {
 }
 
 pub settled_law : SettledLaw
-settled_law gates t s fine reached nothing = settled gates s nothing (settles_law gates t s fine reached)
+settled_law gates t s fine reached nothing = settled gates s nothing (settling_law gates t s fine reached)
 
 -- a pin to which nothing is on its way
 pub still_pins_law : StillPinsLaw
 still_pins_law gates t s number place fine reached exists within none =
     sym (arriving-others number place (level_at s number place) s.pending (recursion_from_All (λ (e : Event). is_for number place e ≡ false) s.pending none))
-    ∙ (settles_law gates t s fine reached).pins number place exists within
+    ∙ (settling_law gates t s fine reached).pins number place exists within
