@@ -2,6 +2,7 @@ pub mod ClassLaws
 pub mod DrawLaws
 pub mod Draws
 pub mod FromLaws
+pub mod Numbers
 pub mod Patience
 pub mod PatienceLaws
 pub mod Services

@@ -4,6 +4,7 @@ pub mod CircuitExamples
 pub mod CircuitFunctions
 pub mod DrawLaws
 pub mod Draws
+pub mod EndLaws
 pub mod FlowLaws
 pub mod JobLaws
 pub mod Jobs

@@ -1,5 +1,5 @@
 -- Where jobs go on to, and when.
-use Rattle.std.specs.Prelude.{◌≡◌, ℕ, Bool, true, false, List, [], ◌∷◌, slice_index, Contains}
+use Rattle.std.specs.Prelude.{◌≡◌, ◌≢◌, ℕ, Bool, true, false, List, [], ◌∷◌, slice_index, Contains}
 use Rattle.event_key.specs.declared.key.Key.{Key}
 use Rattle.event_key.specs.Stamps.{next_stamp}
 use Rattle.model_core.specs.declared.event.Event.{Event}
@@ -49,3 +49,10 @@ WaysLaw =
     → Contains (sent_next (plain_meaning p) s) e → e.kind ≡ 3
     → (let kind = (object_at p.objects told.0.dest).kind in
     GoesOn kind told (draws_next (plain_meaning p) kind told.0.dest s (does told after)) e)
+
+-- any other event that is sent is the object's own: it comes to the object that sends it
+abbrev pub OthersStayLaw : Type 0
+OthersStayLaw =
+    (p : NetworkParts) (t : Terms) (s : State) (told : Key × Note) (after : State) (e : Event)
+    → IsNetwork p → Reaches (plain_meaning p) t s → next (plain_meaning p) t s ≡ does told after
+    → Contains (sent_next (plain_meaning p) s) e → e.kind ≢ 3 → e.key.dest ≡ told.0.dest

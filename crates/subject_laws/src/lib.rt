@@ -5,6 +5,7 @@
 pub mod births;
 pub mod circuit_examples;
 pub mod draws;
+pub mod end;
 pub mod flow;
 pub mod functions;
 pub mod jobs;

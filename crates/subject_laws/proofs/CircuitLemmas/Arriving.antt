@@ -9,12 +9,7 @@ use Rattle.key_order.proofs.AscendingLemmas.{key_lt-turned}
 use Rattle.key_order.proofs.EachLemmas.{Each-both}
 use Rattle.key_order.proofs.MemberLemmas.{first-or-later, none-in}
 use Rattle.model_core.specs.declared.event.Event.{Event}
-use Rattle.subject_laws.specs.Settled.{is_for}
-
--- what a pin at this level becomes by events that happen one after another
-pub arriving : ℕ → ℕ → ℕ → List Event → ℕ
-arriving number place level [] = level
-arriving number place level (e ∷ es) = arriving number place (if is_for number place e then e.b % 2 else level) es
+use Rattle.subject_laws.specs.Settled.{is_for, arriving}
 
 pub arriving-none : (number place level : ℕ) → arriving number place level [] ≡ level
 unfolding arriving

@@ -29,8 +29,8 @@ use Rattle.circuit_model.specs.Meaning.{circuit_meaning}
 use Rattle.circuit_model.specs.ModelLaws.{output_after-bit}
 use Rattle.circuit_model.specs.Parts.{IsCircuit}
 use Rattle.circuit_model.specs.Wiring.{pin, feeder, fed_by}
-use Rattle.subject_laws.specs.Settled.{cells_at, output_at, level_at, is_for}
-use Rattle.subject_laws.proofs.CircuitLemmas.Arriving.{arriving, arriving-first, arriving-enqueue_all, arriving-last}
+use Rattle.subject_laws.specs.Settled.{cells_at, output_at, level_at, is_for, arriving}
+use Rattle.subject_laws.proofs.CircuitLemmas.Arriving.{arriving-first, arriving-enqueue_all, arriving-last}
 use Rattle.subject_laws.proofs.CircuitLemmas.CircuitSteps.{IsCircuitStep, pending_after, output_here, levels_here, cells_elsewhere}
 use Rattle.subject_laws.proofs.CircuitLemmas.Leaves.{gate_sends, level_after}
 use Rattle.subject_laws.proofs.CircuitLemmas.Sends.{level_event, level_events, Each-level_events, level_events-contain, fed_by-contains, fed_by-feeds}

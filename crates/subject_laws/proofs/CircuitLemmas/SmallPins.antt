@@ -9,7 +9,7 @@ use Rattle.run_laws.specs.Reached.{after_events, Reaches}
 use Rattle.subject_laws.proofs.Computing.{circuit_run}
 use Rattle.subject_laws.specs.CircuitExamples.{gates_in_line, to_five}
 use Rattle.subject_laws.specs.CircuitFunctions.{computed}
-use Rattle.subject_laws.specs.Settled.{level_at, output_at, NoneOnItsWay, is_for}
+use Rattle.subject_laws.specs.Settled.{level_at, output_at, arriving, NoneOnItsWay, is_for}
 
 -- six events are done: `n` puts out 0 since 2.1, and that is on its way to `z`
 half_way : State
@@ -43,6 +43,11 @@ pins_seen : ◌≡◌ {A = List ℕ × List ℕ} (
     (1 ∷ 1 ∷ 1 ∷ [], 1 ∷ 1 ∷ 0 ∷ [])
 unfolding half_way gates_in_line to_five circuit_run
 pins_seen = refl
+
+-- but the level that is on its way makes it that
+arrives : ◌≡◌ {A = ℕ × ℕ} (level_at half_way 2 1, arriving 2 1 (level_at half_way 2 1) half_way.pending) (1, output_at half_way 1)
+unfolding half_way to_five gates_in_line arriving circuit_run
+arrives = refl
 
 -- with the seventh event the circuit has settled: what it puts out is its function of the input
 settled : State

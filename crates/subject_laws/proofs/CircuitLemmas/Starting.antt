@@ -24,12 +24,10 @@ use Rattle.circuit_model.specs.Parts.{IsCircuit}
 use Rattle.circuit_model.specs.StartLists.{All-starts_of, starts_of-compute}
 use Rattle.circuit_model.specs.Starts.{compute_start, starts_of}
 use Rattle.circuit_model.specs.Wiring.{pin, feeder}
-use Rattle.subject_laws.specs.Settled.{cells_at, output_at, level_at, IsComputed}
-use Rattle.subject_laws.proofs.CircuitLemmas.Arriving.{arriving, arriving-others}
-use Rattle.subject_laws.specs.Settled.{is_for}
+use Rattle.subject_laws.specs.Settled.{cells_at, output_at, level_at, IsComputed, is_for, arriving, WillCompute}
+use Rattle.subject_laws.proofs.CircuitLemmas.Arriving.{arriving-others}
 use Rattle.subject_laws.proofs.CircuitLemmas.Pins.{is_for-not}
 use Rattle.subject_laws.proofs.CircuitLemmas.Timely.{IsTimely}
-use Rattle.subject_laws.proofs.CircuitLemmas.Values.{WillCompute}
 
 -- each gate begins with its first cells
 first_cells : (gates : List LogicGate) (number : ℕ) → number < length gates → cells_at (initial_state (circuit_meaning gates)) number ≡ first_gate_cells (gate_at gates number)

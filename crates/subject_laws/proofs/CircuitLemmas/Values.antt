@@ -15,17 +15,9 @@ use Rattle.sim_spec.specs.State.{State}
 use Rattle.circuit_model.specs.declared.gate.LogicGate.{LogicGate}
 use Rattle.circuit_model.specs.Events.{levels_of, output_of, output_after}
 use Rattle.circuit_model.specs.Gates.{gate_at, value_of}
-use Rattle.subject_laws.specs.Settled.{cells_at, IsComputed}
+use Rattle.subject_laws.specs.Settled.{cells_at, IsComputed, IsToCompute, WillCompute}
 use Rattle.subject_laws.proofs.CircuitLemmas.CircuitSteps.{IsCircuitStep, pending_after, output_here, levels_here, cells_elsewhere}
 use Rattle.subject_laws.proofs.CircuitLemmas.Leaves.{output_after-computed}
-
--- a pending event lets the gate compute
-pub record IsToCompute (number : ℕ) (e : Event) : Type 0 where
-  pub kind : e.kind ≡ 6
-  pub dest : e.key.dest ≡ number
-
-abbrev pub WillCompute : ℕ → List Event → Type 0
-WillCompute number es = (e : Event) × Contains es e × IsToCompute number e
 
 module _ (gates : List LogicGate) (t : Terms) (s : State) (told : Key × Note) (after : State) (n : IsCircuitStep gates t s told after) (number : ℕ) where
   -- an event that was pending behind this one still is

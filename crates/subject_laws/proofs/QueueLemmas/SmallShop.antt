@@ -17,7 +17,7 @@ use Rattle.queue_models.specs.Meaning.{plain_meaning, network_meaning}
 use Rattle.queue_models.specs.Objects.{NetworkParts, object_at}
 use Rattle.run_laws.specs.Reached.{after_events, Reaches, first_records}
 use Rattle.run_laws.specs.RunLaws.{IsCause, Happens}
-use Rattle.run_laws.specs.Sent.{happened, all_sent, initial_events}
+use Rattle.run_laws.specs.Sent.{sent_next, happened, all_sent, initial_events}
 use Rattle.subject_laws.specs.Draws.{draws_next}
 use Rattle.subject_laws.specs.WayLaws.{GoesOn}
 use Rattle.subject_laws.specs.OrderLaws.{IsFirstComeFirstServed}
@@ -120,6 +120,14 @@ second_goes_on : GoesOn (object_at shop.objects 0).kind (told_at (key_at 3 0 0 0
     second_arrival
 unfolding second_arrival shop to_fifty network_run
 second_goes_on = record { job = refl; way = (0, lit< tt, refl); chosen = λ router. absurd (cc); time = refl }
+
+-- and what it sends besides, the source's next turn, comes to the source
+next_turn : Event
+next_turn = record { key = key_at 5 0 0 0 3; kind = 1; a = 0; b = 0 }
+
+turns_again : Contains (sent_next (plain_meaning shop) (after_events 2 (plain_meaning shop) to_fifty)) next_turn
+unfolding next_turn shop to_fifty network_run
+turns_again = (1, lit< tt, refl)
 
 -- by then four events have happened and two are pending: the initial one, and five that were sent
 events_seen : ◌≡◌ {A = ℕ × ℕ × ℕ × ℕ} (

@@ -1,5 +1,5 @@
 -- A job goes where its object sends it, when it should.
-use Rattle.std.proofs.Common.{◌≡◌, ℕ, ◌+◌, ◌-◌, ◌<◌, Bool, true, false, List, [], ◌∷◌, length, inl, inr, refl, sym, ap, ◌∙◌, subst, arith, eq-eqb}
+use Rattle.std.proofs.Common.{◌≡◌, ◌≢◌, ℕ, ◌+◌, ◌-◌, ◌<◌, Bool, true, false, List, [], ◌∷◌, length, inl, inr, refl, sym, ap, ◌∙◌, subst, arith, eq-eqb}
 use Rattle.std.specs.Prelude.{Contains, if◌then◌else◌}
 use Rattle.std.specs.List.{AllByRecursion as Each}
 use Rattle.std.proofs.lemmas.List.Elements.{Contains-get_or}
@@ -38,9 +38,9 @@ use Rattle.run_laws.proofs.Steps.{sent_next-step}
 use Rattle.subject_laws.specs.Draws.{shown_by, draws_next}
 use Rattle.subject_laws.specs.Places.{job_told}
 use Rattle.subject_laws.specs.Stations.{cells_at}
-use Rattle.subject_laws.specs.WayLaws.{ways_of, is_router, keeps_for, GoesOn, WaysLaw}
+use Rattle.subject_laws.specs.WayLaws.{ways_of, is_router, keeps_for, GoesOn, WaysLaw, OthersStayLaw}
 use Rattle.subject_laws.proofs.DrawLemmas.DrawsLaw.{drawn_here}
-use Rattle.subject_laws.proofs.QueueLemmas.Cases.{SourceDoes, idles, makes_last, makes, StationDoes, takes, waits, loses, serves, frees, EventDoes, way_within}
+use Rattle.subject_laws.proofs.QueueLemmas.Cases.{SourceDoes, idles, makes_last, makes, StationDoes, takes, waits, loses, serves, frees, PlainDoes, hands_on, leaves, EventDoes, way_within}
 use Rattle.subject_laws.proofs.QueueLemmas.NetworkSteps.{IsNetworkStep, network_step}
 
 -- a job that is sent goes one of the ways of its object, at once or after what is drawn
@@ -140,3 +140,55 @@ ways_law p t s told after e fine reached is_next is_in job =
     let D : List ℕ → Type 0 = λ drawn. GoesOn kind (key, x.note) drawn e in
     let R : Key × Note → Type 0 = λ r. (let kind = (object_at p.objects r.0.dest).kind in GoesOn kind r (draws_next (plain_meaning p) kind r.0.dest s (does told after)) e) in
     subst R (sym step.step.tells) (subst D (sym drawn) goes)
+
+-- whatever else is sent is sent to the object itself
+abbrev OthersStay : Site → Effect → Type 0
+OthersStay site x = Each (λ (s : Send). s.kind ≢ 3 → s.dest ≡ site.object) x.sends
+
+source_stays : (site : Site) (cells : CellData) (e : Event) (source : SourceOver ℕ) (x : Effect) → SourceDoes site cells e source x → OthersStay site x
+unfolding idle_effect last_effect make_effect
+source_stays site cells e source x (idles none) = tt
+source_stays site cells e source x (makes_last one) = (λ other. absurd (other refl), tt)
+source_stays site cells e source x (makes more) = (λ other. absurd (other refl), (λ other. refl, tt))
+
+station_stays : (site : Site) (cells : CellData) (e : Event) (station : StationOver ℕ) (x : Effect) → StationDoes site cells e station x → OthersStay site x
+unfolding take_effect wait_effect lose_effect serve_effect free_effect
+station_stays site cells e station x (takes other free) = (λ other. refl, tt)
+station_stays site cells e station x (waits other full room) = tt
+station_stays site cells e station x (loses other full none) = tt
+station_stays site cells e station x (serves done some) = (λ other. absurd (other refl), (λ other. refl, tt))
+station_stays site cells e station x (frees done none) = (λ other. absurd (other refl), tt)
+
+plain_stays : (objects : List Item) (site : Site) (cells : CellData) (e : Event) (kind : KindOver ℕ) (x : Effect) → PlainDoes objects site cells e kind x → OthersStay site x
+plain_stays objects site cells e kind x (hands_on takes_jobs moving keeps draws) = (λ other. absurd (other refl), tt)
+plain_stays objects site cells e kind x (leaves shown) = tt
+
+all_stay : (objects : List Item) (site : Site) (kind : KindOver ℕ) (cells : CellData) (e : Event) (x : Effect) → EventDoes objects site cells e kind x → OthersStay site x
+all_stay objects site (Source source) cells e x does_so = source_stays site cells e source x does_so
+all_stay objects site (Station station) cells e x does_so = station_stays site cells e station x does_so
+all_stay objects site (Delay delay) cells e x does_so = plain_stays objects site cells e (Delay delay) x does_so
+all_stay objects site (Router router) cells e x does_so = plain_stays objects site cells e (Router router) x does_so
+all_stay objects site (Sink sink) cells e x does_so = plain_stays objects site cells e (Sink sink) x does_so
+
+sent_stays : (stamp object serial : ℕ) (sends : List Send) (e : Event) → Each (λ (s : Send). s.kind ≢ 3 → s.dest ≡ object) sends
+    → Contains (emissions stamp object serial sends) e → e.kind ≢ 3 → e.key.dest ≡ object
+unfolding emissions
+sent_stays stamp object serial [] e all is_in other = none-in e is_in
+sent_stays stamp object serial (s ∷ sends) e all is_in other =
+    elim (first-or-later e (emission stamp object serial s) (emissions stamp object (serial + 1) sends) is_in) [
+      | inl same ↦
+          sym (ap (λ (x : Event). x.key.dest) same) ∙ all.0 (λ job. other (sym (ap (λ (x : Event). x.kind) same) ∙ job))
+      | inr later ↦ sent_stays stamp object (serial + 1) sends e all.1 later other
+    ]
+
+pub others_stay_law : OthersStayLaw
+unfolding plain_meaning network_meaning
+others_stay_law p t s told after e fine reached is_next is_in other =
+    let step : IsNetworkStep p t s told after = network_step p t s told after fine reached is_next in
+    let x : Effect = step.step.effect in
+    let key : Key = step.step.event.key in
+    let d : ℕ = key.dest in
+    let C : List Event → Type 0 = λ es. Contains es e in
+    let all : OthersStay (site_of p d) x = all_stay p.objects (site_of p d) (object_at p.objects d).kind (cells_at s d) step.step.event x step.does_so in
+    sent_stays key.stamp d (state_at s.objects d).sent x.sends e all (subst C (sent_next-step (plain_meaning p) t s told after step.step) is_in) other
+    ∙ sym (ap (λ (r : Key × Note). r.0.dest) step.step.tells)

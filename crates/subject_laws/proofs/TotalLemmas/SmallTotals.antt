@@ -1,10 +1,13 @@
 -- Totals, computed: those of the counter of the small shop after eleven events, in which four jobs came, of which two were
 -- served, one is in service and one waits.
-use Rattle.std.proofs.Common.{lit≤, ◌≡◌, ℕ, refl}
+use Rattle.std.proofs.Common.{lit<, lit≤, ◌≡◌, ℕ, refl, List, [], ◌∷◌, length, map}
 use Rattle.std.specs.Prelude.{count_by}
+use Rattle.event_key.specs.Stamps.{stamp_at}
+use Rattle.model_core.specs.declared.event.Event.{Event}
+use Rattle.sim_spec.specs.declared.terms.Terms.{Terms}
 use Rattle.sim_stats.specs.declared.sums.Sums.{Sums}
 use Rattle.queue_models.specs.Meaning.{plain_meaning, network_meaning}
-use Rattle.run_laws.specs.Reached.{after_events}
+use Rattle.run_laws.specs.Reached.{after_events, first_records}
 use Rattle.run_laws.specs.Sent.{all_sent}
 use Rattle.subject_laws.specs.FlowLaws.{comes_to, listed_at, ArrivalsAddUp}
 use Rattle.subject_laws.proofs.QueueLemmas.SmallShop.{counter, shop, to_fifty}
@@ -42,3 +45,16 @@ flow_seen = refl
 arrivals_add_up : ArrivalsAddUp shop to_fifty 1 3 (totals_at shop to_fifty 1 3) (after_events 3 (network_meaning shop) to_fifty)
 unfolding shop to_fifty network_run
 arrivals_add_up = refl
+
+-- to tick 7 alone: the fourth job comes at the last tick, and the service that is to end at 11 never does
+to_seven : Terms
+to_seven = record { end = 7; limit = 100; end_in_range = lit< tt; some_event = lit≤ tt; limit_in_range = lit≤ tt }
+
+end_seen : ◌≡◌ {A = ℕ × ℕ × List ℕ} (
+  length (first_records 12 (network_meaning shop) to_seven),
+  (totals_at shop to_seven 1 12).last,
+  map (λ (e : Event). e.key.stamp) (after_events 12 (network_meaning shop) to_seven).pending,
+)
+    (10, 7, stamp_at 11 0 ∷ [])
+unfolding to_seven shop network_run
+end_seen = refl

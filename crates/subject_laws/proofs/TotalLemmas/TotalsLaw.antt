@@ -151,7 +151,7 @@ unfolding last_told
 last_of_note time at [] rest most early below others = others time early
 last_of_note time at (part ∷ note) rest most early below others = last_of_note at at note rest most below below others
 
-last_of_records : (i : ℕ) (most : ℕ) (records : List (Key × Note)) → All (λ (told : Key × Note). time_part told.0.stamp ≤ most) records
+pub last_of_records : (i : ℕ) (most : ℕ) (records : List (Key × Note)) → All (λ (told : Key × Note). time_part told.0.stamp ≤ most) records
     → (from : ℕ) → from ≤ most → last_told from (words_told i records) ≤ most
 unfolding words_told last_told
 last_of_records i most [] below from early = early
@@ -163,7 +163,7 @@ last_of_records i most (told ∷ records) below from early =
     by others true = last_of_note from (time_part told.0.stamp) told.1 (words_told i records) most early (below 0 told (omega arith)) others
     by others false = others from early
 
-last_is : (told : List TimedWord) → (sums_of told).last ≡ last_told 0 told
+pub last_is : (told : List TimedWord) → (sums_of told).last ≡ last_told 0 told
 unfolding sums_of
 last_is told = refl
 
