@@ -1,11 +1,22 @@
 -- Its slot is free.
 use Rattle.std.proofs.Common.{◌≡◌, List, [], ◌∷◌, ◌++◌, refl, sym, ap, ◌∙◌, subst}
 use Rattle.std.proofs.lemmas.List.{append-nil, map-append}
+use Rattle.std.specs.Prelude.{IsSome}
+use Rattle.key_order.proofs.EachLemmas.{Each-back}
 use Rattle.event_log.specs.declared.entry.Entry.{Entry}
 use Rattle.event_log.specs.Items.{Item, ItemsView}
-use Rattle.event_log.specs.Slots.{AreInSlots, done_or, item_in, items_in}
+use Rattle.event_log.specs.Slots.{AreInSlots, LiesIn, done_or, item_in, items_in}
 use Rattle.event_log.proofs.SlotLemmas.{left-slots, left-stay}
 use Rattle.event_log.proofs.items.Items.pop_back.Goals as goal
+
+pub remove-requires : goal.remove-requires
+remove-requires c =
+    let slots = c.self.inside.slots in
+    let xs = c.pop_back.new.self.items in
+    let e : Entry = c.in_ok-entry.entry in
+    let h = subst (AreInSlots slots) c.in_ok-entry.ensures.items c.self.invariant in
+    let l = (Each-back (LiesIn slots) xs (e ∷ []) h.lie).0 in
+    subst IsSome (sym l.there) refl
 
 pub invariant_of-self-2 : goal.invariant_of-self-2
 invariant_of-self-2 c =

@@ -1,13 +1,28 @@
 -- Its slot is free.
-use Rattle.std.proofs.Common.{◌≡◌, suc, ◌<◌, ◌∷◌, ◌++◌, length, take, drop, get_or, sym, ap, ◌∙◌, subst, arith}
+use Rattle.std.proofs.Common.{◌≡◌, suc, ◌<◌, ◌∷◌, ◌++◌, length, take, drop, get_or, refl, sym, ap, ◌∙◌, subst, arith}
 use Rattle.std.proofs.lemmas.List.{length-map}
 use Rattle.std.specs.List.{remove}
+use Rattle.std.specs.Prelude.{IsSome}
+use Rattle.key_order.proofs.EachLemmas.{Each-back}
 use Rattle.object_log.proofs.CarriedLemmas.{map-removed}
 use Rattle.event_log.specs.declared.entry.Entry.{Entry}
 use Rattle.event_log.specs.Items.{ItemsView}
-use Rattle.event_log.specs.Slots.{AreInSlots, done_or, item_in, items_in}
+use Rattle.event_log.specs.Slots.{AreInSlots, LiesIn, done_or, item_in, items_in}
 use Rattle.event_log.proofs.SlotLemmas.{item-at, left-slots, left-stay, split-entry}
 use Rattle.event_log.proofs.items.Items.take_out.Goals as goal
+
+pub remove-requires-2 : goal.remove-requires-2
+remove-requires-2 c =
+    let slots = c.self.inside.slots in
+    let es = c.self.inside.entries.items in
+    let e : Entry = c.in-Some.entry in
+    let within : c.args.index < length es = omega (arith, c.requires, ap (λ (v : ItemsView). length v.items) c.self.view_is, length-map es (item_in slots)) in
+    let xs = take c.args.index es in
+    let ys = drop (suc c.args.index) es in
+    let split : es ≡ xs ++ e ∷ ys = split-entry c.args.index es e within c.in-Some.ensures.value in
+    let h = subst (AreInSlots slots) split c.self.invariant in
+    let l = (Each-back (LiesIn slots) xs (e ∷ ys) h.lie).0 in
+    subst IsSome (sym l.there) refl
 
 pub invariant_of-self : goal.invariant_of-self
 invariant_of-self c =

@@ -1,5 +1,7 @@
 -- The event leaves the list, and its object takes it back.
-use Rattle.std.proofs.Common.{ℕ, List, sym, ap, ◌∙◌, subst}
+use Rattle.std.proofs.Common.{◌≡◌, ℕ, ◌<◌, [], List, length, sym, ap, ◌∙◌, subst, arith}
+use Rattle.std.proofs.lemmas.List.{length-map}
+use Rattle.std.proofs.lemmas.Option.{slice_get_within}
 use Rattle.std.specs.Prelude.{slice_set}
 use Rattle.object_log.specs.Carrying.{Placed}
 use Rattle.object_log.specs.Dones.{Done}
@@ -13,6 +15,35 @@ use Rattle.event_log.specs.Processing.{ProcessedView}
 use Rattle.event_log.specs.Latest.{AreBounded}
 use Rattle.event_log.proofs.LatestFacts.{bounded-removed}
 use Rattle.event_log.proofs.log.NodeLog.undo_at.Goals as goal
+use Rattle.event_log.proofs.log.NodeLog.undo_at.Goals.{After-self}
+
+-- all is carried, and the event is there
+no-news : (c : After-self) → c.self.inside.events.news ≡ []
+no-news c = ap (λ (v : NodeLogView). v.news) c.self.view_is ∙ c.requires.carried.news
+
+within : (c : After-self) → c.args.index < length c.self.inside.events.items
+within c =
+    let n = c.requires.newest in
+    let there = slice_get_within c.args.self.now.log.done c.args.index n.newest n.found in
+    let same = ap (λ (v : NodeLogView). length v.log.done) c.self.view_is in
+    let long = length-map c.self.inside.events.items (λ (p : Placed). p.done) in
+    omega arith
+
+pub at-place-requires-clause-news : goal.at-place-requires-clause-news
+at-place-requires-clause-news c = no-news (goal.at.at-place-requires-clause-news c).After-self
+
+pub at-place-requires-clause-index : goal.at-place-requires-clause-index
+at-place-requires-clause-index c = within (goal.at.at-place-requires-clause-index c).After-self
+
+pub take-done-requires-clause-news : goal.take-done-requires-clause-news
+take-done-requires-clause-news c = no-news (goal.at.take-done-requires-clause-news c).After-self
+
+pub take-done-requires-clause-index : goal.take-done-requires-clause-index
+take-done-requires-clause-index c = within (goal.at.take-done-requires-clause-index c).After-self
+
+pub undo-requires-clause-news : goal.undo-requires-clause-news
+undo-requires-clause-news c =
+    ap (λ (v : ProcessedView). v.news) c.take-done.ensures.same ∙ no-news (goal.at.undo-requires-clause-news c).After-self
 
 pub undo-requires-clause-newest : goal.undo-requires-clause-newest
 undo-requires-clause-newest c =
@@ -56,3 +87,13 @@ returns-clause-undone c =
     subst V (ap (λ (v : NodeLogView). v.log) c.self.view_is)
     (subst P (sym at.3) (subst Q (sym (ap (λ (v : ProcessedView). v.items) c.undo.ensures.same ∙ c.take-done.ensures.left))
     (undone-at objects items c.args.index at.0 o g later (subst (HasUndone o later) same c.undo.ensures.undone) event (c.undo.ensures.event ∙ ap (λ (d : Done). d.event) same))))
+
+pub returns-clause-carried : goal.returns-clause-carried
+returns-clause-carried c =
+    let taken = c.take-done.ensures.same in
+    let undone = c.undo.ensures.same in
+    record {
+      news = ap (λ (v : ProcessedView). v.news) undone ∙ ap (λ (v : ProcessedView). v.news) taken ∙ no-news (goal.at.returns-clause-carried c).After-self;
+      chained = ap (λ (v : ProcessedView). v.chained) undone ∙ ap (λ (v : ProcessedView). v.chained) taken ∙ ap (λ (v : NodeLogView). v.chained) c.self.view_is ∙ c.requires.carried.chained;
+      nodes = ap (λ (v : ProcessedView). v.nodes) undone ∙ ap (λ (v : ProcessedView). v.nodes) taken ∙ ap (λ (v : NodeLogView). v.nodes) c.self.view_is;
+    }

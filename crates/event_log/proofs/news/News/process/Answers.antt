@@ -1,23 +1,70 @@
 -- The object fires the event, which joins the news.
 use Rattle.std.proofs.Common.{◌≡◌, ℕ, ◌+◌, ◌-◌, ◌<◌, min, List, [], ◌∷◌, ◌++◌, length, map, refl, sym, ap, ◌∙◌, subst, arith, length-append}
 use Rattle.std.proofs.lemmas.List.{append-nil, length-map}
-use Rattle.std.specs.Prelude.{Some}
+use Rattle.std.specs.Prelude.{Option, Some}
 use Rattle.std.specs.List.{AllByRecursion as Each}
+use Rattle.event_key.specs.declared.key.Key.{Key}
 use Rattle.event_key.specs.declared.stamp.TheConstants.{NO_STAMP}
 use Rattle.delta_exchange.specs.declared.change.Change.{Change}
 use Rattle.key_order.specs.Stamps.{least_stamp}
 use Rattle.model_core.specs.declared.effect.Effect.{Effect}
 use Rattle.model_core.specs.declared.effect.Ending.{Ending}
 use Rattle.model_core.specs.declared.event.Event.{Event}
+use Rattle.model_core.specs.declared.note.Note.{Note}
 use Rattle.model_core.specs.Meaning.{Meaning}
 use Rattle.sim_spec.specs.Firing.{emissions}
 use Rattle.sim_spec.proofs.SerialLemmas.{length-emissions}
+use Rattle.object_log.specs.Dones.{Done}
 use Rattle.object_log.specs.Objects.{HasFired}
 use Rattle.object_log.proofs.HeldLemmas.{least-start}
 use Rattle.object_log.specs.Fired.{HasFiredInto, HasGone, failed_of, went_of}
-use Rattle.event_log.specs.News.{NewsView, homed, least_after}
+use Rattle.event_log.specs.declared.row.Row.{Row}
+use Rattle.event_log.specs.News.{HoldsNews, NewsView, homed, least_after, news_view}
+use Rattle.event_log.specs.Outboxes.{message}
 use Rattle.event_log.proofs.ProcessFacts.{code-none, joined, joins-news, pushed-failed, pushed-went}
 use Rattle.event_log.proofs.news.News.process.Goals as goal
+
+-- lists that stay hold the same news
+stays : (news : List Done) (gone told told' : List (Key × Note)) (rows rows' : List Row) (undo undo' : List Change) (sent sent' : List (ℕ × Event)) (code : Option ℕ) → HoldsNews news gone told rows undo sent code
+    → told' ≡ told → rows' ≡ rows → undo' ≡ undo → sent' ≡ sent → HoldsNews news gone told' rows' undo' sent' code
+stays news gone told told' rows rows' undo undo' sent sent' code h told_is rows_is undo_is sent_is = record {
+  rows_are = rows_is ∙ h.rows_are;
+  told_are = told_is ∙ h.told_are;
+  undo_are = undo_is ∙ h.undo_are;
+  sent_are = ap (map message) sent_is ∙ h.sent_are;
+  code_is = h.code_is;
+  last = h.last;
+  whole = h.whole;
+  ordered = h.ordered;
+}
+
+pub invariant_of-self : goal.invariant_of-self
+invariant_of-self g c =
+    let n = c.self.inside in
+    let h = c.self.invariant in
+    let made = c.make_room-room.ensures in
+    let room = c.make_room-room.new in
+    (h.0, h.1, stays h.0 h.1 n.told.items room.told.items n.rows.items room.rows.items n.undo.items room.undo.items n.outbox.sent room.outbox.sent n.fault h.2 made.told made.rows made.undo made.sent)
+
+pub returns-in_default-clause-err : goal.returns-in_default-clause-err
+returns-in_default-clause-err g c =
+    let made = c.make_room-room.ensures in
+    (λ i. news_view (made.rows i) (made.told i) (made.undo i) (made.sent i) c.self.inside.fault (made.nodes i)) ∙ c.self.view_is
+
+pub invariant_of-self-in_default-fired : goal.invariant_of-self-in_default-fired
+invariant_of-self-in_default-fired g c =
+    let n = c.self.inside in
+    let h = c.self.invariant in
+    let made = c.make_room-room.ensures in
+    let room = c.make_room-room.new in
+    let undo = c.in_default-fired.ensures.kept ∙ made.undo in
+    (h.0, h.1, stays h.0 h.1 n.told.items room.told.items n.rows.items room.rows.items n.undo.items c.fire_into-fired.new.undo.items n.outbox.sent room.outbox.sent n.fault h.2 made.told made.rows undo made.sent)
+
+pub returns-in_default-fired-clause-err : goal.returns-in_default-fired-clause-err
+returns-in_default-fired-clause-err g c =
+    let made = c.make_room-room.ensures in
+    let undo = c.in_default-fired.ensures.kept ∙ made.undo in
+    (λ i. news_view (made.rows i) (made.told i) (undo i) (made.sent i) c.self.inside.fault (made.nodes i)) ∙ c.self.view_is
 
 pub hold_all-least-requires-clause-homes : goal.hold_all-least-requires-clause-homes
 hold_all-least-requires-clause-homes g c =

@@ -115,3 +115,26 @@ returns-in-Ok-process-clause-homed g c = λ homed_are.
     let h = c.in-Ok-process.ensures.ok in
     let H : ProcessedView → Type 0 = λ v. AreHomed c.args.homes.now v.chained in
     homed-more c.args.homes.now c.self.inside.news.sent c.process.new.self.sent h.entry.sends h.sent (subst H (sym c.self.view_is) homed_are)
+
+pub returns-in_default-clause-err : goal.returns-in_default-clause-err
+returns-in_default-clause-err g c =
+    let n = c.self.inside.news in
+    let made = c.make_room-room.ensures in
+    (λ i. record { items = merged n.done (made.places i) (made.items i); news = n.done; chained = n.sent; nodes = n.nodes }) ∙ c.self.view_is
+
+pub returns-in_default-clause-homed : goal.returns-in_default-clause-homed
+returns-in_default-clause-homed g c = λ homed_are.
+    let H : ProcessedView → Type 0 = λ v. AreHomed c.args.homes.now v.chained in
+    subst H (sym c.self.view_is) homed_are
+
+pub returns-in-Err-clause-err : goal.returns-in-Err-clause-err
+returns-in-Err-clause-err g c =
+    let made = c.make_room-room.ensures in
+    let same = c.in-Err.ensures.err in
+    (λ i. record { items = merged (same i).done (made.places i) (made.items i); news = (same i).done; chained = (same i).sent; nodes = (same i).nodes }) ∙ c.self.view_is
+
+pub returns-in-Err-clause-homed : goal.returns-in-Err-clause-homed
+returns-in-Err-clause-homed g c = λ homed_are.
+    let H : ProcessedView → Type 0 = λ v. AreHomed c.args.homes.now v.chained in
+    let N : NewsView → Type 0 = λ v. AreHomed c.args.homes.now v.sent in
+    subst N (sym c.in-Err.ensures.err) (subst H (sym c.self.view_is) homed_are)
