@@ -120,8 +120,10 @@ pub(crate) fn tell_nodes<R: Threads + Sync, G: Gate, M: Model, L: Tally<M>, K: S
 ) -> Result<Stop, Unfinished>
     requires model { run.old.team.world.model ≡ model.now }
     requires terms { run.old.team.world.terms ≡ terms.now }
-    requires begins { (from : State) × BeginsAt (M.meaning model.now) terms.now (TeamStandsAt M.meaning) run.old from × CanBeTold (M.meaning model.now) telling from }
-    ensures { (from : State) → BeginsAt (M.meaning model.now) terms.now (TeamStandsAt M.meaning) run.old from → CanBeTold (M.meaning model.now) telling from
+    requires begins { (from : State) × BeginsAt (M.meaning model.now) terms.now (TeamStandsAt M.meaning) run.old from
+        × CanBeTold (M.meaning model.now) telling from }
+    ensures { (from : State) → BeginsAt (M.meaning model.now) terms.now (TeamStandsAt M.meaning) run.old from
+        → CanBeTold (M.meaning model.now) telling from
         → HasSimulated K.Sink out.old out.new result (M.meaning model.now) terms.now (L.lines model.now terms.now) telling from }
 {
     let Stage { rt, alloc, gate } = stage;
