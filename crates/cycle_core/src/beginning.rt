@@ -111,7 +111,7 @@ pub fn first_nodes<M: SimulationModel>(
     let mut nodes = Vec::with_capacity(alloc, count as usize)?;
     for number in 0..count {
         let node = Node::new(alloc, Arc::clone(model)?, terms, number, Arc::clone(homes)?)?;
-        nodes.push(node)?;
+        nodes.push_reserved(node);
     }
     Ok(nodes)
 }

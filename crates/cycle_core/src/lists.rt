@@ -26,7 +26,7 @@ fn blank_commits(alloc: Global, nodes: u32) -> Result<Vec<Committed>, OutOfMemor
 {
     let mut all = Vec::with_capacity(alloc, nodes as usize)?;
     for _ in 0..nodes {
-        all.push(Committed::new(alloc, nodes)?)?;
+        all.push_reserved(Committed::new(alloc, nodes)?);
     }
     Ok(all)
 }

@@ -3,9 +3,10 @@ ghost use Rattle.std.specs.Prelude.{◌≡◌, ◌≤◌, [], IfOk, None, false}
 ghost use Rattle.std.specs.Arc.{arc_value};
 ghost use Rattle.std.specs.Thread.{IsSend, IsSync};
 ghost use Rattle.sim_spec.specs.Standing.{ended, stands};
-ghost use Rattle.sim_spec.specs.State.{initial_state};
+ghost use Rattle.sim_spec.specs.State.{State, initial_state};
 ghost use Rattle.run_tally.specs.Tallies.{TotalsOf};
 ghost use Rattle.sim_text.specs.declared.telling.Telling.TheVariants.{Lines};
+ghost use Rattle.sim_text.specs.Rest.{BeginsAt, CanBeTold};
 ghost use Rattle.sim_text.specs.Written.{HasSimulated};
 ghost use Rattle.cycle_core.specs.Standings.{GoesOn};
 ghost use Rattle.node_team.specs.Handings.{AreWorkers};
@@ -108,6 +109,31 @@ fn run_one_thread<M: Model, L: Tally<M>, K: Sink>(
     simulate::<M, L, _, _, K>(alloc, &*model, &terms, &mut run, &cycle, telling, out)
 }
 
+/// Runs nodes that advance in threads from where they stand, and writes what is to be told of that.
+pub(crate) fn tell_nodes<R: Threads + Sync, G: Gate, M: Model, L: Tally<M>, K: Sink>(
+    stage: Stage<R, G>,
+    model: &M,
+    terms: &Terms,
+    run: &mut TeamRun<M>,
+    telling: Telling,
+    out: &mut K,
+) -> Result<Stop, Unfinished>
+    requires model { run.old.team.world.model ≡ model.now }
+    requires terms { run.old.team.world.terms ≡ terms.now }
+    requires begins { (from : State) × BeginsAt (M.meaning model.now) terms.now (TeamStandsAt M.meaning) run.old from
+        × CanBeTold (M.meaning model.now) telling from }
+    ensures { (from : State) → BeginsAt (M.meaning model.now) terms.now (TeamStandsAt M.meaning) run.old from
+        → CanBeTold (M.meaning model.now) telling from
+        → HasSimulated K.Sink out.old out.new result (M.meaning model.now) terms.now (L.lines model.now terms.now) telling from }
+{
+    let Stage { rt, alloc, gate } = stage;
+    let cycle = |run: &mut TeamRun<M>, alloc: Global, _out: &K| -> Result<Bucket, OutOfMemory>
+        requires { IsSync R.row × IsSync G.row × IsSend M.row × IsSync M.row × AreWorkers run.old.workers × GoesOn M.meaning run.old.team.world }
+        ensures { TeamCycles M.meaning run.old result run.new }
+    { run.cycle(rt, alloc, gate) };
+    simulate::<M, L, _, _, K>(alloc, model, terms, run, &cycle, telling, out)
+}
+
 /// Runs a model on nodes that advance in threads, and writes what is to be told of its simulation.
 fn run_on_nodes<R: Threads + Sync, G: Gate, M: Model, L: Tally<M>, K: Sink>(
     stage: Stage<R, G>,
@@ -120,14 +146,9 @@ fn run_on_nodes<R: Threads + Sync, G: Gate, M: Model, L: Tally<M>, K: Sink>(
     requires { IsSpread spread }
     ensures { HasSimulated K.Sink out.old out.new result (M.meaning model) terms (L.lines model terms) telling (initial_state (M.meaning model)) }
 {
-    let Stage { rt, alloc, gate } = stage;
-    let (model, mut run) = on_nodes(alloc, model, terms, spread)?;
+    let (model, mut run) = on_nodes(stage.alloc, model, terms, spread)?;
     law_initial(&*model, &terms);
-    let cycle = |run: &mut TeamRun<M>, alloc: Global, _out: &K| -> Result<Bucket, OutOfMemory>
-        requires { IsSync R.row × IsSync G.row × IsSend M.row × IsSync M.row × AreWorkers run.old.workers × GoesOn M.meaning run.old.team.world }
-        ensures { TeamCycles M.meaning run.old result run.new }
-    { run.cycle(rt, alloc, gate) };
-    simulate::<M, L, _, _, K>(alloc, &*model, &terms, &mut run, &cycle, telling, out)
+    tell_nodes::<R, G, M, L, K>(stage, &*model, &terms, &mut run, telling, out)
 }
 
 /// Runs a model from its start, writes what is to be told of its simulation, and hands it on. The text is the same whatever

@@ -16,7 +16,7 @@ ghost use Rattle.model_runs.specs.Saved.{HasSaved};
 
 use crate::handing::hand_on;
 use crate::machine::Spread;
-use crate::running::on_nodes;
+use crate::running::{on_nodes, tell_nodes};
 use crate::stage::Stage;
 use crate::team_run::TeamRun;
 use cycle_core::State;
@@ -27,7 +27,7 @@ use run_tally::NoTally;
 use sim_io::Sink;
 use sim_spec::laws::law_initial;
 use sim_spec::{Bucket, Stop, Terms};
-use sim_text::{Telling, Unfinished, simulate, simulate_first};
+use sim_text::{Telling, Unfinished, simulate_first};
 use std::alloc::Global;
 use std::sync::Arc;
 use std::thread::Threads;
@@ -107,14 +107,9 @@ fn resume_at<R: Threads + Sync, G: Gate, M: Model, K: Sink>(
     requires lawful { Lawful (M.meaning model) terms state }
     ensures { HasSimulated K.Sink out.old out.new result (M.meaning model) terms no_totals (Lines false) state }
 {
-    let Stage { rt, alloc, gate } = stage;
-    let (model, mut run) = at_state(alloc, model, terms, spread, state)?;
-    let cycle = |run: &mut TeamRun<M>, alloc: Global, _out: &K| -> Result<Bucket, OutOfMemory>
-        requires { IsSync R.row × IsSync G.row × IsSend M.row × IsSync M.row × AreWorkers run.old.workers × GoesOn M.meaning run.old.team.world }
-        ensures { TeamCycles M.meaning run.old result run.new }
-    { run.cycle(rt, alloc, gate) };
+    let (model, mut run) = at_state(stage.alloc, model, terms, spread, state)?;
     let telling = Telling::Lines { cycles: false };
-    simulate::<M, NoTally, _, _, K>(alloc, &*model, &terms, &mut run, &cycle, telling, out)
+    tell_nodes::<R, G, M, NoTally, K>(stage, &*model, &terms, &mut run, telling, out)
 }
 
 /// Runs a model from a state that a simulation of it can meet until it stops, on nodes, writes its records and why, and

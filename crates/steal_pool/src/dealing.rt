@@ -22,7 +22,7 @@ fn empty_deques<T: Turn>(
 {
     let mut deques = Vec::with_capacity(alloc, count)?;
     for _ in 0..count {
-        deques.push(Deque::new(alloc, room)?)?;
+        deques.push_reserved(Deque::new(alloc, room)?);
     }
     Ok(deques)
 }

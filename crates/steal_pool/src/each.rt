@@ -40,7 +40,7 @@ fn jobs_of<'a, T: Drop, F: Fn(&mut T) + Sync>(
 {
     let mut jobs = Vec::with_capacity(alloc, items.len())?;
     for item in items {
-        jobs.push(Job { item, work })?;
+        jobs.push_reserved(Job { item, work });
     }
     Ok(jobs)
 }
@@ -55,7 +55,7 @@ fn items_of<'a, T: Drop, F: Fn(&mut T) + Sync>(
     let mut items = Vec::with_capacity(alloc, jobs.len())?;
     for job in jobs {
         let Job { item, work: _ } = job;
-        items.push(item)?;
+        items.push_reserved(item);
     }
     Ok(items)
 }

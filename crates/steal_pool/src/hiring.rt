@@ -20,7 +20,7 @@ fn passes<T: Turn>(alloc: Global, deques: &mut [Deque<T>]) -> Result<Vec<Victim<
 {
     let mut victims = Vec::with_capacity(alloc, deques.len())?;
     for deque in deques.iter_mut() {
-        victims.push(deque.victim()?)?;
+        victims.push_reserved(deque.victim()?);
     }
     Ok(victims)
 }
@@ -39,7 +39,7 @@ fn all_passes<T: Turn>(
 {
     let mut lists = Vec::with_capacity(alloc, deques.len())?;
     for _ in 0..deques.len() {
-        lists.push(passes(alloc, deques)?)?;
+        lists.push_reserved(passes(alloc, deques)?);
     }
     Ok(lists)
 }
@@ -62,13 +62,13 @@ fn seat<T: Turn>(
             unreachable!()
         };
         let number = workers.len();
-        workers.push(Worker {
+        workers.push_reserved(Worker {
             number,
             deque,
             victims,
             done: Vec::new(alloc),
             answer: Ok(()),
-        })?;
+        });
     }
     Ok(workers)
 }

@@ -17,7 +17,7 @@ fn empty_places<T: Turn>(alloc: Global, count: usize) -> Result<Vec<Option<T>>, 
 {
     let mut places = Vec::with_capacity(alloc, count)?;
     for _ in 0..count {
-        places.push(None)?;
+        places.push_reserved(None);
     }
     Ok(places)
 }
@@ -45,7 +45,7 @@ fn filled<T: Turn>(alloc: Global, places: Vec<Option<T>>) -> Result<Vec<T>, OutO
     let mut turns = Vec::with_capacity(alloc, places.len())?;
     for place in places {
         let Some(turn) = place else { unreachable!() };
-        turns.push(turn)?;
+        turns.push_reserved(turn);
     }
     Ok(turns)
 }

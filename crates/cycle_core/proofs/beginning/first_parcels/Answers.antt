@@ -1,4 +1,4 @@
-use Rattle.std.proofs.Common.{◌++◌, ◌∷◌, ◌∙◌, [], ap, subst, arith}
+use Rattle.std.proofs.Common.{◌≡◌, ◌++◌, ◌∷◌, ◌∙◌, [], ap, subst, arith}
 use Rattle.std.proofs.lemmas.List.FromFn.{length-map-range_with_len}
 use Rattle.sim_spec.specs.State.{start_event}
 use Rattle.cycle_core.specs.Starts.{ArePartsOf, first_events}
@@ -15,3 +15,10 @@ loop-i-preserved g c =
     let m = g.M.Model.meaning c.args.model.now in
     subst (λ es. ArePartsOf c.args.homes.now es c.put_home.new.parcels.items) (ap (λ e. first_events m c.loop-i.i ++ e ∷ []) c.first_event.ensures ∙ first-more m c.loop-i.i)
     (c.in_ok-put_home.ensures (first_events m c.loop-i.i) c.loop-i.invariant)
+
+pub returns : goal.returns
+returns g c =
+    let m = g.M.Model.meaning c.args.model.now in
+    let count = c.starts-i-end.ensures in
+    let all : c.loop-i.i ≡ m.starts = omega arith in
+    subst (λ n. ArePartsOf c.args.homes.now (first_events m n) c.loop-i.parcels.items) all c.loop-i.invariant

@@ -14,3 +14,6 @@ returns-clause-by g c =
     ∙ ap (λ objects. home_by placement objects c.args.nodes object) (sym many)
     ∙ ap (λ nodes. home_by placement (length homes.homes) nodes object) (sym c.in_ok-homes.ensures.nodes) in
     subst (ArePlacedBy placement) (sym c.in_ok-new.ensures.ok) by
+
+pub returns-clause-nodes : goal.returns-clause-nodes
+returns-clause-nodes g c = ap (λ h. h.nodes) c.in_ok-new.ensures.ok ∙ c.in_ok-homes.ensures.nodes

@@ -1,5 +1,9 @@
-use Rattle.std.proofs.Common.{◌∙◌, ap, arith, map, subst, sym}
+use Rattle.std.proofs.Common.{◌≡◌, ◌+◌, ◌-◌, ◌∙◌, ap, arith, length, map, subst, sym}
 use Rattle.std.specs.Prelude.{sum_by}
+use Rattle.std.proofs.lemmas.List.{length-map}
+use Rattle.std.proofs.lemmas.List.Elements.{All-set}
+use Rattle.steal_pool.specs.declared.worker.Worker.{Worker}
+use Rattle.steal_pool.specs.Tallies.{WHOLE}
 use Rattle.steal_pool.specs.Workers.{ArePasses, own_mark, taken_at}
 use Rattle.steal_pool.proofs.GatherLemmas.{all-returned, half-marks, returning-more, returning-none}
 use Rattle.steal_pool.proofs.gathering.give_all_back.Goals as goal
@@ -24,3 +28,23 @@ loop-place-preserved g c =
 
 pub returns-clause-counted : goal.returns-clause-counted
 returns-clause-counted g c = all-returned c.args.workers.now.items c.loop-place.workers.items c.loop-place.place c.loop-place.invariant (omega (arith, c.args.workers.now.ok.0))
+
+pub give_back-requires-clause-part : goal.give_back-requires-clause-part
+give_back-requires-clause-part g c κs within =
+    let before = c.loop-place.invariant in
+    let worker = c.index_mut.result.now in
+    let R : Worker _ → Type 0 = λ each. each.deque.knows.parts ≡ (WHOLE - length c.args.workers.now.items) + c.loop-place.place in
+    let many : length c.loop-place.workers.items ≡ length c.args.workers.now.items =
+    sym (length-map c.loop-place.workers.items own_mark) ∙ ap length before.marks ∙ length-map c.args.workers.now.items own_mark in
+    let here : R worker = subst R (sym c.index_mut.ensures.value) (before.parts c.loop-place.place worker (omega (arith, c.args.workers.now.ok.0))) in
+    let half = All-set R c.loop-place.workers.items c.loop-place.place (record worker { victims = c.replace-victims.new.dest }) here before.parts in
+    λ k d inside. let parts = half k d inside in omega (arith, c.requires.few)
+
+pub returns-clause-marks : goal.returns-clause-marks
+returns-clause-marks g c = c.loop-place.invariant.marks
+
+pub returns-clause-done : goal.returns-clause-done
+returns-clause-done g c = c.loop-place.invariant.done
+
+pub returns-clause-whole : goal.returns-clause-whole
+returns-clause-whole g c k d inside = let parts = c.loop-place.invariant.parts k d inside in omega (arith, c.args.workers.now.ok.0, c.requires.few)

@@ -1,4 +1,4 @@
-use Rattle.std.proofs.Common.{◌≡◌, ◌<◌, ◌∙◌, All, add-one, ap, arith, get_or, length, map, subst, sym}
+use Rattle.std.proofs.Common.{◌≡◌, ◌<◌, ◌∙◌, All, [], refl, add-one, ap, arith, get_or, length, map, subst, sym}
 use Rattle.std.specs.Prelude.{sum_by}
 use Rattle.std.proofs.lemmas.List.{length-drop, length-map}
 use Rattle.std.proofs.lemmas.List.Elements.{All-head, All-tail}
@@ -6,6 +6,7 @@ use Rattle.std.proofs.lemmas.List.Sums.{sum_by-cons}
 use Rattle.steal_pool.specs.Ends.{Mark, mark, parts}
 use Rattle.steal_pool.specs.Workers.{HasGotBack, own_mark, taken_at}
 use Rattle.steal_pool.proofs.PlaceLemmas.{upto-length, upto-more, upto-all}
+use Rattle.steal_pool.proofs.OrderLemmas.{nothing-left}
 use Rattle.steal_pool.proofs.GatherLemmas.{comes-next, got-back, its-owner, sum-back}
 use Rattle.steal_pool.proofs.gathering.give_back.Given.{Over}
 use Rattle.steal_pool.proofs.gathering.give_back.Goals as goal
@@ -70,3 +71,12 @@ returns-clause-each g c =
     let many = ap length before.to in
     upto-all HasGotBack c.loop-place.place-iterator.count c.args.workers.now.items c.loop-place.workers.items
     (omega (arith, rest.ok.0, length-map rest.items mark, length-map c.args.workers.now.items own_mark, length-drop c.loop-place.place-iterator.count (map own_mark c.args.workers.now.items))) before.upto
+
+pub returns-clause-counted : goal.returns-clause-counted
+returns-clause-counted g c number =
+    let rest = c.loop-place.place-iterator.iter.rest in
+    let none = c.in-None.ensures.steps.0.0 in
+    let empty = nothing-left [] rest.items rest.items refl (omega (arith, rest.ok.0)) in
+    let gone = ap (sum_by (taken_at number)) empty in
+    let counted = c.loop-place.invariant.counted number in
+    omega arith

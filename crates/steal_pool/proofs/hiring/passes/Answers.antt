@@ -7,7 +7,7 @@ use Rattle.steal_pool.proofs.PlaceLemmas.{more-taken, upto-length, upto-more, up
 use Rattle.steal_pool.proofs.hiring.passes.Goals as goal
 
 pub loop-deque-init : goal.loop-deque-init
-loop-deque-init g c = record { upto = refl; marks = refl; to = search rules; fresh = search rules }
+loop-deque-init g c = record { upto = refl; marks = refl; to = search rules; fresh = search rules; many = search rules; room = c.in_ok-victims.ensures.capacity }
 
 pub victim-requires-after_bounds : goal.victim-requires-after_bounds
 victim-requires-after_bounds g c κs within =
@@ -18,10 +18,6 @@ pub returns-in_err-victim-clause-marks : goal.returns-in_err-victim-clause-marks
 returns-in_err-victim-clause-marks g c =
     map-set_same mark c.loop-deque.deques c.loop-deque.deque-index c.victim.new.self c.deque-item.result c.victim.ensures.mark ∙ c.loop-deque.invariant.marks
 
-pub returns-in_err-push-clause-marks : goal.returns-in_err-push-clause-marks
-returns-in_err-push-clause-marks g c =
-    map-set_same mark c.loop-deque.deques c.loop-deque.deque-index c.victim.new.self c.deque-item.result c.victim.ensures.mark ∙ c.loop-deque.invariant.marks
-
 pub loop-deque-preserved : goal.loop-deque-preserved
 loop-deque-preserved g c =
     let before = c.loop-deque.invariant in
@@ -29,8 +25,10 @@ loop-deque-preserved g c =
     let marked = c.in_ok-victim.ensures.made.0 ∙ ap mark same in record {
       upto = rw add-one (upto-more (λ old new. new ≡ without_part old) c.loop-deque.deque-index c.args.deques.now c.loop-deque.deques c.deque-item.result c.victim.new.self before.upto (omega arith) c.in_ok-victim.ensures.left);
       marks = map-set_same mark c.loop-deque.deques c.loop-deque.deque-index c.victim.new.self c.deque-item.result c.victim.ensures.mark ∙ before.marks;
-      to = more-taken mark c.args.deques.now c.loop-deque.deque-index c.deque-item.result c.loop-deque.victims.items c.push.new.self.items c.in_ok-victim.field-0 (omega arith) before.to marked c.in_ok-push.ensures.items;
-      fresh = subst (All (IsFresh 1)) (sym c.in_ok-push.ensures.items) (All-push (IsFresh 1) c.loop-deque.victims.items c.in_ok-victim.field-0 before.fresh c.in_ok-victim.ensures.made.1);
+      to = more-taken mark c.args.deques.now c.loop-deque.deque-index c.deque-item.result c.loop-deque.victims.items c.push_reserved.new.self.items c.in_ok-victim.field-0 (omega arith) before.to marked c.push_reserved.ensures.items;
+      fresh = subst (All (IsFresh 1)) (sym c.push_reserved.ensures.items) (All-push (IsFresh 1) c.loop-deque.victims.items c.in_ok-victim.field-0 before.fresh c.in_ok-victim.ensures.made.1);
+      many = (let pushed = c.push_reserved.ensures.len in omega arith);
+      room = (let kept = c.push_reserved.ensures.capacity in let long = upto-length _ _ _ _ before.upto in omega arith);
     }
 
 pub returns-clause-marks : goal.returns-clause-marks

@@ -1,5 +1,5 @@
-use Rattle.std.proofs.Common.{◌≡◌, map, take}
-use Rattle.std.specs.Prelude.{All}
+use Rattle.std.proofs.Common.{◌≡◌, ◌≤◌, length, map, take, vec_len}
+use Rattle.std.specs.Prelude.{All, vec_capacity}
 use Rattle.steal_pool.specs.Ends.{IsFresh, mark, without_part}
 use Rattle.steal_pool.proofs.PlaceLemmas.{Upto}
 use Rattle.steal_pool.proofs.hiring.passes.Given as goal
@@ -10,4 +10,6 @@ invariant-loop-deque g l = record {
   marks : map mark l.deques ≡ map mark l.fn.deques;
   to : map mark l.victims.items ≡ take l.deque-index (map mark l.fn.deques);
   fresh : All (IsFresh 1) l.victims.items;
+  many : vec_len l.victims ≡ l.deque-index;
+  room : length l.fn.deques ≤ vec_capacity l.victims;
 }

@@ -22,10 +22,11 @@ loop-deque-preserved g c =
     let popped = All-pop (λ victims. AreNew marks victims.items) c.loop-deque.lists.items c.pop.new.self.items c.pop.result c.pop.ensures.items before.passes in
     let passes = MatchOption-at_some ⊤ (λ victims. AreNew marks victims.items) c.in-Some-pop.victims c.in-Some-pop.is popped.1 in record {
       whole = append_assoc c.loop-deque.yielded (deque ∷ []) c.next.new.self.rest.items ∙ whole;
-      marks = ap (map own_mark) c.in_ok-push.ensures.items ∙ map-append own_mark c.loop-deque.workers.items _ ∙ ap (λ l. l ++ mark deque ∷ []) before.marks ∙ sym (map-append mark c.loop-deque.yielded (deque ∷ []));
+      marks = ap (map own_mark) c.push_reserved.ensures.items ∙ map-append own_mark c.loop-deque.workers.items _ ∙ ap (λ l. l ++ mark deque ∷ []) before.marks ∙ sym (map-append mark c.loop-deque.yielded (deque ∷ []));
       passes = popped.0;
       many = (let one = c.in-Some-pop.ensures.cases in let left = ap length steps.0 in omega (arith, before.many, c.pop.new.self.ok.0, c.loop-deque.lists.ok.0));
-      each = subst (All (IsHired marks)) (sym c.in_ok-push.ensures.items)
+      room = (let left = ap length steps.0 in let pushed = c.push_reserved.ensures.len in let kept = c.push_reserved.ensures.capacity in omega (arith, before.room));
+      each = subst (All (IsHired marks)) (sym c.push_reserved.ensures.items)
           (All-push (IsHired marks) c.loop-deque.workers.items _ before.each
           (record {
             place = (let long = ap length before.marks in let all = ap length whole in omega (arith, length-map c.loop-deque.workers.items own_mark, length-map c.loop-deque.yielded mark, length-map c.args.deques.items mark, length-append c.loop-deque.yielded (deque ∷ c.next.new.self.rest.items), c.loop-deque.workers.ok.0));
