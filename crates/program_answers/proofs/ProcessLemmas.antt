@@ -12,7 +12,7 @@ use Rattle.sim_io.specs.declared.words.WordFault.TheVariants.{BadValue}
 use Rattle.sim_io.specs.Causes.{Rose}
 use Rattle.sim_io.specs.Transfers.{AppendsPrefix}
 use Rattle.program_answers.specs.declared.process_end.ProcessEnd.{ProcessEnd}
-use Rattle.program_answers.specs.declared.status.TheConstants.{WRITE_FAULT}
+use Rattle.program_answers.specs.declared.status.TheConstants.{READ_FAULT, WRITE_FAULT}
 use Rattle.program_answers.specs.Answer.{Asked, words_line, IsInput, HandsOnPrefix, WritesOutput}
 use Rattle.program_answers.specs.Answered.{Answers, AnswersNoWords, Streams}
 use Rattle.program_answers.specs.Endings.{noted_line}
@@ -76,6 +76,7 @@ module _ {S K L I O N : Type 0} (source : Source S) (sink : Sink K) (notes : Sin
           subst (λ out. HandsOnPrefix out (contents ended.output) (asked.answer bytes)) made.nothing_kept
           (subst (λ out. HandsOnPrefix (sink.told from.out) out (asked.answer bytes)) ends.stand.handed (answers.handed bytes (input bytes given)).handed_prefix);
       refused_words = answers.input.refused_words;
+      reading = tells_some ended.status READ_FAULT _ _ ended.read_faults made.no_read_faults ends.read_faults answers.reading.read_fault answers.reading.read_quiet;
       writing = tells_some ended.status WRITE_FAULT _ _ ended.write_faults made.no_write_faults ends.write_faults answers.writing.write_fault answers.writing.write_quiet;
       unread = λ untaken. sym ends.stand.left ∙ ap source.left (answers.input.unread untaken) ∙ made.stand.left;
       read = λ done takes.
@@ -98,6 +99,7 @@ module _ {S K L I O N : Type 0} (source : Source S) (sink : Sink K) (notes : Sin
     notes = noted_so (words_line BadValue) answers.line_prefix answers.line_whole;
     unread = sym ends.stand.left ∙ ap source.left answers.unread ∙ made.stand.left;
     unwritten = sym ends.stand.handed ∙ ap sink.handed answers.unwritten ∙ made.stand.handed;
+    no_read_faults = ends.read_faults ∙ ap source.faults answers.unread ∙ made.no_read_faults;
     no_write_faults = ends.write_faults ∙ ap sink.faults answers.unwritten ∙ made.no_write_faults;
   }
 

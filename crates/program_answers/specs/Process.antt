@@ -24,6 +24,7 @@ module _ {S K L I O N : Type 0} (source : Source S) (sink : Sink K) (notes : Sin
   pub record AreMadeOf (adapters : Streams S K L) (given : Streams I O N) : Type 0 where
     pub stand : StandFor adapters given
     pub nothing_kept : sink.told adapters.out ≡ contents given.out
+    pub no_read_faults : source.faults adapters.source ≡ 0
     pub no_write_faults : sink.faults adapters.out ≡ 0
     pub no_note_faults : notes.faults adapters.notes ≡ 0
 
@@ -31,6 +32,7 @@ module _ {S K L I O N : Type 0} (source : Source S) (sink : Sink K) (notes : Sin
   pub record EndsBy (status : ℕ) (adapters : Streams S K L) (ended : ProcessEnd I O N) : Type 0 where
     pub same_status : ended.status ≡ status
     pub stand : StandFor adapters (streams ended.input ended.output ended.notes)
+    pub read_faults : ended.read_faults ≡ source.faults adapters.source
     pub write_faults : ended.write_faults ≡ sink.faults adapters.out
     pub note_faults : ended.note_faults ≡ notes.faults adapters.notes
 
@@ -47,7 +49,8 @@ module _ {I O N : Type 0} (remaining : I → Option (List ℕ)) (contents : O �
     pub same_status : OfAnswer asked (remaining old.source) (λ a. IsAnswering ended.status → ended.status ≡ a.status)
     pub prefix : OfAnswer asked (remaining old.source) (HandsOnPrefix (contents old.out) (contents ended.output))
     pub refused_words : (ended.status ≡ WORDS) ↔ (asked.refused ≡ true)
-    -- 5 tells that a write failed, and no other status does
+    -- 4 and 5 tell that a read or a write failed, and no other status does
+    pub reading : (ended.status ≡ READ_FAULT) ↔ (0 < ended.read_faults)
     pub writing : (ended.status ≡ WRITE_FAULT) ↔ (0 < ended.write_faults)
     pub unread : asked.takes ≡ false → remaining ended.input ≡ remaining old.source
     pub read : IsAnswering ended.status → asked.takes ≡ true → IfSome (remaining old.source) (λ bytes. remaining ended.input ≡ Some (drop asked.most bytes))
@@ -64,6 +67,7 @@ module _ {I O N : Type 0} (remaining : I → Option (List ℕ)) (contents : O �
     pub notes : NotesStreams (words_line BadValue)
     pub unread : remaining ended.input ≡ remaining old.source
     pub unwritten : contents ended.output ≡ contents old.out
+    pub no_read_faults : ended.read_faults ≡ 0
     pub no_write_faults : ended.write_faults ≡ 0
 
 module _ {I O N : Type 0} (remaining : I → Option (List ℕ)) (contents : O → Option (List ℕ)) (noted : N → Option (List ℕ)) (status : ℕ) (old : Streams I O N) where

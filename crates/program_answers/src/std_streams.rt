@@ -36,6 +36,7 @@ impl<I: Read, O: Write, N: Write> StdStreams<I, O, N> {
         let StdStreams { source, out, notes } = self;
         ProcessEnd {
             status,
+            read_faults: source.faults(),
             write_faults: out.inner().faults(),
             note_faults: notes.faults(),
             input: source.into_inner(),

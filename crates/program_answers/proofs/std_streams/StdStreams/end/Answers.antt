@@ -10,6 +10,7 @@ returns g c = record {
     handed = sym (c.into_inner-3.ensures ∙ ap (λ s. g.O.Write.contents s.writer) c.into_inner-2.ensures);
     told = sym c.into_inner-4.ensures;
   };
-  write_faults = c.faults.ensures ∙ ap (λ s. s.faults) c.inner.ensures;
-  note_faults = c.faults-2.ensures;
+  read_faults = c.faults.ensures;
+  write_faults = c.faults-2.ensures ∙ ap (λ s. s.faults) c.inner.ensures;
+  note_faults = c.faults-3.ensures;
 }

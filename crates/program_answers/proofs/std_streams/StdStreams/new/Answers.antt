@@ -16,6 +16,7 @@ returns g c = record {
       ∙ ap (λ xs. append_known (g.O.Write.contents c.new-2.result.writer) xs) c.new-3.ensures.empty
       ∙ append_known-none _
       ∙ c.new-2.ensures.told;
+  no_read_faults = c.new.ensures.faults;
   no_write_faults = ap (λ s. s.faults) c.new-3.ensures.inner ∙ c.new-2.ensures.faults;
   no_note_faults = c.new-4.ensures.faults;
 }
