@@ -1,15 +1,16 @@
 //! The program over what a process has: its words and its three streams.
-ghost use Rattle.std.specs.Prelude.{◌≤◌, IfOk, IfErr};
+ghost use Rattle.std.specs.Prelude.{◌≤◌, IfOk, IfErr, IfSome};
 ghost use Rattle.std.specs.Process.{exit_status};
+ghost use Rattle.sim_io.specs.Words.{settings, texts_of};
 ghost use Rattle.program_answers.specs.declared.status.TheConstants.{STATE};
 ghost use Rattle.program_answers.specs.Answered.{streams};
 ghost use Rattle.program_answers.specs.Process.{AnswersStreams, EndsProcess, LeavesStreams};
 ghost use Rattle.btb_program.specs.Answer.{asked_by};
+ghost use Rattle.btb_program.specs.SavedRuns.{IsSavedSo};
 
 use crate::program::run_program;
 use node_team::Open;
-use program_answers::{ProcessEnd, program_words};
-use sim_io::{GatheringSink, StdSink, StdSource};
+use program_answers::{ProcessEnd, StdStreams, program_words};
 use std::alloc::{AllocGlobal, Global};
 use std::env::Env;
 use std::io::{ErrorKind, Read, Write};
@@ -30,23 +31,14 @@ where
     I: Read + Drop,
     O: Write + Drop,
     N: Write + Drop,
-    ensures read { IfOk words (λ list. AnswersStreams I.remaining O.contents N.contents result.status result.note_faults
-        (streams input output notes) (streams result.input result.output result.notes) (asked_by list.items)) }
-    ensures unread { IfErr words (LeavesStreams I.remaining O.contents N.contents result.status result.note_faults
-        (streams input output notes) (streams result.input result.output result.notes)) }
+    ensures read { IfOk words (λ list. AnswersStreams I.remaining O.contents N.contents (streams input output notes) result (asked_by list.items)) }
+    ensures saved { IfOk words (λ list. IfSome (I.remaining input) (IsSavedSo (settings (texts_of list.items)) result.status)) }
+    ensures unread { IfErr words (LeavesStreams I.remaining O.contents N.contents (streams input output notes) result) }
     ensures known { result.status ≤ STATE }
 {
-    let mut source = StdSource::new(input);
-    let mut out = GatheringSink::new(rt.alloc(), StdSink::new(output));
-    let mut lines = StdSink::new(notes);
-    let status = run_program(rt, words, &mut source, &mut out, &mut lines, &Open);
-    ProcessEnd {
-        status,
-        note_faults: lines.faults(),
-        input: source.into_inner(),
-        output: out.into_inner().into_inner(),
-        notes: lines.into_inner(),
-    }
+    let mut io = StdStreams::new(rt.alloc(), input, output, notes);
+    let status = run_program(rt, words, &mut io.source, &mut io.out, &mut io.notes, &Open);
+    io.end(status)
 }
 
 /// Does what `run_streams` does with the words of the process, which no contract can name: its status is the answer's to some

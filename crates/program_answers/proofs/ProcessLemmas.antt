@@ -1,5 +1,6 @@
 -- What is answered over adapters of a process's streams is answered over the streams.
-use Rattle.std.proofs.Common.{◌≡◌, ◌⊎◌, inl, inr, ℕ, List, [], drop, Option, Some, None, Result, Ok, Err, refl, sym, ap, ◌∙◌, subst, append-nil}
+use Rattle.std.proofs.Common.{◌≡◌, ◌≢◌, ◌<◌, ◌⊎◌, ◌↔◌, inl, inr, ℕ, List, [], drop, Option, Some, None, Result, Ok, Err, refl, sym, ap, ◌∙◌, subst, append-nil, arith}
+use Rattle.std.proofs.lemmas.Bool.{cases_eq}
 use Rattle.std.specs.Prelude.{IfErr, IfOk, IfSome, String}
 use Rattle.std.specs.declared.alloc.Global.{Global}
 use Rattle.std.specs.declared.io.ErrorKind.{ErrorKind}
@@ -10,10 +11,12 @@ use Rattle.sim_io.specs.declared.streams.source.Source.{Ghosts as Source}
 use Rattle.sim_io.specs.declared.words.WordFault.TheVariants.{BadValue}
 use Rattle.sim_io.specs.Causes.{Rose}
 use Rattle.sim_io.specs.Transfers.{AppendsPrefix}
+use Rattle.program_answers.specs.declared.process_end.ProcessEnd.{ProcessEnd}
+use Rattle.program_answers.specs.declared.status.TheConstants.{READ_FAULT, WRITE_FAULT}
 use Rattle.program_answers.specs.Answer.{Asked, words_line, IsInput, HandsOnPrefix, WritesOutput}
 use Rattle.program_answers.specs.Answered.{Answers, AnswersNoWords, Streams}
 use Rattle.program_answers.specs.Endings.{noted_line}
-use Rattle.program_answers.specs.Process.{AnswersStreams, EndsProcess, LeavesStreams, NotesStreams}
+use Rattle.program_answers.specs.Process.{AnswersStreams, AreMadeOf, EndsBy, EndsProcess, LeavesStreams, NotesStreams}
 
 -- what follows from what holds of a value, or of an error
 pub ok_map : {T E : Type 0} {P Q : T → Type 0} (r : Result T E) → ((x : T) → P x → Q x) → IfOk r P → IfOk r Q
@@ -29,78 +32,93 @@ pub append_known-none : (known : Option (List ℕ)) → append_known known [] �
 append_known-none None = refl
 append_known-none (Some bytes) = ap (λ xs. Some xs) (append-nil bytes)
 
-module _ {S K L I O N : Type 0} (source : Source S) (sink : Sink K) (notes : Sink L) (remaining : I → Option (List ℕ)) (contents : O → Option (List ℕ)) (noted : N → Option (List ℕ)) where
-  -- the adapters stand for the streams
-  pub record StandFor (adapters : Streams S K L) (streams : Streams I O N) : Type 0 where
-    pub left : source.left adapters.source ≡ remaining streams.source
-    pub handed : sink.handed adapters.out ≡ contents streams.out
-    pub told : notes.told adapters.notes ≡ noted streams.notes
+-- a status that tells of faults tells of those that came since there were none
+tells_some : (status fault before now faults : ℕ) → before ≡ 0 → faults ≡ now → (status ≡ fault → Rose before now) → (status ≢ fault → now ≡ before) → (status ≡ fault) ↔ (0 < faults)
+tells_some status fault before now faults none count rose quiet = (
+  (λ is. subst (λ n. 0 < n) (sym count) (subst (λ n. Rose n now) none (rose is))),
+  (λ some. elim (cases_eq status fault) [
+    | inl is ↦ is
+    | inr other ↦ absurd (let no_faults : faults ≡ 0 = count ∙ quiet other ∙ none in let clash : ⊥ = omega arith in clash)
+  ]),
+)
 
-  module _ (status note_faults : ℕ) (from to : Streams S K L) (old new : Streams I O N) (before : StandFor from old) (after : StandFor to new)
-      (none : notes.faults from.notes ≡ 0) (faults : note_faults ≡ notes.faults to.notes) where
-    noted_so : (line : List ℕ) → AppendsPrefix (notes.told from.notes) (notes.told to.notes) (noted_line status line)
-        → Appends (notes.told from.notes) (notes.told to.notes) (noted_line status line) ⊎ Rose (notes.faults from.notes) (notes.faults to.notes)
-        → NotesStreams remaining contents noted status note_faults old new line
-    noted_so line part whole =
-        let told : List ℕ = noted_line status line in
-        record {
-          prefix = subst (λ known. AppendsPrefix known (noted new.notes) told) before.told (subst (λ known. AppendsPrefix (notes.told from.notes) known told) after.told part);
-          whole = elim whole [
-            | inl all ↦ inl (subst (λ known. Appends known (noted new.notes) told) before.told (subst (λ known. Appends (notes.told from.notes) known told) after.told all))
-            | inr rose ↦ inr (subst (Rose 0) (sym faults) (subst (λ n. Rose n (notes.faults to.notes)) none rose))
-          ];
-        }
-
-    module _ (told : sink.told from.out ≡ contents old.out) (asked : Asked) (answers : Answers source sink notes status from to asked) where
-      input : (bytes : List ℕ) → IsInput asked (remaining old.source) bytes → IsInput asked (source.left from.source) bytes
-      input bytes = subst (λ left. IsInput asked left bytes) (sym before.left)
-
-      keeps : Keeps (sink.told from.out) (sink.handed from.out)
-      keeps = subst (Keeps (sink.told from.out)) (told ∙ sym before.handed) (Keeps-refl (sink.told from.out))
-
-      pub streams_answered : AnswersStreams remaining contents noted status note_faults old new asked
-      streams_answered = record {
-        known = answers.known;
-        output = λ bytes given done.
-            subst (λ out. WritesOutput out (contents new.out) (asked.answer bytes)) told
-            (subst (λ out. WritesOutput (sink.told from.out) out (asked.answer bytes)) after.handed ((answers.handed bytes (input bytes given)).handed done keeps));
-        same_status = λ bytes given. (answers.answer bytes (input bytes given)).same_status;
-        prefix = λ bytes given.
-            subst (λ out. HandsOnPrefix out (contents new.out) (asked.answer bytes)) told
-            (subst (λ out. HandsOnPrefix (sink.told from.out) out (asked.answer bytes)) after.handed (answers.handed bytes (input bytes given)).handed_prefix);
-        refused_words = answers.input.refused_words;
-        unread = λ untaken. sym after.left ∙ ap source.left (answers.input.unread untaken) ∙ before.left;
-        read = λ done takes.
-            subst (λ left. IfSome left (λ bytes. remaining new.source ≡ Some (drop asked.most bytes))) before.left
-            (subst (λ rest. IfSome (source.left from.source) (λ bytes. rest ≡ Some (drop asked.most bytes))) after.left (answers.input.read done takes));
-        reads = answers.input.reads;
-        unwritten = λ either. sym after.handed ∙ ap sink.handed (answers.unwritten either) ∙ before.handed;
-        notes = λ bytes given. let so = answers.noted bytes (input bytes given) in noted_so (asked.answer bytes).notes so.notes_prefix so.notes_whole;
-        notes_fault = λ fault line. let so = answers.noted_fault fault (record { output = []; notes = line; status = status }) in noted_so line so.notes_prefix so.notes_whole;
+module _ {S K L I O N : Type 0} (source : Source S) (sink : Sink K) (notes : Sink L) (remaining : I → Option (List ℕ)) (contents : O → Option (List ℕ)) (noted : N → Option (List ℕ))
+    (from to : Streams S K L) (old : Streams I O N) (status : ℕ) (ended : ProcessEnd I O N)
+    (made : AreMadeOf source sink notes remaining contents noted from old) (ends : EndsBy source sink notes remaining contents noted status to ended) where
+  noted_so : (line : List ℕ) → AppendsPrefix (notes.told from.notes) (notes.told to.notes) (noted_line ended.status line)
+      → Appends (notes.told from.notes) (notes.told to.notes) (noted_line ended.status line) ⊎ Rose (notes.faults from.notes) (notes.faults to.notes)
+      → NotesStreams remaining contents noted old ended line
+  noted_so line part whole =
+      let told : List ℕ = noted_line ended.status line in
+      record {
+        prefix = subst (λ known. AppendsPrefix known (noted ended.notes) told) made.stand.told (subst (λ known. AppendsPrefix (notes.told from.notes) known told) ends.stand.told part);
+        whole = elim whole [
+          | inl all ↦ inl (subst (λ known. Appends known (noted ended.notes) told) made.stand.told (subst (λ known. Appends (notes.told from.notes) known told) ends.stand.told all))
+          | inr rose ↦ inr (subst (λ n. 0 < n) (sym ends.note_faults) (subst (λ n. Rose n (notes.faults to.notes)) made.no_note_faults rose))
+        ];
       }
 
-    -- so it is with words that can't be read
-    pub streams_left : (kind : ErrorKind) → AnswersNoWords notes status from to kind → LeavesStreams remaining contents noted status note_faults old new kind
-    streams_left kind answers = record {
+  module _ (asked : Asked) (answers : Answers source sink notes ended.status from to asked) where
+    input : (bytes : List ℕ) → IsInput asked (remaining old.source) bytes → IsInput asked (source.left from.source) bytes
+    input bytes = subst (λ left. IsInput asked left bytes) (sym made.stand.left)
+
+    keeps : Keeps (sink.told from.out) (sink.handed from.out)
+    keeps = subst (Keeps (sink.told from.out)) (made.nothing_kept ∙ sym made.stand.handed) (Keeps-refl (sink.told from.out))
+
+    streams_answered_so : AnswersStreams remaining contents noted old ended asked
+    streams_answered_so = record {
       known = answers.known;
-      no_memory = answers.no_memory;
-      no_text = answers.no_text;
-      notes = noted_so (words_line BadValue) answers.line_prefix answers.line_whole;
-      unread = sym after.left ∙ ap source.left answers.unread ∙ before.left;
-      unwritten = sym after.handed ∙ ap sink.handed answers.unwritten ∙ before.handed;
+      output = λ bytes given done.
+          subst (λ out. WritesOutput out (contents ended.output) (asked.answer bytes)) made.nothing_kept
+          (subst (λ out. WritesOutput (sink.told from.out) out (asked.answer bytes)) ends.stand.handed ((answers.handed bytes (input bytes given)).handed done keeps));
+      same_status = λ bytes given. (answers.answer bytes (input bytes given)).same_status;
+      prefix = λ bytes given.
+          subst (λ out. HandsOnPrefix out (contents ended.output) (asked.answer bytes)) made.nothing_kept
+          (subst (λ out. HandsOnPrefix (sink.told from.out) out (asked.answer bytes)) ends.stand.handed (answers.handed bytes (input bytes given)).handed_prefix);
+      refused_words = answers.input.refused_words;
+      reading = tells_some ended.status READ_FAULT _ _ ended.read_faults made.no_read_faults ends.read_faults answers.reading.read_fault answers.reading.read_quiet;
+      writing = tells_some ended.status WRITE_FAULT _ _ ended.write_faults made.no_write_faults ends.write_faults answers.writing.write_fault answers.writing.write_quiet;
+      unread = λ untaken. sym ends.stand.left ∙ ap source.left (answers.input.unread untaken) ∙ made.stand.left;
+      read = λ done takes.
+          subst (λ left. IfSome left (λ bytes. remaining ended.input ≡ Some (drop asked.most bytes))) made.stand.left
+          (subst (λ rest. IfSome (source.left from.source) (λ bytes. rest ≡ Some (drop asked.most bytes))) ends.stand.left (answers.input.read done takes));
+      reads = answers.input.reads;
+      unwritten = λ either. sym ends.stand.handed ∙ ap sink.handed (answers.unwritten either) ∙ made.stand.handed;
+      notes = λ bytes given. let so = answers.noted bytes (input bytes given) in noted_so (asked.answer bytes).notes so.notes_prefix so.notes_whole;
+      notes_fault = λ fault line. let so = answers.noted_fault fault (record { output = []; notes = line; status = ended.status }) in noted_so line so.notes_prefix so.notes_whole;
     }
+
+  pub streams_answered : (asked : Asked) → Answers source sink notes status from to asked → AnswersStreams remaining contents noted old ended asked
+  streams_answered asked answers = streams_answered_so asked (subst (λ n. Answers source sink notes n from to asked) (sym ends.same_status) answers)
+
+  streams_left_so : (kind : ErrorKind) → AnswersNoWords notes ended.status from to kind → LeavesStreams remaining contents noted old ended kind
+  streams_left_so kind answers = record {
+    known = answers.known;
+    no_memory = answers.no_memory;
+    no_text = answers.no_text;
+    notes = noted_so (words_line BadValue) answers.line_prefix answers.line_whole;
+    unread = sym ends.stand.left ∙ ap source.left answers.unread ∙ made.stand.left;
+    unwritten = sym ends.stand.handed ∙ ap sink.handed answers.unwritten ∙ made.stand.handed;
+    no_read_faults = ends.read_faults ∙ ap source.faults answers.unread ∙ made.no_read_faults;
+    no_write_faults = ends.write_faults ∙ ap sink.faults answers.unwritten ∙ made.no_write_faults;
+  }
+
+  -- so it is with words that can't be read
+  pub streams_left : (kind : ErrorKind) → AnswersNoWords notes status from to kind → LeavesStreams remaining contents noted old ended kind
+  streams_left kind answers = streams_left_so kind (subst (λ n. AnswersNoWords notes n from to kind) (sym ends.same_status) answers)
+
+  -- what a status says of the input that was left is so with the status of the process, and of the input that it had
+  pub said_of_input : (P : ℕ → List ℕ → Type 0) → IfSome (source.left from.source) (P status) → IfSome (remaining old.source) (P ended.status)
+  said_of_input P said = subst (λ left. IfSome left (P ended.status)) made.stand.left (subst (λ n. IfSome (source.left from.source) (P n)) (sym ends.same_status) said)
 
 -- a process whose words were read has answered to them, and one whose words couldn't be read to none
 module _ {I O N W : Type 0} (remaining : I → Option (List ℕ)) (contents : O → Option (List ℕ)) (noted : N → Option (List ℕ)) (asked_by : List (String Global) → Asked) (items : W → List (String Global))
-    (status note_faults : ℕ) (old new : Streams I O N) where
-  some_words : (words : Result W ErrorKind) → IfOk words (λ list. AnswersStreams remaining contents noted status note_faults old new (asked_by (items list)))
-      → IfErr words (LeavesStreams remaining contents noted status note_faults old new)
-      → ((words : List (String Global)) × AnswersStreams remaining contents noted status note_faults old new (asked_by words)) ⊎ ((kind : ErrorKind) × LeavesStreams remaining contents noted status note_faults old new kind)
+    (old : Streams I O N) (ended : ProcessEnd I O N) where
+  some_words : (words : Result W ErrorKind) → IfOk words (λ list. AnswersStreams remaining contents noted old ended (asked_by (items list))) → IfErr words (LeavesStreams remaining contents noted old ended)
+      → ((words : List (String Global)) × AnswersStreams remaining contents noted old ended (asked_by words)) ⊎ ((kind : ErrorKind) × LeavesStreams remaining contents noted old ended kind)
   some_words (Ok list) read unread = inl (items list, read)
   some_words (Err kind) read unread = inr (kind, unread)
 
-  pub process_ends : (told : ℕ) (words : Result W ErrorKind) → told ≡ status → IfOk words (λ list. AnswersStreams remaining contents noted status note_faults old new (asked_by (items list)))
-      → IfErr words (LeavesStreams remaining contents noted status note_faults old new) → EndsProcess remaining contents noted told old asked_by
-  process_ends told words same read unread =
-      let Ends : ℕ → Type 0 = λ n. EndsProcess remaining contents noted n old asked_by in
-      subst Ends (sym same) record { new = new; note_faults = note_faults; answers = some_words words read unread }
+  pub process_ends : (told : ℕ) (words : Result W ErrorKind) → told ≡ ended.status → IfOk words (λ list. AnswersStreams remaining contents noted old ended (asked_by (items list)))
+      → IfErr words (LeavesStreams remaining contents noted old ended) → EndsProcess remaining contents noted told old asked_by
+  process_ends told words same read unread = record { ended = ended; same_status = sym same; answers = some_words words read unread }

@@ -5,9 +5,11 @@ mod ending;
 mod notes;
 mod process_end;
 pub mod status;
+mod std_streams;
 mod words;
 
 pub use ending::{Ending, ending_of};
 pub use notes::{conclude, refused};
 pub use process_end::ProcessEnd;
+pub use std_streams::StdStreams;
 pub use words::{program_words, unread_words};

@@ -7,8 +7,7 @@ ghost use Rattle.program_answers.specs.declared.status.TheConstants.{EVENT_LIMIT
 ghost use Rattle.replicate_program.specs.TableAnswers.{table_asked_by};
 
 use crate::top::replicate;
-use program_answers::{ProcessEnd, program_words};
-use sim_io::{GatheringSink, StdSink, StdSource};
+use program_answers::{ProcessEnd, StdStreams, program_words};
 use std::alloc::{AllocGlobal, Global};
 use std::env::Env;
 use std::io::{ErrorKind, Read, Write};
@@ -29,23 +28,14 @@ where
     I: Read + Drop,
     O: Write + Drop,
     N: Write + Drop,
-    ensures read { IfOk words (λ list. AnswersStreams I.remaining O.contents N.contents result.status result.note_faults
-        (streams input output notes) (streams result.input result.output result.notes) (table_asked_by list.items)) }
-    ensures unread { IfErr words (LeavesStreams I.remaining O.contents N.contents result.status result.note_faults
-        (streams input output notes) (streams result.input result.output result.notes)) }
+    ensures read { IfOk words (λ list.
+        AnswersStreams I.remaining O.contents N.contents (streams input output notes) result (table_asked_by list.items)) }
+    ensures unread { IfErr words (LeavesStreams I.remaining O.contents N.contents (streams input output notes) result) }
     ensures known { result.status ≤ EVENT_LIMIT }
 {
-    let mut source = StdSource::new(input);
-    let mut out = GatheringSink::new(rt.alloc(), StdSink::new(output));
-    let mut lines = StdSink::new(notes);
-    let status = replicate(rt, words, &mut source, &mut out, &mut lines);
-    ProcessEnd {
-        status,
-        note_faults: lines.faults(),
-        input: source.into_inner(),
-        output: out.into_inner().into_inner(),
-        notes: lines.into_inner(),
-    }
+    let mut io = StdStreams::new(rt.alloc(), input, output, notes);
+    let status = replicate(rt, words, &mut io.source, &mut io.out, &mut io.notes);
+    io.end(status)
 }
 
 /// Does what `run_streams` does with the words of the process, which no contract can name: its status is the answer's to some

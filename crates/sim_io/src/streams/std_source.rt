@@ -25,6 +25,13 @@ impl<R: Read> StdSource<R> {
         StdSource { reader, faults: 0 }
     }
 
+    /// How often the reader failed.
+    pub fn faults(&self) -> u64
+        ensures { result ≡ ⟦<StdSource<R> as Source>⟧.faults self.now }
+    {
+        self.faults
+    }
+
     /// The reader.
     pub fn into_inner(self) -> R
         ensures { R.remaining result ≡ ⟦<StdSource<R> as Source>⟧.left self }
