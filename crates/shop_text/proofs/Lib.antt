@@ -5,3 +5,4 @@ pub mod Rising
 pub mod ClassLemmas
 pub mod LawLemmas
 pub mod LabelLemmas
+pub mod GivesLemmas

@@ -10,29 +10,34 @@ use Rattle.shop_model.specs.Parts.{IsVisit, IsBranch, IsStep, IsClass}
 use Rattle.shop_text.specs.declared.named.NamedStep.{NamedStep}
 use Rattle.shop_text.specs.declared.named.NamedStep.TheVariants.{Visit as NamesVisit, Free as NamesFree, Delay as NamesDelay, Go as NamesGo}
 use Rattle.shop_text.specs.declared.named.NamedVisit.{NamedVisit}
+use Rattle.shop_text.specs.declared.links.VisitLinks.{VisitLinks}
 use Rattle.text_fields.specs.Checks.{Checked}
 use Rattle.text_fields.specs.Fields.{each_of}
 use Rattle.text_fields.specs.Links.{link, links, IsFound}
 use Rattle.text_fields.specs.Names.{Finder}
 use Rattle.text_fields.proofs.Found.{bound, seen, link-found, links-found}
 use Rattle.shop_text.specs.ClassTexts.{ClassText}
-use Rattle.shop_text.specs.LinkedRoutes.{linked_visit, linked_step, linked_steps, linked_class, linked_classes}
+use Rattle.shop_text.specs.LinkedRoutes.{visit_links, visit_with, linked_visit, linked_step, linked_steps, linked_class, linked_classes}
 use Rattle.shop_text.specs.Ranges.{IsNamedVisit, IsNamedStep, IsClassText, LinksBelow}
 use Rattle.shop_text.proofs.LinkLemmas.{below_found}
 
+abbrev linked_to : ℕ → ℕ → ℕ → VisitLinks
+linked_to station away full = record { station = station; away = away; full = full }
+
 visit-linked : (n m at : ℕ) (find labels : Finder) (visit : NamedVisit) (step : Step) → LinksBelow n find → LinksBelow (m + 2) labels → IsNamedVisit visit
     → linked_visit find labels at visit ≡ Ok step → IsStep n m step
-unfolding linked_visit
+unfolding linked_visit visit_links
 visit-linked n m at find labels visit step stations ends fine gives =
-    let one = bound (link find at visit.station) _ step gives in
-    let two = bound (link labels at visit.away) _ step one.2 in
-    let three = seen (link labels at visit.full) (λ full. Visit (record { station = one.0; service = visit.service; patience = visit.patience; away = two.0; full = full })) step two.2 in
-    let station : one.0 < n = below_found n one.0 find stations (link-found find at visit.station one.0 one.1) in
-    let away : two.0 < m + 2 = below_found (m + 2) two.0 labels ends (link-found labels at visit.away two.0 two.1) in
-    let full : three.0 < m + 2 = below_found (m + 2) three.0 labels ends (link-found labels at visit.full three.0 three.1) in
+    let links = seen (visit_links find labels at visit.names) (visit_with visit) step gives in
+    let one = bound (link find at visit.names.station) _ links.0 links.1 in
+    let two = bound (link labels at visit.names.away) _ links.0 one.2 in
+    let three = seen (link labels at visit.names.full) (λ (full : ℕ). linked_to one.0 two.0 full) links.0 two.2 in
+    let station : one.0 < n = below_found n one.0 find stations (link-found find at visit.names.station one.0 one.1) in
+    let away : two.0 < m + 2 = below_found (m + 2) two.0 labels ends (link-found labels at visit.names.away two.0 two.1) in
+    let full : three.0 < m + 2 = below_found (m + 2) three.0 labels ends (link-found labels at visit.names.full three.0 three.1) in
     let lawful : IsVisit n m (record { station = one.0; service = visit.service; patience = visit.patience; away = two.0; full = three.0 }) =
     record { exists = station; service = fine.service; patience = fine.patience; away = omega (arith, away); full = omega (arith, full) } in
-    subst (IsStep n m) three.2 lawful
+    subst (IsStep n m) links.2 (subst (λ (links : VisitLinks). IsStep n m (visit_with visit links)) three.2 lawful)
 
 step-linked : (n m at : ℕ) (find labels : Finder) (named : NamedStep) (step : Step) → LinksBelow n find → LinksBelow (m + 2) labels → IsNamedStep named
     → linked_step find labels at named ≡ Ok step → IsStep n m step
@@ -80,15 +85,15 @@ class-linked n at find text class stations fine gives =
     let found = seen (linked_steps find text.labels at text.route) (λ (route : List Step). record text.class { route = route }) class gives in
     let steps = steps-linked n (length text.route) at 0 find text.labels text.route found.0 stations fine.route.labels fine.route.steps found.1 in
     let lawful : IsClass n (record text.class { route = found.0 }) = record {
-      every = fine.every;
-      first = fine.first;
-      until = fine.until;
-      times = fine.times;
-      batch = fine.batch;
-      some = fine.some;
-      few = fine.few;
-      priority = fine.priority;
-      due = fine.due;
+      every = fine.fields.every;
+      first = fine.fields.first;
+      until = fine.fields.until;
+      times = fine.fields.times;
+      batch = fine.fields.batch;
+      some = fine.fields.some;
+      few = fine.fields.few;
+      priority = fine.fields.priority;
+      due = fine.fields.due;
       first_step = omega (arith, steps.1, fine.route.some);
       few_steps = omega (arith, steps.1, fine.route.few);
       steps = subst (λ m. All (IsStep n m) found.0) (sym steps.1) steps.0;

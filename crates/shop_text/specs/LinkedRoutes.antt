@@ -6,6 +6,8 @@ use Rattle.shop_model.specs.declared.step.Step.TheVariants.{Visit, Free, Delay, 
 use Rattle.shop_text.specs.declared.named.NamedStep.{NamedStep}
 use Rattle.shop_text.specs.declared.named.NamedStep.TheVariants.{Visit as NamesVisit, Free as NamesFree, Delay as NamesDelay, Go as NamesGo}
 use Rattle.shop_text.specs.declared.named.NamedVisit.{NamedVisit}
+use Rattle.shop_text.specs.declared.named.VisitNames.{VisitNames}
+use Rattle.shop_text.specs.declared.links.VisitLinks.{VisitLinks}
 use Rattle.text_fields.specs.Checks.{Checked, ◌>>=◌}
 use Rattle.text_fields.specs.Fields.{each_of}
 use Rattle.text_fields.specs.Links.{link, links}
@@ -13,12 +15,21 @@ use Rattle.text_fields.specs.Names.{Finder}
 use Rattle.shop_text.specs.ClassTexts.{ClassText}
 
 -- the station first, and then the labels
+unfoldable pub visit_links : Finder → Finder → ℕ → VisitNames → Checked VisitLinks
+visit_links find labels at names = do
+  station ← link find at names.station
+  away ← link labels at names.away
+  full ← link labels at names.full
+  Ok (record { station = station; away = away; full = full })
+
+abbrev pub visit_with : NamedVisit → VisitLinks → Step
+visit_with visit links =
+    Visit (record { station = links.station; service = visit.service; patience = visit.patience; away = links.away; full = links.full })
+
 unfoldable pub linked_visit : Finder → Finder → ℕ → NamedVisit → Checked Step
 linked_visit find labels at visit = do
-  station ← link find at visit.station
-  away ← link labels at visit.away
-  full ← link labels at visit.full
-  Ok (Visit (record { station = station; service = visit.service; patience = visit.patience; away = away; full = full }))
+  links ← visit_links find labels at visit.names
+  Ok (visit_with visit links)
 
 abbrev pub linked_step : Finder → Finder → ℕ → NamedStep → Checked Step
 linked_step find labels at (NamesVisit visit) = linked_visit find labels at visit

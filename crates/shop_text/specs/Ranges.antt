@@ -12,6 +12,8 @@ use Rattle.shop_model.specs.declared.station.TheConstants.{MOST_LINE, MOST_OPEN,
 use Rattle.shop_model.specs.HasStation.{AreBreakdowns}
 use Rattle.shop_model.specs.ShopParts.{most_open}
 use Rattle.shop_text.specs.declared.arrivals.Arrivals.{Arrivals}
+use Rattle.shop_text.specs.declared.arrivals.Batches.{Batches}
+use Rattle.shop_text.specs.declared.arrivals.Window.{Window}
 use Rattle.shop_text.specs.declared.named.NamedStep.{NamedStep}
 use Rattle.shop_text.specs.declared.named.NamedStep.TheVariants.{Visit, Free, Delay, Go}
 use Rattle.shop_text.specs.declared.named.NamedVisit.{NamedVisit}
@@ -51,14 +53,20 @@ IsNamedStep (Free station) = Unit {0}
 IsNamedStep (Delay law) = IsTrue (is_delay_law law)
 IsNamedStep (Go steps weights) = (length weights ≡ length steps) × IsTrue (is_choice weights)
 
+pub record IsWindow (window : Window) : Type 0 where
+  pub first : window.first ≤ MOST_DUE
+  pub until : window.until ≤ MOST_DUE
+
+pub record AreBatches (batches : Batches) : Type 0 where
+  pub batch : ForSome batches.batch (λ law. IsTrue (is_delay_law law))
+  pub some : 1 ≤ batches.count
+  pub few : batches.count ≤ MOST_COUNT
+
 pub record AreArrivals (arrivals : Arrivals) : Type 0 where
   pub every : ForSome arrivals.every (λ law. IsTrue (is_delay_law law))
-  pub first : arrivals.first ≤ MOST_DUE
-  pub until : arrivals.until ≤ MOST_DUE
+  pub window : IsWindow arrivals.window
   pub times : All (λ time. time ≤ MOST_DUE) arrivals.times
-  pub batch : ForSome arrivals.batch (λ law. IsTrue (is_delay_law law))
-  pub some : 1 ≤ arrivals.count
-  pub few : arrivals.count ≤ MOST_COUNT
+  pub batches : AreBatches arrivals.batches
 
 -- what has names and may be linked to has numbers below this one
 abbrev pub LinksBelow : ℕ → Finder → Type 0
@@ -71,15 +79,19 @@ pub record IsRoute (route : List NamedStep) (find : Finder) : Type 0 where
   pub steps : All IsNamedStep route
   pub labels : LinksBelow (length route + 2) find
 
+-- a class but for its route
+pub record HasClassFields (class : Class) : Type 0 where
+  pub every : ForSome class.every (λ law. IsTrue (is_delay_law law))
+  pub first : class.first ≤ MOST_DUE
+  pub until : class.until ≤ MOST_DUE
+  pub times : All (λ time. time ≤ MOST_DUE) class.times
+  pub batch : ForSome class.batch (λ law. IsTrue (is_delay_law law))
+  pub some : 1 ≤ class.count
+  pub few : class.count ≤ MOST_COUNT
+  pub priority : class.priority ≤ MOST_PRIORITY
+  pub due : ForSome class.due (λ due. due ≤ MOST_DUE)
+
 -- a class, before its route is linked
 pub record IsClassText (text : ClassText) : Type 0 where
-  pub every : ForSome text.class.every (λ law. IsTrue (is_delay_law law))
-  pub first : text.class.first ≤ MOST_DUE
-  pub until : text.class.until ≤ MOST_DUE
-  pub times : All (λ time. time ≤ MOST_DUE) text.class.times
-  pub batch : ForSome text.class.batch (λ law. IsTrue (is_delay_law law))
-  pub some : 1 ≤ text.class.count
-  pub few : text.class.count ≤ MOST_COUNT
-  pub priority : text.class.priority ≤ MOST_PRIORITY
-  pub due : ForSome text.class.due (λ due. due ≤ MOST_DUE)
+  pub fields : HasClassFields text.class
   pub route : IsRoute text.route text.labels

@@ -12,6 +12,7 @@ use Rattle.shop_model.specs.declared.station.Station.{Station}
 use Rattle.shop_model.specs.declared.station.TheConstants.{MOST_LINE, MOST_OPEN, MOST_SHIFTS}
 use Rattle.shop_model.specs.ShopParts.{most_open}
 use Rattle.shop_text.specs.declared.shifts.Timetable.{Timetable}
+use Rattle.shop_text.specs.declared.stations.Desk.{Desk}
 use Rattle.text_fields.specs.declared.directory.Place.{Place}
 use Rattle.text_fields.specs.declared.refusal.Cause.TheVariants.{BadValue, Missing}
 use Rattle.text_fields.specs.Checks.{Checked, refusal, refusal_where, ◌>>=◌}
@@ -80,32 +81,42 @@ station_keys =
 abbrev pub station_place : ℕ → Place
 station_place at = record { number = at - 1; takes_links = true }
 
--- a station, where the names before it are found so, and how names are found after it; its line has one level until all
--- classes are known
+unfoldable pub desk : ℕ → Members → Checked Desk
+desk at ms = do
+  servers ← number_or at 1 0 MOST_OPEN (get_member (codes "servers") ms)
+  line ← number_or at MOST_LINE 0 MOST_LINE (get_member (codes "line") ms)
+  order ← order at (get_member (codes "order") ms)
+  Ok (record { servers = servers; line = line; order = order })
+
+-- a station of this name; its line has one level until all classes are known
+abbrev pub station_with : List ℕ → Desk → Timetable → Option Breakdowns → Station
+station_with name desk timetable breakdowns = record {
+  name = name;
+  servers = desk.servers;
+  most = most_open desk.servers timetable.shifts;
+  line = desk.line;
+  order = desk.order;
+  levels = 1;
+  shifts = timetable.shifts;
+  period = timetable.period;
+  breakdowns = breakdowns;
+}
+
+unfoldable pub station_named : ℕ → List ℕ → Members → Checked Station
+station_named at name ms = do
+  desk ← desk at ms
+  timetable ← timetable at ms
+  breakdowns ← breakdowns at ms
+  known ← only at station_keys ms
+  Ok (station_with name desk timetable breakdowns)
+
+-- a station, where the names before it are found so, and how names are found after it
 unfoldable pub station : ℕ → Finder → Data → Checked (Station × Finder)
 station at find d = do
   ms ← table_of at d
   name ← required at (codes "name") ms >>= new_name find at
-  servers ← number_or at 1 0 MOST_OPEN (get_member (codes "servers") ms)
-  line ← number_or at MOST_LINE 0 MOST_LINE (get_member (codes "line") ms)
-  order ← order at (get_member (codes "order") ms)
-  timetable ← timetable at ms
-  breakdowns ← breakdowns at ms
-  known ← only at station_keys ms
-  Ok (
-    record {
-      name = name;
-      servers = servers;
-      most = most_open servers timetable.shifts;
-      line = line;
-      order = order;
-      levels = 1;
-      shifts = timetable.shifts;
-      period = timetable.period;
-      breakdowns = breakdowns;
-    },
-    taken_in find name (station_place at),
-  )
+  station ← station_named at name ms
+  Ok (station, taken_in find name (station_place at))
 
 -- the stations one after another, the first with item 1
 abbrev pub stations : Items → Checked (List Station × Finder)

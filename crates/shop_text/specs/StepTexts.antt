@@ -6,6 +6,7 @@ use Rattle.shop_model.specs.declared.class.TheConstants.{MOST_STEPS}
 use Rattle.shop_text.specs.declared.named.NamedStep.{NamedStep}
 use Rattle.shop_text.specs.declared.named.NamedStep.TheVariants.{Visit, Free, Delay, Go}
 use Rattle.shop_text.specs.declared.named.NamedVisit.{NamedVisit}
+use Rattle.shop_text.specs.declared.named.VisitNames.{VisitNames}
 use Rattle.text_fields.specs.declared.directory.Place.{Place}
 use Rattle.text_fields.specs.declared.refusal.Cause.TheVariants.{BadValue, Missing}
 use Rattle.text_fields.specs.Checks.{Checked, refusal, refusal_where, ◌>>=◌}
@@ -14,28 +15,31 @@ use Rattle.text_fields.specs.Names.{Finder, new_name, nothing, taken_in}
 use Rattle.text_fields.specs.Weights.{ways, weights_or_ones}
 use Rattle.shop_text.specs.LawTexts.{delay_law, optional_law}
 
--- how long a job waits, and where it goes if it isn't served
-unfoldable pub visit : ℕ → List ℕ → Option DelayLaw → Members → Checked NamedVisit
-visit at station service ms = do
-  patience ← optional_law at (get_member (codes "patience") ms)
+-- the station, and where a job goes that isn't served
+unfoldable pub visit_names : ℕ → List ℕ → Members → Checked VisitNames
+visit_names at station ms = do
   away ← text_or at (codes "drop") (get_member (codes "away") ms)
   full ← text_or at (codes "drop") (get_member (codes "full") ms)
-  Ok (record { station = station; service = service; patience = patience; away = away; full = full })
+  Ok (record { station = station; away = away; full = full })
+
+-- how long a job waits, and where it goes if it isn't served, of a step that has no other keys than these
+unfoldable pub visit : ℕ → List ℕ → Option DelayLaw → List (List ℕ) → Members → Checked NamedStep
+visit at station service keys ms = do
+  patience ← optional_law at (get_member (codes "patience") ms)
+  names ← visit_names at station ms
+  known ← only at keys ms
+  Ok (Visit (record { names = names; service = service; patience = patience }))
 
 unfoldable pub service : ℕ → Members → Checked NamedStep
 service at ms = do
   station ← required at (codes "at") ms >>= text at
   law ← required at (codes "service") ms >>= delay_law at
-  visit ← visit at station (Some law) ms
-  known ← only at (codes "label" ∷ codes "at" ∷ codes "service" ∷ codes "patience" ∷ codes "away" ∷ codes "full" ∷ []) ms
-  Ok (Visit visit)
+  visit at station (Some law) (codes "label" ∷ codes "at" ∷ codes "service" ∷ codes "patience" ∷ codes "away" ∷ codes "full" ∷ []) ms
 
 unfoldable pub hold : ℕ → Members → Checked NamedStep
 hold at ms = do
   station ← required at (codes "hold") ms >>= text at
-  visit ← visit at station None ms
-  known ← only at (codes "label" ∷ codes "hold" ∷ codes "patience" ∷ codes "away" ∷ codes "full" ∷ []) ms
-  Ok (Visit visit)
+  visit at station None (codes "label" ∷ codes "hold" ∷ codes "patience" ∷ codes "away" ∷ codes "full" ∷ []) ms
 
 unfoldable pub free : ℕ → Members → Checked NamedStep
 free at ms = do

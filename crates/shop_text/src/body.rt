@@ -18,8 +18,8 @@ use crate::stations::stations;
 use model_core::MOST_OBJECTS;
 use shop_model::{Class, Order, Shop, Station};
 use std::alloc::{AllocError, Global};
-use text_fields::{Cause, Directory, Refusal, array_of, item_count, optional};
-use toml::{Table, Value};
+use text_fields::{Cause, Directory, Refusal, item_count, optional_array};
+use toml::Table;
 
 /// The calmest priority of any class.
 fn calmest(classes: &[Class]) -> u32
@@ -90,10 +90,9 @@ pub(crate) fn body(alloc: Global, table: &Table, seed: u64) -> Result<Shop, Refu
     requires { seed < 2 ^ 63 }
     ensures { Gives parts_of result (body seed (table_view table.now)) }
 {
-    let none = Value::Array(Vec::new(alloc));
     let most = MOST_OBJECTS as usize;
-    let tables = array_of(optional(table, "station", &none), 0, most)?;
-    let others = array_of(optional(table, "class", &none), 0, most)?;
+    let tables = optional_array(table, "station", 0, most)?;
+    let others = optional_array(table, "class", 0, most)?;
     if item_count(tables) + item_count(others) > most {
         return Err(Cause::Limit.at(0));
     }

@@ -4,14 +4,55 @@ ghost use Rattle.model_core.specs.declared.limits.TheConstants.{MOST_OBJECTS};
 ghost use Rattle.shop_model.specs.declared.class.TheConstants.{MOST_STEPS};
 ghost use Rattle.text_fields.specs.Checks.{Gives};
 ghost use Rattle.text_fields.specs.Directories.{finder};
-ghost use Rattle.shop_text.specs.LinkedRoutes.{linked_visit, linked_step, linked_steps, linked_class};
+ghost use Rattle.shop_text.specs.LinkedRoutes.{visit_links, visit_with, linked_visit, linked_step, linked_steps, linked_class};
 ghost use Rattle.shop_text.specs.Views.{class_text, linked_named};
 
-use crate::named::{NamedClass, NamedStep, NamedVisit};
+use crate::named::{NamedClass, NamedStep, NamedVisit, VisitNames};
 use model_core::Sequence;
 use shop_model::{Branch, Class, Step, Visit};
 use std::alloc::Global;
 use text_fields::{Directory, Refusal, link, links};
+
+/// The number of the station of a visit, and those of the steps to which a job goes that isn't served.
+#[derive(Clone, Copy)]
+struct VisitLinks {
+    station: u32,
+    away: u32,
+    full: u32,
+}
+
+/// The numbers of a visit in place of its names.
+#[tactic(auto, unfolding(crate::specs::LinkedRoutes::visit_links))]
+fn visit_links(
+    stations: &Directory,
+    labels: &Directory,
+    names: &VisitNames,
+    item: u32,
+) -> Result<VisitLinks, Refusal>
+    ensures { Gives (λ links. links) result (visit_links (finder stations.now) (finder labels.now) item names.now) }
+{
+    let station = link(stations, names.station.bytes(), item)?;
+    let away = link(labels, names.away.bytes(), item)?;
+    let full = link(labels, names.full.bytes(), item)?;
+    Ok(VisitLinks {
+        station,
+        away,
+        full,
+    })
+}
+
+/// A visit with these numbers.
+fn visit_with(visit: NamedVisit, links: VisitLinks) -> Step
+    ensures { result ≡ visit_with visit links }
+{
+    Step::Visit(Visit {
+        station: links.station,
+        service: visit.service,
+        patience: visit.patience,
+        away: links.away,
+        full: links.full,
+    })
+}
 
 /// A visit, with the number of its station, and those of steps in place of labels.
 #[tactic(auto, unfolding(crate::specs::LinkedRoutes::linked_visit))]
@@ -23,16 +64,8 @@ fn linked_visit(
 ) -> Result<Step, Refusal>
     ensures { Gives (λ step. step) result (linked_visit (finder stations.now) (finder labels.now) item visit) }
 {
-    let station = link(stations, visit.station.bytes(), item)?;
-    let away = link(labels, visit.away.bytes(), item)?;
-    let full = link(labels, visit.full.bytes(), item)?;
-    Ok(Step::Visit(Visit {
-        station,
-        service: visit.service,
-        patience: visit.patience,
-        away,
-        full,
-    }))
+    let links = visit_links(stations, labels, &visit.names, item)?;
+    Ok(visit_with(visit, links))
 }
 
 /// A step, with numbers in place of names.

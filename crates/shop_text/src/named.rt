@@ -4,14 +4,20 @@ use random_streams::{DelayLaw, Weights};
 use shop_model::Class;
 use text_fields::Directory;
 
+/// The station of a visit, and the steps to which a job goes that isn't served.
+#[derive(Drop)]
+pub(crate) struct VisitNames {
+    pub(crate) station: Name,
+    pub(crate) away: Name,
+    pub(crate) full: Name,
+}
+
 /// A visit of a station.
 #[derive(Drop)]
 pub(crate) struct NamedVisit {
-    pub(crate) station: Name,
+    pub(crate) names: VisitNames,
     pub(crate) service: Option<DelayLaw>,
     pub(crate) patience: Option<DelayLaw>,
-    pub(crate) away: Name,
-    pub(crate) full: Name,
 }
 
 /// A step of a route.

@@ -11,7 +11,7 @@ use random_streams::MOST_VALUE;
 use shop_model::{MOST_OPEN, MOST_SHIFTS, Shift};
 use std::alloc::Global;
 use text_fields::{
-    Cause, Refusal, array_of, number, only, optional, optional_number, required, table_of,
+    Cause, Refusal, number, only, optional_array, optional_number, required, table_of,
 };
 use toml::{Table, Value};
 
@@ -75,8 +75,7 @@ pub(crate) fn read_timetable(alloc: Global, table: &Table, item: u32) -> Result<
     ensures read { Gives (λ timetable. timetable) result (timetable item (table_view table.now)) }
     ensures in_range { IfOk result IsTimetable }
 {
-    let none = Value::Array(Vec::new(alloc));
-    let values = array_of(optional(table, "shifts", &none), item, MOST_SHIFTS)?;
+    let values = optional_array(table, "shifts", item, MOST_SHIFTS)?;
     let (shifts, next) = shifts(alloc, values, item)?;
     let period = optional_number(table, "period", item, 1, MOST_VALUE)?;
     if comes_early(period, next) {

@@ -4,14 +4,16 @@ ghost use Rattle.std.specs.Option.{ForSome};
 ghost use Rattle.toml.specs.Data.{get_member};
 ghost use Rattle.toml.specs.View.{view, items_view, table_view};
 ghost use Rattle.model_core.specs.declared.limits.TheConstants.{MOST_OBJECTS};
+ghost use Rattle.shop_model.specs.declared.station.TheConstants.{MOST_LINE, MOST_OPEN};
 ghost use Rattle.shop_model.specs.HasStation.{AreBreakdowns};
 ghost use Rattle.text_fields.specs.Checks.{Gives};
 ghost use Rattle.text_fields.specs.Directories.{finder};
 ghost use Rattle.shop_text.specs.Ranges.{IsStationText, LinksBelow};
-ghost use Rattle.shop_text.specs.StationTexts.{order, breakdowns, station, stations};
+ghost use Rattle.shop_text.specs.StationTexts.{order, desk, breakdowns, station_with, station_named, station, stations};
 
 use crate::laws::optional_law;
-use crate::shifts::{most_open, read_timetable};
+use crate::shifts::{Timetable, most_open, read_timetable};
+use model_core::Name;
 use shop_model::{Breakdowns, MOST_LINE, MOST_OPEN, Order, Station};
 use std::alloc::Global;
 use text_fields::{
@@ -35,6 +37,33 @@ fn order(table: &Table, item: u32) -> Result<Order, Refusal>
     }
 }
 
+/// How many servers a station has, how many jobs may wait there, and who is called first.
+#[derive(Clone, Copy)]
+struct Desk {
+    servers: u32,
+    line: u32,
+    order: Order,
+}
+
+/// How many servers a station has, how many jobs may wait there, and who is called first.
+#[tactic(auto, unfolding(crate::specs::StationTexts::desk))]
+fn read_desk(table: &Table, item: u32) -> Result<Desk, Refusal>
+    ensures read { Gives (λ desk. desk) result (desk item (table_view table.now)) }
+    ensures servers { IfOk result (λ desk. desk.servers ≤ MOST_OPEN) }
+    ensures line { IfOk result (λ desk. desk.line ≤ MOST_LINE) }
+{
+    let most = u64::from(MOST_OPEN);
+    let servers = number_or(table, "servers", item, 1, 0, most)? as u32;
+    let most = u64::from(MOST_LINE);
+    let line = number_or(table, "line", item, most, 0, most)? as u32;
+    let order = order(table, item)?;
+    Ok(Desk {
+        servers,
+        line,
+        order,
+    })
+}
+
 /// For how long a station works and stands still.
 #[tactic(auto, unfolding(crate::specs::StationTexts::breakdowns))]
 fn breakdowns(alloc: Global, table: &Table, item: u32) -> Result<Option<Breakdowns>, Refusal>
@@ -50,8 +79,49 @@ fn breakdowns(alloc: Global, table: &Table, item: u32) -> Result<Option<Breakdow
     }
 }
 
-/// The station with this item, which may have none of the names in the directory and is taken in there. Its line has one
-/// level until all classes are known.
+/// A station whose line has one level.
+fn station_with(
+    name: Name,
+    desk: Desk,
+    timetable: Timetable,
+    breakdowns: Option<Breakdowns>,
+) -> Station
+    ensures { result ≡ station_with name desk timetable breakdowns }
+{
+    Station {
+        name,
+        servers: desk.servers,
+        most: most_open(desk.servers, timetable.shifts.as_slice()),
+        line: desk.line,
+        order: desk.order,
+        levels: 1,
+        shifts: timetable.shifts,
+        period: timetable.period,
+        breakdowns,
+    }
+}
+
+/// The station with this name. Its line has one level until all classes are known.
+#[tactic(auto, unfolding(crate::specs::StationTexts::station_named))]
+fn station_named(alloc: Global, table: &Table, name: &str, item: u32) -> Result<Station, Refusal>
+    ensures read { Gives (λ station. station) result (station_named item name.now (table_view table.now)) }
+    ensures in_range { IfOk result IsStationText }
+{
+    let name = name_of(alloc, name)?;
+    let desk = read_desk(table, item)?;
+    let timetable = read_timetable(alloc, table, item)?;
+    let breakdowns = breakdowns(alloc, table, item)?;
+    only(
+        table,
+        &[
+            "name", "servers", "line", "order", "shifts", "period", "up", "down",
+        ],
+        item,
+    )?;
+    Ok(station_with(name, desk, timetable, breakdowns))
+}
+
+/// The station with this item, which may have none of the names in the directory and is taken in there.
 #[tactic(auto, unfolding(crate::specs::StationTexts::station))]
 fn station<'a>(
     alloc: Global,
@@ -66,36 +136,12 @@ fn station<'a>(
 {
     let table = table_of(value, item)?;
     let name = new_name(required(table, "name", item)?, directory, item)?;
-    let most = u64::from(MOST_OPEN);
-    let servers = number_or(table, "servers", item, 1, 0, most)? as u32;
-    let most = u64::from(MOST_LINE);
-    let line = number_or(table, "line", item, most, 0, most)? as u32;
-    let order = order(table, item)?;
-    let timetable = read_timetable(alloc, table, item)?;
-    let breakdowns = breakdowns(alloc, table, item)?;
-    only(
-        table,
-        &[
-            "name", "servers", "line", "order", "shifts", "period", "up", "down",
-        ],
-        item,
-    )?;
     let place = Place {
         number: item - 1,
         takes_links: true,
     };
     directory.add(name.as_bytes(), place)?;
-    Ok(Station {
-        name: name_of(alloc, name)?,
-        servers,
-        most: most_open(servers, timetable.shifts.as_slice()),
-        line,
-        order,
-        levels: 1,
-        shifts: timetable.shifts,
-        period: timetable.period,
-        breakdowns,
-    })
+    station_named(alloc, table, name, item)
 }
 
 /// The stations one after another, the first with item 1, and a directory of them.

@@ -1,16 +1,16 @@
 //! The steps of a route, each form with its fields.
-ghost use Rattle.std.specs.Prelude.{◌≡◌, IfOk, IsTrue};
+ghost use Rattle.std.specs.Prelude.{◌≡◌, IfOk, IsTrue, map};
 ghost use Rattle.std.specs.Option.{ForSome};
 ghost use Rattle.toml.specs.View.{view, table_view};
 ghost use Rattle.random_streams.specs.Delays.{is_delay_law};
 ghost use Rattle.text_fields.specs.Checks.{Gives};
-ghost use Rattle.shop_text.specs.Ranges.{IsNamedStep, IsNamedVisit};
-ghost use Rattle.shop_text.specs.StepTexts.{visit, service, hold, free, delay, go, step_form};
+ghost use Rattle.shop_text.specs.Ranges.{IsNamedStep};
+ghost use Rattle.shop_text.specs.StepTexts.{visit_names, visit, service, hold, free, delay, go, step_form};
 
 use crate::laws::{delay_law, optional_law};
-use crate::named::{NamedStep, NamedVisit};
+use crate::named::{NamedStep, NamedVisit, VisitNames};
 use random_streams::DelayLaw;
-use std::alloc::{AllocError, Global};
+use std::alloc::Global;
 use text_fields::{
     Cause, Refusal, field, name_of, only, optional_weights, required, text, text_or, ways,
 };
@@ -19,46 +19,50 @@ use toml::Table;
 /// Where a job goes that isn't served, if its class doesn't say it: it is given up.
 const UNSERVED: &str = "drop";
 
-/// A visit with these names of its station and of the steps to which the job goes if it isn't served.
-fn named_visit(
+/// The names of a visit of this station.
+#[tactic(auto, unfolding(crate::specs::StepTexts::visit_names))]
+fn visit_names(
     alloc: Global,
     station: &str,
-    service: Option<DelayLaw>,
-    patience: Option<DelayLaw>,
-    away: &str,
-    full: &str,
-) -> Result<NamedVisit, AllocError>
-    ensures { IfOk result (λ visit. visit ≡ record { station = station.now; service = service; patience = patience; away = away.now; full = full.now }) }
+    table: &Table,
+    item: u32,
+) -> Result<VisitNames, Refusal>
+    ensures { Gives (λ names. names) result (visit_names item station.now (table_view table.now)) }
 {
+    let away = text_or(table, "away", item, UNSERVED)?;
+    let full = text_or(table, "full", item, UNSERVED)?;
     let station = name_of(alloc, station)?;
     let away = name_of(alloc, away)?;
     let full = name_of(alloc, full)?;
-    Ok(NamedVisit {
+    Ok(VisitNames {
         station,
-        service,
-        patience,
         away,
         full,
     })
 }
 
-/// How long a job waits, and where it goes if it isn't served.
+/// How long a job waits, and where it goes if it isn't served. The step may have no other keys than these.
 #[tactic(auto, unfolding(crate::specs::StepTexts::visit))]
 fn visit(
     alloc: Global,
     station: &str,
     service: Option<DelayLaw>,
     table: &Table,
+    keys: &[&str],
     item: u32,
-) -> Result<NamedVisit, Refusal>
+) -> Result<NamedStep, Refusal>
     requires { ForSome service (λ law. IsTrue (is_delay_law law)) }
-    ensures read { Gives (λ visit. visit) result (visit item station.now service (table_view table.now)) }
-    ensures in_range { IfOk result IsNamedVisit }
+    ensures read { Gives (λ step. step) result (visit item station.now service (map (λ key. key.now) keys.now) (table_view table.now)) }
+    ensures in_range { IfOk result IsNamedStep }
 {
     let patience = optional_law(alloc, table, "patience", item)?;
-    let away = text_or(table, "away", item, UNSERVED)?;
-    let full = text_or(table, "full", item, UNSERVED)?;
-    Ok(named_visit(alloc, station, service, patience, away, full)?)
+    let names = visit_names(alloc, station, table, item)?;
+    only(table, keys, item)?;
+    Ok(NamedStep::Visit(NamedVisit {
+        names,
+        service,
+        patience,
+    }))
 }
 
 /// A server serves the job.
@@ -69,13 +73,8 @@ fn service(alloc: Global, table: &Table, item: u32) -> Result<NamedStep, Refusal
 {
     let station = text(required(table, "at", item)?, item)?;
     let law = delay_law(alloc, required(table, "service", item)?, item)?;
-    let visit = visit(alloc, station, Some(law), table, item)?;
-    only(
-        table,
-        &["label", "at", "service", "patience", "away", "full"],
-        item,
-    )?;
-    Ok(NamedStep::Visit(visit))
+    let keys = &["label", "at", "service", "patience", "away", "full"];
+    visit(alloc, station, Some(law), table, keys, item)
 }
 
 /// The job takes a server for itself.
@@ -85,9 +84,8 @@ fn hold(alloc: Global, table: &Table, item: u32) -> Result<NamedStep, Refusal>
     ensures in_range { IfOk result IsNamedStep }
 {
     let station = text(required(table, "hold", item)?, item)?;
-    let visit = visit(alloc, station, None, table, item)?;
-    only(table, &["label", "hold", "patience", "away", "full"], item)?;
-    Ok(NamedStep::Visit(visit))
+    let keys = &["label", "hold", "patience", "away", "full"];
+    visit(alloc, station, None, table, keys, item)
 }
 
 /// The job gives a server back.

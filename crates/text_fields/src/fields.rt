@@ -1,10 +1,10 @@
 //! The checks of one field of a table.
-ghost use Rattle.std.specs.Prelude.{◌≡◌, ◌≤◌, map, length, option_map, string_bytes, IfOk};
+ghost use Rattle.std.specs.Prelude.{◌≡◌, ◌≤◌, pos, map, length, option_map, string_bytes, IfOk};
 ghost use Rattle.std.specs.List.{list_any, list_all};
 ghost use Rattle.std.specs.Option.{ForSome};
 ghost use Rattle.std.specs.Str.{bytes_eq};
 ghost use Rattle.std.specs.BTreeMap.{keys};
-ghost use Rattle.toml.specs.Data.{get_member};
+ghost use Rattle.toml.specs.Data.{array, boolean, get_member, integer, no_items};
 ghost use Rattle.toml.specs.View.{view, table_view, items_view};
 ghost use Rattle.text_fields.specs.Checks.{Gives};
 ghost use Rattle.text_fields.specs.Fields.{number, text, truth, table_of, item_count, entries_of, array_of, required, optional, optional_number, number_or, text_or, has_only, only};
@@ -154,12 +154,39 @@ pub fn number_or(
     requires least { least ≤ default }
     requires most { default ≤ most }
     ensures read { Gives (λ n. n) result (number_or item default least most (get_member key.now (table_view table.now))) }
+    ensures checked { Gives (λ n. n) result (number item least most (optional (integer (pos default)) key.now (table_view table.now))) }
     ensures least { IfOk result (λ n. least ≤ n) }
     ensures most { IfOk result (λ n. n ≤ most) }
 {
     match field(table, key) {
         Some(value) => number(value, item, least, most),
         None => Ok(default),
+    }
+}
+
+/// A truth value, or what stands for it where the key is absent.
+pub fn truth_or(table: &Table, key: &str, item: u32, default: bool) -> Result<bool, Refusal>
+    ensures { Gives (λ answer. answer) result (truth item (optional (boolean default) key.now (table_view table.now))) }
+{
+    match field(table, key) {
+        Some(value) => truth(value, item),
+        None => Ok(default),
+    }
+}
+
+/// An array of at most so many entries, or one of none where the key is absent.
+pub fn optional_array<'a>(
+    table: &'a Table,
+    key: &str,
+    item: u32,
+    most: usize,
+) -> Result<&'a [Value], Refusal>
+    ensures read { Gives (λ values. items_view values.now) result (array_of item most (optional (array no_items) key.now (table_view table.now))) }
+    ensures most { IfOk result (λ values. length values.now ≤ most) }
+{
+    match field(table, key) {
+        Some(value) => array_of(value, item, most),
+        None => Ok(&[]),
     }
 }
 

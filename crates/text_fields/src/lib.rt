@@ -16,8 +16,8 @@ mod weights;
 pub use directory::{Directory, Place};
 pub use documents::{document, tree};
 pub use fields::{
-    array_of, entries_of, field, item_count, number, number_or, only, optional, optional_number,
-    required, table_of, text, text_or, truth,
+    array_of, entries_of, field, item_count, number, number_or, only, optional, optional_array,
+    optional_number, required, table_of, text, text_or, truth, truth_or,
 };
 pub use laws::{fixed_law, law, uniform_law};
 pub use linking::{link, links};

@@ -1,9 +1,8 @@
-use Rattle.std.proofs.Common.{◌≡◌, ◌≤◌, ◌+◌, ℕ, List, [], Ok, Vec, Global, length, nat_lt, false, refl, sym, ap, ◌∙◌, arith, rules}
+use Rattle.std.proofs.Common.{◌≡◌, ◌≤◌, ◌+◌, ℕ, List, Ok, length, nat_lt, false, refl, arith}
 use Rattle.std.proofs.lemmas.Bool.Decides.{nat_tests}
 use Rattle.std.specs.Prelude.{codes}
-use Rattle.toml.specs.Data.{Data, Members, Items, array, no_items}
-use Rattle.toml.specs.View.{items_view, table_view, view}
-use Rattle.toml.specs.declared.value.Value.{Value, Array, the_lemmas}
+use Rattle.toml.specs.Data.{Members, Items, array, no_items}
+use Rattle.toml.specs.View.{items_view, table_view}
 use Rattle.model_core.specs.declared.limits.TheConstants.{MOST_OBJECTS}
 use Rattle.shop_model.specs.declared.station.Station.{Station}
 use Rattle.text_fields.specs.Directories.{finder}
@@ -14,12 +13,6 @@ use Rattle.shop_text.specs.ShopTexts.{body, linked_shop}
 use Rattle.shop_text.specs.StationTexts.{stations}
 use Rattle.shop_text.specs.Views.{class_texts}
 use Rattle.shop_text.proofs.body.body.Goals as goal
-
--- what stands for an array that is absent has no entries
-no-entries : (v : Vec Value Global) → v.items ≡ [] → view (Array v) ≡ array no_items
-no-entries v none =
-    let array_of_items : view (Array v) ≡ array (items_view v.items) = search (rules, the_lemmas) in
-    array_of_items ∙ ap (λ (vs : List Value). array (items_view vs)) none
 
 -- both arrays and all entries are read: what is left are the links
 entries-read : (seed : ℕ) (ms : Members) (tables others : Items) (read : List Station × Finder) (texts : List ClassText × Known)
@@ -39,11 +32,8 @@ linked_shop-requires-clause-links c =
 pub returns : goal.returns
 returns c =
     let ms = table_view c.args.table.now in
-    let absent = no-entries c.new.result c.new.ensures.items in
-    let one = ap (λ (d : Data). array_of 0 MOST_OBJECTS d) (sym (c.optional.ensures ∙ ap (λ (d : Data). optional d (codes "station") ms) absent)) ∙ c.in_ok-tables.ensures.read in
-    let other = ap (λ (d : Data). array_of 0 MOST_OBJECTS d) (sym (c.optional-2.ensures ∙ ap (λ (d : Data). optional d (codes "class") ms) absent)) ∙ c.in_ok-others.ensures.read in
     let few : nat_lt MOST_OBJECTS (c.item_count.result + c.item_count-2.result) ≡ false = grind (arith, nat_tests, c.if-item_count-most.false) in
     let few = rw (c.item_count.ensures.count, c.item_count-2.ensures.count) at few in
     let second = rw c.item_count-3.ensures.count at c.in_ok-named.ensures.read in
-    rw (entries-read c.args.seed ms (items_view c.in_ok-tables.tables.now) (items_view c.in_ok-others.others.now) _ _ one other few c.in_ok-stations.ensures.read second)
+    rw (entries-read c.args.seed ms (items_view c.in_ok-tables.tables.now) (items_view c.in_ok-others.others.now) _ _ c.in_ok-tables.ensures.read c.in_ok-others.ensures.read few c.in_ok-stations.ensures.read second)
     c.linked_shop.ensures
