@@ -12,6 +12,3 @@ pub use reader::ReplicateTexts;
 pub use text_seeds::TextSeeds;
 pub use top::replicate;
 pub use window_rows::WindowRows;
-
-#[cfg(test)]
-mod tests;

@@ -25,6 +25,3 @@ pub use table::write_table;
 pub use window::{Columns, Window};
 pub use windows::Windows;
 pub use words::{Replicate, WindowStart, read_replicate_words};
-
-#[cfg(test)]
-mod tests;

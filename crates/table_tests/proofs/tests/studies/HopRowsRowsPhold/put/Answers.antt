@@ -1,7 +1,7 @@
 use Rattle.std.proofs.Common.{◌∙◌, length, ap}
 use Rattle.replications.specs.Tables.{WindowsView}
 use Rattle.replications.proofs.TableLemmas.{windows_of-length}
-use Rattle.replications.proofs.tests.HopRowsRowsPhold.put.Goals as goal
+use Rattle.table_tests.proofs.tests.studies.HopRowsRowsPhold.put.Goals as goal
 
 pub put_rows-requires-after_bounds : goal.put_rows-requires-after_bounds
 put_rows-requires-after_bounds c within = ap (λ (w : WindowsView). length w.objects) c.requires.2 ∙ windows_of-length c.requires.0 _ c.requires.1

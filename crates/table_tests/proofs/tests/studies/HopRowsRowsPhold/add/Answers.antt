@@ -1,7 +1,7 @@
 use Rattle.std.proofs.Common.{◌∙◌, length, ap, arith}
 use Rattle.replications.specs.Tables.{WindowsView}
 use Rattle.replications.proofs.TableLemmas.{windows_of-length, windows_of-records}
-use Rattle.replications.proofs.tests.HopRowsRowsPhold.add.Goals as goal
+use Rattle.table_tests.proofs.tests.studies.HopRowsRowsPhold.add.Goals as goal
 
 pub add-requires-clause-object : goal.add-requires-clause-object
 add-requires-clause-object c =
