@@ -1,6 +1,7 @@
 //! All that the program `replicate` does, as a library: a program of its own hands it the process's streams.
 #![tactic(auto)]
 
+pub mod numbers;
 mod process;
 mod reader;
 mod text_seeds;
