@@ -1,6 +1,6 @@
 -- What a run tells once it has asked its engine.
 use Rattle.std.proofs.Common.{◌≡◌, ℕ, List, [], ◌∷◌, ◌++◌, Option, Result, Ok, Err, refl, ◌∙◌, ap}
-use Rattle.std.specs.Prelude.{IfOk, OnOk}
+use Rattle.std.specs.Prelude.{OnOk}
 use Rattle.delta_exchange.specs.declared.memory.OutOfMemory.{OutOfMemory}
 use Rattle.event_key.specs.declared.key.Key.{Key}
 use Rattle.model_core.specs.declared.note.Note.{Note}
@@ -34,8 +34,3 @@ pub lines_more : (answer : Result (Unit {0}) OutOfMemory) (m read : Meaning) (re
     → OnOk answer (after ≡ before ++ event_lines read key note) → OnOk answer (after ≡ record_lines m (records ++ (key, note) ∷ []))
 lines_more (Ok x) m read records key note before after same is put = record_lines-more m records key note before after is (put ∙ ap (λ m. before ++ event_lines m key note) same)
 lines_more (Err e) m read records key note before after same is put = tt
-
--- what follows from what is said of a value is said of it too
-pub if_ok : {A E : Type 0} {P Q : A → Type 0} (r : Result A E) → ((x : A) → P x → Q x) → IfOk r P → IfOk r Q
-if_ok (Ok x) into is = into x is
-if_ok (Err e) into is = tt
