@@ -10,7 +10,7 @@ use Rattle.std.specs.Prelude.{slice_get, Option, Some, None, IsPermutation, filt
 use Rattle.std.specs.List.{AllByRecursion as Each}
 use Rattle.event_key.specs.declared.key.Key.{Key}
 use Rattle.event_key.specs.Keys.{key_lt}
-use Rattle.event_key.proofs.Order.{key_lt-stamp}
+use Rattle.event_key.proofs.Order.{key_lt-stamp, key_lt-turned}
 use Rattle.model_core.specs.Meaning.{Meaning}
 use Rattle.model_core.specs.declared.event.Event.{Event}
 use Rattle.sim_spec.specs.declared.terms.Terms.{Terms}
@@ -18,7 +18,7 @@ use Rattle.key_order.specs.Ascending.{Ascends, key_of}
 use Rattle.key_order.specs.Due.{is_uncut}
 use Rattle.key_order.specs.Keys.{Differ, at_key, times}
 use Rattle.key_order.specs.Pending.{in_order}
-use Rattle.key_order.proofs.AscendingLemmas.{Ascends-filter, Ascends-map, key_lt-turned}
+use Rattle.key_order.proofs.AscendingLemmas.{Ascends-filter, Ascends-map}
 use Rattle.key_order.proofs.FilterLemmas.{filter-all, filter-passes, filter-swap, length-filter_le}
 use Rattle.key_order.proofs.InOrder.{in_order-permutation, in_order-ascending}
 use Rattle.key_order.proofs.KeyLemmas.{Ascends-differ, key_lt-none-trans}

@@ -6,7 +6,8 @@ use Rattle.model_core.specs.Sorted.{AreSorted}
 use Rattle.model_core.specs.declared.note.Note.{Note}
 use Rattle.key_order.specs.Ascending.{Ascends}
 use Rattle.key_order.specs.Keys.{Differ}
-use Rattle.key_order.proofs.AscendingLemmas.{After-head, key_lt-turned}
+use Rattle.key_order.proofs.AscendingLemmas.{After-head}
+use Rattle.event_key.proofs.Order.{key_lt-turned}
 use Rattle.key_order.proofs.KeyLemmas.{Differ-back, Differ-first, key_lt-other, new-head}
 use Rattle.cycle_core.specs.Records.{record_key, AreInOrder, RecordsDiffer}
 

@@ -1,6 +1,7 @@
 -- The order of keys is total and strict, and the stamp comes first.
 use Rattle.std.proofs.Common.{◌≡◌, ◌≢◌, ◌∙◌, ℕ, ◌<◌, ◌≤◌, Bool, true, false, cond, ◌||◌, ◌&&◌, refl, ap, arith}
 use Rattle.std.specs.Prelude.{nat_lt, ◌==◌}
+use Rattle.std.proofs.lemmas.Bool.{false_from_ne_true}
 use Rattle.std.specs.Cmp.{IsTotalOrder, tied_itself}
 use Rattle.std.proofs.lemmas.Cmp.{nat_cmp_total, on_total, then_total, ranked, by_ranked}
 use Rattle.std.specs.Ordering.{nat_cmp, ordering_then, ordering_reverse, is_lt, is_eq}
@@ -82,6 +83,10 @@ key_lt-irrefl a = ap is_lt (tied_itself key_total a)
 pub key_lt-trans : (a b c : Key) → key_lt a b ≡ true → key_lt b c ≡ true → key_lt a c ≡ true
 unfolding key_lt
 key_lt-trans a b c h k = ap is_lt (key_total.trans a b c (less_is _ h) (less_is _ k))
+
+-- of two keys that come one after the other, the second isn't the first
+pub key_lt-turned : (a b : Key) → key_lt a b ≡ true → key_lt b a ≡ false
+key_lt-turned a b lt = false_from_ne_true (key_lt b a) (λ back. let no = key_lt-irrefl a in let yes = key_lt-trans a b a lt back in cc)
 
 turned : (o p : Ordering) → o ≡ ordering_reverse p → is_lt o ≡ false → is_lt p ≡ false → o ≡ Equal
 turned Equal p e h k = refl

@@ -19,7 +19,7 @@ use Rattle.object_log.specs.Flat.{changes_of}
 use Rattle.object_log.specs.Keeping.{OnlyLastFailed}
 use Rattle.object_log.specs.Logs.{fault_of, fault_or, held_of}
 use Rattle.object_log.specs.Tellings.{told_all, told_of}
-use Rattle.object_log.proofs.FaultLemmas.{only_push}
+use Rattle.object_log.proofs.FaultLemmas.{only_push, no_fault}
 use Rattle.object_log.proofs.FlatLemmas.{changes-push}
 use Rattle.object_log.proofs.PushLemmas.{ascends-push, held-push, told-push}
 use Rattle.event_log.specs.declared.row.Row.{Row}
@@ -29,9 +29,6 @@ use Rattle.event_log.proofs.NewsFacts.{no-code}
 
 abbrev Told : Type 0
 Told = List (Key × Note)
-
-no-fault : (f : Key × ℕ) → ◌≡◌ {A = Option (Key × ℕ)} (Some f) None → ⊥
-no-fault f is = cc
 
 -- the last row knows the least of all
 pub least-after : (least : ℕ) (ds : List Done) → least_after least (rows_of least ds) ≡ least_stamp least (held_of ds)
@@ -53,7 +50,7 @@ code-went (d ∷ ds) went = by_verdict d.verdict (code-went ds) went
   where
     by_verdict : (v : Verdict) → (fault_of ds ≡ None → code_of ds ≡ None) → fault_or d.event.key v (fault_of ds) ≡ None → code_or v (code_of ds) ≡ None
     by_verdict (Noted note) more went = more went
-    by_verdict (Failed code) more went = absurd (no-fault _ went)
+    by_verdict (Failed code) more went = absurd (no_fault _ went)
 
 pub code-push : (ds : List Done) (d : Done) → code_of ds ≡ None → code_of (ds ++ d ∷ []) ≡ code_or d.verdict None
 unfolding code_of

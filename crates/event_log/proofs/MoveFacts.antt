@@ -16,7 +16,7 @@ use Rattle.object_log.specs.EventLogs.{EventLogView, ObjectView, dones_at, is_of
 use Rattle.object_log.specs.Keeping.{Keeps}
 use Rattle.object_log.specs.Objects.{AreApart, IsPlaced, KeptObject, state_of}
 use Rattle.object_log.specs.Whole.{IsEventLog, StandsAt, dones_in, log_view, object_view}
-use Rattle.object_log.proofs.EventLogLemmas.{each-read, placed-dest, placed-state, placed-within, read-get}
+use Rattle.object_log.proofs.EventLogLemmas.{each-read, placed-dest, placed-state, placed-within, read-get, set-here, set-there}
 use Rattle.object_log.proofs.OwnLemmas.{is_here, is_there}
 use Rattle.object_log.proofs.UndoLemmas.{get-map}
 use Rattle.event_log.specs.Moves.{alone, other_items, own_items, place_after, shifted}
@@ -59,18 +59,6 @@ get-take zero k xs x found lt = absurd (omega arith)
 get-take (suc n) k [] x found lt = absurd (cc)
 get-take (suc n) zero (y ∷ ys) x found lt = found
 get-take (suc n) (suc k) (y ∷ ys) x found lt = get-take n k ys x found (omega arith)
-
-set-here : {X : Type 0} (xs : List X) (i : ℕ) (v : X) → i < length xs → slice_get (slice_set xs i v) i ≡ Some v
-set-here [] i v lt = absurd (omega arith)
-set-here (x ∷ xs) zero v lt = refl
-set-here (x ∷ xs) (suc i) v lt = set-here xs i v (omega arith)
-
-set-there : {X : Type 0} (xs : List X) (i k : ℕ) (v : X) → k ≢ i → slice_get (slice_set xs i v) k ≡ slice_get xs k
-set-there [] i k v other = refl
-set-there (x ∷ xs) zero zero v other = absurd (other refl)
-set-there (x ∷ xs) zero (suc k) v other = refl
-set-there (x ∷ xs) (suc i) zero v other = refl
-set-there (x ∷ xs) (suc i) (suc k) v other = set-there xs i k v (λ same. other (ap suc same))
 
 index-read : {X : Type 0} (xs : List X) (i : ℕ) (d x : X) → slice_get xs i ≡ Some x → slice_index_or xs i d ≡ x
 index-read [] i d x found = absurd (cc)

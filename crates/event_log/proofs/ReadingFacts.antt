@@ -7,9 +7,9 @@ use Rattle.std.specs.Prelude.{filter, nat_lt, slice_get}
 use Rattle.std.specs.List.{AllByRecursion as Each}
 use Rattle.event_key.specs.declared.key.Key.{Key}
 use Rattle.event_key.specs.Keys.{key_lt}
-use Rattle.event_key.proofs.Order.{stamp-le}
+use Rattle.event_key.proofs.Order.{stamp-le, key_lt-turned}
 use Rattle.key_order.specs.Ascending.{After, Ascends}
-use Rattle.key_order.proofs.AscendingLemmas.{After-head, Ascends-map, key_lt-turned}
+use Rattle.key_order.proofs.AscendingLemmas.{After-head, Ascends-map}
 use Rattle.key_order.proofs.EachLemmas.{Each-map}
 use Rattle.key_order.proofs.FilterLemmas.{filter-none}
 use Rattle.key_order.proofs.KeyLemmas.{key_lt-none-trans}
@@ -25,6 +25,7 @@ use Rattle.event_log.specs.Processing.{merged, placed_all}
 use Rattle.event_log.specs.Reading.{IsWithin, NextKey, keys_from, own_key}
 use Rattle.event_log.proofs.FirstFacts.{keys-placed}
 use Rattle.event_log.proofs.ProcessedFacts.{placed-dones}
+use Rattle.object_log.proofs.BackToLemmas.{drop-at}
 
 module _ {X : Type 0} (key : X → Key) where
   pub each-woven : (P : X → Type 0) (xs ys : List X) → Each P xs → Each P ys → Each P (weave key xs ys)
@@ -65,11 +66,6 @@ module _ {X : Type 0} (key : X → Key) where
     late,
     Each-map (λ (y : X). key_lt (key x) (key y) ≡ true) (λ (y : X). key_lt (key y) k ≡ false) xs (λ y after. key_lt-none-trans (key y) (key x) k (key_lt-turned (key x) (key y) after) late) (Ascends-after x xs up),
   )
-
-pub drop-at : {X : Type 0} (xs : List X) (n : ℕ) (x : X) → slice_get xs n ≡ Some x → drop n xs ≡ x ∷ drop (suc n) xs
-drop-at [] n x found = absurd (cc)
-drop-at (y ∷ ys) zero x found = (let is : y ≡ x = cc in cc)
-drop-at (y ∷ ys) (suc n) x found = drop-at ys n x found
 
 -- the keys that are left, from those at these places
 abbrev left : List Key → List Key → ℕ → ℕ → List Key

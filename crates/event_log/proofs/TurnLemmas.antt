@@ -4,10 +4,10 @@ use Rattle.std.proofs.lemmas.List.{append-nil, drop-append-le, length-map, map-a
 use Rattle.std.specs.List.{AllByRecursion as Each}
 use Rattle.event_key.specs.declared.key.Key.{Key}
 use Rattle.event_key.specs.Keys.{key_lt}
-use Rattle.event_key.proofs.Order.{key_lt-trans}
+use Rattle.event_key.proofs.Order.{key_lt-trans, key_lt-turned}
 use Rattle.key_order.specs.Ascending.{Ascends}
 use Rattle.key_order.specs.Keys.{times}
-use Rattle.key_order.proofs.AscendingLemmas.{Ascends-before, Ascends-map, Ascends-mapped, Ascends-prefix, key_lt-turned}
+use Rattle.key_order.proofs.AscendingLemmas.{Ascends-before, Ascends-map, Ascends-mapped, Ascends-prefix}
 use Rattle.key_order.proofs.EachLemmas.{Each-append, Each-back, Each-map}
 use Rattle.key_order.proofs.KeyLemmas.{key_lt-other}
 use Rattle.object_log.specs.Carrying.{Placed, placed_key}

@@ -9,7 +9,7 @@ use Rattle.event_key.specs.declared.key.Key.{Key}
 use Rattle.event_key.specs.Keys.{key_lt}
 use Rattle.key_order.specs.Ascending.{After, Ascends}
 use Rattle.key_order.specs.Keys.{Differ, at_key, times}
-use Rattle.key_order.proofs.AscendingLemmas.{key_lt-turned}
+use Rattle.event_key.proofs.Order.{key_lt-turned}
 use Rattle.key_order.proofs.EachLemmas.{Each-append, Each-back, Each-front}
 use Rattle.key_order.proofs.KeyLemmas.{Ascends-differ, Differ-back, Differ-first, Differ-permutation}
 use Rattle.model_core.specs.declared.event.Event.{Event}

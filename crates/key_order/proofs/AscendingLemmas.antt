@@ -1,17 +1,12 @@
 -- Parts of a list in the order of its keys, and its images.
 use Rattle.std.proofs.Common.{◌≡◌, ℕ, zero, suc, Bool, true, false, cond, List, [], ◌∷◌, ◌++◌, map, take, subst, sym}
-use Rattle.std.proofs.lemmas.Bool.{false_from_ne_true}
 use Rattle.std.specs.Prelude.{filter}
 use Rattle.std.specs.List.{AllByRecursion as Each}
 use Rattle.event_key.specs.declared.key.Key.{Key}
 use Rattle.event_key.specs.Keys.{key_lt}
-use Rattle.event_key.proofs.Order.{key_lt-irrefl, key_lt-trans}
+use Rattle.event_key.proofs.Order.{key_lt-irrefl, key_lt-trans, key_lt-turned}
 use Rattle.key_order.specs.Ascending.{After, Ascends}
 use Rattle.key_order.proofs.EachLemmas.{Each-map, Each-back, Each-filter, Each-front, Each-take}
-
--- of two keys that come one after the other, the second isn't the first
-pub key_lt-turned : (a b : Key) → key_lt a b ≡ true → key_lt b a ≡ false
-key_lt-turned a b lt = false_from_ne_true (key_lt b a) (λ back. let no = key_lt-irrefl a in let yes = key_lt-trans a b a lt back in cc)
 
 -- no key comes before itself
 pub key_lt-never : (k : Key) → key_lt k k ≡ true → ⊥

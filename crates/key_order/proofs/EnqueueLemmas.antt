@@ -6,7 +6,8 @@ use Rattle.model_core.specs.declared.event.Event.{Event}
 use Rattle.key_order.specs.Ascending.{AllAfter, Ascends, IsAscending, key_of}
 use Rattle.key_order.specs.Keys.{IsNewKey}
 use Rattle.key_order.specs.Pending.{enqueue, enqueue_all}
-use Rattle.key_order.proofs.AscendingLemmas.{After-head, key_lt-turned}
+use Rattle.key_order.proofs.AscendingLemmas.{After-head}
+use Rattle.event_key.proofs.Order.{key_lt-turned}
 use Rattle.key_order.proofs.KeyLemmas.{key_lt-other, new-head, new-tail}
 
 -- an event before all the others is put in front of them

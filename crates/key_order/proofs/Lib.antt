@@ -5,6 +5,7 @@ pub mod EachLemmas
 pub mod EnqueueLemmas
 pub mod FilterLemmas
 pub mod InOrder
+pub mod JoinedLemmas
 pub mod KeyLemmas
 pub mod LeastLemmas
 pub mod MemberLemmas

@@ -1,5 +1,6 @@
 pub mod Ascending
 pub mod Due
+pub mod Joined
 pub mod Keys
 pub mod Pending
 pub mod Serials

@@ -9,13 +9,10 @@ use Rattle.std.specs.Prelude.{IsPermutation, nat_lt, not, if◌then◌else◌}
 use Rattle.std.specs.Int.{from_bool}
 use Rattle.event_key.specs.declared.key.Key.{Key}
 use Rattle.event_key.specs.Keys.{key_lt}
-use Rattle.event_key.proofs.Order.{key_lt-irrefl, key_lt-tests, key_lt-trans}
+use Rattle.event_key.proofs.Order.{key_lt-tests, key_lt-turned}
 use Rattle.model_core.specs.Records.{head_key, place, shifted}
 use Rattle.model_core.specs.declared.record_head.RecordHead.{RecordHead}
 use Rattle.model_core.specs.Sorted.{AreSorted, IsMerging}
-
-turned : (a b : Key) → key_lt a b ≡ true → key_lt b a ≡ false
-turned a b lt = false_from_ne_true (key_lt b a) (λ back. let no = key_lt-irrefl a in let yes = key_lt-trans a b a lt back in cc)
 
 -- elements are sorted as their images are
 module _ {X Y : Type 0} (f : X → Y) (key : Y → Key) where
@@ -60,7 +57,7 @@ module _ {X : Type 0} (key : X → Key) where
       with_left lt i_in =
           let P : List X → Type 0 = λ vs. AreSorted key (merged ++ (x ∷ vs)) in
           let M : List X → Type 0 = λ vs. IsPermutation (left ++ right) (merged ++ (vs ++ drop j right)) in
-          let later : P (drop j right) = subst P (sym there) (put-between merged x y (drop (suc i) left) (drop (suc j) right) up down (turned (key x) (key y) lt)) in
+          let later : P (drop j right) = subst P (sym there) (put-between merged x y (drop (suc i) left) (drop (suc j) right) up down (key_lt-turned (key x) (key y) lt)) in
           record {
             left_in = i_in;
             right_in = so_far.right_in;
@@ -121,7 +118,7 @@ key_lt-by-place a b a_rank a_dest b_rank b_dest apart =
       | true ↦ λ is. sym (lt-by-place a b a_rank a_dest b_rank b_dest (ltb-true _ _ is))
       | false ↦ λ is.
           let le = ltb-false (place a) (place b) is in
-          sym (turned b a (lt-by-place b a b_rank b_dest a_rank a_dest (omega arith)))
+          sym (key_lt-turned b a (lt-by-place b a b_rank b_dest a_rank a_dest (omega arith)))
     ] refl
 
 -- heads of two lists that are merged, the second with its parts so much further on

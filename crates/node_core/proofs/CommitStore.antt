@@ -15,7 +15,7 @@ use Rattle.key_order.specs.Ascending.{Ascends, IsAscending, key_of}
 use Rattle.key_order.specs.Due.{is_due}
 use Rattle.key_order.proofs.AscendingLemmas.{Ascends-back}
 use Rattle.key_order.proofs.DueLemmas.{none-due}
-use Rattle.key_order.proofs.EachLemmas.{Each-append, Each-filter, Each-map}
+use Rattle.key_order.proofs.EachLemmas.{Each-filter, Each-map}
 use Rattle.key_order.proofs.FilterLemmas.{filter-none, filter-passes, length-filter_le}
 use Rattle.object_log.specs.Dones.{Done}
 use Rattle.object_log.specs.declared.done.Verdict.{Verdict}
@@ -45,6 +45,7 @@ use Rattle.node_core.proofs.ListedFacts.{firings-each, firings-keys, taken-keys}
 use Rattle.node_core.proofs.MarkLemmas.{fault-code, marked-keys}
 use Rattle.node_core.proofs.ShownFacts.{marks-long, shown-done, shown-here, shown-long, shown-store}
 use Rattle.node_core.proofs.StoreLemmas.{events_of-append, store_of}
+use Rattle.event_log.proofs.WovenFacts.{held-each}
 
 -- where the first fault isn't due, all that is due went
 pub due-went : (horizon : ℕ) (cut : Option Key) (ds : List Done) → Ascends done_key ds → IsFaultLate horizon cut (fault_of ds) → fault_of (due_of horizon cut ds) ≡ None
@@ -97,11 +98,6 @@ held-few : (ds : List Done) → Each (λ (d : Done). length d.sends ≤ 8) ds �
 unfolding held_of
 held-few [] few = omega arith
 held-few (d ∷ ds) few = let long = length-append d.sends (held_of ds) in let own = few.0 in let more = held-few ds few.1 in omega arith
-
-held-each : (P : Event → Type 0) (ds : List Done) → Each (λ (d : Done). Each P d.sends) ds → Each P (held_of ds)
-unfolding held_of
-held-each P [] all = tt
-held-each P (d ∷ ds) all = Each-append P d.sends (held_of ds) all.0 (held-each P ds all.1)
 
 first-left : (horizon : ℕ) (cut : Option Key) (ds : List Done) → Each (λ (d : Done). not (is_due horizon cut d.event.key) ≡ true) ds → IfSome (first_mark (map mark_of ds)) (λ key. is_due horizon cut key ≡ false)
 unfolding first_mark

@@ -1,20 +1,18 @@
 -- A node's logs, out of one list: an event more, and what a node knows of all.
-use Rattle.std.proofs.Common.{◌≡◌, ℕ, ◌<◌, Bool, true, false, ltb, ltb-true, ltb-false, arith, List, [], ◌∷◌, Option, Some, None, is_some, map, refl, sym, ap, ◌∙◌, subst}
+use Rattle.std.proofs.Common.{◌≡◌, ℕ, ◌<◌, Bool, true, false, ltb, ltb-true, ltb-false, arith, List, [], Option, Some, None, is_some, map, refl, sym, ap, ◌∙◌}
 use Rattle.std.proofs.lemmas.Bool.{false_from_ne_true}
 use Rattle.std.specs.List.{AllByRecursion as Each}
 use Rattle.std.specs.Prelude.{filter, ◌==◌}
 use Rattle.model_core.specs.declared.event.Event.{Event}
 use Rattle.model_core.specs.Meaning.{Meaning}
-use Rattle.sim_spec.specs.Firing.{ObjectState, fire}
+use Rattle.sim_spec.specs.Firing.{ObjectState}
 use Rattle.key_order.specs.Ascending.{Ascends}
 use Rattle.key_order.proofs.AscendingLemmas.{Ascends-map}
 use Rattle.key_order.proofs.EachLemmas.{Each-map}
 use Rattle.key_order.proofs.FilterLemmas.{filter-map, filter-none}
 use Rattle.object_log.specs.Dones.{Done}
-use Rattle.object_log.specs.Logs.{LogView, undone}
-use Rattle.object_log.specs.Replays.{IsLogOf, IsOneMore, IsReplayed, IsTold}
+use Rattle.object_log.specs.Logs.{LogView}
 use Rattle.object_log.proofs.OwnLemmas.{is_there}
-use Rattle.object_log.proofs.ReplayLemmas.{replayed-push, undone-append}
 use Rattle.node_core.specs.Marks.{MarkView, code_of, mark_of}
 use Rattle.node_core.specs.Moves.{IsProcessedAt}
 use Rattle.node_core.specs.Nodes.{log_at, log_or, slot_at}
@@ -23,25 +21,11 @@ use Rattle.node_core.proofs.LogLemmas.{processed_at}
 use Rattle.object_log.specs.EventCalls.{HasProcessed}
 use Rattle.object_log.specs.EventLogs.{EventLogView, done_key, dones_at, is_of, log_with, logs_upto, slot_of, state_in}
 use Rattle.node_core.proofs.SlotLemmas.{slot-beyond, slot-is, written}
+use Rattle.object_log.proofs.ProcessLemmas.{one-base, one-replay}
 
 -- what a node knows at once of its processed events, object by object
 pub marks-at : (object : ℕ) (ds : List Done) → filter (λ (mark : MarkView). mark.key.dest == object) (map mark_of ds) ≡ map mark_of (dones_at object ds)
 marks-at object ds = filter-map mark_of (λ (mark : MarkView). mark.key.dest == object) ds
-
--- the state before a log's events is as it was
-more-base : (m : Meaning) (old new : LogView) (e : Event) (least : ℕ) → IsOneMore m old new e least → undone new.state new.done ≡ undone old.state old.done
-unfolding undone
-more-base m old new e least more =
-    ap (undone new.state) more.done
-    ∙ undone-append new.state old.done (more.entry ∷ [])
-    ∙ ap (λ s. undone s old.done) more.undoes
-
-more-replay : (m : Meaning) (old new : LogView) (e : Event) (least : ℕ) → IsOneMore m old new e least → IsLogOf m old → IsLogOf m new
-more-replay m old new e least more is_log =
-    let T : Event → Type 0 = λ x. IsTold (fire m old.object old.state x) old.state new.state more.entry more.entry.verdict in
-    let P : List Done → Type 0 = IsReplayed m old.object new.state in
-    let Q : ℕ → Type 0 = λ o. IsReplayed m o new.state new.done in
-    subst Q (sym more.object) (subst P (sym more.done) (replayed-push m old.object old.state new.state old.done more.entry more.undoes (subst T (sym more.event_is) more.told_of) is_log))
 
 -- so a node's log is one event longer
 pub node-processed : (m : Meaning) (n : ℕ) (old new : EventLogView) (event : Event) (least : ℕ) (fault : Option ℕ) → event.key.dest < n → (h : HasProcessed m old new event least)
@@ -49,7 +33,7 @@ pub node-processed : (m : Meaning) (n : ℕ) (old new : EventLogView) (event : E
 node-processed m n old new event least fault inside h is =
     let was = log_with old.done event.key.dest h.was in
     let now = log_with new.done event.key.dest h.now in
-    processed_at m (logs_upto old n) (logs_upto new n) was now event least fault (written event.key.dest n old new h.was h.now inside h.changes) h.more is (more-base m was now event least h.more) (more-replay m was now event least h.more)
+    processed_at m (logs_upto old n) (logs_upto new n) was now event least fault (written event.key.dest n old new h.was h.now inside h.changes) h.more is (one-base m was now event least h.more) (one-replay m was now event least h.more)
 
 module _ (log : EventLogView) (n : ℕ) (within : (object : ℕ) → is_some (state_in log.objects object) ≡ true → object < n) (here : Each (λ (d : Done). is_some (state_in log.objects d.event.key.dest) ≡ true) log.done) where
   none-away : (object : ℕ) → is_some (state_in log.objects object) ≡ false → dones_at object log.done ≡ []

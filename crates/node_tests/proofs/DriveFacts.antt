@@ -3,9 +3,8 @@ use Rattle.std.proofs.lemmas.Bool.{or_left, or_right, or_from, or_parts}
 use Rattle.std.proofs.Common.{◌≡◌, ◌⊎◌, inl, inr, zero, suc, ℕ, ◌+◌, ◌<◌, ◌≤◌, Bool, true, false, cond, ◌||◌, List, [], ◌∷◌, ◌++◌, length, take, drop, Option, Some, None, refl, sym, ap, ◌∙◌, subst, arith, length-append}
 use Rattle.std.specs.Prelude.{filter, not, slice_index_or, ◌==◌}
 use Rattle.std.proofs.lemmas.Bool.Decides.{nat_tests}
-use Rattle.event_key.proofs.Order.{key_lt-apart, same_key-itself}
+use Rattle.event_key.proofs.Order.{key_lt-apart, same_key-itself, key_lt-turned}
 use Rattle.key_order.proofs.DueLemmas.{due-down}
-use Rattle.key_order.proofs.AscendingLemmas.{key_lt-turned}
 use Rattle.key_order.proofs.KeyLemmas.{new-cons}
 use Rattle.std.specs.List.{AllByRecursion as Each, list_any}
 use Rattle.std.proofs.lemmas.List.{length-map}

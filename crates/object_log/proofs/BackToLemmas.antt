@@ -48,7 +48,7 @@ take-suc-at [] i x at = absurd (cc)
 take-suc-at (y ∷ ys) zero x at = (let same : y ≡ x = cc in ap (λ z. z ∷ []) same)
 take-suc-at (y ∷ ys) (suc i) x at = ap (λ zs. y ∷ zs) (take-suc-at ys i x at)
 
-drop-at : {X : Type 0} (xs : List X) (i : ℕ) (x : X) → slice_get xs i ≡ Some x → drop i xs ≡ x ∷ drop (suc i) xs
+pub drop-at : {X : Type 0} (xs : List X) (i : ℕ) (x : X) → slice_get xs i ≡ Some x → drop i xs ≡ x ∷ drop (suc i) xs
 drop-at [] i x at = absurd (cc)
 drop-at (y ∷ ys) zero x at = (let same : y ≡ x = cc in ap (λ z. z ∷ ys) same)
 drop-at (y ∷ ys) (suc i) x at = drop-at ys i x at

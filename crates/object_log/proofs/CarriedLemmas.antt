@@ -6,8 +6,7 @@ use Rattle.std.specs.Prelude.{slice_get}
 use Rattle.std.specs.List.{remove}
 use Rattle.event_key.specs.declared.key.Key.{Key}
 use Rattle.event_key.specs.Keys.{key_lt}
-use Rattle.event_key.proofs.Order.{key_lt-trans}
-use Rattle.key_order.proofs.AscendingLemmas.{key_lt-turned}
+use Rattle.event_key.proofs.Order.{key_lt-trans, key_lt-turned}
 use Rattle.key_order.proofs.KeyLemmas.{key_lt-other, new-head, new-tail}
 use Rattle.key_order.specs.Ascending.{After, Ascends}
 use Rattle.key_order.specs.Keys.{at_key, times}

@@ -39,12 +39,12 @@ each-read P (y ∷ ys) zero x within at all = subst P (sym at) all.0
 each-read P (y ∷ ys) (suc i) x within at all = each-read P ys i x (omega arith) at all.1
 
 -- what stands at a place once it is written
-set-here : {X : Type 0} (xs : List X) (i : ℕ) (v : X) → i < length xs → slice_get (slice_set xs i v) i ≡ Some v
+pub set-here : {X : Type 0} (xs : List X) (i : ℕ) (v : X) → i < length xs → slice_get (slice_set xs i v) i ≡ Some v
 set-here [] i v within = absurd (omega arith)
 set-here (x ∷ xs) zero v within = refl
 set-here (x ∷ xs) (suc i) v within = set-here xs i v (omega arith)
 
-set-there : {X : Type 0} (xs : List X) (i k : ℕ) (v : X) → k ≢ i → slice_get (slice_set xs i v) k ≡ slice_get xs k
+pub set-there : {X : Type 0} (xs : List X) (i k : ℕ) (v : X) → k ≢ i → slice_get (slice_set xs i v) k ≡ slice_get xs k
 set-there [] i k v apart = refl
 set-there (x ∷ xs) zero zero v apart = absurd (apart refl)
 set-there (x ∷ xs) zero (suc k) v apart = refl

@@ -7,7 +7,8 @@ use Rattle.event_key.specs.declared.key.Key.{Key}
 use Rattle.event_key.specs.Keys.{key_lt}
 use Rattle.key_order.specs.Ascending.{After, Ascends}
 use Rattle.key_order.specs.Keys.{Differ, times}
-use Rattle.key_order.proofs.AscendingLemmas.{After-head, key_lt-turned}
+use Rattle.key_order.proofs.AscendingLemmas.{After-head}
+use Rattle.event_key.proofs.Order.{key_lt-turned}
 use Rattle.key_order.proofs.EachLemmas.{Each-filter}
 use Rattle.key_order.proofs.KeyLemmas.{Ascends-differ, Differ-back, Differ-first, Differ-permutation, key_lt-other, new-head, new-tail}
 use Rattle.key_order.proofs.OrderLemmas.{by-permutation}

@@ -1,8 +1,7 @@
 -- What the laws of models ask of the effects at one object, and lemmas that serve several kinds of objects.
-use Rattle.std.proofs.Common.{◌≡◌, ℕ, ◌<◌, ◌≤◌, Bool, true, false, List, [], ◌∷◌, length, arith}
-use Rattle.std.specs.Prelude.{IsTrue, if◌then◌else◌, ◌==◌}
+use Rattle.std.proofs.Common.{◌≡◌, ℕ, ◌<◌, ◌≤◌, Bool, List, [], ◌∷◌, length, arith}
+use Rattle.std.specs.Prelude.{IsTrue}
 use Rattle.delta_exchange.specs.declared.change.Change.{Change}
-use Rattle.delta_exchange.specs.declared.change.Change.TheVariants.{Set}
 use Rattle.delta_exchange.specs.Changes.{CellData, AllFit, cells_after_all}
 use Rattle.event_key.specs.declared.key.TheConstants.{MOST_RANK}
 use Rattle.model_core.specs.declared.effect.Effect.{Effect}
@@ -10,7 +9,6 @@ use Rattle.model_core.specs.declared.effect.Outcome.{Outcome}
 use Rattle.model_core.specs.declared.effect.Outcome.TheVariants.{Goes, Fails}
 use Rattle.model_core.specs.Meaning.{Meaning, OutcomeLaws, SendsInRange}
 use Rattle.queue_models.specs.declared.site.Site.{Site}
-use Rattle.model_core.specs.Places.{place_changes}
 
 -- the changes fit the cells, and leave lawful ones
 pub record Keeps (lawful : CellData → Bool) (changes : List Change) (cells : CellData) : Type 0 where
@@ -42,14 +40,6 @@ outcome_laws m object cells (Fails code) keeps = keeps
 pub record IsSite (objects : ℕ) (site : Site) : Type 0 where
   pub object : site.object < objects
   pub rank : site.rank ≤ MOST_RANK
-
-pub place_cases : (P : List Change → Type 0) (place next : ℕ) → P [] → P (Set 0 next ∷ []) → P (place_changes place next)
-unfolding place_changes
-place_cases P place next stays moves = by (next == place)
-  where
-    by : (same : Bool) → P (if same then [] else Set 0 next ∷ [])
-    by true = stays
-    by false = moves
 
 pub one_element : {X : Type 0} (P : List X → Type 0) (xs : List X) → length xs ≡ 1 → ((a : X) → P (a ∷ [])) → P xs
 one_element P [] e h = absurd (omega arith)

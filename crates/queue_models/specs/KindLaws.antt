@@ -15,7 +15,7 @@ use Rattle.queue_models.specs.declared.kind.KindOver.TheVariants.{Source, Statio
 use Rattle.queue_models.specs.declared.router.Router.{Router as RouterOver}
 use Rattle.queue_models.specs.declared.sink.Sink.{Sink as SinkOver}
 use Rattle.queue_models.specs.declared.site.Site.{Site}
-use Rattle.model_core.specs.Places.{place_changes}
+use Rattle.model_core.specs.Places.{place_changes, place_cases}
 use Rattle.queue_models.specs.Sites.{place_of, drawn_at, is_plain_cells, told}
 use Rattle.queue_models.specs.Delays.{delay_effect}
 use Rattle.queue_models.specs.Kinds.{IsKind, KindCanDraw, is_lawful, effect_at, first_cells_of, first_time_of}
@@ -25,7 +25,7 @@ use Rattle.queue_models.specs.Sinks.{is_late, sink_effect}
 use Rattle.queue_models.specs.Parts.{IsLink}
 use Rattle.queue_models.specs.SourceLaws.{source_keeps}
 use Rattle.queue_models.specs.StationLaws.{station_keeps}
-use Rattle.queue_models.specs.Keeping.{Keeps, OutcomeKeeps, IsSite, place_cases, one_element}
+use Rattle.queue_models.specs.Keeping.{Keeps, OutcomeKeeps, IsSite, one_element}
 
 place_keeps : (cells : CellData) (next : ℕ) → IsTrue (is_plain_cells cells) → Keeps is_plain_cells (place_changes (place_of cells) next) cells
 unfolding AllFit cells_after_all

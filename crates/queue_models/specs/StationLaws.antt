@@ -9,12 +9,12 @@ use Rattle.model_core.specs.declared.event.Event.{Event}
 use Rattle.random_streams.proofs.Bounds.{draw-le, is_drawable-delay}
 use Rattle.queue_models.specs.declared.site.Site.{Site}
 use Rattle.queue_models.specs.declared.station.Station.{Station}
-use Rattle.model_core.specs.Places.{place_changes}
+use Rattle.model_core.specs.Places.{place_changes, place_cases}
 use Rattle.queue_models.specs.Sites.{place_of, drawn_at}
 use Rattle.queue_models.specs.Stations.{busy_servers, waiting_jobs, is_station_cells, take_effect, wait_effect, lose_effect, arrival_outcome, serve_effect, free_effect, done_effect, station_effect, IsStation}
 use Rattle.queue_models.specs.Objects.{Item}
 use Rattle.queue_models.specs.Parts.{IsLink}
-use Rattle.queue_models.specs.Keeping.{Keeps, EffectKeeps, OutcomeKeeps, IsSite, place_cases, two_elements}
+use Rattle.queue_models.specs.Keeping.{Keeps, EffectKeeps, OutcomeKeeps, IsSite, two_elements}
 
 -- a station's cells: its place, how many servers are busy, and who waits
 abbrev pub station_cells : ℕ → ℕ → List ℕ → List ℕ → CellData

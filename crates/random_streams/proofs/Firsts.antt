@@ -7,7 +7,7 @@ use Rattle.std.specs.List.{position_or_len, range_with_len}
 use Rattle.random_streams.specs.Laws.{first_trial, chosen_place}
 
 -- among the numbers below n
-first_below : (test : ℕ → Bool) (n i : ℕ) → i ≤ n → ((k : ℕ) → k < i → test k ≡ false) → (i < n → test i ≡ true)
+pub first_below : (test : ℕ → Bool) (n i : ℕ) → i ≤ n → ((k : ℕ) → k < i → test k ≡ false) → (i < n → test i ≡ true)
     → position_or_len test (range_with_len 0 n) ≡ i
 first_below test n i within before here =
     let long : length (range_with_len 0 n) ≡ n = length-range_with_len 0 n in

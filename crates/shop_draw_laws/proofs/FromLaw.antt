@@ -1,5 +1,5 @@
 -- What is told before a tick and what is told from it on are all that is told.
-use Rattle.std.proofs.Common.{◌≡◌, ℕ, zero, suc, ◌+◌, ◌-◌, ◌<◌, ◌≤◌, Bool, true, false, cond, List, [], ◌∷◌, refl, sym, ap, ◌∙◌, arith}
+use Rattle.std.proofs.Common.{◌≡◌, ℕ, ◌+◌, ◌-◌, ◌<◌, ◌≤◌, Bool, true, false, cond, List, [], ◌∷◌, refl, ap, ◌∙◌, arith}
 use Rattle.std.specs.Prelude.{nat_lt, nat_le, sum_by}
 use Rattle.std.specs.List.{range_with_len}
 use Rattle.std.proofs.lemmas.Bool.{ltb-true, ltb-false, leb-true, leb-false}
@@ -9,6 +9,7 @@ use Rattle.shop_totals.specs.Kept.{number_after, ticks_of}
 use Rattle.shop_totals.specs.Told.{TimedPart, told_by, told_from}
 use Rattle.shop_laws.specs.FlowLaws.{told_of}
 use Rattle.shop_draw_laws.specs.FromLaws.{told_before, TotalsFrom}
+use Rattle.shop_totals.proofs.KeptLemmas.{sums_split}
 
 -- words are told before a tick, or from it on
 split : (c : ℕ → Bool) (first : ℕ) (told : List TimedPart) → count_told c told ≡ count_told c (told_before first told) + count_told c (told_from first told)
@@ -29,20 +30,6 @@ split c first (one ∷ rest) = by (nat_lt one.time first) (nat_le first one.time
         omega (arith, more, sum_by-cons (λ (one : TimedPart). cond (c one.part.word) 1 0) one rest, sum_by-cons (λ (one : TimedPart). cond (c one.part.word) 1 0) one (told_from first rest))
     by false false before after more = absurd (let ge : first ≤ one.time = ltb-false _ _ before in let gt : one.time < first = leb-false _ _ after in omega arith)
 
--- ticks from 0 on and before a first one, and from that on
-ticks_split : (f : ℕ → ℕ) (a n m : ℕ) → sum_by f (range_with_len a (n + m)) ≡ sum_by f (range_with_len a n) + sum_by f (range_with_len (a + n) m)
-ticks_split f a zero m =
-    let same : a + 0 ≡ a = omega arith in
-    let none : zero + m ≡ m = omega arith in
-    omega (arith, ap (λ k. sum_by f (range_with_len a k)) none, ap (λ k. sum_by f (range_with_len k m)) same)
-ticks_split f a (suc n) m =
-    let more : suc n + m ≡ suc (n + m) = omega arith in
-    let on : a + suc n ≡ a + 1 + n = omega arith in
-    ap (λ k. sum_by f (range_with_len a k)) more
-    ∙ (let e : sum_by f (range_with_len a (suc (n + m))) ≡ sum_by f (range_with_len a (suc n)) + sum_by f (range_with_len (a + 1 + n) m) =
-    omega (arith, sum_by-cons f a (range_with_len (a + 1) (n + m)), sum_by-cons f a (range_with_len (a + 1) n), ticks_split f (a + 1) n m) in e)
-    ∙ ap (λ k. sum_by f (range_with_len a (suc n)) + sum_by f (range_with_len k m)) (sym on)
-
 pub totals_from : TotalsFrom
 unfolding flow_of ticks_of
 totals_from p t n i first clock le =
@@ -59,7 +46,7 @@ totals_from p t n i first clock le =
           let from : 0 + first ≡ first = omega arith in
           let early : first ≡ first - 0 = omega arith in
           ap (λ k. sum_by f (range_with_len 0 k)) all
-          ∙ ticks_split f 0 first (clock - first)
+          ∙ sums_split f 0 first (clock - first)
           ∙ ap (λ k. sum_by f (range_with_len 0 first) + sum_by f (range_with_len k (clock - first))) from
           ∙ ap (λ k. sum_by f (range_with_len 0 k) + sum_by f (range_with_len first (clock - first))) early;
     }

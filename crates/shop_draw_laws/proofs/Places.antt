@@ -7,7 +7,7 @@ use Rattle.std.proofs.lemmas.List.{length-set}
 use Rattle.delta_exchange.specs.declared.change.Change.{Change}
 use Rattle.delta_exchange.specs.declared.change.Change.TheVariants.{Set, Push, Pop, Unpush, Unpop, Flip}
 use Rattle.delta_exchange.specs.Changes.{CellData, cells_after, cells_after_all}
-use Rattle.model_core.specs.Places.{place_changes}
+use Rattle.model_core.specs.Places.{place_changes, place_cases}
 use Rattle.shop_model.specs.declared.counts.Counts.{Counts}
 use Rattle.shop_model.specs.declared.station.Order.{Order}
 use Rattle.shop_model.specs.declared.station.Order.TheVariants.{First, Last, Priority}
@@ -15,7 +15,6 @@ use Rattle.shop_model.specs.declared.station.Station.{Station}
 use Rattle.shop_model.specs.declared.station.TheConstants.{HELD, LAG, FREE_SERVERS}
 use Rattle.shop_model.specs.declared.step.Visit.{Visit as AVisit}
 use Rattle.shop_model.specs.Beginnings.{next_server, begin_changes}
-use Rattle.shop_model.specs.Keeping.{place_cases}
 use Rattle.shop_model.specs.Sites.{place_of}
 use Rattle.shop_model.specs.StationEffects.{out_changes}
 use Rattle.shop_model.specs.Stations.{gone_word, mark_word}

@@ -1,27 +1,15 @@
 -- What holds of what is sent, at its time, and of what stays pending.
-use Rattle.std.proofs.Common.{◌≡◌, ℕ, ◌+◌, ◌*◌, ◌≤◌, Bool, true, false, List, [], ◌∷◌, refl, sym, ap, ◌∙◌, subst, ⊎_elim, arith, cond}
-use Rattle.std.specs.Prelude.{if◌then◌else◌, ◌==◌, Contains, count_by}
+use Rattle.std.proofs.Common.{◌≡◌, ℕ, ◌+◌, ◌≤◌, Bool, true, false, List, [], ◌∷◌, sym, ap, ◌∙◌, subst, ⊎_elim, arith, cond}
+use Rattle.std.specs.Prelude.{Contains, count_by}
 use Rattle.std.specs.List.{AllByRecursion as Each}
-use Rattle.std.proofs.lemmas.Bool.{eqb-true, or_parts}
+use Rattle.std.proofs.lemmas.Bool.{or_parts}
 use Rattle.std.proofs.lemmas.List.Sums.{sum_by-cons}
-use Rattle.event_key.specs.Stamps.{time_part, next_stamp, has_no_step}
+use Rattle.event_key.specs.Stamps.{time_part}
 use Rattle.key_order.proofs.MemberLemmas.{first-or-later, none-in}
 use Rattle.model_core.specs.declared.event.Event.{Event}
 use Rattle.model_core.specs.declared.event.Send.{Send}
 use Rattle.sim_spec.specs.Firing.{has_endless_chain, emissions}
-use Rattle.shop_laws.proofs.IdleLaw.{same_tick}
-
--- what is sent comes as many ticks later as its delay says
-pub later_tick : (stamp delay : ℕ) → has_no_step stamp delay ≡ false → time_part (next_stamp stamp delay) ≡ time_part stamp + delay
-unfolding next_stamp
-later_tick stamp delay more = by (delay == 0) refl
-  where
-    by : (none : Bool) → (delay == 0) ≡ none → time_part (if none then stamp + 1 else (time_part stamp + delay) * 65536) ≡ time_part stamp + delay
-    by true none =
-        let zero : delay ≡ 0 = eqb-true delay 0 none in
-        let at : time_part (next_stamp stamp 0) ≡ time_part stamp = same_tick stamp (subst (λ d. has_no_step stamp d ≡ false) zero more) in
-        omega (arith, at, zero)
-    by false some = omega arith
+use Rattle.event_key.proofs.StampLemmas.{next_time}
 
 -- what holds of an event that is sent by this, at its time
 abbrev pub AsSent : (ℕ → ℕ → ℕ → ℕ → ℕ → Type 0) → ℕ → Send → Type 0
@@ -36,7 +24,7 @@ unfolding emissions has_endless_chain
 each_sent P stamp object serial [] free all = tt
 each_sent P stamp object serial (s ∷ rest) free all =
     let parts = or_parts _ _ free in
-    (subst (λ time. P time s.dest s.kind s.a s.b) (sym (later_tick stamp s.delay parts.0)) all.0, each_sent P stamp object (serial + 1) rest parts.1 all.1)
+    (subst (λ time. P time s.dest s.kind s.a s.b) (sym (next_time stamp s.delay parts.0)) all.0, each_sent P stamp object (serial + 1) rest parts.1 all.1)
 
 -- where one passes some do
 pub some_pass : {X : Type 0} (p : X → Bool) (x : X) (xs : List X) → Contains xs x → p x ≡ true → 1 ≤ count_by p xs

@@ -74,7 +74,7 @@ use Rattle.shop_draw_laws.proofs.CallsLater.{CallsLater, calls_later, is_call}
 use Rattle.shop_draw_laws.proofs.EntriesAfter.{Stands, Joins, Came, stood, joins, came, ups, moves_up, empty_place}
 use Rattle.shop_draw_laws.proofs.PatienceLaw.{all_wait}
 use Rattle.shop_draw_laws.proofs.Places.{Leaves, word_stays, words_long, placed_leaves, out_leaves, begin_leaves}
-use Rattle.shop_draw_laws.proofs.Sending.{later_tick}
+use Rattle.event_key.proofs.StampLemmas.{next_time}
 
 -- how many entries went out at the front of a level, and how many stand there
 abbrev gone_of : CellData → ℕ → ℕ
@@ -453,7 +453,7 @@ module _ (p : ShopParts) (t : Terms) (fine : IsShop p) (s : State) (told : Key �
         let there : Contains x.sends send = subst (λ (ss : List Send). Contains ss send) (sym sends) (is-first send send [] refl) in
         let found = sent_event event.key.stamp object (state_at s.objects object).sent x.sends send there n.step.no_chain in
         let e : Event = emission event.key.stamp object found.0 send in
-        let tick : time_part e.key.stamp ≡ time_part event.key.stamp + d = later_tick event.key.stamp d found.2 in
+        let tick : time_part e.key.stamp ≡ time_part event.key.stamp + d = next_time event.key.stamp d found.2 in
         let until_is : until ≡ time_part event.key.stamp + d = one.ends ∙ ap (λ (law : Option DelayLaw). until_of site cells law) is in
         let room = before.room object level early below in
         let small : number ≡ gone_of cells level + long_of cells level = omega (arith, room, few) in

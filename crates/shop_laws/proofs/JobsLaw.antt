@@ -17,7 +17,7 @@ use Rattle.model_core.specs.declared.event.Event.{Event}
 use Rattle.model_core.specs.declared.note.Note.{Note}
 use Rattle.model_core.specs.declared.words.TheConstants.{MADE_WORD, LEFT_WORD, DROPPED_WORD, DELAYED_WORD, WENT_WORD}
 use Rattle.model_core.specs.Meaning.{Meaning}
-use Rattle.model_core.specs.Places.{place_changes}
+use Rattle.model_core.specs.Places.{place_changes, place_cases}
 use Rattle.model_core.proofs.Numbers.{numbers-more}
 use Rattle.sim_spec.specs.declared.terms.Terms.{Terms}
 use Rattle.sim_spec.specs.State.{State, initial_state}
@@ -34,7 +34,6 @@ use Rattle.shop_model.specs.declared.station.Station.{Station}
 use Rattle.shop_model.specs.Classes.{made_jobs as made_of, jobs_inside, first_class_cells, one_made, overdue, stay_effect, go_effect, leave_effect}
 use Rattle.shop_model.specs.Jobs.{id_of, class_of, birth_of}
 use Rattle.shop_model.specs.EffectKeeps.{class_fine}
-use Rattle.shop_model.specs.Keeping.{place_cases}
 use Rattle.shop_model.specs.Meaning.{class_of_object, shop_meaning, site_of}
 use Rattle.shop_model.specs.Routes.{stands_at, object_at}
 use Rattle.shop_model.specs.ShopParts.{ShopParts, IsShop, routes_of, station_at}

@@ -8,7 +8,7 @@ use Rattle.delta_exchange.specs.declared.change.Change.TheVariants.{Set}
 use Rattle.delta_exchange.specs.Changes.{CellData, AllFit, cells_after_all}
 use Rattle.model_core.specs.declared.event.Event.{Event}
 use Rattle.model_core.specs.Effects.{blank}
-use Rattle.model_core.specs.Places.{place_changes}
+use Rattle.model_core.specs.Places.{place_changes, place_cases}
 use Rattle.random_streams.specs.declared.delay_law.DelayLaw.{DelayLaw}
 use Rattle.random_streams.specs.Delays.{is_delay_law, draw_delay}
 use Rattle.random_streams.specs.declared.law.Law.TheVariants.{Choice}
@@ -26,7 +26,7 @@ use Rattle.shop_model.specs.declared.step.Step.{Step}
 use Rattle.shop_model.specs.declared.step.Step.TheVariants.{Visit, Free, Delay, Go}
 use Rattle.shop_model.specs.Classes.{made_jobs, jobs_inside, is_class_cells, pause_drawn, arrival_of, next_job, others_sent, next_arrival, one_made, arrival_effect, make_effect, stay_effect, go_effect, leave_effect, come_home}
 use Rattle.shop_model.specs.EffectKeeps.{EffectKeeps, Sent, sent_append, sent_more, self_sent, job_sent, drawn_short, few_places, blank_keeps, step_fine}
-use Rattle.shop_model.specs.Keeping.{Keeps, place_cases}
+use Rattle.shop_model.specs.Keeping.{Keeps}
 use Rattle.shop_model.specs.Meaning.{job_here, home_by, class_effect}
 use Rattle.shop_model.specs.JobLaws.{job_here_is}
 use Rattle.shop_model.specs.Parts.{AreRoutes, IsClass}

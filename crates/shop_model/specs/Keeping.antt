@@ -1,11 +1,8 @@
 -- Changes that fit cells and leave some for which a fact holds, one list of changes after another.
-use Rattle.std.proofs.Common.{ℕ, List, [], ◌∷◌, ◌++◌, Bool, true, false, subst, sym}
-use Rattle.std.specs.Prelude.{if◌then◌else◌, ◌==◌}
+use Rattle.std.proofs.Common.{List, [], ◌∷◌, ◌++◌, subst, sym}
 use Rattle.delta_exchange.proofs.Lists.{all_fit_append, cells_after_all_append}
 use Rattle.delta_exchange.specs.declared.change.Change.{Change}
-use Rattle.delta_exchange.specs.declared.change.Change.TheVariants.{Set}
 use Rattle.delta_exchange.specs.Changes.{CellData, Fits, AllFit, cells_after, cells_after_all}
-use Rattle.model_core.specs.Places.{place_changes}
 
 pub record Keeps (Holds : CellData → Type 0) (changes : List Change) (cells : CellData) : Type 0 where
   pub fits : AllFit changes cells
@@ -27,12 +24,3 @@ keeps_then P Q first last cells a b =
       fits = all_fit_append first last cells a.fits c.fits;
       after = subst Q (sym (cells_after_all_append first last cells)) c.after;
     }
-
--- where words were drawn, the random place moves on
-pub place_cases : (P : List Change → Type 0) (place next : ℕ) → P [] → P (Set 0 next ∷ []) → P (place_changes place next)
-unfolding place_changes
-place_cases P place next stays moves = by (next == place)
-  where
-    by : (same : Bool) → P (if same then [] else Set 0 next ∷ [])
-    by true = stays
-    by false = moves

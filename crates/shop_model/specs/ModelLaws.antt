@@ -43,7 +43,7 @@ pub station_fine : (p : ShopParts) (object : ℕ) → IsShop p → object < leng
 station_fine p object fine exists = fine.stations object no_station exists
 
 -- the first servers are among those that are ever open
-most_open-le : (servers : ℕ) (shifts : List Shift) → servers ≤ most_open servers shifts
+pub most_open-le : (servers : ℕ) (shifts : List Shift) → servers ≤ most_open servers shifts
 most_open-le servers [] = omega arith
 most_open-le servers (shift ∷ rest) = omega (arith, most_open-le (max servers shift.servers) rest)
 
@@ -58,7 +58,7 @@ calmest_of priority [] k within = absurd (omega arith)
 calmest_of priority (class ∷ rest) zero within = omega (arith, calmest_from (max priority class.priority) rest)
 calmest_of priority (class ∷ rest) (suc k) within = calmest_of (max priority class.priority) rest k (omega arith)
 
-some_levels : (order : Order) (classes : List Class) → 1 ≤ levels_of order classes
+pub some_levels : (order : Order) (classes : List Class) → 1 ≤ levels_of order classes
 some_levels Priority classes = omega arith
 some_levels First classes = omega arith
 some_levels Last classes = omega arith

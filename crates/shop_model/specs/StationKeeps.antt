@@ -14,7 +14,7 @@ use Rattle.model_core.specs.declared.effect.Effect.{Effect}
 use Rattle.model_core.specs.declared.event.Event.{Event}
 use Rattle.model_core.specs.declared.words.TheConstants.{FREED_WORD, DONE_WORD, OPENED_WORD}
 use Rattle.model_core.specs.Effects.{blank}
-use Rattle.model_core.specs.Places.{place_changes}
+use Rattle.model_core.specs.Places.{place_changes, place_cases}
 use Rattle.random_streams.specs.declared.delay_law.DelayLaw.{DelayLaw}
 use Rattle.random_streams.specs.Delays.{is_delay_law}
 use Rattle.shop_model.specs.declared.counts.Counts.{Counts}
@@ -40,7 +40,7 @@ use Rattle.shop_model.specs.EntrySteps.{wait_keeps, called_keeps, passed_keeps, 
 use Rattle.shop_model.specs.HasStation.{IsStation, IsShift, AreBreakdowns, HasLevels}
 use Rattle.shop_model.specs.JobLaws.{HasHere, job_named, job_here_is, waits_here}
 use Rattle.shop_model.specs.Jobs.{job_at, birth_of, server_of, served_by}
-use Rattle.shop_model.specs.Keeping.{Keeps, keeps_none, keeps_then, place_cases}
+use Rattle.shop_model.specs.Keeping.{Keeps, keeps_none, keeps_then}
 use Rattle.shop_model.specs.Lawful.{IsLawful}
 use Rattle.shop_model.specs.Meaning.{job_here, is_served, come_by, done_by, station_effect}
 use Rattle.shop_model.specs.Parts.{AreRoutes, IsVisit}

@@ -1,11 +1,10 @@
 -- A shop with a seed in place of its own.
-use Rattle.std.specs.Prelude.{ℕ, ◌<◌, ◌^◌}
 use Rattle.std.specs.Arc.{arc_value}
 use Rattle.model_core.specs.Meaning.{Meaning, MeaningLaws}
 use Rattle.shop_model.specs.declared.shop.Shop.{Shop}
 use Rattle.shop_model.specs.Meaning.{shop_meaning}
-use Rattle.shop_model.specs.ModelLaws.{shop_laws}
-use Rattle.shop_model.specs.ShopParts.{ShopParts, IsShop, shop_under}
+use Rattle.shop_model.specs.ModelLaws.{shop_laws, is_shop_under}
+use Rattle.shop_model.specs.ShopParts.{ShopParts, shop_under}
 use Rattle.shop_model.specs.Views.{parts_of}
 use Rattle.shop_program.specs.declared.seeded.SeededShop.{SeededShop}
 
@@ -18,9 +17,6 @@ parts_seeded seeded = shop_under seeded.seed (parts_of (shop_seeded seeded))
 
 abbrev pub seeded_meaning : SeededShop → Meaning
 seeded_meaning seeded = shop_meaning (parts_seeded seeded)
-
-pub is_shop_under : (seed : ℕ) → seed < 2 ^ 63 → (p : ShopParts) → IsShop p → IsShop (shop_under seed p)
-is_shop_under seed below p fine = record { seed = below; routes = fine.routes; stations = fine.stations; few_times = fine.few_times }
 
 pub seeded_laws : (seeded : SeededShop) → MeaningLaws (seeded_meaning seeded)
 seeded_laws seeded = shop_laws (parts_seeded seeded) (is_shop_under seeded.seed seeded.in_range (parts_of (shop_seeded seeded)) (shop_seeded seeded).in_range)

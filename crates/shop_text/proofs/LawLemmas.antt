@@ -3,17 +3,7 @@ use Rattle.std.proofs.Common.{◌≡◌, ℕ, ◌≤◌, true, List, [], ◌∷�
 use Rattle.std.specs.Prelude.{All, IsTrue, nat_le}
 use Rattle.std.proofs.lemmas.Bool.Decides.{nat_tests}
 use Rattle.std.proofs.lemmas.List.Elements.{All-head, All-tail}
-use Rattle.random_streams.specs.declared.law.Law.{Law}
-use Rattle.random_streams.specs.declared.law.Law.TheVariants.{Fixed, Uniform, Geometric, Choice}
 use Rattle.random_streams.specs.Delays.{are_values}
-use Rattle.random_streams.specs.Laws.{is_delay, is_drawable}
-
-pub delay-drawable : (law : Law) → IsTrue (is_delay law) → IsTrue (is_drawable law)
-unfolding is_delay
-delay-drawable (Fixed value) is = is
-delay-drawable (Uniform low high) is = is
-delay-drawable (Geometric p cap) is = is
-delay-drawable (Choice weights) is = cc
 
 pub values-small : (values : List ℕ) → All (λ n. n ≤ 1099511627776) values → IsTrue (are_values values)
 unfolding are_values

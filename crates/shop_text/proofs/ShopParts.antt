@@ -24,10 +24,7 @@ use Rattle.shop_text.specs.Ranges.{IsShift, IsStationText, IsClassText, LinksBel
 use Rattle.shop_text.specs.ShopTexts.{with_levels, linked_shop}
 use Rattle.shop_text.specs.Views.{class_text, class_texts, linked_named}
 use Rattle.shop_text.proofs.LinkedParts.{classes-linked, times_named}
-
-open_from : (servers : ℕ) (shifts : List Shift) → servers ≤ most_open servers shifts
-open_from servers [] = omega arith
-open_from servers (s ∷ shifts) = omega (arith, open_from (max servers s.servers) shifts)
+use Rattle.shop_model.specs.ModelLaws.{most_open-le, some_levels}
 
 open_few : (servers : ℕ) (shifts : List Shift) → servers ≤ 1024 → All IsShift shifts → most_open servers shifts ≤ 1024
 open_few servers [] few fine = few
@@ -38,7 +35,7 @@ open_few servers (s ∷ shifts) few fine =
 open_each : (servers : ℕ) (shifts : List Shift) → All (λ (s : Shift). s.servers ≤ most_open servers shifts) shifts
 open_each servers [] = All-nil (λ (s : Shift). s.servers ≤ servers)
 open_each servers (s ∷ shifts) =
-    let here : s.servers ≤ most_open (max servers s.servers) shifts = omega (arith, open_from (max servers s.servers) shifts) in
+    let here : s.servers ≤ most_open (max servers s.servers) shifts = omega (arith, most_open-le (max servers s.servers) shifts) in
     All-cons (λ (t : Shift). t.servers ≤ most_open (max servers s.servers) shifts) s shifts here (open_each (max servers s.servers) shifts)
 
 shifts_within : (station : Station) (shifts : List Shift) → All IsShift shifts → All (λ (s : Shift). s.servers ≤ station.most) shifts → All (IsShiftOf station) shifts
@@ -54,11 +51,6 @@ calmest_few priority [] n few fine = few
 calmest_few priority (c ∷ classes) n few fine =
     let here : c.priority ≤ 7 = (All-head (IsClass n) c classes fine).priority in
     calmest_few (max priority c.priority) classes n (omega (arith, here, few)) (All-tail (IsClass n) c classes fine)
-
-some_levels : (order : Order) (classes : List Class) → 1 ≤ levels_of order classes
-some_levels First classes = omega arith
-some_levels Last classes = omega arith
-some_levels Priority classes = omega arith
 
 few_levels : (order : Order) (classes : List Class) → calmest classes ≤ 7 → levels_of order classes ≤ 8
 few_levels First classes few = omega arith

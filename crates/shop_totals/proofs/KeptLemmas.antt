@@ -11,7 +11,7 @@ use Rattle.shop_totals.specs.declared.kept.Kept.{Kept}
 use Rattle.shop_totals.specs.Kept.{number_after, ticks_of, kept_of, ticks_between}
 use Rattle.shop_totals.specs.Told.{TimedPart, told_by, AreBy}
 
-sums_split : (f : ℕ → ℕ) (a n m : ℕ) → sum_by f (range_with_len a (n + m)) ≡ sum_by f (range_with_len a n) + sum_by f (range_with_len (a + n) m)
+pub sums_split : (f : ℕ → ℕ) (a n m : ℕ) → sum_by f (range_with_len a (n + m)) ≡ sum_by f (range_with_len a n) + sum_by f (range_with_len (a + n) m)
 sums_split f a zero m =
     let whole : zero + m ≡ m = omega arith in
     let from : a + zero ≡ a = omega arith in

@@ -4,7 +4,7 @@ use Rattle.std.specs.Prelude.{Some}
 use Rattle.std.specs.List.{AllByRecursion as Each}
 use Rattle.event_key.specs.declared.key.Key.{Key}
 use Rattle.event_key.specs.Keys.{key_lt}
-use Rattle.event_key.proofs.Order.{key_lt-irrefl, stamp-le}
+use Rattle.event_key.proofs.Order.{key_lt-irrefl, stamp-le, key_lt-turned}
 use Rattle.model_core.specs.declared.event.Event.{Event}
 use Rattle.model_core.specs.Meaning.{Meaning}
 use Rattle.sim_spec.specs.Firing.{ObjectState, Firing, goes, fails}
@@ -16,7 +16,6 @@ use Rattle.sim_spec.specs.Cut.{events_of, objects_after}
 use Rattle.sim_spec.specs.Replay.{EmitsFrom}
 use Rattle.sim_spec.specs.HorizonLaws.{IsBefore, IsPast, IsNextFault}
 use Rattle.key_order.proofs.EachLemmas.{Each-map}
-use Rattle.key_order.proofs.AscendingLemmas.{key_lt-turned}
 use Rattle.key_order.proofs.StampLemmas.{NoneBelow-le, NoneBelow-least_stamp, least_stamp-le, least_stamp-from}
 use Rattle.sim_spec.proofs.StampLemmas.{fire-later}
 use Rattle.sim_spec.proofs.BucketInduction.{fire_at, objects_with, bucket-induction}

@@ -46,7 +46,7 @@ faulted_says left b unlimited some_fault = by_tests (ltb left (length b.done)) (
         let apart : left ≡ length b.done → ⊥ = λ same. let q = eq-eqb left (length b.done) same in cc in
         omega arith
 
-some_of : {A : Type 0} (o : Option A) → is_some o ≡ true → (x : A) × (o ≡ Some x)
+pub some_of : {A : Type 0} (o : Option A) → is_some o ≡ true → (x : A) × (o ≡ Some x)
 some_of (Some x) is = (x, refl)
 some_of None is = absurd (cc)
 

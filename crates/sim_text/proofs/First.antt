@@ -226,10 +226,6 @@ pub is_none : {A : Type 0} (o : Option A) → is_some o ≡ false → o ≡ None
 is_none None h = refl
 is_none (Some x) h = cc
 
-pub is_some_of : {A : Type 0} (o : Option A) → is_some o ≡ true → (x : A) × (o ≡ Some x)
-is_some_of None h = cc
-is_some_of (Some x) h = (x, refl)
-
 -- an engine that stands somewhere stands at that state
 pub stands_so : {E : Type 0} (StandsIn : E → Standing → Type 0) (engine : E) (at : Standing) → StandsIn engine at → (last state : State) (fault : Option (Key × ℕ)) → at ≡ stands state fault
     → last ≡ state → StandsAtState StandsIn engine last

@@ -10,11 +10,13 @@ use Rattle.model_core.specs.declared.event.Event.{Event}
 use Rattle.key_order.proofs.EachLemmas.{Each-map, Each-back}
 use Rattle.key_order.proofs.MemberLemmas.{Each-permutation}
 use Rattle.tick_queue.specs.Digits.{InSlot}
-use Rattle.tick_queue.specs.Levels.{LevelsView, joined, StandsIn, AreLevels, PutsIn, Spreads, HasLeft, IsOfTick, IsLaterThan, Advances}
+use Rattle.key_order.specs.Joined.{joined}
+use Rattle.tick_queue.specs.Levels.{LevelsView, StandsIn, AreLevels, PutsIn, Spreads, HasLeft, IsOfTick, IsLaterThan, Advances}
 use Rattle.tick_queue.specs.Slots.{AllEmpty, IsFirst}
 use Rattle.tick_queue.proofs.DigitLemmas.{slots_less, slots_later, tick_small}
 use Rattle.tick_queue.proofs.FirstLemmas.{first_of, first_le, first_digits, first_lowest, first_stands, first_after}
-use Rattle.tick_queue.proofs.SlotLemmas.{slot_out, slot_put, each_joined, none_joined, each_none, first_event, within_some, read_same, read_other}
+use Rattle.key_order.proofs.JoinedLemmas.{slot_out}
+use Rattle.tick_queue.proofs.SlotLemmas.{slot_put, each_joined, none_joined, each_none, first_event, within_some, read_same, read_other}
 
 -- some tick stands in the first slot
 pub some_stands : (tick slot : ℕ) (slots : List (List Event)) → AreLevels tick slots → IsFirst slots slot → (t : ℕ) × (t < 2 ^ 48) × InSlot tick slot t

@@ -1,42 +1,20 @@
 -- Events in slots, one slot after another.
-use Rattle.std.proofs.Common.{◌≡◌, ◌≢◌, ℕ, zero, suc, ◌<◌, ◌%◌, ◌/◌, List, [], ◌∷◌, ◌++◌, length, append_assoc, take, drop, replicate, get_or, sym, refl, ap, ◌∙◌, subst, inl, inr, arith}
+use Rattle.std.proofs.Common.{◌≡◌, ◌≢◌, ℕ, zero, suc, ◌<◌, ◌%◌, ◌/◌, List, [], ◌∷◌, ◌++◌, length, replicate, get_or, sym, refl, ap, ◌∙◌, subst, inl, inr, arith}
 use Rattle.std.specs.Prelude.{IsPermutation, slice_set, slice_index_or}
 use Rattle.std.specs.List.{AllByRecursion as Each}
 use Rattle.std.specs.Int.{bit_at}
 use Rattle.std.proofs.Math.ListN.{get_or-eq_default, length-set}
 use Rattle.std.proofs.lemmas.Bool.{cases_lt, cases_eq}
 use Rattle.std.proofs.lemmas.Nat.Bits.{bit_at-zero}
-use Rattle.std.proofs.lemmas.List.{set_split, set-get_or, get_or-set_same, get_or-set_other}
-use Rattle.std.proofs.lemmas.List.Sorted.{IsPermutation-sym, IsPermutation-trans, IsPermutation-cons, IsPermutation-append_left, IsPermutation-append_comm}
+use Rattle.std.proofs.lemmas.List.{get_or-set_same, get_or-set_other}
+use Rattle.std.proofs.lemmas.List.Sorted.{IsPermutation-sym, IsPermutation-trans, IsPermutation-cons}
 use Rattle.model_core.specs.declared.event.Event.{Event}
 use Rattle.event_bags.specs.Views.{TakesFront, HasFront, MovesFront}
 use Rattle.key_order.proofs.EachLemmas.{Each-append}
-use Rattle.tick_queue.specs.Levels.{joined}
+use Rattle.key_order.specs.Joined.{joined}
+use Rattle.key_order.proofs.JoinedLemmas.{slot_first, slot_out}
 use Rattle.tick_queue.specs.Marks.{mark_of}
 use Rattle.tick_queue.specs.Slots.{AllEmpty, AreSlots}
-
-joined-append : (rs ss : List (List Event)) → joined (rs ++ ss) ≡ joined rs ++ joined ss
-joined-append [] ss = refl
-joined-append (r ∷ rs) ss = ap (λ w. r ++ w) (joined-append rs ss) ∙ sym (append_assoc r (joined rs) (joined ss))
-
-middle_first : (xs ys zs : List Event) → IsPermutation (xs ++ (ys ++ zs)) (ys ++ (xs ++ zs))
-middle_first xs ys zs =
-    rw (← append_assoc) (rw (← append_assoc ys xs zs) (IsPermutation-append_left zs (xs ++ ys) (ys ++ xs) (IsPermutation-append_comm xs ys)))
-
-joined-set : (rs : List (List Event)) (i : ℕ) (r : List Event) → i < length rs → joined (slice_set rs i r) ≡ joined (take i rs) ++ (r ++ joined (drop (suc i) rs))
-joined-set rs i r lt = ap joined (set_split rs i r lt) ∙ joined-append (take i rs) (r ∷ drop (suc i) rs)
-
--- a slot may stand first
-pub slot_first : (rs : List (List Event)) (i : ℕ) (r : List Event) → i < length rs → IsPermutation (joined (slice_set rs i r)) (r ++ joined (slice_set rs i []))
-slot_first rs i r lt =
-    let P : List Event → Type 0 = λ w. IsPermutation w (r ++ joined (slice_set rs i [])) in
-    let Q : List Event → Type 0 = λ w. IsPermutation (joined (take i rs) ++ (r ++ joined (drop (suc i) rs))) (r ++ w) in
-    subst P (sym (joined-set rs i r lt)) (subst Q (sym (joined-set rs i [] lt)) (middle_first (joined (take i rs)) r (joined (drop (suc i) rs))))
-
-pub slot_out : (rs : List (List Event)) (i : ℕ) → i < length rs → IsPermutation (joined rs) (slice_index_or rs i [] ++ joined (slice_set rs i []))
-slot_out rs i lt =
-    let P : List (List Event) → Type 0 = λ w. IsPermutation (joined w) (slice_index_or rs i [] ++ joined (slice_set rs i [])) in
-    subst P (set-get_or rs i []) (slot_first rs i (slice_index_or rs i []) lt)
 
 -- an event comes into a slot
 pub slot_put : (rs : List (List Event)) (i : ℕ) (e : Event) → i < length rs → IsPermutation (e ∷ joined rs) (joined (slice_set rs i (e ∷ slice_index_or rs i [])))

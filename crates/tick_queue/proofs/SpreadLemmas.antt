@@ -11,7 +11,8 @@ use Rattle.model_core.specs.declared.event.Event.{Event}
 use Rattle.event_bags.specs.Views.{TakesFront, HasFront, MovesFront}
 use Rattle.tick_queue.specs.Digits.{InSlot}
 use Rattle.tick_queue.specs.Slots.{SlotsView}
-use Rattle.tick_queue.specs.Levels.{joined, StandsIn, StandIn, PutsIn, Spreads, HasLeft}
+use Rattle.key_order.specs.Joined.{joined}
+use Rattle.tick_queue.specs.Levels.{StandsIn, StandIn, PutsIn, Spreads, HasLeft}
 use Rattle.tick_queue.proofs.SlotLemmas.{read_same, read_other, slot_put, slot_take, within_some, each_none}
 
 -- events of one slot that begin with the digits of the tick at hand

@@ -11,11 +11,6 @@ pub record LevelsView : Type 0 where
   pub events : List Event
   pub spare : ℕ
 
--- the events of all slots, one slot after another
-abbrev pub joined : List (List Event) → List Event
-joined [] = []
-joined (s ∷ ss) = s ++ joined ss
-
 -- the event's tick stands in this slot
 abbrev pub StandsIn : ℕ → ℕ → Event → Type 0
 StandsIn now slot e = InSlot now slot (time_part e.key.stamp)

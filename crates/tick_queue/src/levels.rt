@@ -21,7 +21,8 @@ pub struct Levels {
 }
 
 impl Model for Levels {
-    ghost use Rattle.tick_queue.specs.Levels.{LevelsView, joined, AreLevels};
+    ghost use Rattle.key_order.specs.Joined.{joined};
+    ghost use Rattle.tick_queue.specs.Levels.{LevelsView, AreLevels};
 
     ghost Value = { LevelsView };
 

@@ -2,7 +2,8 @@
 ghost use Rattle.std.specs.Prelude.{◌≡◌, ◌+◌, ◌<◌, ◌≤◌, ◌^◌, IsPermutation};
 ghost use Rattle.event_key.specs.Stamps.{time_part};
 ghost use Rattle.tick_queue.specs.Digits.{InSlot};
-ghost use Rattle.tick_queue.specs.Levels.{PutsIn, Spreads, StandIn, joined};
+ghost use Rattle.key_order.specs.Joined.{joined};
+ghost use Rattle.tick_queue.specs.Levels.{PutsIn, Spreads, StandIn};
 
 use crate::digits::slot_of;
 use crate::slots::Slots;

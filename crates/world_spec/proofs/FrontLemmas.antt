@@ -6,13 +6,12 @@ use Rattle.std.proofs.lemmas.List.Sorted.{sum_by-IsPermutation}
 use Rattle.std.proofs.lemmas.List.Sums.{sum_by-cons}
 use Rattle.std.specs.List.{AllByRecursion as Each, list_all, sum_by}
 use Rattle.std.specs.Prelude.{Contains, IsPermutation}
-use Rattle.event_key.proofs.Order.{key_lt-trans}
+use Rattle.event_key.proofs.Order.{key_lt-trans, key_lt-turned}
 use Rattle.event_key.specs.Keys.{key_lt}
 use Rattle.model_core.specs.declared.event.Event.{Event}
 use Rattle.key_order.specs.Ascending.{IsAscending, Ascends}
 use Rattle.key_order.specs.Pending.{enqueue, enqueue_all}
 use Rattle.sim_spec.specs.Replay.{events_at}
-use Rattle.key_order.proofs.AscendingLemmas.{key_lt-turned}
 use Rattle.key_order.proofs.EachLemmas.{Each-map}
 use Rattle.key_order.proofs.EnqueueLemmas.{length-enqueue}
 use Rattle.world_spec.specs.Early.{is_before_all, leading}

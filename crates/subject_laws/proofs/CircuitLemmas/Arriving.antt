@@ -5,7 +5,7 @@ use Rattle.std.specs.List.{AllByRecursion as Each}
 use Rattle.event_key.specs.Keys.{key_lt}
 use Rattle.key_order.specs.Ascending.{IsAscending, Ascends, AllAfter}
 use Rattle.key_order.specs.Pending.{enqueue, enqueue_all}
-use Rattle.key_order.proofs.AscendingLemmas.{key_lt-turned}
+use Rattle.event_key.proofs.Order.{key_lt-turned}
 use Rattle.key_order.proofs.EachLemmas.{Each-both}
 use Rattle.key_order.proofs.MemberLemmas.{first-or-later, none-in}
 use Rattle.model_core.specs.declared.event.Event.{Event}

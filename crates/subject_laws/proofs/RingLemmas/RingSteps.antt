@@ -21,7 +21,7 @@ use Rattle.model_core.specs.Places.{place_changes}
 use Rattle.subject_laws.proofs.QueueLemmas.Cases.{StationDoes, takes, waits, loses, serves, frees}
 use Rattle.subject_laws.proofs.QueueLemmas.Leaves.{HasStationCells, plain_shape, plain_leaves, take_leaves, wait_leaves, serve_leaves, free_leaves}
 use Rattle.subject_laws.proofs.RingLemmas.RingParts.{IsShort, IsRingStation, IsRingDelay, later_free, later_step, now_free}
-use Rattle.subject_laws.proofs.TimeLemmas.Ticks.{next_time}
+use Rattle.event_key.proofs.StampLemmas.{next_time}
 
 -- twice as many events as a job can have had before this one, and one: three of them take two ticks
 unfoldable pub weight : Event → ℕ

@@ -51,7 +51,7 @@ use Rattle.subject_laws.proofs.QueueLemmas.NetworkStarts.{source_exists, cells_a
 use Rattle.subject_laws.proofs.QueueLemmas.NetworkSteps.{IsNetworkStep, network_step, reached_lawful, cells_here, cells_elsewhere}
 use Rattle.subject_laws.proofs.QueueLemmas.OrderLaw.{jobs_of, told_here, empty_list}
 use Rattle.subject_laws.proofs.QueueLemmas.PlainRuns.{same_after}
-use Rattle.subject_laws.proofs.TimeLemmas.Ticks.{next_time}
+use Rattle.event_key.proofs.StampLemmas.{next_time}
 
 -- an event is at an object
 abbrev is_at : ℕ → Event → Bool

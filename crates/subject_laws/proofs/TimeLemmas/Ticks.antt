@@ -4,7 +4,7 @@ use Rattle.std.specs.Prelude.{filter, sum, sum_by, count_by, ◌==◌, ◌&&◌}
 use Rattle.std.specs.List.{AllByRecursion as Each}
 use Rattle.std.proofs.lemmas.Bool.{eqb-false, or_parts}
 use Rattle.std.proofs.lemmas.List.Sums.{sum_by-cons, sum_by-append}
-use Rattle.event_key.specs.Stamps.{time_part, step_part, next_stamp, has_no_step}
+use Rattle.event_key.specs.Stamps.{time_part, next_stamp}
 use Rattle.model_core.specs.declared.event.Event.{Event}
 use Rattle.model_core.specs.declared.event.Send.{Send}
 use Rattle.model_core.specs.Meaning.{Meaning}
@@ -16,6 +16,7 @@ use Rattle.run_laws.specs.Reached.{after_events, gathered}
 use Rattle.run_laws.proofs.Induction.{gathered-more}
 use Rattle.subject_laws.specs.Draws.{delays_of}
 use Rattle.subject_laws.specs.Stations.{ends_service_at}
+use Rattle.event_key.proofs.StampLemmas.{next_time}
 
 -- a sum of what a run gathers, with one event more
 pub gathered-sum : (gives : State → Next → List ℕ) (m : Meaning) (t : Terms) (n : ℕ) (x : Next) → next m t (after_events n m t) ≡ x
@@ -55,20 +56,6 @@ pub sum_by-less : {X : Type 0} (f : X → ℕ) (least : ℕ) (xs : List X) → E
 sum_by-less f least [] all = omega arith
 sum_by-less f least (x ∷ xs) all =
     omega (arith, all.0, sum_by-cons (λ x. f x - least) x xs, sum_by-cons f x xs, sum_by-less f least xs all.1)
-
--- what is sent happens after its delay, to the tick
-pub next_time : (stamp delay : ℕ) → has_no_step stamp delay ≡ false → time_part (next_stamp stamp delay) ≡ time_part stamp + delay
-unfolding has_no_step next_stamp
-next_time stamp delay steps = by (eqb delay 0) refl (eqb (step_part stamp) 65535) refl steps
-  where
-    by : (none : Bool) → eqb delay 0 ≡ none → (last : Bool) → eqb (step_part stamp) 65535 ≡ last → (none && last) ≡ false
-        → time_part (cond none (stamp + 1) ((time_part stamp + delay) * 65536)) ≡ time_part stamp + delay
-    by false some last ends never = omega arith
-    by true none_is true ends never = absurd (cc)
-    by true none_is false ends never =
-        let zero : delay ≡ 0 = eqb-true delay 0 none_is in
-        let apart : step_part stamp ≢ 65535 = eqb-false (step_part stamp) 65535 ends in
-        omega arith
 
 -- when a service at a station ends; 0 for other events
 unfoldable pub end_time : ℕ → Event → ℕ

@@ -1,9 +1,9 @@
 use Rattle.random_streams.specs.Delays.{is_delay_law}
-use Rattle.shop_text.proofs.LawLemmas.{delay-drawable}
+use Rattle.random_streams.proofs.Bounds.{is_drawable-delay}
 use Rattle.shop_text.proofs.laws.plain.Goals as goal
 
 pub new-requires : goal.new-requires
-new-requires c = delay-drawable c.args.law c.requires
+new-requires c = is_drawable-delay c.args.law c.requires
 
 pub returns-clause-delay : goal.returns-clause-delay
 unfolding is_delay_law

@@ -13,10 +13,11 @@ use Rattle.sim_io.specs.Transfers.{AppendsPrefix}
 use Rattle.sim_text.specs.Rest.{AllAtObjects}
 use Rattle.sim_text.specs.WholeTexts.{first_lines}
 use Rattle.sim_text.proofs.WritingLemmas.{writes_prefix}
-use Rattle.sim_text.proofs.First.{told_first, none_first, lines-prefix, StandsAfter, all-ended, all-done, one_more, at_objects, lines-more, lines-go_on, is_none, is_some_of, stands_so, put_told}
+use Rattle.sim_text.proofs.First.{told_first, none_first, lines-prefix, StandsAfter, all-ended, all-done, one_more, at_objects, lines-more, lines-go_on, is_none, stands_so, put_told}
 use Rattle.sim_text.proofs.UnderWay.{HasDone, held, ended-same, has_done}
 use Rattle.sim_text.proofs.WrittenLemmas.{no_prefix, rose_after, all_written, written_before, failed_before}
 use Rattle.sim_text.proofs.first_cycles.simulate_first.Goals as goal
+use Rattle.sim_spec.proofs.BucketLaw.{some_of}
 
 pub loop-done-init : goal.loop-done-init
 unfolding records_of_buckets record_lines
@@ -50,7 +51,7 @@ pub returns-then-is_some-clause-written : goal.returns-then-is_some-clause-writt
 returns-then-is_some-clause-written g c = λ from starts.
     let i = c.loop-done.invariant in
     let r = i.first from starts in
-    let some = is_some_of _ (sym c.if-is_some.ensures) in
+    let some = some_of _ (sym c.if-is_some.ensures) in
     let ended = ended-same _ _ _ _ _ _ i.meaning i.terms (sym some.1 ∙ c.ended.ensures r.at r.stands) in
     let all = all-ended _ _ _ _ i.so_far r.first c.args.most some.0 (omega (arith, i.numbered, c.loop-done-test.true)) ended in
     all_written _ _ _ _ _ (subst (Appends (g.K.Sink.told c.args.sink.now) (g.K.Sink.told c.loop-done.sink)) (sym all.lines) i.told) i.quiet
@@ -59,7 +60,7 @@ pub returns-then-is_some-clause-state : goal.returns-then-is_some-clause-state
 returns-then-is_some-clause-state g c = λ from starts.
     let i = c.loop-done.invariant in
     let r = i.first from starts in
-    let some = is_some_of _ (sym c.if-is_some.ensures) in
+    let some = some_of _ (sym c.if-is_some.ensures) in
     let ended = ended-same _ _ _ _ _ _ i.meaning i.terms (sym some.1 ∙ c.ended.ensures r.at r.stands) in
     let all = all-ended _ _ _ _ i.so_far r.first c.args.most some.0 (omega (arith, i.numbered, c.loop-done-test.true)) ended in
     stands_so g.E.Engine.stands_at c.loop-done.engine r.at r.stands _ r.first.state r.first.fault r.first.at_state all.last

@@ -1,6 +1,6 @@
 use Rattle.std.proofs.Common.{◌∙◌, arith}
 use Rattle.std.proofs.lemmas.List.Sorted.{IsPermutation-trans}
-use Rattle.tick_queue.specs.Levels.{joined}
+use Rattle.key_order.specs.Joined.{joined}
 use Rattle.tick_queue.proofs.SpreadLemmas.{spreads_move, front_begins}
 use Rattle.tick_queue.proofs.spread.spread.Goals as goal
 

@@ -1,6 +1,7 @@
 use Rattle.std.proofs.Common.{◌≡◌, [], length}
 use Rattle.std.specs.Prelude.{IsPermutation, slice_index_or}
-use Rattle.tick_queue.specs.Levels.{Spreads, joined}
+use Rattle.key_order.specs.Joined.{joined}
+use Rattle.tick_queue.specs.Levels.{Spreads}
 use Rattle.tick_queue.proofs.spread.spread.Given as goal
 
 abbrev pub invariant-loop-event : goal.invariant-loop-event

@@ -2,7 +2,8 @@
 use Rattle.std.proofs.Common.{◌≡◌, ◌<◌, [], ◌++◌, length, refl, arith}
 use Rattle.std.specs.Prelude.{IsPermutation, slice_set, slice_index_or}
 use Rattle.std.proofs.lemmas.List.Sorted.{IsPermutation-trans}
-use Rattle.tick_queue.specs.Levels.{LevelsView, joined, Advances}
+use Rattle.key_order.specs.Joined.{joined}
+use Rattle.tick_queue.specs.Levels.{LevelsView, Advances}
 use Rattle.tick_queue.proofs.SpreadLemmas.{taken_others, taken_left, taken_moves}
 use Rattle.tick_queue.proofs.LevelLemmas.{some_stands, next_small, next_after, opened, levels-taken, taken_from, advances, advances_none, same_long, ok_both}
 use Rattle.tick_queue.proofs.levels.Levels.advance.Goals as goal

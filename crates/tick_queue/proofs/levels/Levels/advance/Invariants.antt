@@ -1,6 +1,7 @@
 use Rattle.std.proofs.Common.{◌≡◌, ◌-◌, ◌^◌, []}
 use Rattle.std.specs.Prelude.{IsPermutation}
-use Rattle.tick_queue.specs.Levels.{AreLevels, joined}
+use Rattle.key_order.specs.Joined.{joined}
+use Rattle.tick_queue.specs.Levels.{AreLevels}
 use Rattle.tick_queue.proofs.levels.Levels.advance.Given as goal
 
 abbrev pub invariant-loop-slot : goal.invariant-loop-slot

@@ -1,6 +1,7 @@
 use Rattle.std.proofs.Common.{◌∷◌, subst}
 use Rattle.std.specs.Prelude.{IsPermutation}
-use Rattle.tick_queue.specs.Levels.{LevelsView, joined}
+use Rattle.key_order.specs.Joined.{joined}
+use Rattle.tick_queue.specs.Levels.{LevelsView}
 use Rattle.tick_queue.proofs.LevelLemmas.{placed, placed_events}
 use Rattle.tick_queue.proofs.levels.Levels.place.Goals as goal
 
