@@ -28,7 +28,7 @@ impl ClassEvent<'_> {
     {
         match self.routes.step(job.class, job.step) {
             Some(Step::Delay { law }) => self.stay(words, law, job, sheet),
-            Some(Step::Go(branch)) => self.go(words, branch, job, sheet),
+            Some(Step::Go(branch)) => self.go_to_drawn_step(words, branch, job, sheet),
             Some(_) => {}
             None => self.leave(job, sheet),
         }
@@ -73,7 +73,7 @@ impl ClassEvent<'_> {
 
     /// A job goes to a drawn step.
     #[tactic(auto, unfolding(crate::specs::Classes::go_effect))]
-    fn go(&self, words: &mut Stream, branch: &Branch, job: Job, sheet: &mut Effect)
+    fn go_to_drawn_step(&self, words: &mut Stream, branch: &Branch, job: Job, sheet: &mut Effect)
         requires branch { IsBranch MOST_STEPS branch.now }
         requires job { HasJob self.now.routes.now job }
         requires blank { sheet.old ≡ blank }
