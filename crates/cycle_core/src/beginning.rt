@@ -8,13 +8,12 @@ ghost use Rattle.model_core.specs.declared.event.Event.{Event};
 ghost use Rattle.sim_spec.specs.declared.terms.Terms.{Terms};
 ghost use Rattle.cycle_core.specs.Starts.{AreAllNew, ArePartsOf, ArePlaced, ArePlacedBy, CanSet, HaveStatesFrom, first_events};
 
-use crate::state::ObjectState;
 use event_chain::{Cell, Chain};
 use event_firing::first_event;
 use model_core::model::Model as SimulationModel;
 use model_core::{Event, OutOfMemory};
 use node_core::{Homes, Node, empty_parcels};
-use sim_spec::{Placement, Terms};
+use sim_spec::{ObjectState, Placement, Terms};
 use std::alloc::Global;
 use std::sync::Arc;
 

@@ -9,10 +9,10 @@ ghost use Rattle.cycle_core.specs.Places.{EachPair};
 ghost use Rattle.cycle_core.specs.Snapshots.{AllUndone, AreStatesOf, waiting_in};
 ghost use Rattle.cycle_core.specs.Worlds.{AreNodesOf};
 
-use crate::state::ObjectState;
 use model_core::model::Model as SimulationModel;
 use model_core::{Event, OutOfMemory};
 use node_core::{Homes, Node};
+use sim_spec::ObjectState;
 use std::alloc::Global;
 
 /// Undoes all that these nodes have processed.

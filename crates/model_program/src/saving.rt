@@ -18,14 +18,13 @@ ghost use Rattle.model_program.specs.SavedRuns.{IsSaved};
 use crate::laws::law_saved_runs;
 use crate::setting::spread_of;
 use crate::state_refusal::refused_state;
-use cycle_core::State;
 use model_reader::ModelReader;
 use model_runs::{Stage, resume_model, save_model};
 use node_team::Gate;
 use program_answers::{Ending, ending_of};
 use run_save::{MOST_STATE_BYTES, Saved, StateCause, StateRefusal, put_state, read_state};
 use sim_io::{Failed, ReadEnd, Settings, Sink, Source, read_some, write_all};
-use sim_spec::Terms;
+use sim_spec::{State, Terms};
 use std::alloc::Global;
 use std::thread::Threads;
 

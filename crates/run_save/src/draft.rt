@@ -1,6 +1,6 @@
 //! What a state text says.
-use cycle_core::ObjectState;
 use model_core::Event;
+use sim_spec::ObjectState;
 
 /// What the lines of a state text say, with the bytes and the line of its model.
 #[derive(Drop)]

@@ -15,10 +15,9 @@ use crate::reading_checks::check_lawful;
 use crate::reading_lines::{events, named, objects};
 use crate::refusal::{StateCause, StateRefusal};
 use crate::saved::Saved;
-use cycle_core::State;
 use model_core::{MOST_OBJECTS, MOST_TEXT_BYTES};
 use model_reader::{ModelReader, Refusal};
-use sim_spec::Terms;
+use sim_spec::{State, Terms};
 use std::alloc::Global;
 
 /// How many bytes a state text has at most.

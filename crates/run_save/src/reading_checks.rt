@@ -5,11 +5,10 @@ ghost use Rattle.run_save.specs.Checks.{Gives};
 ghost use Rattle.run_save.specs.LawfulChecks.{objects_check, is_sent, has_source, is_sound, events_check, events_line, lawful_check};
 
 use crate::refusal::{StateCause, StateRefusal};
-use cycle_core::ObjectState;
 use event_key::{INITIAL, Key, MOST_RANK};
 use model_core::Event;
 use model_core::model::Model;
-use sim_spec::Terms;
+use sim_spec::{ObjectState, Terms};
 
 /// How many events may be pending before any is done.
 const MOST_AT_START: u64 = 400_000;

@@ -8,9 +8,9 @@ ghost use Rattle.run_save.specs.Views.{rest_of};
 use crate::cursor::Cursor;
 use crate::reading_lists::{counted, lines};
 use crate::refusal::StateRefusal;
-use cycle_core::ObjectState;
 use event_key::{Key, stamp_of};
 use model_core::{Cells, Event};
+use sim_spec::ObjectState;
 use std::alloc::Global;
 
 /// The greatest time of a pending event: 2^47 - 1.

@@ -1,7 +1,6 @@
 //! A state that was saved.
-use cycle_core::State;
 use model_core::model::Model;
-use sim_spec::Terms;
+use sim_spec::{State, Terms};
 
 /// A state, with the model and the terms of its simulation.
 #[derive(Drop)]

@@ -5,9 +5,9 @@ ghost use Rattle.run_save.specs.SavedLaws.{FitsTypes};
 ghost use Rattle.run_save.specs.StateTexts.{named_text, state_text};
 
 use crate::writing_lines::{put_events, put_model, put_named, put_objects};
-use cycle_core::{ObjectState, State};
 use model_core::{Event, OutOfMemory};
 use sim_io::cut_back;
+use sim_spec::{ObjectState, State};
 
 /// Appends the first two lines.
 fn put_head(count: u64, into: &mut Vec<u8>) -> Result<(), OutOfMemory>

@@ -6,10 +6,10 @@ ghost use Rattle.delta_exchange.specs.Changes.{line_of};
 ghost use Rattle.run_save.specs.SavedLaws.{FitsCells, FitsEvent, FitsKey, FitsObject, IsLine};
 ghost use Rattle.run_save.specs.StateTexts.{field_text, counted_text, named_text, object_text, key_text, event_text};
 
-use cycle_core::ObjectState;
 use event_key::Key;
 use model_core::{Cells, Event, OutOfMemory};
 use sim_io::{put_number, put_stamp};
+use sim_spec::ObjectState;
 
 /// A space and a number.
 #[tactic(auto, unfolding(crate::specs::StateTexts::field_text))]

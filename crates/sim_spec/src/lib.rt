@@ -8,11 +8,13 @@ mod bucket;
 mod engine;
 pub mod laws;
 mod placement;
+mod state;
 mod stop;
 mod terms;
 
 pub use bucket::Bucket;
 pub use engine::Engine;
 pub use placement::Placement;
+pub use state::{ObjectState, State};
 pub use stop::Stop;
 pub use terms::Terms;

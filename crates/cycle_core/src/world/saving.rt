@@ -12,10 +12,9 @@ ghost use Rattle.cycle_core.specs.Worlds.{StandsAt};
 use super::World;
 use crate::beginning::{first_nodes, parcels_of, placed_homes, set_objects};
 use crate::saving::{objects_of, pending_of, undo_all};
-use crate::state::State;
 use model_core::OutOfMemory;
 use model_core::model::{Model as SimulationModel, keeps_laws};
-use sim_spec::{Placement, Terms};
+use sim_spec::{Placement, State, Terms};
 use std::alloc::Global;
 use std::sync::Arc;
 

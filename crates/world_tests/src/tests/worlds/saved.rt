@@ -6,11 +6,11 @@ ghost use Rattle.cycle_core.specs.Worlds.{IsSameWorld, StandsAt};
 
 use super::PLACEMENTS;
 use crate::tests::model_of;
-use cycle_core::{State, World};
+use cycle_core::World;
 use event_key::{Key, stamp_of};
 use model_core::model::Model as SimulationModel;
 use model_core::{Cells, Event, OutOfMemory, Part};
-use sim_spec::{Bucket, Placement, Terms};
+use sim_spec::{Bucket, Placement, State, Terms};
 use std::alloc::Global;
 use std::process::Abort;
 use std::sync::Arc;
