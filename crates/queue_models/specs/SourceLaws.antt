@@ -12,12 +12,12 @@ use Rattle.random_streams.proofs.Bounds.{draw-le, is_drawable-delay}
 use Rattle.random_streams.specs.Laws.{is_delay}
 use Rattle.queue_models.specs.declared.site.Site.{Site}
 use Rattle.queue_models.specs.declared.source.Source.{Source}
-use Rattle.model_core.specs.Places.{place_changes}
+use Rattle.model_core.specs.Places.{place_changes, place_cases}
 use Rattle.queue_models.specs.Sites.{place_of, drawn_at}
 use Rattle.queue_models.specs.Sources.{left_of, made_of, is_source_cells, idle_effect, last_effect, make_effect, source_effect, IsSource}
 use Rattle.queue_models.specs.Objects.{Item}
 use Rattle.queue_models.specs.Parts.{IsLink}
-use Rattle.queue_models.specs.Keeping.{Keeps, EffectKeeps, OutcomeKeeps, IsSite, place_cases, three_elements}
+use Rattle.queue_models.specs.Keeping.{Keeps, EffectKeeps, OutcomeKeeps, IsSite, three_elements}
 
 -- a job goes from those that are left to those that are made
 abbrev counted : CellData → List Change
