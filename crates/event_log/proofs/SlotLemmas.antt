@@ -1,14 +1,14 @@
 -- Entries whose events lie in slots.
 use Rattle.std.proofs.Common.{◌≡◌, ◌≢◌, ℕ, zero, suc, ◌+◌, ◌<◌, ◌≤◌, cond, count_by, is_some, List, [], ◌∷◌, ◌++◌, length, take, drop, get_or, set, refl, sym, ap, ◌∙◌, subst, inl, inr, arith, length-append, eq-eqb}
 use Rattle.std.proofs.lemmas.Bool.{cases_eq, eqb-true, false_from_ne_true}
-use Rattle.std.proofs.lemmas.List.{length-set}
+use Rattle.std.proofs.lemmas.List.{length-map, length-set}
 use Rattle.std.specs.Prelude.{Option, Some, None, ◌==◌}
 use Rattle.std.specs.List.{AllByRecursion as Each}
 use Rattle.key_order.proofs.EachLemmas.{Each-append, Each-back, Each-front}
 use Rattle.object_log.specs.Dones.{Done}
 use Rattle.slab.specs.Slab.{Slab, Updates, get, slab_len}
 use Rattle.event_log.specs.declared.entry.Entry.{Entry}
-use Rattle.event_log.specs.Items.{item_least}
+use Rattle.event_log.specs.Items.{Item, item_least}
 use Rattle.event_log.specs.Slots.{AreInSlots, LiesIn, TellsOf, done_or, entries_of, item_in, items_in}
 
 -- what an entry tells
@@ -28,6 +28,12 @@ unfolding entries_of
 no-slots slots es empty none = subst (AreInSlots slots) (sym none) (record { lie = tt; apart = λ slot. omega arith; as_many = ap (count_by is_some) empty })
 
 -- a list at one of its places
+-- there is an entry for each event that is seen
+pub entry-within : (slots : Slab Done) (es : List Entry) (items : List Item) (n : ℕ) → items_in slots es ≡ items → n < length items → n < length es
+entry-within slots es items n same within =
+    let H : ℕ → Type 0 = λ long. n < long in
+    subst H (sym (ap length same) ∙ length-map es (item_in slots)) within
+
 pub split-entry : {X : Type 0} (n : ℕ) (xs : List X) (x : X) → n < length xs → x ≡ get_or xs n x → xs ≡ take n xs ++ x ∷ drop (suc n) xs
 split-entry n [] x within at = absurd (omega arith)
 split-entry zero (y ∷ ys) x within at = ap (λ z. z ∷ ys) (sym at)

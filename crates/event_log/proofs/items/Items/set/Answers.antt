@@ -1,10 +1,9 @@
 -- The event stays in its slot.
 use Rattle.std.proofs.Common.{◌≡◌, ◌<◌, length, get_or, set, refl, ap, ◌∙◌, subst, arith}
-use Rattle.std.proofs.lemmas.List.{length-map}
 use Rattle.event_log.specs.declared.entry.Entry.{Entry}
 use Rattle.event_log.specs.Items.{ItemsView}
 use Rattle.event_log.specs.Slots.{item_in}
-use Rattle.event_log.proofs.SlotLemmas.{item-at, set-items, set-slots}
+use Rattle.event_log.proofs.SlotLemmas.{entry-within, item-at, set-items, set-slots}
 use Rattle.event_log.proofs.items.Items.set.Goals as goal
 
 pub invariant_of-self : goal.invariant_of-self
@@ -13,7 +12,7 @@ invariant_of-self c =
     let es = c.self.inside.entries.items in
     let e : Entry = c.index_mut-entry.result.now in
     let f : Entry = record { key = e.key; place = c.args.place; slot = e.slot; least = e.least; held = c.args.held } in
-    let within : c.args.index < length es = omega (arith, c.requires, ap (λ (v : ItemsView). length v.items) c.self.view_is, length-map es (item_in slots)) in
+    let within = entry-within slots es c.args.self.now.items c.args.index (ap (λ (v : ItemsView). v.items) c.self.view_is) c.requires in
     set-slots slots e f refl refl refl c.args.index es within c.index_mut-entry.ensures.value c.self.invariant
 
 pub returns-clause-items : goal.returns-clause-items
@@ -22,7 +21,7 @@ returns-clause-items c =
     let es = c.self.inside.entries.items in
     let e : Entry = c.index_mut-entry.result.now in
     let f : Entry = record { key = e.key; place = c.args.place; slot = e.slot; least = e.least; held = c.args.held } in
-    let within : c.args.index < length es = omega (arith, c.requires, ap (λ (v : ItemsView). length v.items) c.self.view_is, length-map es (item_in slots)) in
+    let within = entry-within slots es c.args.self.now.items c.args.index (ap (λ (v : ItemsView). v.items) c.self.view_is) c.requires in
     let P : ItemsView → Type 0 = λ v. item_in slots e ≡ get_or v.items c.args.index (item_in slots e) in (
       item_in slots e,
       subst P c.self.view_is (item-at slots c.args.index es e within c.index_mut-entry.ensures.value),

@@ -1,6 +1,5 @@
 -- Its slot is free.
 use Rattle.std.proofs.Common.{◌≡◌, suc, ◌<◌, ◌∷◌, ◌++◌, length, take, drop, get_or, refl, sym, ap, ◌∙◌, subst, arith}
-use Rattle.std.proofs.lemmas.List.{length-map}
 use Rattle.std.specs.List.{remove}
 use Rattle.std.specs.Prelude.{IsSome}
 use Rattle.key_order.proofs.EachLemmas.{Each-back}
@@ -8,7 +7,7 @@ use Rattle.object_log.proofs.CarriedLemmas.{map-removed}
 use Rattle.event_log.specs.declared.entry.Entry.{Entry}
 use Rattle.event_log.specs.Items.{ItemsView}
 use Rattle.event_log.specs.Slots.{AreInSlots, LiesIn, done_or, item_in, items_in}
-use Rattle.event_log.proofs.SlotLemmas.{item-at, left-slots, left-stay, split-entry}
+use Rattle.event_log.proofs.SlotLemmas.{entry-within, item-at, left-slots, left-stay, split-entry}
 use Rattle.event_log.proofs.items.Items.take_out.Goals as goal
 
 pub remove-requires-2 : goal.remove-requires-2
@@ -16,7 +15,7 @@ remove-requires-2 c =
     let slots = c.self.inside.slots in
     let es = c.self.inside.entries.items in
     let e : Entry = c.in-Some.entry in
-    let within : c.args.index < length es = omega (arith, c.requires, ap (λ (v : ItemsView). length v.items) c.self.view_is, length-map es (item_in slots)) in
+    let within = entry-within slots es c.args.self.now.items c.args.index (ap (λ (v : ItemsView). v.items) c.self.view_is) c.requires in
     let xs = take c.args.index es in
     let ys = drop (suc c.args.index) es in
     let split : es ≡ xs ++ e ∷ ys = split-entry c.args.index es e within c.in-Some.ensures.value in
@@ -31,7 +30,7 @@ invariant_of-self c =
     let es = c.self.inside.entries.items in
     let e : Entry = c.in-Some.entry in
     let gone = c.remove-2.ensures in
-    let within : c.args.index < length es = omega (arith, c.requires, ap (λ (v : ItemsView). length v.items) c.self.view_is, length-map es (item_in slots)) in
+    let within = entry-within slots es c.args.self.now.items c.args.index (ap (λ (v : ItemsView). v.items) c.self.view_is) c.requires in
     let xs = take c.args.index es in
     let ys = drop (suc c.args.index) es in
     let split : es ≡ xs ++ e ∷ ys = split-entry c.args.index es e within c.in-Some.ensures.value in
@@ -45,7 +44,7 @@ returns-clause-items c =
     let es = c.self.inside.entries.items in
     let e : Entry = c.in-Some.entry in
     let gone = c.remove-2.ensures in
-    let within : c.args.index < length es = omega (arith, c.requires, ap (λ (v : ItemsView). length v.items) c.self.view_is, length-map es (item_in slots)) in
+    let within = entry-within slots es c.args.self.now.items c.args.index (ap (λ (v : ItemsView). v.items) c.self.view_is) c.requires in
     let xs = take c.args.index es in
     let ys = drop (suc c.args.index) es in
     let split : es ≡ xs ++ e ∷ ys = split-entry c.args.index es e within c.in-Some.ensures.value in
@@ -60,6 +59,6 @@ returns-clause-value c =
     let es = c.self.inside.entries.items in
     let e : Entry = c.in-Some.entry in
     let gone = c.remove-2.ensures in
-    let within : c.args.index < length es = omega (arith, c.requires, ap (λ (v : ItemsView). length v.items) c.self.view_is, length-map es (item_in slots)) in
+    let within = entry-within slots es c.args.self.now.items c.args.index (ap (λ (v : ItemsView). v.items) c.self.view_is) c.requires in
     let P : ItemsView → Type 0 = λ v. item_in slots e ≡ get_or v.items c.args.index (item_in slots e) in
     (item_in slots e, subst P c.self.view_is (item-at slots c.args.index es e within c.in-Some.ensures.value), sym (ap (done_or e.key) gone.value))

@@ -1,14 +1,26 @@
 -- Those from a place on aren't due, and the one before it is.
-use Rattle.std.proofs.Common.{◌≡◌, ℕ, suc, ◌-◌, true, false, take, drop, sym, ap, ◌∙◌, subst, arith}
+use Rattle.std.proofs.Common.{◌≡◌, ℕ, suc, ◌-◌, ◌<◌, ◌≤◌, true, false, take, drop, sym, ap, ◌∙◌, subst, arith}
 use Rattle.std.specs.List.{AllByRecursion as Each}
 use Rattle.key_order.specs.Due.{is_due}
 use Rattle.event_log.proofs.DueFacts.{Due, NotDue, all-due, due-cut, none-past, one-more, with-key}
 use Rattle.event_log.proofs.news.News.due.Goals as goal
 
+at-most : (a b : ℕ) → a ≡ b → a ≤ b
+at-most a b same = omega arith
+
+one-before : (n : ℕ) → 0 < n → n ≡ suc (n - 1)
+one-before n some = omega arith
+
+fewer : (n k : ℕ) → n ≤ k → n - 1 ≤ k
+fewer n k most = omega arith
+
+none-left : (n : ℕ) → n ≤ 0 → n ≡ 0
+none-left n none = omega arith
+
 pub loop-due-init : goal.loop-due-init
 loop-due-init c = record {
-  within = omega (arith, c.len-due.ensures);
-  rest = none-past c.args.horizon c.args.cut.now c.args.self.now.done c.len-due.result (omega (arith, c.len-due.ensures));
+  within = at-most _ _ c.len-due.ensures;
+  rest = none-past c.args.horizon c.args.cut.now c.args.self.now.done c.len-due.result (sym c.len-due.ensures);
 }
 
 pub loop-due-preserved : goal.loop-due-preserved
@@ -18,9 +30,9 @@ loop-due-preserved c =
     let x = with-key ds at c.key_at.result c.key_at.ensures in
     let idle : is_due c.args.horizon c.args.cut.now x.0.event.key ≡ false = ap (is_due c.args.horizon c.args.cut.now) x.2 ∙ sym c.is_due_at.ensures ∙ c.if-is_due_at.false in
     let D : ℕ → Type 0 = λ k. Each (NotDue c.args.horizon c.args.cut.now) (drop k ds) in
-    let next : c.loop-due.due ≡ suc at = omega (arith, c.loop-due-test.true) in
+    let next = one-before c.loop-due.due c.loop-due-test.true in
     record {
-      within = omega (arith, c.loop-due.invariant.within);
+      within = fewer _ _ c.loop-due.invariant.within;
       rest = one-more c.args.horizon c.args.cut.now ds at x.0 x.1 idle (subst D next c.loop-due.invariant.rest);
     }
 
@@ -31,7 +43,7 @@ returns-then-is_due_at-clause-taken c =
     let x = with-key ds at c.key_at.result c.key_at.ensures in
     let due : is_due c.args.horizon c.args.cut.now x.0.event.key ≡ true = ap (is_due c.args.horizon c.args.cut.now) x.2 ∙ sym c.is_due_at.ensures ∙ c.if-is_due_at.true in
     let D : ℕ → Type 0 = λ k. Each (Due c.args.horizon c.args.cut.now) (take k ds) in
-    let next : suc at ≡ c.loop-due.due = omega (arith, c.loop-due-test.true) in
+    let next = sym (one-before c.loop-due.due c.loop-due-test.true) in
     (due-cut c.args.horizon c.args.cut.now ds c.loop-due.due (subst D next (all-due c.args.horizon c.args.cut.now ds at x.0 c.tells.ensures.ordered x.1 due)) c.loop-due.invariant.rest).0
 
 pub returns-then-is_due_at-clause-left : goal.returns-then-is_due_at-clause-left
@@ -41,17 +53,17 @@ returns-then-is_due_at-clause-left c =
     let x = with-key ds at c.key_at.result c.key_at.ensures in
     let due : is_due c.args.horizon c.args.cut.now x.0.event.key ≡ true = ap (is_due c.args.horizon c.args.cut.now) x.2 ∙ sym c.is_due_at.ensures ∙ c.if-is_due_at.true in
     let D : ℕ → Type 0 = λ k. Each (Due c.args.horizon c.args.cut.now) (take k ds) in
-    let next : suc at ≡ c.loop-due.due = omega (arith, c.loop-due-test.true) in
+    let next = sym (one-before c.loop-due.due c.loop-due-test.true) in
     (due-cut c.args.horizon c.args.cut.now ds c.loop-due.due (subst D next (all-due c.args.horizon c.args.cut.now ds at x.0 c.tells.ensures.ordered x.1 due)) c.loop-due.invariant.rest).1
 
 pub returns-clause-taken : goal.returns-clause-taken
 returns-clause-taken c =
     let D : ℕ → Type 0 = λ k. Each (NotDue c.args.horizon c.args.cut.now) (drop k c.args.self.now.done) in
-    let none : c.loop-due.due ≡ 0 = omega (arith, c.loop-due-test.false) in
+    let none = none-left c.loop-due.due c.loop-due-test.false in
     (due-cut c.args.horizon c.args.cut.now c.args.self.now.done 0 tt (subst D none c.loop-due.invariant.rest)).0
 
 pub returns-clause-left : goal.returns-clause-left
 returns-clause-left c =
     let D : ℕ → Type 0 = λ k. Each (NotDue c.args.horizon c.args.cut.now) (drop k c.args.self.now.done) in
-    let none : c.loop-due.due ≡ 0 = omega (arith, c.loop-due-test.false) in
+    let none = none-left c.loop-due.due c.loop-due-test.false in
     (due-cut c.args.horizon c.args.cut.now c.args.self.now.done 0 tt (subst D none c.loop-due.invariant.rest)).1

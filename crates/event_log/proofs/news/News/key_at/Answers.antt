@@ -1,5 +1,5 @@
 -- The row has the key.
-use Rattle.std.proofs.Common.{◌≡◌, Some, List, length, get_or, ap, ◌∙◌, subst, arith}
+use Rattle.std.proofs.Common.{◌≡◌, ℕ, ◌<◌, Some, List, length, get_or, sym, ap, ◌∙◌, subst}
 use Rattle.std.specs.Prelude.{slice_get}
 use Rattle.event_key.specs.declared.stamp.TheConstants.{NO_STAMP}
 use Rattle.object_log.specs.Dones.{Done}
@@ -14,9 +14,9 @@ index-requires c =
     let n = c.self.inside in
     let h = c.self.invariant in
     let same = seen h.0 h.1 n.told.items n.rows.items n.undo.items n.outbox.sent n.fault h.2 c.args.self.now n.outbox.nodes c.self.view_is in
-    let long = view-long h.0 h.1 n.told.items n.rows.items n.undo.items n.outbox.sent n.fault h.2 in
-    let all = ap length same in
-    omega (arith, c.requires, n.rows.ok.0)
+    let long = n.rows.ok.0 ∙ view-long h.0 h.1 n.told.items n.rows.items n.undo.items n.outbox.sent n.fault h.2 ∙ ap length same in
+    let W : ℕ → Type 0 = λ k. c.args.place < k in
+    subst W (sym long) c.requires
 
 pub returns : goal.returns
 returns c =
@@ -24,6 +24,7 @@ returns c =
     let h = c.self.invariant in
     let same = seen h.0 h.1 n.told.items n.rows.items n.undo.items n.outbox.sent n.fault h.2 c.args.self.now n.outbox.nodes c.self.view_is in
     let r = c.index.result.now in
-    let all = ap length same in
+    let W : ℕ → Type 0 = λ k. c.args.place < k in
+    let within : c.args.place < length h.0 = subst W (sym (ap length same)) c.requires in
     let P : List Done → Type 0 = λ ds. slice_get (keys_of ds) c.args.place ≡ Some r.event.key in
-    subst P same (row-key NO_STAMP h.0 c.args.place r (omega (arith, c.requires)) (c.index.ensures ∙ ap (λ (rs : List Row). get_or rs c.args.place r) h.2.rows_are))
+    subst P same (row-key NO_STAMP h.0 c.args.place r within (c.index.ensures ∙ ap (λ (rs : List Row). get_or rs c.args.place r) h.2.rows_are))

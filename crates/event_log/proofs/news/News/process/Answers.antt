@@ -1,5 +1,5 @@
 -- The object fires the event, which joins the news.
-use Rattle.std.proofs.Common.{◌≡◌, ℕ, ◌+◌, ◌-◌, ◌<◌, min, List, [], ◌∷◌, ◌++◌, length, map, refl, sym, ap, ◌∙◌, subst, arith, length-append}
+use Rattle.std.proofs.Common.{◌≡◌, ℕ, ◌+◌, ◌-◌, ◌<◌, ◌≤◌, ◌^◌, min, List, [], ◌∷◌, ◌++◌, length, map, refl, sym, ap, ◌∙◌, subst, arith, length-append}
 use Rattle.std.proofs.lemmas.List.{append-nil, length-map}
 use Rattle.std.specs.Prelude.{Option, Some}
 use Rattle.std.specs.List.{AllByRecursion as Each}
@@ -23,6 +23,17 @@ use Rattle.event_log.specs.News.{HoldsNews, NewsView, homed, least_after, news_v
 use Rattle.event_log.specs.Outboxes.{message}
 use Rattle.event_log.proofs.ProcessFacts.{code-none, joined, joins-news, pushed-failed, pushed-went}
 use Rattle.event_log.proofs.news.News.process.Goals as goal
+
+none-most : (n : ℕ) → 0 ≤ n
+none-most n = omega arith
+
+-- so many changes came
+changes-counted : (to from now was added : ℕ) → to ≡ now → from ≡ was → now ≡ was + added → to - from + was ≡ now
+changes-counted to from now was added to_is from_is more = omega arith
+
+-- so many cells are left
+cells-left : (old room full left was seen added sends : ℕ) → old ≤ room → full ≡ min (room + 1) (2 ^ 60) → left + sends ≡ full → added ≡ sends → was ≡ seen → min (old + 1) (2 ^ 60) + seen ≤ left + (was + added)
+cells-left old room full left was seen added sends more full_is left_is added_is was_is = omega arith
 
 -- lists that stay hold the same news
 stays : (news : List Done) (gone told told' : List (Key × Note)) (rows rows' : List Row) (undo undo' : List Change) (sent sent' : List (ℕ × Event)) (code : Option ℕ) → HoldsNews news gone told rows undo sent code
@@ -122,7 +133,7 @@ returns-in-Fails-clause-ok g c =
     let rows_is = c.push_reserved.ensures.items ∙ (λ i. made.rows i ++ row_is i ∷ []) in
     let p = pushed-failed c.args.self.now n.told.items n.rows.items n.undo.items n.outbox.sent n.fault n.outbox.nodes c.self.invariant c.self.view_is e fault undo told rows sent (fired.0 ∙ made.undo) made.told made.sent rows_is in
     joined c.args.self.now n.told.items n.rows.items n.undo.items n.outbox.sent n.fault n.outbox.nodes c.self.invariant c.self.view_is told rows undo sent (Some fault) d c.requires.whole c.requires.went c.requires.above p m homes e old new NO_STAMP c.make_room-room.new.outbox.nodes
-    (subst F c.get.ensures fired.1) (made.sent ∙ sym (append-nil n.outbox.sent)) made.nodes (least-start [] refl) (omega arith) (omega arith)
+    (subst F c.get.ensures fired.1) (made.sent ∙ sym (append-nil n.outbox.sent)) made.nodes (least-start [] refl) (none-most 16) (none-most 8)
 
 pub invariant_of-self-in-Goes : goal.invariant_of-self-in-Goes
 invariant_of-self-in-Goes g c =
@@ -147,10 +158,9 @@ invariant_of-self-in-Goes g c =
     let sent = c.hold_all-least.new.outbox.sent in
     let least = c.hold_all-least.result in
     let changes = c.len.result - c.len-from.result in
-    let added = ap length fired.added in
-    let parts = length-append n.undo.items fired.undo in
-    let was = ap length made.undo in
-    let count : changes + length n.undo.items ≡ length undo = omega (arith, c.len.ensures, c.len-from.ensures, c.fire_into-fired.new.undo.ok.0, c.make_room-room.new.undo.ok.0) in
+    let added = ap length fired.added ∙ length-append n.undo.items fired.undo in
+    let was = c.len-from.ensures ∙ c.make_room-room.new.undo.ok.0 ∙ ap length made.undo in
+    let count = changes-counted _ _ _ _ _ (c.len.ensures ∙ c.fire_into-fired.new.undo.ok.0) was added in
     let least_is = c.hold_all-least.ensures.least ∙ (λ i. least_stamp NO_STAMP (emissions (value i).key.stamp (value i).key.dest (c.sent-serial.ensures i) (c.as_slice-sends.ensures i))) in
     let low = c.min.ensures ∙ ap (λ k. min k least) before_is in
     let row_is = c.new-row-in-Goes.ensures ∙ (λ i. record { event = value i; least = low i; changes = changes; sends = length (c.as_slice-sends.ensures i) }) in
@@ -184,10 +194,9 @@ returns-in-Goes-clause-ok g c =
     let sent = c.hold_all-least.new.outbox.sent in
     let least = c.hold_all-least.result in
     let changes = c.len.result - c.len-from.result in
-    let added = ap length fired.added in
-    let parts = length-append n.undo.items fired.undo in
-    let was = ap length made.undo in
-    let count : changes + length n.undo.items ≡ length undo = omega (arith, c.len.ensures, c.len-from.ensures, c.fire_into-fired.new.undo.ok.0, c.make_room-room.new.undo.ok.0) in
+    let added = ap length fired.added ∙ length-append n.undo.items fired.undo in
+    let was = c.len-from.ensures ∙ c.make_room-room.new.undo.ok.0 ∙ ap length made.undo in
+    let count = changes-counted _ _ _ _ _ (c.len.ensures ∙ c.fire_into-fired.new.undo.ok.0) was added in
     let least_is = c.hold_all-least.ensures.least ∙ (λ i. least_stamp NO_STAMP (emissions (value i).key.stamp (value i).key.dest (c.sent-serial.ensures i) (c.as_slice-sends.ensures i))) in
     let low = c.min.ensures ∙ ap (λ k. min k least) before_is in
     let row_is = c.new-row-in-Goes.ensures ∙ (λ i. record { event = value i; least = low i; changes = changes; sends = length (c.as_slice-sends.ensures i) }) in
@@ -196,9 +205,10 @@ returns-in-Goes-clause-ok g c =
     let sent_is = c.hold_all-least.ensures.sent ∙ (λ i. made.sent i ++ map (homed homes) (emissions (value i).key.stamp (value i).key.dest (c.sent-serial.ensures i) (c.as_slice-sends.ensures i))) in
     let none = code-none c.args.self.now n.told.items n.rows.items n.undo.items n.outbox.sent n.fault n.outbox.nodes c.self.invariant c.self.view_is c.requires.went in
     let p = pushed-went c.args.self.now n.told.items n.rows.items n.undo.items n.outbox.sent n.fault n.outbox.nodes c.self.invariant c.self.view_is homes m old new e x undo told rows sent least changes fired count least_is rows_is told_is sent_is none in
+    let M : ℕ → Type 0 = λ k. k ≤ 8 in
     let long : length (emissions e.key.stamp e.key.dest old.sent x.sends) ≡ length x.sends = length-emissions e.key.stamp e.key.dest old.sent x.sends in
     joined c.args.self.now n.told.items n.rows.items n.undo.items n.outbox.sent n.fault n.outbox.nodes c.self.invariant c.self.view_is told rows undo sent n.fault d c.requires.whole c.requires.went c.requires.above p m homes e old new least c.hold_all-least.new.outbox.nodes
-    fired.fired sent_is (c.hold_all-least.ensures.nodes ∙ made.nodes) least_is (omega (arith, fired.few_changes)) (omega (arith, long, fired.few_sends))
+    fired.fired sent_is (c.hold_all-least.ensures.nodes ∙ made.nodes) least_is fired.few_changes (subst M (sym long) fired.few_sends)
 
 pub returns-in-Goes-clause-cells : goal.returns-in-Goes-clause-cells
 returns-in-Goes-clause-cells g c =
@@ -206,10 +216,8 @@ returns-in-Goes-clause-cells g c =
     let made = c.make_room-room.ensures in
     let sends = c.as_slice-sends.result.now in
     let es = emissions c.recycle-event.result.key.stamp c.recycle-event.result.key.dest c.sent-serial.result sends in
-    let sent = ap length c.hold_all-least.ensures.sent in
-    let parts = length-append c.make_room-room.new.outbox.sent (map (homed c.args.homes.now) es) in
-    let mapped = length-map es (homed c.args.homes.now) in
-    let long = length-emissions c.recycle-event.result.key.stamp c.recycle-event.result.key.dest c.sent-serial.result sends in
-    let was = ap length made.sent in
-    let seen = ap (λ (v : NewsView). length v.sent) c.self.view_is in
-    omega (arith, made.cells_kept, c.recycle-event.ensures.spare, c.hold_all-least.ensures.cells)
+    let sent = ap length c.hold_all-least.ensures.sent ∙ length-append c.make_room-room.new.outbox.sent (map (homed c.args.homes.now) es) in
+    let long = length-map es (homed c.args.homes.now) ∙ length-emissions c.recycle-event.result.key.stamp c.recycle-event.result.key.dest c.sent-serial.result sends in
+    let was = ap length made.sent ∙ ap (λ (v : NewsView). length v.sent) c.self.view_is in
+    let L : ℕ → Type 0 = λ k. min (c.args.pool.now + 1) (2 ^ 60) + length c.args.self.now.sent ≤ c.hold_all-least.new.pool + k in
+    subst L (sym sent) (cells-left _ _ _ _ _ _ _ _ made.cells_kept c.recycle-event.ensures.spare c.hold_all-least.ensures.cells long was)

@@ -1,5 +1,5 @@
 -- There is one home for each message.
-use Rattle.std.proofs.Common.{length, sym, ap, ◌∙◌, arith}
+use Rattle.std.proofs.Common.{length, sym, ap, ◌∙◌}
 use Rattle.event_log.specs.Outboxes.{OutboxView}
 use Rattle.event_log.proofs.OutboxLemmas.{long-is, sent-is}
 use Rattle.event_log.proofs.outbox.Outbox.len.Goals as goal
@@ -10,6 +10,4 @@ returns c =
     let homes = c.self.inside.homes.items in
     let chains = c.self.inside.chains.items in
     let same = sym (sent-is lie.0 homes chains lie.1) ∙ ap (λ (v : OutboxView). v.sent) c.self.view_is in
-    let long = long-is lie.0 homes chains lie.1 in
-    let seen = ap length same in
-    omega (arith, c.len.ensures, c.self.inside.homes.ok.0)
+    c.len.ensures ∙ c.self.inside.homes.ok.0 ∙ long-is lie.0 homes chains lie.1 ∙ ap length same

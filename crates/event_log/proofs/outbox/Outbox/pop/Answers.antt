@@ -1,5 +1,5 @@
 -- The last message is the first of its chain.
-use Rattle.std.proofs.Common.{[], ◌∷◌, ◌++◌, length, sym, ap, ◌∙◌, arith}
+use Rattle.std.proofs.Common.{ℕ, ◌<◌, [], ◌∷◌, ◌++◌, length, sym, ap, ◌∙◌, subst}
 use Rattle.event_log.specs.Outboxes.{OutboxView, parcel}
 use Rattle.std.specs.Prelude.{option_to_list, slice_set}
 use Rattle.std.proofs.lemmas.List.{get_or_read}
@@ -12,17 +12,17 @@ unwrap-home-requires c =
     let homes = c.self.inside.homes.items in
     let chains = c.self.inside.chains.items in
     let same = sym (sent-is lie.0 homes chains lie.1) ∙ ap (λ (v : OutboxView). v.sent) c.self.view_is in
-    let long = long-is lie.0 homes chains lie.1 in
-    let seen = ap length same in
-    c.pop.ensures.variant.1 (omega (arith, c.requires, c.self.inside.homes.ok.0))
+    let long = c.self.inside.homes.ok.0 ∙ long-is lie.0 homes chains lie.1 ∙ ap length same in
+    let P : ℕ → Type 0 = λ n. 0 < n in
+    c.pop.ensures.variant.1 (subst P (sym long) c.requires)
 
 pub index_mut-requires : goal.index_mut-requires
 index_mut-requires c =
     let lie = c.self.invariant in
     let pops = c.pop.ensures.items ∙ ap (λ top. c.pop.new.self.items ++ option_to_list top) c.unwrap-home.ensures in
     let l = last-is lie.0 c.self.inside.homes.items c.self.inside.chains.items c.pop.new.self.items c.unwrap-home.result lie.1 pops in
-    let within = l.within in
-    omega (arith, c.self.inside.chains.ok.0)
+    let H : ℕ → Type 0 = λ n. c.unwrap-home.result < n in
+    subst H (sym c.self.inside.chains.ok.0) l.within
 
 pub unreachable-requires : goal.unreachable-requires
 unreachable-requires c =

@@ -1,5 +1,5 @@
 -- The message is the first of its chain.
-use Rattle.std.proofs.Common.{ℕ, ◌<◌, List, [], ◌∷◌, ◌++◌, length, sym, ap, ◌∙◌, subst, arith}
+use Rattle.std.proofs.Common.{◌≡◌, ℕ, ◌+◌, ◌<◌, ◌≤◌, ◌^◌, List, [], ◌∷◌, ◌++◌, length, sym, ap, ◌∙◌, subst, arith}
 use Rattle.model_core.specs.declared.event.Event.{Event}
 use Rattle.event_log.specs.Outboxes.{HoldsSent, OutboxView, sent_of}
 use Rattle.std.specs.Prelude.{slice_set}
@@ -7,18 +7,21 @@ use Rattle.std.proofs.lemmas.List.{get_or_read}
 use Rattle.event_log.proofs.OutboxLemmas.{holds-push, parcel-short, sent-is}
 use Rattle.event_log.proofs.outbox.Outbox.push.Goals as goal
 
+-- no chain is longer than all that is sent
+short-chain : (chain own sent seen : ℕ) → chain ≡ own → own ≤ sent → sent ≡ seen → seen + 1 < 2 ^ 60 → chain + 1 < 2 ^ 60
+short-chain chain own sent seen chain_is short sent_is few = omega arith
+
 pub push_front-requires : goal.push_front-requires
 push_front-requires c =
     let lie = c.self.invariant in
     let homes = c.self.inside.homes.items in
     let chains = c.self.inside.chains.items in
     let nodes = ap (λ (v : OutboxView). v.nodes) c.self.view_is in
-    let within : c.args.home < length chains = omega (arith, c.requires.home) in
+    let H : ℕ → Type 0 = λ n. c.args.home < n in
+    let within : c.args.home < length chains = subst H (sym nodes) c.requires.home in
     let same = sym (sent-is lie.0 homes chains lie.1) ∙ ap (λ (v : OutboxView). v.sent) c.self.view_is in
-    let seen = ap length same in
     let own = ap length (get_or_read chains c.args.home c.index_mut.result.now within c.index_mut.ensures.value [] ∙ lie.1.chains_are c.args.home) in
-    let short = parcel-short c.args.home lie.0 in
-    omega (arith, c.requires.few)
+    short-chain _ _ _ _ own (parcel-short c.args.home lie.0) (ap length same) c.requires.few
 
 pub invariant_of-self : goal.invariant_of-self
 invariant_of-self c =
@@ -27,7 +30,8 @@ invariant_of-self c =
     let chains = c.self.inside.chains.items in
     let e : Event = c.args.message in
     let nodes = ap (λ (v : OutboxView). v.nodes) c.self.view_is in
-    let within : c.args.home < length chains = omega (arith, c.requires.home) in
+    let H : ℕ → Type 0 = λ n. c.args.home < n in
+    let within : c.args.home < length chains = subst H (sym nodes) c.requires.home in
     let read = get_or_read chains c.args.home c.index_mut.result.now within c.index_mut.ensures.value [] in
     let P : List ℕ → Type 0 = λ hs. HoldsSent (lie.0 ++ (c.args.home, e) ∷ []) hs (slice_set chains c.args.home c.push_front.new.self) in (
       lie.0 ++ (c.args.home, e) ∷ [],
@@ -42,7 +46,8 @@ returns-clause-sent c =
     let chains = c.self.inside.chains.items in
     let e : Event = c.args.message in
     let nodes = ap (λ (v : OutboxView). v.nodes) c.self.view_is in
-    let within : c.args.home < length chains = omega (arith, c.requires.home) in
+    let H : ℕ → Type 0 = λ n. c.args.home < n in
+    let within : c.args.home < length chains = subst H (sym nodes) c.requires.home in
     let read = get_or_read chains c.args.home c.index_mut.result.now within c.index_mut.ensures.value [] in
     let same = sym (sent-is lie.0 homes chains lie.1) ∙ ap (λ (v : OutboxView). v.sent) c.self.view_is in
     let laid = slice_set chains c.args.home c.push_front.new.self in

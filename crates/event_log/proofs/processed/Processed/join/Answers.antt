@@ -14,14 +14,18 @@ use Rattle.event_log.specs.Processing.{AreHomed, CanJoin, HasCome, IsProcessed, 
 use Rattle.event_log.proofs.ProcessedFacts.{homed-more, joined-items, roomier, still-processed}
 use Rattle.event_log.proofs.processed.Processed.join.Goals as goal
 
+no-fewer : (a b c : ℕ) → a ≤ b → b ≤ c → a ≤ c
+no-fewer a b c more most = omega arith
+
 pub make_room-room-requires-clause-few : goal.make_room-room-requires-clause-few
 make_room-room-requires-clause-few g c =
-    let same = ap (λ (v : ProcessedView). length v.news) c.self.view_is in
-    let few = c.requires.can.few in
-    omega (arith, c.len-news.ensures)
+    let F : ℕ → Type 0 = λ k. k + 8 < 2 ^ 60 in
+    subst F (sym (c.len-news.ensures ∙ ap (λ (v : ProcessedView). length v.news) c.self.view_is)) c.requires.can.few
 
 pub make_room-room-requires-clause-idle : goal.make_room-room-requires-clause-idle
-make_room-room-requires-clause-idle g c = omega (arith, c.len-news.ensures, c.self.invariant.idle_most)
+make_room-room-requires-clause-idle g c =
+    let I : ℕ → Type 0 = λ k. c.self.inside.idle ≤ k in
+    subst I (sym c.len-news.ensures) c.self.invariant.idle_most
 
 pub invariant_of-self : goal.invariant_of-self
 invariant_of-self g c =
@@ -79,11 +83,16 @@ invariant_of-self-in-Ok-process g c =
     let n = c.self.inside in
     let made = c.make_room-room.ensures in
     let same : length n.news.done ≡ length c.args.self.now.news = ap (λ (v : ProcessedView). length v.news) c.self.view_is in
-    let few = c.requires.can.few in
+    let F : ℕ → Type 0 = λ k. k + 8 < 2 ^ 60 in
+    let few : length n.news.done + 8 < 2 ^ 60 = subst F (sym same) c.requires.can.few in
+    let R : ℕ → Type 0 = λ k. k + 1 ≤ c.make_room-room.new.carried.room in
+    let enough : length n.news.done + 1 ≤ c.make_room-room.new.carried.room = subst R c.len-news.ensures c.in-Ok.ensures.room in
+    let sends : c.sent.result - c.sent-sent.result ≡ length c.process.new.self.sent - length n.news.sent = (λ i. c.sent.ensures i - c.sent-sent.ensures i) in
+    let S : ℕ → Type 0 = λ k. 0 < k in
     let T : ProcessedView → Type 0 = λ v. times placed_key c.args.event.key v.items ≡ 0 in
     (came m n.places.items c.push_reserved.new.self.items c.args.place n.idle c.idle_after-self-inside.result n.cells c.make_room-room.new.cells c.process.new.pool n.news c.process.new.self n.carried c.make_room-room.new.carried c.args.event c.args.object.now c.process.new.object
-    c.in-Ok-process.least c.args.homes.now c.self.invariant c.in-Ok-process.ensures.ok (c.push_reserved.ensures.items ∙ ap (λ (ps : List ℕ). ps ++ c.args.place ∷ []) made.places) made.items (omega (arith, c.in-Ok.ensures.room, c.len-news.ensures)) (omega arith)
-    c.in-Ok.ensures.cells c.in-Ok-process.ensures.cells (λ some. c.idle_after-self-inside.ensures.some (omega (arith, some, c.sent.ensures, c.sent-sent.ensures))) (λ none. c.idle_after-self-inside.ensures.none (omega (arith, none, c.sent.ensures, c.sent-sent.ensures)))
+    c.in-Ok-process.least c.args.homes.now c.self.invariant c.in-Ok-process.ensures.ok (c.push_reserved.ensures.items ∙ ap (λ (ps : List ℕ). ps ++ c.args.place ∷ []) made.places) made.items enough few
+    c.in-Ok.ensures.cells c.in-Ok-process.ensures.cells (λ some. c.idle_after-self-inside.ensures.some (subst S (sym sends) some)) (λ none. c.idle_after-self-inside.ensures.none (sends ∙ none))
     (subst T (sym c.self.view_is) c.requires.new)).0
 
 pub returns-in-Ok-process-clause-ok : goal.returns-in-Ok-process-clause-ok
@@ -92,23 +101,26 @@ returns-in-Ok-process-clause-ok g c =
     let n = c.self.inside in
     let made = c.make_room-room.ensures in
     let same : length n.news.done ≡ length c.args.self.now.news = ap (λ (v : ProcessedView). length v.news) c.self.view_is in
-    let few = c.requires.can.few in
+    let F : ℕ → Type 0 = λ k. k + 8 < 2 ^ 60 in
+    let few : length n.news.done + 8 < 2 ^ 60 = subst F (sym same) c.requires.can.few in
+    let R : ℕ → Type 0 = λ k. k + 1 ≤ c.make_room-room.new.carried.room in
+    let enough : length n.news.done + 1 ≤ c.make_room-room.new.carried.room = subst R c.len-news.ensures c.in-Ok.ensures.room in
+    let sends : c.sent.result - c.sent-sent.result ≡ length c.process.new.self.sent - length n.news.sent = (λ i. c.sent.ensures i - c.sent-sent.ensures i) in
+    let S : ℕ → Type 0 = λ k. 0 < k in
     let T : ProcessedView → Type 0 = λ v. times placed_key c.args.event.key v.items ≡ 0 in
     let V : ProcessedView → Type 0 = λ v. HasCome m c.args.event c.args.place c.args.object.now c.process.new.object v (processed_view c.push_reserved.new.self.items c.process.new.self c.make_room-room.new.carried) c.in-Ok-process.least in
     subst V c.self.view_is ((came m n.places.items c.push_reserved.new.self.items c.args.place n.idle c.idle_after-self-inside.result n.cells c.make_room-room.new.cells c.process.new.pool n.news c.process.new.self n.carried c.make_room-room.new.carried c.args.event c.args.object.now c.process.new.object
-    c.in-Ok-process.least c.args.homes.now c.self.invariant c.in-Ok-process.ensures.ok (c.push_reserved.ensures.items ∙ ap (λ (ps : List ℕ). ps ++ c.args.place ∷ []) made.places) made.items (omega (arith, c.in-Ok.ensures.room, c.len-news.ensures)) (omega arith)
-    c.in-Ok.ensures.cells c.in-Ok-process.ensures.cells (λ some. c.idle_after-self-inside.ensures.some (omega (arith, some, c.sent.ensures, c.sent-sent.ensures))) (λ none. c.idle_after-self-inside.ensures.none (omega (arith, none, c.sent.ensures, c.sent-sent.ensures)))
+    c.in-Ok-process.least c.args.homes.now c.self.invariant c.in-Ok-process.ensures.ok (c.push_reserved.ensures.items ∙ ap (λ (ps : List ℕ). ps ++ c.args.place ∷ []) made.places) made.items enough few
+    c.in-Ok.ensures.cells c.in-Ok-process.ensures.cells (λ some. c.idle_after-self-inside.ensures.some (subst S (sym sends) some)) (λ none. c.idle_after-self-inside.ensures.none (sends ∙ none))
     (subst T (sym c.self.view_is) c.requires.new)).1)
 
 pub invariant_of-self-in-Err : goal.invariant_of-self-in-Err
 invariant_of-self-in-Err g c =
     let n = c.self.inside in
     let made = c.make_room-room.ensures in
-    let more = made.cells_kept in
-    let kept = c.in-Err.ensures.cells_kept in
     let R : NewsView → Type 0 = λ v. IsProcessed c.make_room-room.new.places.items v c.make_room-room.new.carried n.idle c.process.new.pool in
     subst R (sym c.in-Err.ensures.err)
-    (roomier n.places.items c.make_room-room.new.places.items n.news n.carried c.make_room-room.new.carried n.idle n.cells c.process.new.pool c.self.invariant made.places made.items made.room_kept (omega arith))
+    (roomier n.places.items c.make_room-room.new.places.items n.news n.carried c.make_room-room.new.carried n.idle n.cells c.process.new.pool c.self.invariant made.places made.items made.room_kept (no-fewer _ _ _ made.cells_kept c.in-Err.ensures.cells_kept))
 
 pub returns-in-Ok-process-clause-homed : goal.returns-in-Ok-process-clause-homed
 returns-in-Ok-process-clause-homed g c = λ homed_are.
