@@ -1,5 +1,5 @@
 -- What the entry tells.
-use Rattle.std.proofs.Common.{◌≡◌, ◌<◌, length, get_or, ap, subst, arith}
+use Rattle.std.proofs.Common.{◌≡◌, get_or, ap, subst}
 use Rattle.event_log.specs.Items.{ItemsView}
 use Rattle.event_log.specs.Slots.{item_in}
 use Rattle.event_log.proofs.SlotLemmas.{entry-within, item-at, lies-at, tells-of}

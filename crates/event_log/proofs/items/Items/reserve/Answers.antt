@@ -1,5 +1,5 @@
 -- More room changes no event.
-use Rattle.std.proofs.Common.{◌≡◌, ℕ, ap, ◌∙◌, count_by, is_some, List, arith}
+use Rattle.std.proofs.Common.{◌≡◌, ℕ, sym, ap, ◌∙◌, subst, count_by, is_some, List, arith}
 use Rattle.std.proofs.lemmas.List.{length-map}
 use Rattle.std.specs.Prelude.{None, length, slice_index_or}
 use Rattle.key_order.proofs.EachLemmas.{Each-map}
@@ -27,6 +27,14 @@ module _ (old new : Slab Done) (same : new ≡ record old { capacity = new.capac
 
 pub invariant_of-self : goal.invariant_of-self
 invariant_of-self c = in-slots c.self.inside.slots c.reserve.new.self c.reserve.ensures.rest_kept c.self.inside.entries.items c.self.invariant
+
+pub invariant_of-self-in_err-reserve-2 : goal.invariant_of-self-in_err-reserve-2
+invariant_of-self-in_err-reserve-2 c =
+    subst (AreInSlots c.reserve.new.self) (sym c.reserve-2.ensures.items) (in-slots c.self.inside.slots c.reserve.new.self c.reserve.ensures.rest_kept c.self.inside.entries.items c.self.invariant)
+
+pub invariant_of-self-2 : goal.invariant_of-self-2
+invariant_of-self-2 c =
+    subst (AreInSlots c.reserve.new.self) (sym c.reserve-2.ensures.items) (in-slots c.self.inside.slots c.reserve.new.self c.reserve.ensures.rest_kept c.self.inside.entries.items c.self.invariant)
 
 pub returns-in_err-reserve-clause-capacity : goal.returns-in_err-reserve-clause-capacity
 returns-in_err-reserve-clause-capacity c = omega (arith, ap (λ (v : ItemsView). v.capacity) c.self.view_is, c.reserve.ensures.capacity)

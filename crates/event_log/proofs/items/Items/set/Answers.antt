@@ -1,5 +1,5 @@
 -- The event stays in its slot.
-use Rattle.std.proofs.Common.{◌≡◌, ◌<◌, length, get_or, set, refl, ap, ◌∙◌, subst, arith}
+use Rattle.std.proofs.Common.{◌≡◌, get_or, set, refl, ap, ◌∙◌, subst}
 use Rattle.event_log.specs.declared.entry.Entry.{Entry}
 use Rattle.event_log.specs.Items.{ItemsView}
 use Rattle.event_log.specs.Slots.{item_in}

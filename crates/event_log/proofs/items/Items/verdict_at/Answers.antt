@@ -1,5 +1,5 @@
 -- The event lies in its slot.
-use Rattle.std.proofs.Common.{◌≡◌, ◌<◌, length, get_or, sym, ap, ◌∙◌, subst, arith}
+use Rattle.std.proofs.Common.{◌≡◌, get_or, sym, ap, ◌∙◌, subst}
 use Rattle.event_log.specs.Items.{ItemsView}
 use Rattle.event_log.specs.Slots.{done_or, item_in}
 use Rattle.event_log.proofs.SlotLemmas.{entry-within, item-at}
