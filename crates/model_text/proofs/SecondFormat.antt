@@ -18,6 +18,7 @@ use Rattle.queue_models.specs.declared.kind.KindOver.TheVariants.{Station}
 use Rattle.model_text.specs.declared.formats.Format.TheVariants.{One, Two}
 use Rattle.text_fields.specs.declared.refusal.Cause.{Cause}
 use Rattle.text_fields.specs.declared.refusal.Cause.TheVariants.{Unknown, BadValue}
+use Rattle.model_text.specs.declared.objects.CommonFields.{CommonFields}
 use Rattle.model_text.specs.declared.top.ModelKind.{ModelKind}
 use Rattle.model_text.specs.declared.top.ModelKind.TheVariants.{Phold, Network, Circuit}
 use Rattle.model_text.specs.Additions.{rank, flag, trace, entry_keys}
@@ -33,7 +34,7 @@ use Rattle.text_fields.specs.Names.{Finder, new_name}
 use Rattle.model_text.specs.Names.{NamedItem, NamedKind, place_in}
 use Rattle.model_text.specs.Networks.{linked_network, network}
 use Rattle.model_text.specs.Kinds.{named_kind}
-use Rattle.model_text.specs.Objects.{known_keys, object, object_named, objects_after, objects, linked_from}
+use Rattle.model_text.specs.Objects.{known_keys, common_fields, object, object_named, objects_after, objects, linked_from}
 use Rattle.model_text.specs.Phold.{destination, phold_keys, phold}
 use Rattle.model_text.specs.Starts.{start_entry, start_entries}
 use Rattle.text_fields.proofs.Found.{bound}
@@ -144,6 +145,19 @@ trace_absent : (kind : NamedKind) (at : ℕ) (ms : Members) → get_member (code
 trace_absent (Station station) at ms none = flag_absent at (codes "trace") ms none
 trace_absent other at ms none = refl
 
+fields_grow : (kind : NamedKind) (at : ℕ) (ms : Members) (x : CommonFields) → common_fields One kind at ms ≡ Ok x → common_fields Two kind at ms ≡ Ok x
+unfolding common_fields
+fields_grow kind at ms x gives =
+    let traced = bound (trace One kind at ms) _ x gives in
+    let untraced : traced.0 ≡ false = (let two = sym traced.1 ∙ trace_one kind at ms in cc) in
+    let known = bound (only at (known_keys One kind) ms) _ x traced.2 in
+    let fits : has_only (known_keys One kind) ms ≡ true = passes _ _ at known.0 known.1 in
+    let new = are_new kind ms fits in
+    joined (rank Two at ms) _ 0 x (rank_absent at ms new.rank)
+    (joined (flag Two at (codes "quiet") ms) _ false x (flag_absent at (codes "quiet") ms new.quiet)
+    (joined (trace Two kind at ms) _ traced.0 x (trace_absent kind at ms new.trace ∙ ap (λ b. Ok b) (sym untraced))
+    (joined (only at (known_keys Two kind) ms) _ known.0 x (passed _ _ at known.0 (keys_grow kind ms fits)) known.2)))
+
 object_grows : (find : Finder) (at : ℕ) (d : Data) (x : NamedItem) → object One find at d ≡ Ok x → object Two find at d ≡ Ok x
 unfolding object object_named
 object_grows find at d x gives =
@@ -151,19 +165,12 @@ object_grows find at d x gives =
     let name = bound (required at (codes "name") ms.0 >>= new_name find at) _ x ms.2 in
     let word = bound (required at (codes "kind") ms.0 >>= text at) _ x name.2 in
     let kind = bound (named_kind at ms.0 word.0) _ x word.2 in
-    let traced = bound (trace One kind.0 at ms.0) _ x kind.2 in
-    let untraced : traced.0 ≡ false = (let two = sym traced.1 ∙ trace_one kind.0 at ms.0 in cc) in
-    let known = bound (only at (known_keys One kind.0) ms.0) _ x traced.2 in
-    let fits : has_only (known_keys One kind.0) ms.0 ≡ true = passes _ _ at known.0 known.1 in
-    let new = are_new kind.0 ms.0 fits in
+    let fields = bound (common_fields One kind.0 at ms.0) _ x kind.2 in
     joined (table_of at d) _ ms.0 x ms.1
     (joined (required at (codes "name") ms.0 >>= new_name find at) _ name.0 x name.1
     (joined (required at (codes "kind") ms.0 >>= text at) _ word.0 x word.1
     (joined (named_kind at ms.0 word.0) _ kind.0 x kind.1
-    (joined (rank Two at ms.0) _ 0 x (rank_absent at ms.0 new.rank)
-    (joined (flag Two at (codes "quiet") ms.0) _ false x (flag_absent at (codes "quiet") ms.0 new.quiet)
-    (joined (trace Two kind.0 at ms.0) _ traced.0 x (trace_absent kind.0 at ms.0 new.trace ∙ ap (λ b. Ok b) (sym untraced))
-    (joined (only at (known_keys Two kind.0) ms.0) _ known.0 x (passed _ _ at known.0 (keys_grow kind.0 ms.0 fits)) known.2)))))))
+    (joined (common_fields Two kind.0 at ms.0) _ fields.0 x (fields_grow kind.0 at ms.0 fields.0 fields.1) fields.2))))
 
 objects_grow : (before : List NamedItem) (ds : Items) (xs : List NamedItem) → objects_after One before ds ≡ Ok xs → objects_after Two before ds ≡ Ok xs
 objects_grow before no_items xs gives = gives

@@ -49,11 +49,14 @@ feeders kind at d = do
   fit ← refusal_where (not (takes kind (item_count ds))) BadValue at
   each (text at) ds
 
+-- whether the changes of a gate are told, whose table may have no other keys than these
+abbrev pub probe : ℕ → List (List ℕ) → Members → Checked Bool
+probe at keys ms = truth at (optional (boolean true) (codes "probe") ms) >>= (λ probe. only at keys ms >>= (λ known. Ok probe))
+
 unfoldable pub input : ℕ → ℕ → List ℕ → Members → Checked NamedGate
 input before at name ms = do
   flips ← flips before at ms
-  probe ← truth at (optional (boolean true) (codes "probe") ms)
-  known ← only at (codes "name" ∷ codes "kind" ∷ codes "flips" ∷ codes "probe" ∷ []) ms
+  probe ← probe at (codes "name" ∷ codes "kind" ∷ codes "flips" ∷ codes "probe" ∷ []) ms
   Ok (record { name = name; kind = Input; delay = 0; from = []; flips = flips; probe = probe })
 
 -- a gate that is no input
@@ -61,6 +64,5 @@ unfoldable pub fed_gate : LogicKind → ℕ → List ℕ → Members → Checked
 fed_gate kind at name ms = do
   delay ← number at 0 MOST_DELAY (optional (integer (pos 1)) (codes "delay") ms)
   from ← required at (codes "from") ms >>= feeders kind at
-  probe ← truth at (optional (boolean true) (codes "probe") ms)
-  known ← only at (codes "name" ∷ codes "kind" ∷ codes "delay" ∷ codes "from" ∷ codes "probe" ∷ []) ms
+  probe ← probe at (codes "name" ∷ codes "kind" ∷ codes "delay" ∷ codes "from" ∷ codes "probe" ∷ []) ms
   Ok (record { name = name; kind = kind; delay = delay; from = from; flips = []; probe = probe })

@@ -5,6 +5,7 @@ use Rattle.toml.specs.Data.{Data, Items, Members, no_items, item}
 use Rattle.queue_models.specs.Kinds.{is_station}
 use Rattle.queue_models.specs.Objects.{Item}
 use Rattle.model_text.specs.declared.formats.Format.{Format}
+use Rattle.model_text.specs.declared.objects.CommonFields.{CommonFields}
 use Rattle.model_text.specs.Additions.{added, rank, flag, trace}
 use Rattle.text_fields.specs.Checks.{Checked, ◌>>=◌}
 use Rattle.text_fields.specs.Fields.{text, table_of, required, only, each_of}
@@ -20,16 +21,22 @@ added_keys kind = if is_station kind then codes "rank" ∷ codes "quiet" ∷ cod
 abbrev pub known_keys : Format → NamedKind → List (List ℕ)
 known_keys format kind = codes "name" ∷ codes "kind" ∷ kind_keys kind ++ added format (added_keys kind)
 
+-- what an object of this kind has as all do, and then unknown keys
+unfoldable pub common_fields : Format → NamedKind → ℕ → Members → Checked CommonFields
+common_fields format kind at ms = do
+  rank ← rank format at ms
+  quiet ← flag format at (codes "quiet") ms
+  trace ← trace format kind at ms
+  known ← only at (known_keys format kind) ms
+  Ok (record { rank = rank; quiet = quiet; trace = trace })
+
 -- an object with this name
 unfoldable pub object_named : Format → ℕ → List ℕ → Members → Checked NamedItem
 object_named format at name ms = do
   word ← required at (codes "kind") ms >>= text at
   kind ← named_kind at ms word
-  rank ← rank format at ms
-  quiet ← flag format at (codes "quiet") ms
-  trace ← trace format kind at ms
-  known ← only at (known_keys format kind) ms
-  Ok (record { name = name; kind = kind; rank = rank; quiet = quiet; trace = trace })
+  fields ← common_fields format kind at ms
+  Ok (record { name = name; kind = kind; rank = fields.rank; quiet = fields.quiet; trace = fields.trace })
 
 -- an object, where the names before it are found so
 unfoldable pub object : Format → Finder → ℕ → Data → Checked NamedItem

@@ -9,8 +9,8 @@ ghost use Rattle.text_fields.specs.Checks.{Gives};
 use crate::formats::Format;
 use crate::named::NamedKind;
 use event_key::MOST_RANK;
-use text_fields::{Refusal, number, optional, truth};
-use toml::{Table, Value};
+use text_fields::{Refusal, number_or, truth_or};
+use toml::Table;
 
 /// The rank of an object, of a job, or of events that begin a model.
 pub(crate) fn rank(table: &Table, format: Format, item: u32) -> Result<u32, Refusal>
@@ -19,10 +19,7 @@ pub(crate) fn rank(table: &Table, format: Format, item: u32) -> Result<u32, Refu
 {
     match format {
         Format::One => Ok(0),
-        Format::Two => {
-            let rank = optional(table, "rank", &Value::Integer(0));
-            Ok(number(rank, item, 0, u64::from(MOST_RANK))? as u32)
-        }
+        Format::Two => { Ok(number_or(table, "rank", item, 0, 0, u64::from(MOST_RANK))? as u32) }
     }
 }
 
@@ -32,7 +29,7 @@ pub(crate) fn flag(table: &Table, key: &str, format: Format, item: u32) -> Resul
 {
     match format {
         Format::One => Ok(false),
-        Format::Two => truth(optional(table, key, &Value::Boolean(false)), item),
+        Format::Two => truth_or(table, key, item, false),
     }
 }
 

@@ -16,8 +16,8 @@ use crate::named::NamedGate;
 use circuit_model::{Circuit, LogicGate, first_overloaded};
 use model_core::MOST_OBJECTS;
 use std::alloc::Global;
-use text_fields::{Cause, Directory, Refusal, array_of, links, optional};
-use toml::{Table, Value};
+use text_fields::{Cause, Directory, Refusal, links, optional_array};
+use toml::Table;
 
 /// A gate, with numbers of gates in place of their names.
 #[tactic(auto, unfolding(crate::specs::Circuits::linked_gate))]
@@ -92,8 +92,7 @@ fn linked_circuit(
 pub(crate) fn circuit(alloc: Global, table: &Table) -> Result<Circuit, Refusal>
     ensures { Gives (λ circuit. circuit_meaning (gates_of circuit)) result (circuit (table_view table.now)) }
 {
-    let none = Value::Array(Vec::new(alloc));
-    let tables = array_of(optional(table, "gate", &none), 0, MOST_OBJECTS as usize)?;
+    let tables = optional_array(table, "gate", 0, MOST_OBJECTS as usize)?;
     let (named, directory) = gates(alloc, tables)?;
     linked_circuit(alloc, named, &directory)
 }

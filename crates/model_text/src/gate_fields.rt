@@ -1,10 +1,10 @@
 //! The kinds of gates, each with its fields.
-ghost use Rattle.std.specs.Prelude.{◌≡◌, ◌+◌, ◌<◌, ◌≤◌, ◌^◌, [], false, length, All, IfOk};
+ghost use Rattle.std.specs.Prelude.{◌≡◌, ◌+◌, ◌<◌, ◌≤◌, ◌^◌, [], false, length, map, All, IfOk};
 ghost use Rattle.toml.specs.View.{view, items_view, table_view};
 ghost use Rattle.circuit_model.specs.Gates.{HasPins, is_input};
 ghost use Rattle.circuit_model.specs.declared.limits.TheConstants.{MOST_FLIPS};
 ghost use Rattle.text_fields.specs.Checks.{Gives};
-ghost use Rattle.model_text.specs.GateFields.{logic_kind, takes, flips, feeders, input, fed_gate};
+ghost use Rattle.model_text.specs.GateFields.{logic_kind, takes, flips, feeders, probe, input, fed_gate};
 ghost use Rattle.model_text.specs.NamedGates.{IsNamedGate};
 
 use crate::named::NamedGate;
@@ -13,8 +13,8 @@ use event_key::LAST_TICK;
 use model_core::{Name, Sequence};
 use std::alloc::Global;
 use text_fields::{
-    Cause, Refusal, array_of, entries_of, item_count, names_of, number, numbers_of, only, optional,
-    required, truth,
+    Cause, Refusal, entries_of, item_count, names_of, number_or, numbers_of, only, optional_array,
+    required, truth_or,
 };
 use toml::{Table, Value};
 
@@ -44,8 +44,7 @@ fn flips(alloc: Global, table: &Table, before: usize, item: u32) -> Result<Seque
     ensures few { IfOk result (λ flips. before + length flips ≤ MOST_FLIPS) }
     ensures in_time { IfOk result (λ flips. All (λ time. time < 2 ^ 46) flips) }
 {
-    let none = Value::Array(Vec::new(alloc));
-    let values = array_of(optional(table, "flips", &none), item, MOST_FLIPS - before)?;
+    let values = optional_array(table, "flips", item, MOST_FLIPS - before)?;
     Ok(Sequence::new(numbers_of(alloc, values, item, LAST_TICK)?))
 }
 
@@ -74,6 +73,15 @@ fn feeders(
     Ok(Sequence::new(names_of(alloc, values, item)?))
 }
 
+/// Whether the changes of a gate are told. Its table may have no other keys than these.
+fn probe(table: &Table, keys: &[&str], item: u32) -> Result<bool, Refusal>
+    ensures { Gives (λ probe. probe) result (probe item (map (λ key. key.now) keys.now) (table_view table.now)) }
+{
+    let probe = truth_or(table, "probe", item, true)?;
+    only(table, keys, item)?;
+    Ok(probe)
+}
+
 /// An input, where those before it turn so often.
 #[tactic(auto, unfolding(crate::specs::GateFields::input))]
 pub(crate) fn input(
@@ -90,8 +98,7 @@ pub(crate) fn input(
     ensures few { IfOk result (λ gate. before + length gate.flips ≤ MOST_FLIPS) }
 {
     let flips = flips(alloc, table, before, item)?;
-    let probe = truth(optional(table, "probe", &Value::Boolean(true)), item)?;
-    only(table, &["name", "kind", "flips", "probe"], item)?;
+    let probe = probe(table, &["name", "kind", "flips", "probe"], item)?;
     Ok(NamedGate {
         name,
         kind: LogicKind::Input,
@@ -117,15 +124,9 @@ pub(crate) fn fed_gate(
     ensures name { IfOk result (λ gate. gate.name ≡ name) }
     ensures no_flips { IfOk result (λ gate. gate.flips ≡ []) }
 {
-    let delay = number(
-        optional(table, "delay", &Value::Integer(1)),
-        item,
-        0,
-        MOST_DELAY,
-    )?;
+    let delay = number_or(table, "delay", item, 1, 0, MOST_DELAY)?;
     let from = feeders(alloc, required(table, "from", item)?, kind, item)?;
-    let probe = truth(optional(table, "probe", &Value::Boolean(true)), item)?;
-    only(table, &["name", "kind", "delay", "from", "probe"], item)?;
+    let probe = probe(table, &["name", "kind", "delay", "from", "probe"], item)?;
     Ok(NamedGate {
         name,
         kind,

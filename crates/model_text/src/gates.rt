@@ -12,7 +12,7 @@ ghost use Rattle.model_text.specs.NamedGates.{IsNamedGate, flip_count, gate_plac
 use crate::gate_fields::{fed_gate, input, logic_kind};
 use crate::named::NamedGate;
 use std::alloc::Global;
-use text_fields::{Directory, Place, Refusal, name_of, new_name, required, table_of, text};
+use text_fields::{Directory, Place, Refusal, name_of, required_name, required_text, table_of};
 use toml::Value;
 
 /// The gate with this number, counted from 0, which may have none of the names in the directory and is taken in there, where
@@ -35,8 +35,8 @@ fn gate<'a>(
 {
     let item = number + 1;
     let table = table_of(value, item)?;
-    let name = new_name(required(table, "name", item)?, directory, item)?;
-    let kind = logic_kind(text(required(table, "kind", item)?, item)?, item)?;
+    let name = required_name(table, directory, item)?;
+    let kind = logic_kind(required_text(table, "kind", item)?, item)?;
     directory.add(
         name.as_bytes(),
         Place {

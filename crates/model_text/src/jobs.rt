@@ -12,7 +12,7 @@ use crate::formats::Format;
 use event_key::LAST_TICK;
 use model_core::Entry;
 use std::alloc::Global;
-use text_fields::{Directory, Refusal, link, number, only, required, table_of, text};
+use text_fields::{Directory, Refusal, link, only, required_number, required_text, table_of};
 use toml::Value;
 
 /// A job, which begins at an object that is named and is no source.
@@ -22,8 +22,8 @@ fn job(value: &Value, format: Format, directory: &Directory, item: u32) -> Resul
     ensures linked { IfOk result (IsLinkedJob (finder directory.now)) }
 {
     let table = table_of(value, item)?;
-    let time = number(required(table, "time", item)?, item, 0, LAST_TICK)?;
-    let name = text(required(table, "at", item)?, item)?;
+    let time = required_number(table, "time", item, 0, LAST_TICK)?;
+    let name = required_text(table, "at", item)?;
     let rank = rank(table, format, item)?;
     only(table, entry_keys(format), item)?;
     let at = link(directory, name.as_bytes(), item)?;

@@ -19,10 +19,10 @@ use queue_models::{
 };
 use std::alloc::Global;
 use text_fields::{
-    Cause, Directory, Refusal, law, link, links, name_of, number, optional, optional_number,
-    optional_weights, required, text, truth, ways,
+    Cause, Directory, Refusal, link, links, name_of, number_or, optional_number, optional_weights,
+    required, required_law, required_number, required_text, truth_or, ways,
 };
-use toml::{Table, Value};
+use toml::Table;
 
 /// A source.
 #[tactic(auto, unfolding(crate::specs::Kinds::source))]
@@ -30,20 +30,16 @@ fn source(alloc: Global, table: &Table, item: u32) -> Result<NamedKind, Refusal>
     ensures read { Gives (λ kind. kind) result (source item (table_view table.now)) }
     ensures in_range { IfOk result (IsKind AnyName) }
 {
-    let first = number(required(table, "first", item)?, item, 0, LAST_TICK)?;
-    let every = law(required(table, "every", item)?, item)?;
-    let count = number(
-        required(table, "count", item)?,
-        item,
-        1,
-        u64::from(MOST_JOBS),
-    )?;
-    let next = text(required(table, "next", item)?, item)?;
+    let first = required_number(table, "first", item, 0, LAST_TICK)?;
+    let every = required_law(table, "every", item)?;
+    let count = required_number(table, "count", item, 1, u64::from(MOST_JOBS))? as u32;
+    let next = required_text(table, "next", item)?;
+    let next = name_of(alloc, next)?;
     Ok(NamedKind::Source(Source {
         first,
         every,
-        count: count as u32,
-        next: name_of(alloc, next)?,
+        count,
+        next,
     }))
 }
 
@@ -53,28 +49,19 @@ fn station(alloc: Global, table: &Table, item: u32) -> Result<NamedKind, Refusal
     ensures read { Gives (λ kind. kind) result (station item (table_view table.now)) }
     ensures in_range { IfOk result (IsKind AnyName) }
 {
-    let servers = number(
-        optional(table, "servers", &Value::Integer(1)),
-        item,
-        1,
-        u64::from(MOST_SERVERS),
-    )?;
-    let service = law(required(table, "service", item)?, item)?;
-    let most = Value::Integer(i64::from(MOST_WAITING));
-    let line = number(
-        optional(table, "line", &most),
-        item,
-        0,
-        u64::from(MOST_WAITING),
-    )?;
-    let strict = truth(optional(table, "strict", &Value::Boolean(false)), item)?;
-    let next = text(required(table, "next", item)?, item)?;
+    let servers = number_or(table, "servers", item, 1, 1, u64::from(MOST_SERVERS))? as u32;
+    let service = required_law(table, "service", item)?;
+    let most = u64::from(MOST_WAITING);
+    let line = number_or(table, "line", item, most, 0, most)? as u32;
+    let strict = truth_or(table, "strict", item, false)?;
+    let next = required_text(table, "next", item)?;
+    let next = name_of(alloc, next)?;
     Ok(NamedKind::Station(Station {
-        servers: servers as u32,
+        servers,
         service,
-        line: line as u32,
+        line,
         strict,
-        next: name_of(alloc, next)?,
+        next,
     }))
 }
 
@@ -84,12 +71,10 @@ fn delay(alloc: Global, table: &Table, item: u32) -> Result<NamedKind, Refusal>
     ensures read { Gives (λ kind. kind) result (delay item (table_view table.now)) }
     ensures in_range { IfOk result (IsKind AnyName) }
 {
-    let delay = law(required(table, "delay", item)?, item)?;
-    let next = text(required(table, "next", item)?, item)?;
-    Ok(NamedKind::Delay(Delay {
-        delay,
-        next: name_of(alloc, next)?,
-    }))
+    let delay = required_law(table, "delay", item)?;
+    let next = required_text(table, "next", item)?;
+    let next = name_of(alloc, next)?;
+    Ok(NamedKind::Delay(Delay { delay, next }))
 }
 
 /// A router.

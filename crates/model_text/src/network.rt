@@ -17,7 +17,7 @@ use crate::objects::objects;
 use model_core::{MOST_ENTRIES, MOST_OBJECTS};
 use queue_models::Network;
 use std::alloc::Global;
-use text_fields::{Directory, Refusal, array_of, optional};
+use text_fields::{Directory, Refusal, optional_array};
 use toml::{Table, Value};
 
 /// The item of the first job, which follows those of the objects.
@@ -65,9 +65,8 @@ pub(crate) fn network(
     ensures read { Gives network_family result (network format (table_view table.now)) }
     ensures own { IfOk result (λ model. (parts_of model).seed ≡ seed) }
 {
-    let none = Value::Array(Vec::new(alloc));
-    let tables = array_of(optional(table, "object", &none), 0, MOST_OBJECTS as usize)?;
-    let entries = array_of(optional(table, "job", &none), 0, MOST_ENTRIES)?;
+    let tables = optional_array(table, "object", 0, MOST_OBJECTS as usize)?;
+    let entries = optional_array(table, "job", 0, MOST_ENTRIES)?;
     let (named, directory) = objects(alloc, tables, format)?;
     linked_network(alloc, format, seed, named, &directory, entries)
 }

@@ -1,5 +1,7 @@
 //! Pass one: the objects with their fields.
-ghost use Rattle.std.specs.Prelude.{◌≡◌, ◌≢◌, ◌+◌, ◌<◌, ◌≤◌, length, All, AllPairs, IfOk, IsTrue, None};
+ghost use Rattle.std.specs.Prelude.{◌≡◌, ◌≢◌, ◌+◌, ◌<◌, ◌≤◌, ◌||◌, not, length, All, AllPairs, IfOk, IsTrue, None};
+ghost use Rattle.event_key.specs.declared.key.TheConstants.{MOST_RANK};
+ghost use Rattle.queue_models.specs.Kinds.{is_station};
 ghost use Rattle.toml.specs.View.{view, items_view, table_view};
 ghost use Rattle.model_core.specs.declared.limits.TheConstants.{MOST_OBJECTS};
 ghost use Rattle.text_fields.specs.Checks.{Gives};
@@ -7,15 +9,44 @@ ghost use Rattle.text_fields.specs.Directories.{finder};
 ghost use Rattle.model_text.specs.NamedItems.{IsNamedItem};
 ghost use Rattle.text_fields.specs.Names.{TakesIn, is_name};
 ghost use Rattle.model_text.specs.Names.{NamedItem, place_in, place_of};
-ghost use Rattle.model_text.specs.Objects.{object, object_named, objects};
+ghost use Rattle.model_text.specs.Objects.{common_fields, object, object_named, objects};
 
 use crate::additions::{flag, rank, trace};
 use crate::formats::Format;
 use crate::kinds::{known_keys, named_kind};
-use crate::named::NamedItem;
+use crate::named::{NamedItem, NamedKind};
 use std::alloc::Global;
-use text_fields::{Directory, Place, Refusal, name_of, new_name, only, required, table_of, text};
+use text_fields::{
+    Directory, Place, Refusal, name_of, only, required_name, required_text, table_of,
+};
 use toml::{Table, Value};
+
+/// What objects of all kinds have.
+#[derive(Clone, Copy)]
+struct CommonFields {
+    rank: u32,
+    quiet: bool,
+    trace: bool,
+}
+
+/// What an object of this kind has as all do. Its table may have no other keys than those of its kind.
+#[tactic(auto, unfolding(crate::specs::Objects::common_fields))]
+fn common_fields(
+    table: &Table,
+    kind: &NamedKind,
+    format: Format,
+    item: u32,
+) -> Result<CommonFields, Refusal>
+    ensures read { Gives (λ fields. fields) result (common_fields format kind.now item (table_view table.now)) }
+    ensures rank { IfOk result (λ fields. fields.rank ≤ MOST_RANK) }
+    ensures traced { IfOk result (λ fields. IsTrue (not fields.trace || is_station kind.now)) }
+{
+    let rank = rank(table, format, item)?;
+    let quiet = flag(table, "quiet", format, item)?;
+    let trace = trace(table, kind, format, item)?;
+    only(table, known_keys(format, kind), item)?;
+    Ok(CommonFields { rank, quiet, trace })
+}
 
 /// The object with this name.
 #[tactic(auto, unfolding(crate::specs::Objects::object_named))]
@@ -31,18 +62,15 @@ fn object_named(
     ensures in_range { IfOk result IsNamedItem }
     ensures name { IfOk result (λ object. object.name ≡ name.now) }
 {
-    let word = text(required(table, "kind", item)?, item)?;
+    let word = required_text(table, "kind", item)?;
     let kind = named_kind(alloc, table, word, item)?;
-    let rank = rank(table, format, item)?;
-    let quiet = flag(table, "quiet", format, item)?;
-    let trace = trace(table, &kind, format, item)?;
-    only(table, known_keys(format, &kind), item)?;
+    let fields = common_fields(table, &kind, format, item)?;
     Ok(NamedItem {
         name: name_of(alloc, name)?,
         kind,
-        rank,
-        quiet,
-        trace,
+        rank: fields.rank,
+        quiet: fields.quiet,
+        trace: fields.trace,
     })
 }
 
@@ -63,7 +91,7 @@ fn object<'a>(
 {
     let item = number + 1;
     let table = table_of(value, item)?;
-    let name = new_name(required(table, "name", item)?, directory, item)?;
+    let name = required_name(table, directory, item)?;
     let object = object_named(alloc, table, name, format, item)?;
     let place = Place {
         number,

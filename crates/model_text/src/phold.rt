@@ -14,7 +14,8 @@ use model_core::{MOST_ENTRIES, MOST_OBJECTS};
 use phold_model::Phold;
 use std::alloc::Global;
 use text_fields::{
-    Cause, Refusal, array_of, law, number, only, optional, required, table_of, text,
+    Cause, Refusal, number_or, only, optional_array, required, required_law, required_number,
+    table_of, text,
 };
 use toml::Value;
 
@@ -56,17 +57,11 @@ pub(crate) fn phold(
     ensures own { IfOk result (λ model. (parts_of model).seed ≡ seed) }
 {
     let table = table_of(value, 0)?;
-    let objects = number(
-        required(table, "objects", 0)?,
-        0,
-        0,
-        u64::from(MOST_OBJECTS),
-    )? as u32;
-    let delay = law(required(table, "delay", 0)?, 0)?;
+    let objects = required_number(table, "objects", 0, 0, u64::from(MOST_OBJECTS))? as u32;
+    let delay = required_law(table, "delay", 0)?;
     let uniform = destination(required(table, "to", 0)?, 0)?;
-    let each = number(optional(table, "each", &Value::Integer(0)), 0, 0, 4)? as u32;
-    let none = Value::Array(Vec::new(alloc));
-    let entries = array_of(optional(table, "start", &none), 0, MOST_ENTRIES)?;
+    let each = number_or(table, "each", 0, 0, 0, 4)? as u32;
+    let entries = optional_array(table, "start", 0, MOST_ENTRIES)?;
     let rank = rank(table, format, 0)?;
     only(table, phold_keys(format), 0)?;
     let start = start_entries(alloc, entries, format, objects)?;

@@ -11,7 +11,7 @@ use crate::formats::Format;
 use event_key::LAST_TICK;
 use model_core::{Entry, MOST_OBJECTS};
 use std::alloc::Global;
-use text_fields::{Cause, Refusal, number, only, required, table_of};
+use text_fields::{Cause, Refusal, only, required_number, table_of};
 use toml::Value;
 
 /// An entry, in a model of so many objects.
@@ -21,16 +21,10 @@ fn start_entry(value: &Value, format: Format, objects: u32, item: u32) -> Result
     ensures entry { IfOk result (IsEntry objects) }
 {
     let table = table_of(value, item)?;
-    let time = number(required(table, "time", item)?, item, 0, LAST_TICK)?;
-    let at = number(
-        required(table, "at", item)?,
-        item,
-        0,
-        u64::from(MOST_OBJECTS - 1),
-    )?;
+    let time = required_number(table, "time", item, 0, LAST_TICK)?;
+    let at = required_number(table, "at", item, 0, u64::from(MOST_OBJECTS - 1))? as u32;
     let rank = rank(table, format, item)?;
     only(table, entry_keys(format), item)?;
-    let at = at as u32;
     if at >= objects {
         return Err(Cause::BadLink.at(item));
     }

@@ -18,8 +18,10 @@ use model_core::{MOST_EVENTS, MOST_TEXT_BYTES};
 use sim_spec::Terms;
 use std::alloc::Global;
 use std::mem;
-use text_fields::{Cause, Refusal, number, only, optional, required, terms_of, text, tree};
-use toml::{Table, Value};
+use text_fields::{
+    Cause, Refusal, number_or, only, required, required_number, required_text, terms_of, tree,
+};
+use toml::Table;
 
 /// The kinds of models.
 #[derive(Clone, Copy, Debug, PartialEq, Eq)]
@@ -94,12 +96,10 @@ fn top(alloc: Global, table: &Table) -> Result<ReadModel, Refusal>
     ensures seed { IfOk result (λ read. read.seed < 2 ^ 63) }
 {
     let format = format_of(required(table, "format", 0)?)?;
-    let kind = kind_of(format, text(required(table, "model", 0)?, 0)?)?;
-    let end = number(required(table, "end", 0)?, 0, 0, LAST_TICK)?;
-    let seed = optional(table, "seed", &Value::Integer(0));
-    let seed = number(seed, 0, 0, 9_223_372_036_854_775_807)?;
-    let limit = optional(table, "limit", &Value::Integer(10_000_000));
-    let limit = number(limit, 0, 1, MOST_EVENTS)?;
+    let kind = kind_of(format, required_text(table, "model", 0)?)?;
+    let end = required_number(table, "end", 0, 0, LAST_TICK)?;
+    let seed = number_or(table, "seed", 0, 0, 0, 9_223_372_036_854_775_807)?;
+    let limit = number_or(table, "limit", 0, 10_000_000, 1, MOST_EVENTS)?;
     only_known(table, kind)?;
     let model = body(alloc, table, format, kind, seed)?;
     let terms = terms_of(end, limit);

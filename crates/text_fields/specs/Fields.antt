@@ -46,6 +46,14 @@ present at (Some d) = Ok d
 abbrev pub required : ℕ → List ℕ → Members → Checked Data
 required at key ms = present at (get_member key ms)
 
+-- a number at a key that has to be there
+abbrev pub required_number : ℕ → ℕ → ℕ → List ℕ → Members → Checked ℕ
+required_number at least most key ms = required at key ms >>= number at least most
+
+-- a text at a key that has to be there
+abbrev pub required_text : ℕ → List ℕ → Members → Checked (List ℕ)
+required_text at key ms = required at key ms >>= text at
+
 abbrev pub or_default : Data → Option Data → Data
 or_default default None = default
 or_default default (Some d) = d

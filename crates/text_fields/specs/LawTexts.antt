@@ -43,3 +43,7 @@ law at d = do
   ms ← table_of at d
   name ← required at (codes "law") ms >>= text at
   named_law at ms name
+
+-- a law at a key that has to be there
+abbrev pub required_law : ℕ → List ℕ → Members → Checked Law
+required_law at key ms = required at key ms >>= law at

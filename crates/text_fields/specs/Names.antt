@@ -1,13 +1,13 @@
 -- The check of a name, and what stands at it.
-use Rattle.std.specs.Prelude.{◌≡◌, ℕ, ◌+◌, Bool, not, ◌&&◌, nat_le, List, [], ◌∷◌, length, Option, Some, None, is_some, Ok, if◌then◌else◌}
+use Rattle.std.specs.Prelude.{◌≡◌, ℕ, ◌+◌, Bool, not, ◌&&◌, nat_le, List, [], ◌∷◌, length, Option, Some, None, is_some, Ok, codes, if◌then◌else◌}
 use Rattle.std.specs.List.{list_all}
 use Rattle.std.specs.Str.{bytes_eq}
-use Rattle.toml.specs.Data.{Data}
+use Rattle.toml.specs.Data.{Data, Members}
 use Rattle.queue_models.specs.Parts.{is_name_byte}
 use Rattle.text_fields.specs.declared.directory.Place.{Place}
 use Rattle.text_fields.specs.declared.refusal.Cause.TheVariants.{BadValue}
 use Rattle.text_fields.specs.Checks.{Checked, refusal_where, ◌>>=◌}
-use Rattle.text_fields.specs.Fields.{text}
+use Rattle.text_fields.specs.Fields.{required, text}
 
 -- 1 to 16 bytes, each an ASCII letter, a digit, '_' or '-'
 abbrev pub is_name : List ℕ → Bool
@@ -41,3 +41,7 @@ new_name find at d = do
   named ← refusal_where (not (is_name name)) BadValue at
   new ← refusal_where (is_some (find name)) BadValue at
   Ok name
+
+-- the name that a table gives
+abbrev pub required_name : Finder → ℕ → Members → Checked (List ℕ)
+required_name find at ms = required at (codes "name") ms >>= new_name find at

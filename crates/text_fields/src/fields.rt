@@ -7,7 +7,7 @@ ghost use Rattle.std.specs.BTreeMap.{keys};
 ghost use Rattle.toml.specs.Data.{array, boolean, get_member, integer, no_items};
 ghost use Rattle.toml.specs.View.{view, table_view, items_view};
 ghost use Rattle.text_fields.specs.Checks.{Gives};
-ghost use Rattle.text_fields.specs.Fields.{number, text, truth, table_of, item_count, entries_of, array_of, required, optional, optional_number, number_or, text_or, has_only, only};
+ghost use Rattle.text_fields.specs.Fields.{number, text, truth, table_of, item_count, entries_of, array_of, required, required_number, required_text, optional, optional_number, number_or, text_or, has_only, only};
 
 use crate::refusal::{Cause, Refusal};
 use toml::{Table, Value};
@@ -112,6 +112,28 @@ pub fn required<'a>(table: &'a Table, key: &str, item: u32) -> Result<&'a Value,
         Some(value) => Ok(value),
         None => Err(Cause::Missing.at(item)),
     }
+}
+
+/// A number from its least to its greatest value, at a key that has to be there.
+pub fn required_number(
+    table: &Table,
+    key: &str,
+    item: u32,
+    least: u64,
+    most: u64,
+) -> Result<u64, Refusal>
+    ensures read { Gives (λ n. n) result (required_number item least most key.now (table_view table.now)) }
+    ensures least { IfOk result (λ n. least ≤ n) }
+    ensures most { IfOk result (λ n. n ≤ most) }
+{
+    number(required(table, key, item)?, item, least, most)
+}
+
+/// A text at a key that has to be there.
+pub fn required_text<'a>(table: &'a Table, key: &str, item: u32) -> Result<&'a str, Refusal>
+    ensures { Gives (λ s. s.now) result (required_text item key.now (table_view table.now)) }
+{
+    text(required(table, key, item)?, item)
 }
 
 /// What the table has at a key, or what stands for it where the key is absent.

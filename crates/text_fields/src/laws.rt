@@ -3,9 +3,9 @@ ghost use Rattle.std.specs.Prelude.{IfOk, IsTrue};
 ghost use Rattle.toml.specs.View.{view, table_view};
 ghost use Rattle.random_streams.specs.Laws.{is_delay};
 ghost use Rattle.text_fields.specs.Checks.{Gives};
-ghost use Rattle.text_fields.specs.LawTexts.{fixed_law, uniform_law, geometric_law, law};
+ghost use Rattle.text_fields.specs.LawTexts.{fixed_law, uniform_law, geometric_law, law, required_law};
 
-use crate::fields::{number, only, required, table_of, text};
+use crate::fields::{only, required, required_number, required_text, table_of};
 use crate::refusal::{Cause, Refusal};
 use random_streams::{Law, MOST_TRIALS, MOST_VALUE};
 use toml::{Table, Value};
@@ -19,7 +19,7 @@ pub fn fixed_law(table: &Table, item: u32) -> Result<Law, Refusal>
     ensures read { Gives (λ law. law) result (fixed_law item (table_view table.now)) }
     ensures delay { IfOk result (λ law. IsTrue (is_delay law)) }
 {
-    let value = number(required(table, "value", item)?, item, 0, MOST_VALUE)?;
+    let value = required_number(table, "value", item, 0, MOST_VALUE)?;
     only(table, &["law", "value"], item)?;
     Ok(Law::Fixed { value })
 }
@@ -30,8 +30,8 @@ pub fn uniform_law(table: &Table, item: u32) -> Result<Law, Refusal>
     ensures read { Gives (λ law. law) result (uniform_law item (table_view table.now)) }
     ensures delay { IfOk result (λ law. IsTrue (is_delay law)) }
 {
-    let low = number(required(table, "low", item)?, item, 0, MOST_VALUE)?;
-    let high = number(required(table, "high", item)?, item, 0, MOST_VALUE)?;
+    let low = required_number(table, "low", item, 0, MOST_VALUE)?;
+    let high = required_number(table, "high", item, 0, MOST_VALUE)?;
     if high < low {
         return Err(Cause::BadValue.at(item));
     }
@@ -48,13 +48,8 @@ fn geometric_law(table: &Table, item: u32) -> Result<Law, Refusal>
     ensures read { Gives (λ law. law) result (geometric_law item (table_view table.now)) }
     ensures delay { IfOk result (λ law. IsTrue (is_delay law)) }
 {
-    let p = number(required(table, "p", item)?, item, 1, 4_294_967_295)?;
-    let cap = number(
-        required(table, "cap", item)?,
-        item,
-        1,
-        u64::from(MOST_TRIALS),
-    )?;
+    let p = required_number(table, "p", item, 1, 4_294_967_295)?;
+    let cap = required_number(table, "cap", item, 1, u64::from(MOST_TRIALS))?;
     only(table, &["law", "p", "cap"], item)?;
     Ok(Law::Geometric {
         p: p as u32,
@@ -69,7 +64,7 @@ pub fn law(value: &Value, item: u32) -> Result<Law, Refusal>
     ensures delay { IfOk result (λ law. IsTrue (is_delay law)) }
 {
     let table = table_of(value, item)?;
-    let name = text(required(table, "law", item)?, item)?;
+    let name = required_text(table, "law", item)?;
     if name == "fixed" {
         return fixed_law(table, item);
     }
@@ -80,4 +75,12 @@ pub fn law(value: &Value, item: u32) -> Result<Law, Refusal>
         return geometric_law(table, item);
     }
     Err(Cause::BadValue.at(item))
+}
+
+/// A law of any name, at a key that has to be there.
+pub fn required_law(table: &Table, key: &str, item: u32) -> Result<Law, Refusal>
+    ensures read { Gives (λ law. law) result (required_law item key.now (table_view table.now)) }
+    ensures delay { IfOk result (λ law. IsTrue (is_delay law)) }
+{
+    law(required(table, key, item)?, item)
 }

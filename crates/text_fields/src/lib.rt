@@ -17,11 +17,12 @@ pub use directory::{Directory, Place};
 pub use documents::{document, tree};
 pub use fields::{
     array_of, entries_of, field, item_count, number, number_or, only, optional, optional_array,
-    optional_number, required, table_of, text, text_or, truth, truth_or,
+    optional_number, required, required_number, required_text, table_of, text, text_or, truth,
+    truth_or,
 };
-pub use laws::{fixed_law, law, uniform_law};
+pub use laws::{fixed_law, law, required_law, uniform_law};
 pub use linking::{link, links};
-pub use names::{name_of, names_of, new_name};
+pub use names::{name_of, names_of, new_name, required_name};
 pub use numbers::numbers_of;
 pub use refusal::{Cause, Refusal, code_name};
 pub use terms::terms_of;

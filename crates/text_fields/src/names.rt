@@ -1,19 +1,19 @@
 //! Names of objects.
 ghost use Rattle.std.specs.Prelude.{◌≡◌, IfOk, IsTrue, None, length};
 ghost use Rattle.std.specs.List.{list_all};
-ghost use Rattle.toml.specs.View.{view, items_view};
+ghost use Rattle.toml.specs.View.{view, items_view, table_view};
 ghost use Rattle.queue_models.specs.Parts.{is_name_byte};
 ghost use Rattle.text_fields.specs.Checks.{Gives};
 ghost use Rattle.text_fields.specs.Directories.{finder};
 ghost use Rattle.text_fields.specs.Fields.{each, text};
-ghost use Rattle.text_fields.specs.Names.{is_name, new_name};
+ghost use Rattle.text_fields.specs.Names.{is_name, new_name, required_name};
 
 use crate::directory::Directory;
-use crate::fields::text;
+use crate::fields::{required, text};
 use crate::refusal::{Cause, Refusal};
 use model_core::Name;
 use std::alloc::{AllocError, Global};
-use toml::Value;
+use toml::{Table, Value};
 
 /// How many bytes a name has at most.
 const MOST_NAME_BYTES: usize = 16;
@@ -74,4 +74,17 @@ pub fn new_name<'a>(value: &'a Value, directory: &Directory, item: u32) -> Resul
         return Err(Cause::BadValue.at(item));
     }
     Ok(name)
+}
+
+/// The name that a table gives, which no object before has.
+pub fn required_name<'a>(
+    table: &'a Table,
+    directory: &Directory,
+    item: u32,
+) -> Result<&'a str, Refusal>
+    ensures read { Gives (λ name. name.now) result (required_name (finder directory.now) item (table_view table.now)) }
+    ensures named { IfOk result (λ name. IsTrue (is_name name.now)) }
+    ensures new { IfOk result (λ name. finder directory.now name.now ≡ None) }
+{
+    new_name(required(table, "name", item)?, directory, item)
 }

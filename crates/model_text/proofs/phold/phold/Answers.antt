@@ -27,27 +27,16 @@ returns-clause-read c =
     let family : PholdParts → Checked (ℕ → Meaning) = λ p. Ok (λ s. phold_meaning (phold_under s p)) in
     let d : Data = view c.args.value.now in
     let ms : Members = table_view c.in_ok-table.table.now in
-    let table_is : table_of 0 d ≡ Ok ms = c.in_ok-table.ensures in
-    let objects_number : number 0 0 MOST_OBJECTS (view c.in_ok-required.field-0.now) ≡ Ok c.in_ok-objects.field-0 = search rules in
-    let objects_is : required 0 (codes "objects") ms >>= number 0 0 MOST_OBJECTS ≡ Ok c.in_ok-objects.field-0 = joined _ _ _ _ c.in_ok-required.ensures objects_number in
-    let delay_is : required 0 (codes "delay") ms >>= law 0 ≡ Ok c.in_ok-delay.delay = joined _ _ _ _ c.in_ok-required-2.ensures c.in_ok-delay.ensures.read in
-    let uniform_is : required 0 (codes "to") ms >>= destination 0 ≡ Ok c.in_ok-uniform.uniform = joined _ _ _ _ c.in_ok-required-3.ensures c.in_ok-uniform.ensures in
-    let each_is : number 0 0 4 (optional (integer (pos 0)) (codes "each") ms) ≡ Ok c.in_ok-each.field-0 =
-    ap (λ (n : Data). number 0 0 4 (optional n (codes "each") ms)) (sym (view-Integer (pos 0))) ∙ ap (number 0 0 4) (sym c.optional.ensures) ∙ c.in_ok-each.ensures.read in
-    let entries_is : array_of 0 MOST_ENTRIES (optional (array no_items) (codes "start") ms) ≡ Ok (items_view c.in_ok-entries.entries.now) =
-    ap (λ (xs : List Value). array_of 0 MOST_ENTRIES (optional (array (items_view xs)) (codes "start") ms)) (sym c.new.ensures.items)
-    ∙ ap (λ (d : Data). array_of 0 MOST_ENTRIES (optional d (codes "start") ms)) (sym (view-Array c.new.result))
-    ∙ ap (array_of 0 MOST_ENTRIES) (sym c.optional-2.ensures) ∙ c.in_ok-entries.ensures.read in
-    let rank_is : rank c.args.format 0 ms ≡ Ok c.in_ok-rank.rank = c.in_ok-rank.ensures.read in
+    let objects_is : required 0 (codes "objects") ms >>= number 0 0 MOST_OBJECTS ≡ Ok c.in_ok-objects.field-0 = rw c.from.ensures at c.in_ok-objects.ensures.read in
+    let uniform_is : required 0 (codes "to") ms >>= destination 0 ≡ Ok c.in_ok-uniform.uniform = joined _ _ _ _ c.in_ok-required.ensures c.in_ok-uniform.ensures in
     let only_is : only 0 (phold_keys c.args.format) ms ≡ Ok tt = search rules in
-    let start_is : start_entries c.args.format c.in_ok-objects.field-0 (items_view c.in_ok-entries.entries.now) ≡ Ok c.in_ok-start.start.items = c.in_ok-start.ensures.read in
-    joined (table_of 0 d) _ ms _ table_is
+    joined (table_of 0 d) _ ms _ c.in_ok-table.ensures
     (joined (required 0 (codes "objects") ms >>= number 0 0 MOST_OBJECTS) _ _ _ objects_is
-    (joined (required 0 (codes "delay") ms >>= law 0) _ _ _ delay_is
+    (joined (required 0 (codes "delay") ms >>= law 0) _ _ _ c.in_ok-delay.ensures.read
     (joined (required 0 (codes "to") ms >>= destination 0) _ _ _ uniform_is
-    (joined (number 0 0 4 (optional (integer (pos 0)) (codes "each") ms)) _ _ _ each_is
-    (joined (array_of 0 MOST_ENTRIES (optional (array no_items) (codes "start") ms)) _ _ _ entries_is
-    (joined (rank c.args.format 0 ms) _ _ _ rank_is
+    (joined (number 0 0 4 (optional (integer (pos 0)) (codes "each") ms)) _ _ _ c.in_ok-each.ensures.checked
+    (joined (array_of 0 MOST_ENTRIES (optional (array no_items) (codes "start") ms)) _ _ _ c.in_ok-entries.ensures.read
+    (joined (rank c.args.format 0 ms) _ _ _ c.in_ok-rank.ensures.read
     (joined (only 0 (phold_keys c.args.format) ms) _ _ _ only_is
-    (joined (start_entries c.args.format c.in_ok-objects.field-0 (items_view c.in_ok-entries.entries.now)) _ _ _ start_is
+    (joined (start_entries c.args.format c.in_ok-objects.field-0 (items_view c.in_ok-entries.entries.now)) _ _ _ c.in_ok-start.ensures.read
     (ap family (sym c.in_ok-make.ensures.parts))))))))))
