@@ -1,4 +1,4 @@
-use Rattle.std.proofs.Common.{◌∙◌, sym, subst, eqb-true, get_or}
+use Rattle.std.proofs.Common.{◌∙◌, sym, subst, eqb-true, get_or, arith}
 use Rattle.std.proofs.lemmas.List.{nil_from_length}
 use Rattle.std.proofs.lemmas.Option.{slice_get-get_or}
 use Rattle.cycle_core.proofs.GivenLemmas.{IsOnlyUpto, only-none, only-more, only-told, only-all}
@@ -22,3 +22,9 @@ loop-i-preserved c =
 
 pub returns-clause-some : goal.returns-clause-some
 returns-clause-some c = only-all c.args.committed.now c.loop-i.i c.loop-i.only c.loop-i.told c.loop-i.invariant c.loop-i-test.false
+
+pub returns-then-told-clause-none : goal.returns-then-told-clause-none
+returns-then-told-clause-none c =
+    let seen = c.loop-i.invariant.seen c.if-told.true in
+    let inside = c.loop-i-test.true in
+    omega arith

@@ -1,10 +1,11 @@
 -- Object by object its state is read at its home.
-use Rattle.std.proofs.Common.{◌∙◌, arith, length, refl, sym, ap}
+use Rattle.std.proofs.Common.{◌∙◌, arith, length, refl, sym, ap, ◌≡◌, subst}
 use Rattle.std.specs.Prelude.{slice_get}
 use Rattle.std.proofs.lemmas.Option.{slice_get_read}
 use Rattle.sim_spec.specs.Firing.{ObjectState}
 use Rattle.cycle_core.proofs.SettingLemmas.{home-of-node}
 use Rattle.cycle_core.proofs.SnapshotLemmas.{home-inside, states-more}
+use Rattle.cycle_core.specs.Snapshots.{AreStatesOf}
 use Rattle.cycle_core.proofs.saving.objects_of.Goals as goal
 
 pub home-home-requires : goal.home-home-requires
@@ -35,3 +36,10 @@ loop-object-preserved g c =
     (ap (slice_get c.args.nodes.now) (sym c.home-home.ensures.home) ∙ at)
     (λ i. record { cells = (c.in_ok-cells.ensures.contents ∙ c.cells.ensures) i; sent = c.sent.ensures i })
     c.in_ok-push.ensures.items
+
+pub returns : goal.returns
+returns g c =
+    let m = g.M.Model.meaning c.args.model.now in
+    let count = c.objects-count.ensures in
+    let all : c.loop-object.object ≡ m.objects = omega arith in
+    subst (λ n. AreStatesOf c.args.homes.now c.args.nodes.now n c.loop-object.objects.items) all c.loop-object.invariant

@@ -8,7 +8,7 @@ use Rattle.model_core.specs.declared.event.Event.{Event}
 use Rattle.key_order.proofs.InOrder.{in_order_by_sort}
 use Rattle.node_core.specs.Nodes.{IsAsBefore}
 use Rattle.cycle_core.specs.Snapshots.{waiting_in}
-use Rattle.cycle_core.proofs.PlaceLemmas.{upto-more, upto-rest}
+use Rattle.cycle_core.proofs.PlaceLemmas.{upto-more, upto-rest, upto-all}
 use Rattle.cycle_core.proofs.SnapshotLemmas.{as-before, waiting-all, waiting-more}
 use Rattle.cycle_core.proofs.saving.pending_of.Goals as goal
 
@@ -33,3 +33,9 @@ returns-clause-pending g c =
     let all = waiting-all c.loop-node.node-index c.args.nodes.now c.loop-node.pending.items (omega arith) c.loop-node.invariant.read in
     in_order_by_sort (waiting_in c.args.nodes.now) c.sort_by_key.new.self.items c.requires (subst (λ es. IsPermutation es c.sort_by_key.new.self.items) all c.in_ok-sort_by_key.ensures.permutation)
     (c.in_ok-sort_by_key.ensures.sorted (λ (e : Event). e.key) (answers_always _ _ _ (λ f a r g h. search rules)))
+
+pub returns-in_err-sort_by_key-clause-same : goal.returns-in_err-sort_by_key-clause-same
+returns-in_err-sort_by_key-clause-same g c = upto-all IsAsBefore c.loop-node.node-index c.args.nodes.now c.loop-node.nodes (let far = c.loop-node.invariant.same.many in omega arith) c.loop-node.invariant.same
+
+pub returns-clause-same : goal.returns-clause-same
+returns-clause-same g c = upto-all IsAsBefore c.loop-node.node-index c.args.nodes.now c.loop-node.nodes (let far = c.loop-node.invariant.same.many in omega arith) c.loop-node.invariant.same

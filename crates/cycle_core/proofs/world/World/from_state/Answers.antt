@@ -9,7 +9,7 @@ use Rattle.sim_spec.specs.Standing.{stands}
 use Rattle.sim_spec.specs.State.{Lawful, State}
 use Rattle.sim_spec.proofs.PartLemmas.{AllSound-dest}
 use Rattle.cycle_core.specs.Standings.{WorldStandsAt}
-use Rattle.cycle_core.specs.Starts.{ArePartsOf, ArePlaced, CanBegin, CanSet, HaveStatesFrom, world_with}
+use Rattle.cycle_core.specs.Starts.{ArePartsOf, ArePlaced, CanBegin, CanSet, HaveStatesFrom, world_with, ArePlacedBy}
 use Rattle.cycle_core.proofs.SettingLemmas.{begins-at, can-set}
 use Rattle.cycle_core.proofs.world.World.from_state.Goals as goal
 
@@ -82,3 +82,19 @@ returns-clause-stands g c =
     let world = c.with-world.ensures ∙ ap (λ ns. world_with model c.args.terms homes ns s.count) over in
     let may = subst (λ w. CanBegin of w c.in_ok-parcels.parcels.items s) (sym world) begins in
     subst (λ v. WorldStandsAt of c.hand_out.new.self (stands v None)) c.state.view_is (c.in_ok-hand_out.ensures.stands s may)
+
+pub returns-clause-model : goal.returns-clause-model
+returns-clause-model g c = ap (λ w. w.model) (c.hand_out.ensures.world) ∙ ap (λ w. w.model) c.with-world.ensures
+
+pub returns-clause-terms : goal.returns-clause-terms
+returns-clause-terms g c = ap (λ w. w.terms) (c.hand_out.ensures.world) ∙ ap (λ w. w.terms) c.with-world.ensures
+
+pub returns-clause-nodes : goal.returns-clause-nodes
+returns-clause-nodes g c = ap (λ w. w.homes.nodes) (c.hand_out.ensures.world) ∙ ap (λ w. w.homes.nodes) c.with-world.ensures ∙ c.in_ok-homes.ensures.nodes
+
+pub returns-clause-placed : goal.returns-clause-placed
+returns-clause-placed g c =
+    subst (ArePlacedBy c.args.placement) (sym (ap (λ w. w.homes) (c.hand_out.ensures.world) ∙ ap (λ w. w.homes) c.with-world.ensures)) (λ object below. c.in_ok-homes.ensures.by object below)
+
+pub returns-clause-new : goal.returns-clause-new
+returns-clause-new g c = λ number n at. c.in_ok-hand_out.ensures.new number n at

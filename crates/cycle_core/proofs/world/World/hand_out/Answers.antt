@@ -1,5 +1,5 @@
 -- The nodes receive what is pending.
-use Rattle.std.proofs.Common.{◌≡◌, ◌∙◌, List, [], length, sym, ap, subst, arith}
+use Rattle.std.proofs.Common.{◌≡◌, ◌∙◌, List, [], length, sym, ap, subst, arith, refl}
 use Rattle.std.proofs.lemmas.List.{with_items_is}
 use Rattle.sim_spec.specs.Standing.{stands}
 use Rattle.std.specs.Prelude.{None}
@@ -11,6 +11,7 @@ use Rattle.cycle_core.specs.Standings.{WorldStandsAt}
 use Rattle.cycle_core.specs.Starts.{CanBegin}
 use Rattle.cycle_core.specs.Worlds.{WorldView}
 use Rattle.cycle_core.proofs.StartLemmas.{can-start, start-processed, start-standing}
+use Rattle.cycle_core.proofs.ChangedNodes.{nodes-alone}
 use Rattle.cycle_core.proofs.world.World.hand_out.Goals as goal
 
 pub unreachable-requires : goal.unreachable-requires
@@ -58,3 +59,9 @@ returns-clause-new g c =
     let receives = subst (λ ps. ReceiveUpto of (length w.nodes) ps w.nodes now) c.as_mut_slice-2.ensures.value got in
     subst (AtEach (λ number n. n.processed ≡ [])) (sym (with_items_is c.in-Some.nodes now (receives.many ∙ ap length (slice ∙ c.as_mut_slice.ensures.value) ∙ sym c.in-Some.nodes.ok.0)))
     (λ number n at. start-processed of w c.args.parcels.items s here now receives number n at)
+
+pub returns-in_err-receive_all-clause-world : goal.returns-in_err-receive_all-clause-world
+returns-in_err-receive_all-clause-world g c = nodes-alone c.args.self.now _ _ _ c.self.view_is refl
+
+pub returns-clause-world : goal.returns-clause-world
+returns-clause-world g c = nodes-alone c.args.self.now _ _ _ c.self.view_is refl

@@ -1,5 +1,5 @@
 -- What the nodes show once all is undone.
-use Rattle.std.proofs.Common.{◌≡◌, ◌∙◌, List, length, sym, ap, subst, arith}
+use Rattle.std.proofs.Common.{◌≡◌, ◌∙◌, List, length, sym, ap, subst, arith, refl}
 use Rattle.std.proofs.lemmas.List.{with_items_is}
 use Rattle.node_core.specs.Homes.{HomesView}
 use Rattle.node_core.specs.Nodes.{NodeView}
@@ -7,6 +7,7 @@ use Rattle.cycle_core.specs.Inside.{nodes_in}
 use Rattle.cycle_core.specs.Snapshots.{AllUndone, AreStatesOf}
 use Rattle.cycle_core.specs.Worlds.{AreNodesOf, StandsAt, WorldView}
 use Rattle.cycle_core.proofs.SnapshotLemmas.{each-as-before, snap-differ, snap-stands, snap-state}
+use Rattle.cycle_core.proofs.ChangedNodes.{nodes-alone}
 use Rattle.cycle_core.proofs.world.World.snapshot.Goals as goal
 
 pub unreachable-requires : goal.unreachable-requires
@@ -86,3 +87,12 @@ returns-clause-stands g c s st =
     let P : List (NodeView _) → Type 0 = λ ns. StandsAt (of w.model) (record w { nodes = ns }) s in
     subst P (sym (with_items_is c.in-Some.nodes now (c.pending_of.ensures.same.many ∙ un.many ∙ ap length (slice ∙ c.as_mut_slice-nodes.ensures.value) ∙ sym c.in-Some.nodes.ok.0)))
     (snap-stands of w s here c.undo_all.new.nodes now un c.pending_of.ensures.same)
+
+pub returns-in_err-pending-clause-world : goal.returns-in_err-pending-clause-world
+returns-in_err-pending-clause-world g c = nodes-alone c.args.self.now _ _ _ c.self.view_is refl
+
+pub returns-in_err-objects-clause-world : goal.returns-in_err-objects-clause-world
+returns-in_err-objects-clause-world g c = nodes-alone c.args.self.now _ _ _ c.self.view_is refl
+
+pub returns-clause-world : goal.returns-clause-world
+returns-clause-world g c = nodes-alone c.args.self.now _ _ _ c.self.view_is refl
