@@ -1,11 +1,11 @@
 -- An object comes with its log and its waiting events.
-use Rattle.std.proofs.Common.{◌≡◌, ℕ, ◌+◌, ◌<◌, ◌≤◌, List, length, None, Option, sym, ap, ◌∙◌, subst, refl}
+use Rattle.std.proofs.Common.{ℕ, ◌<◌, ◌≤◌, length, sym, ap, ◌∙◌, subst, refl}
 use Rattle.std.specs.Arc.{arc_value}
 use Rattle.node_core.specs.Homes.{HomesView}
 use Rattle.node_core.specs.Moving.{CanCome, HasCome, MovedView}
 use Rattle.node_core.specs.Stores.{StoreView}
 use Rattle.node_core.proofs.MovingShown.{hand-come, shown-come, state-away, store-come}
-use Rattle.node_core.proofs.ShownFacts.{marks-long, shown-long}
+use Rattle.node_core.proofs.ShownFacts.{shown-long}
 use Rattle.node_core.proofs.StoreLemmas.{store_of}
 use Rattle.node_core.proofs.store.Store.take_in.Goals as goal
 
