@@ -67,6 +67,24 @@ upto-more : (log : EventLogView) (n : ℕ) → logs_upto log (n + 1) ≡ logs_up
 unfolding logs_upto
 upto-more log n = (let next : n + 1 ≡ suc n = omega arith in ap (logs_upto log) next)
 
+not-below : (n : ℕ) → n < n → ⊥
+not-below n below = absurd (omega arith)
+
+below-other : (n k : ℕ) → k < n → n ≡ k → ⊥
+below-other n k below same = absurd (omega arith)
+
+below-more : (k n : ℕ) → k < n → k < n + 1
+below-more k n below = omega arith
+
+last-below : (k n : ℕ) → n ≡ k → k < n + 1
+last-below k n same = omega arith
+
+most-more : (k n : ℕ) → k ≤ n → k ≤ n + 1
+most-more k n most = omega arith
+
+both-more : (k n : ℕ) → k ≤ n → k + 1 ≤ n + 1
+both-more k n most = omega arith
+
 module _ (m : Meaning) (homes : HomesView) (number : ℕ) where
   pub first-none : (v : NodeLogView) → v.log ≡ record { objects = []; done = [] } → v.chained ≡ [] → v.nodes ≡ homes.nodes → AreFirst m homes number 0 v [] 0
   unfolding state_in logs_upto first_logs
@@ -87,13 +105,13 @@ module _ (m : Meaning) (homes : HomesView) (number : ℕ) where
   module _ (n : ℕ) (v : NodeLogView) (places : List ℕ) (here : ℕ) (are : AreFirst m homes number n v places here) where
     -- the next object isn't here yet
     pub next-new : state_in v.log.objects n ≡ None
-    next-new = none-found (state_in v.log.objects n) (λ found. let below = are.inside n found in absurd (omega arith))
+    next-new = none-found (state_in v.log.objects n) (λ found. not-below n (are.inside n found))
 
     long-more : length (places ++ here ∷ []) ≡ n + 1
-    long-more = (let long = length-append places (here ∷ []) in let was = are.long in omega arith)
+    long-more = length-append places (here ∷ []) ∙ ap (λ k. k + 1) are.long
 
     place-kept : (object : ℕ) → object < n → slice_index_or places object 0 ≡ slice_index_or (places ++ here ∷ []) object 0
-    place-kept object below = (let long = are.long in sym (get_or-append places (here ∷ []) 0 object (omega arith)))
+    place-kept object below = (let W : ℕ → Type 0 = λ k. object < k in sym (get_or-append places (here ∷ []) 0 object (subst W (sym are.long) below)))
 
     place-last : here ≡ slice_index_or (places ++ here ∷ []) n 0
     place-last = sym (ap (λ k. slice_index_or (places ++ here ∷ []) k 0) (sym are.long) ∙ get_or-append_seam places here [] 0)
@@ -102,15 +120,14 @@ module _ (m : Meaning) (homes : HomesView) (number : ℕ) where
     pub first-away : (home_of homes n ≡ number → ⊥) → AreFirst m homes number (n + 1) v (places ++ here ∷ []) here
     first-away apart =
         let P : ℕ → ℕ → Type 0 = λ object place. IsPlaced v.log place object in
-        let few = are.few in
         record {
           long = long-more;
           nodes = are.nodes;
           chained = are.chained;
           done = are.done;
           here_is = are.here_is;
-          few = omega arith;
-          inside = λ object found. (let below = are.inside object found in omega arith);
+          few = most-more _ _ are.few;
+          inside = λ object found. below-more _ _ (are.inside object found);
           placed = λ object found. subst (P object) (place-kept object (are.inside object found)) (are.placed object found);
           logs = logs-more m (home_of homes) number n (logs_upto v.log n) (logs_upto v.log (n + 1)) (slot_in v.log n) are.logs (upto-more v.log n)
               (ap (slot_of v.log.done n) next-new ∙ sym (log-elsewhere m (home_of homes) number n apart));
@@ -125,7 +142,7 @@ module _ (m : Meaning) (homes : HomesView) (number : ℕ) where
       at-own = ap (λ k. state_in w.log.objects k) (sym number_is) ∙ ap (λ os. state_in os o.object) objects ∙ push-own v.log.objects o (ap (state_in v.log.objects) number_is ∙ next-new)
 
       slots-kept : (object : ℕ) → object < n → slot_in w.log object ≡ slot_in v.log object
-      slots-kept object below = (let state = at-other object (λ same. omega arith) in λ i. slot_of (done i) object (state i))
+      slots-kept object below = (let state = at-other object (below-other n object below) in λ i. slot_of (done i) object (state i))
 
       was-found : (object : ℕ) → (n ≡ object → ⊥) → is_some (state_in w.log.objects object) ≡ true → is_some (state_in v.log.objects object) ≡ true
       was-found object apart found = sym (ap is_some (at-other object apart)) ∙ found
@@ -138,7 +155,7 @@ module _ (m : Meaning) (homes : HomesView) (number : ℕ) where
 
       inside-more : (object : ℕ) → is_some (state_in w.log.objects object) ≡ true → object < n + 1
       inside-more object found =
-          ⊎_elim (λ (same : n ≡ object). omega arith) (λ apart. let below = are.inside object (was-found object apart found) in omega arith) (cases_eq n object)
+          ⊎_elim (last-below object n) (λ apart. below-more _ _ (are.inside object (was-found object apart found))) (cases_eq n object)
 
       placed-more : (object : ℕ) → is_some (state_in w.log.objects object) ≡ true → IsPlaced w.log (slice_index_or (places ++ here ∷ []) object 0) object
       placed-more object found =
@@ -153,16 +170,14 @@ module _ (m : Meaning) (homes : HomesView) (number : ℕ) where
       pub first-here : home_of homes n ≡ number → o.state ≡ first_object m n → w.chained ≡ v.chained → w.nodes ≡ v.nodes → AreFirst m homes number (n + 1) w (places ++ here ∷ []) (here + 1)
       first-here home state chained nodes =
           let count = ap length objects ∙ length-append v.log.objects (o ∷ []) in
-          let was = are.here_is in
-          let few = are.few in
           let none : w.log.done ≡ [] = done ∙ are.done in
           record {
             long = long-more;
             nodes = nodes ∙ are.nodes;
             chained = chained ∙ are.chained;
             done = none;
-            here_is = omega arith;
-            few = omega arith;
+            here_is = ap (λ k. k + 1) are.here_is ∙ sym count;
+            few = both-more _ _ are.few;
             inside = inside-more;
             placed = placed-more;
             logs = logs-more m (home_of homes) number n (logs_upto w.log n) (logs_upto w.log (n + 1)) (slot_in w.log n) (same-upto v.log w.log n slots-kept ∙ are.logs) (upto-more w.log n)
@@ -175,6 +190,6 @@ module _ (m : Meaning) (homes : HomesView) (number : ℕ) where
     long = are.long ∙ sym objects;
     nodes = are.nodes;
     homed = none-homed homes.homes v are.chained;
-    inside = λ object found. (let below = are.inside object found in omega arith);
+    inside = λ object found. (let W : ℕ → Type 0 = λ k. object < k in subst W (sym objects) (are.inside object found));
     placed = are.placed;
   }

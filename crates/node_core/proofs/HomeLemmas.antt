@@ -1,15 +1,17 @@
 -- Homes with another home for one object, and how many objects each node has.
-use Rattle.std.proofs.Common.{◌≡◌, Bool, ℕ, zero, suc, ◌+◌, ◌-◌, ◌<◌, ◌≤◌, cond, List, [], ◌∷◌, length, drop, get_or, eq-eqb, refl, sym, ap, subst, ◌∙◌, ⊎_elim, arith}
+use Rattle.std.proofs.Common.{◌≡◌, Bool, ℕ, zero, suc, ◌+◌, ◌-◌, ◌<◌, ◌≤◌, cond, List, [], ◌∷◌, length, drop, get_or, eq-eqb, refl, sym, ap, subst, ◌∙◌, ⊎_elim, arith, ◌++◌, below_more}
 use Rattle.std.specs.Prelude.{filter, slice_set, ◌==◌}
 use Rattle.std.specs.List.{AllByRecursion as Each}
 use Rattle.std.proofs.lemmas.Grind.{get_or_default_zero}
 use Rattle.std.proofs.lemmas.Bool.{cases_eq, ne_eqb}
-use Rattle.std.proofs.lemmas.List.{length-set, get_or-set_same, get_or-set_other}
+use Rattle.std.proofs.lemmas.List.{get_or_push, get_or-set_other, get_or-set_same, length-set, length_push}
 use Rattle.std.proofs.lemmas.List.Sums.{length-filter, sum_by-set}
+use Rattle.std.proofs.Math.ListN.{get_or-append}
+use Rattle.key_order.proofs.EachLemmas.{Each-append}
 use Rattle.key_order.proofs.FilterLemmas.{length-filter_le}
 use Rattle.node_core.specs.Homes.{AreCounts, AreHomes, HomesView, count_of}
 
-each-get : (P : ℕ → Type 0) (xs : List ℕ) (i d : ℕ) → Each P xs → i < length xs → P (get_or xs i d)
+pub each-get : (P : ℕ → Type 0) (xs : List ℕ) (i d : ℕ) → Each P xs → i < length xs → P (get_or xs i d)
 each-get P [] i d all below = absurd (omega arith)
 each-get P (x ∷ xs) zero d all below = all.0
 each-get P (x ∷ xs) (suc i) d all below = each-get P xs i d all.1 (omega arith)
@@ -18,6 +20,18 @@ drop-get : (xs : List ℕ) (i d : ℕ) → i < length xs → drop i xs ≡ get_o
 drop-get [] i d below = absurd (omega arith)
 drop-get (x ∷ xs) zero d below = refl
 drop-get (x ∷ xs) (suc i) d below = drop-get xs i d (omega arith)
+
+-- the homes so far, and one more
+pub placed-more : (f : ℕ → ℕ) (nodes n home : ℕ) (homes more : List ℕ) → length homes ≡ n → Each (λ (home : ℕ). home < nodes) homes → ((k : ℕ) → k < n → get_or homes k nodes ≡ f k)
+    → home ≡ f n → home < nodes → more ≡ homes ++ home ∷ [] → (length more ≡ n + 1) × Each (λ (home : ℕ). home < nodes) more × ((k : ℕ) → k < n + 1 → get_or more k nodes ≡ f k)
+placed-more f nodes n home homes more long within are home_is below is =
+    let W : List ℕ → Type 0 = Each (λ (home : ℕ). home < nodes) in (
+      ap length is ∙ length_push homes home ∙ ap (λ k. k + 1) long,
+      subst W (sym is) (Each-append (λ (home : ℕ). home < nodes) homes (home ∷ []) within (below, tt)),
+      below_more (λ k. get_or more k nodes ≡ f k) n
+          (λ k lt. ap (λ hs. get_or hs k nodes) is ∙ get_or-append homes (home ∷ []) nodes k (let L : ℕ → Type 0 = λ m. k < m in subst L (sym long) lt) ∙ are k lt)
+          (ap (λ hs. get_or hs n nodes) is ∙ get_or_push homes home nodes n long ∙ home_is),
+    )
 
 -- a count of the homes so far leaves room for one more
 pub count-room : (homes counts : List ℕ) (nodes i now : ℕ) → i < length homes → Each (λ (home : ℕ). home < nodes) homes → length counts ≡ nodes

@@ -60,10 +60,9 @@ module _ (m : Meaning) (t : Terms) (number object : ℕ) (homes homes' : HomesVi
       let B : ℕ → Type 0 = λ o. Each (λ (e : Event). e.key.stamp < end_stamp t.end) (events_of (log_at s'.logs o).done) in
       let RL : LogView → Type 0 = λ l. IsLogOf m l in
       let BL : LogView → Type 0 = λ l. Each (λ (e : Event). e.key.stamp < end_stamp t.end) (events_of l.done) in
-      let nodes = alike.nodes in
-      let low = node.exists in
+      let E : ℕ → Type 0 = λ nodes. number < nodes in
       record {
-        exists = omega arith;
+        exists = subst E (sym alike.nodes) node.exists;
         objects = alike.objects ∙ node.objects;
         here = λ o. by_object H object o (λ home. absurd (goes home.1)) (λ apart home. same-here s.logs s'.logs o (left.logs.others o apart) (node.here o (home.0, sym (alike.others o apart) ∙ home.1)));
         only = λ o. by_object O object o (λ here. absurd (slot-away s'.logs object left.logs.gone here)) (λ apart here. alike.others o apart ∙ node.only o (back o apart here));
@@ -154,10 +153,9 @@ module _ {M : Type 0} (m : Meaning) (n : NodeView M) (s : StoreView) (homes_are 
       let RL : LogView → Type 0 = λ l. IsLogOf m l in
       let BL : LogView → Type 0 = λ l. Each (λ (e : Event). e.key.stamp < end_stamp n.terms.end) (events_of l.done) in
       let alike = can.homes_are in
-      let nodes = alike.nodes in
-      let low = node.exists in
+      let E : ℕ → Type 0 = λ nodes. n.number < nodes in
       record {
-        exists = omega arith;
+        exists = subst E (sym alike.nodes) node.exists;
         objects = alike.objects ∙ node.objects;
         here = λ o. by_object H object o (λ home. slot-here s'.logs object moved.log came.logs.here)
             (λ apart home. same-here s.logs s'.logs o (came.logs.others o apart) (node.here o (home.0, sym (alike.others o apart) ∙ home.1)));

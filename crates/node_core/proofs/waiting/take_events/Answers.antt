@@ -1,5 +1,5 @@
 -- Event by event the queue is parted.
-use Rattle.std.proofs.Common.{◌+◌, length, refl, sym, ap, ◌∙◌, arith}
+use Rattle.std.proofs.Common.{◌+◌, length, refl, sym, ap, ◌∙◌, arith, ◌≡◌, ℕ, suc, ◌<◌, ◌^◌}
 use Rattle.model_core.specs.declared.event.Event.{Event}
 use Rattle.speedes_queue.specs.Queues.{QueueView}
 use Rattle.node_core.proofs.FireMarks.{room-popped}
@@ -7,10 +7,16 @@ use Rattle.node_core.proofs.MovingWaits.{part-other, part-own, parted-back, part
 use Rattle.node_core.proofs.QueueFacts.{length-pending}
 use Rattle.node_core.proofs.waiting.take_events.Goals as goal
 
+-- one that was popped fits beside its like
+one-fits : (own others all left was primary fresh : ℕ) → own + others + all ≡ was → all ≡ suc left → was ≡ primary + fresh → primary + fresh < 2 ^ 60 → own + 1 < 2 ^ 60
+one-fits own others all left was primary fresh count first long few = omega arith
+
+other-fits : (own others all left was primary fresh : ℕ) → own + others + all ≡ was → all ≡ suc left → was ≡ primary + fresh → primary + fresh < 2 ^ 60 → others + 1 < 2 ^ 60
+other-fits own others all left was primary fresh count first long few = omega arith
+
 pub push_back-requires : goal.push_back-requires
 push_back-requires c =
-    let few = c.len-orderly.ensures.orderly.few in let long = length-pending c.args.queue.now in let count = c.loop-event.invariant.count in
-    let first = ap length c.in-Some.ensures.least in omega arith
+    one-fits _ _ _ _ _ _ _ c.loop-event.invariant.count (ap length c.in-Some.ensures.least) (length-pending c.args.queue.now) c.len-orderly.ensures.orderly.few
 
 pub loop-event-preserved-then-get-object : goal.loop-event-preserved-then-get-object
 loop-event-preserved-then-get-object c =
@@ -20,8 +26,7 @@ loop-event-preserved-then-get-object c =
 
 pub push_back-requires-else-get-object : goal.push_back-requires-else-get-object
 push_back-requires-else-get-object c =
-    let few = c.len-orderly.ensures.orderly.few in let long = length-pending c.args.queue.now in let count = c.loop-event.invariant.count in
-    let first = ap length c.in-Some.ensures.least in omega arith
+    other-fits _ _ _ _ _ _ _ c.loop-event.invariant.count (ap length c.in-Some.ensures.least) (length-pending c.args.queue.now) c.len-orderly.ensures.orderly.few
 
 pub loop-event-preserved : goal.loop-event-preserved
 loop-event-preserved c =

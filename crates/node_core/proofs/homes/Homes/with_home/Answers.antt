@@ -1,9 +1,42 @@
 -- One home is another, and the counts of two nodes change.
-use Rattle.std.proofs.Common.{ℕ, List, ap, ◌∙◌, arith}
+use Rattle.std.proofs.Common.{ℕ, List, ap, ◌∙◌, arith, ◌≡◌, ◌<◌, length, get_or, sym, subst}
 use Rattle.std.specs.Prelude.{slice_set}
 use Rattle.node_core.specs.Homes.{HomesView, rehomed}
-use Rattle.node_core.proofs.HomeLemmas.{can-rehome, counts-set, homes-set, next-room, was-some}
+use Rattle.node_core.proofs.HomeLemmas.{can-rehome, counts-set, each-get, homes-set, next-room, was-some}
 use Rattle.node_core.proofs.homes.Homes.with_home.Goals as goal
+
+pub index-requires : goal.index-requires
+index-requires c =
+    let W : ℕ → Type 0 = λ n. c.args.object < n in
+    let copied = c.in_ok-homes.ensures.items ∙ c.as_slice.ensures.value ∙ ap (λ (h : HomesView). h.homes) c.self.view_is in
+    subst W (sym (c.in_ok-homes.homes.ok.0 ∙ ap length copied)) c.requires.object
+
+pub index_mut-requires : goal.index_mut-requires
+index_mut-requires c =
+    let i = c.self.inside in
+    let nodes = i.nodes in
+    let home = c.index.result.now in
+    let object = c.args.object in
+    let W : ℕ → Type 0 = λ n. object < n in
+    let within : object < length i.homes.items = subst W (sym (ap (λ (h : HomesView). length h.homes) c.self.view_is)) c.requires.object in
+    let copied = c.in_ok-homes.ensures.items ∙ c.as_slice.ensures.value in
+    let is : home ≡ get_or i.homes.items object home = c.index.ensures ∙ ap (λ (hs : List ℕ). get_or hs object home) copied in
+    let N : ℕ → Type 0 = λ n. n < nodes in
+    let below : home < nodes = subst N (sym is) (each-get N i.homes.items object home c.self.invariant.0.within within) in
+    let C : ℕ → Type 0 = λ n. home < n in
+    subst C (sym (c.in_ok-counts.counts.ok.0 ∙ ap length (c.in_ok-counts.ensures.items ∙ c.as_slice-2.ensures.value) ∙ c.self.invariant.1.many)) below
+
+pub index_mut-requires-2 : goal.index_mut-requires-2
+index_mut-requires-2 c =
+    let W : ℕ → Type 0 = λ n. c.args.node < n in
+    let counts = c.in_ok-counts.counts.ok.0 ∙ ap length (c.in_ok-counts.ensures.items ∙ c.as_slice-2.ensures.value) ∙ c.self.invariant.1.many in
+    subst W (sym (counts ∙ ap (λ (h : HomesView). h.nodes) c.self.view_is)) c.requires.node
+
+pub index_mut-requires-3 : goal.index_mut-requires-3
+index_mut-requires-3 c =
+    let W : ℕ → Type 0 = λ n. c.args.object < n in
+    let copied = c.in_ok-homes.ensures.items ∙ c.as_slice.ensures.value ∙ ap (λ (h : HomesView). h.homes) c.self.view_is in
+    subst W (sym (c.in_ok-homes.homes.ok.0 ∙ ap length copied)) c.requires.object
 
 pub overflow_sub-index_mut : goal.overflow_sub-index_mut
 overflow_sub-index_mut c =

@@ -1,17 +1,43 @@
 -- Each message is to an object of the model, whose home is known.
-use Rattle.std.proofs.Common.{ℕ, List, length, sym, ap, subst, ◌∙◌, ◌<◌}
+use Rattle.std.proofs.Common.{ℕ, List, length, sym, ap, subst, ◌∙◌, ◌<◌, ◌≡◌, ◌^◌, None}
 use Rattle.std.specs.Arc.{arc_value}
 use Rattle.std.specs.List.{AllByRecursion as Each}
 use Rattle.object_log.specs.EventCalls.{HasCommitted}
-use Rattle.object_log.specs.Logs.{held_of}
+use Rattle.object_log.specs.Logs.{fault_of, held_of}
 use Rattle.object_log.specs.Parts.{due_of}
 use Rattle.event_log.specs.NodeLogs.{NodeLogView}
+use Rattle.event_log.specs.Processing.{AreHomed}
 use Rattle.event_log.proofs.LogFacts.{ok-more}
 use Rattle.node_core.specs.Homes.{HomesView, home_of}
 use Rattle.node_core.specs.Logged.{LogsView}
 use Rattle.event_log.specs.NodeLogs.{HasCommittedTo}
 use Rattle.node_core.proofs.LoggedFacts.{committed-here}
 use Rattle.node_core.proofs.logs.Logs.commit.Goals as goal
+
+pub commit-requires-clause-went : goal.commit-requires-clause-went
+commit-requires-clause-went c =
+    let S : LogsView → Type 0 = λ l. fault_of (due_of c.args.horizon c.args.cut.now l.log.done) ≡ None in
+    subst S (sym c.self.view_is) c.requires.went
+
+pub commit-requires-clause-homed : goal.commit-requires-clause-homed
+commit-requires-clause-homed c =
+    let H : List ℕ → Type 0 = λ hs. AreHomed hs c.self.inside.log.chained in
+    subst H (sym (c.as_slice.ensures.homes ∙ ap (λ (h : HomesView). h.homes) c.deref.ensures)) c.self.invariant.homed
+
+pub commit-requires-clause-known : goal.commit-requires-clause-known
+commit-requires-clause-known c =
+    let is = c.as_slice.ensures.homes ∙ ap (λ (h : HomesView). h.homes) c.deref.ensures in
+    let K : LogsView → Type 0 = λ l. Each (λ e. e.key.dest < length l.homes.homes) (held_of (due_of c.args.horizon c.args.cut.now l.log.done)) in
+    let L : List ℕ → Type 0 = λ hs. Each (λ e. e.key.dest < length hs) (held_of (due_of c.args.horizon c.args.cut.now c.self.inside.log.log.done)) in
+    subst L (sym is) (subst K (sym c.self.view_is) c.requires.known)
+
+pub commit-requires-clause-few : goal.commit-requires-clause-few
+commit-requires-clause-few c =
+    let F : LogsView → Type 0 = λ l. length (held_of l.log.done) < 2 ^ 60 in
+    subst F (sym c.self.view_is) c.requires.few
+
+pub commit-requires-clause-long : goal.commit-requires-clause-long
+commit-requires-clause-long c = c.requires.long ∙ sym (ap (λ (l : LogsView). l.homes.nodes) c.self.view_is) ∙ sym c.self.invariant.nodes
 
 pub returns-clause-ok : goal.returns-clause-ok
 returns-clause-ok c =

@@ -1,15 +1,55 @@
 -- Each object stays at its place, and the messages go to their homes.
-use Rattle.std.proofs.Common.{◌≡◌, ℕ, List, ap, subst, ◌∙◌}
+use Rattle.std.proofs.Common.{◌≡◌, ℕ, ◌+◌, ◌<◌, ◌^◌, List, length, None, is_some, true, sym, ap, subst, ◌∙◌}
 use Rattle.std.specs.Arc.{arc_value}
+use Rattle.std.specs.Prelude.{IfSome, IsTrue}
+use Rattle.std.specs.List.{AllByRecursion as Each}
+use Rattle.event_key.specs.Keys.{key_lt}
 use Rattle.model_core.specs.Meaning.{Meaning}
 use Rattle.object_log.specs.EventCalls.{HasProcessed}
-use Rattle.object_log.specs.EventLogs.{EventLogView}
+use Rattle.object_log.specs.EventLogs.{EventLogView, dones_at, state_in}
+use Rattle.object_log.specs.Logs.{fault_of, keys_of}
 use Rattle.event_log.specs.NodeLogs.{NodeLogView}
 use Rattle.event_log.specs.Processing.{AreHomed}
 use Rattle.event_log.proofs.LogFacts.{either}
 use Rattle.node_core.specs.Homes.{HomesView}
+use Rattle.node_core.specs.Logged.{LogsView}
 use Rattle.node_core.proofs.LoggedFacts.{logged-still, numbers}
 use Rattle.node_core.proofs.logs.Logs.fire.Goals as goal
+
+pub process-requires-clause-object : goal.process-requires-clause-object
+process-requires-clause-object g c = λ k l.
+    let dest = c.args.event.key.dest in
+    let S : LogsView → Type 0 = λ v. is_some (state_in v.log.objects dest) ≡ true in
+    let W : ℕ → Type 0 = λ n. dest < n in
+    subst W (ap (λ (v : LogsView). length v.homes.homes) c.self.view_is ∙ c.requires.objects) (c.self.invariant.inside dest (subst S (sym c.self.view_is) c.requires.here))
+
+pub process-requires-clause-lawful : goal.process-requires-clause-lawful
+process-requires-clause-lawful g c = λ k l.
+    let m : Meaning = g.M.Model.meaning c.args.model.now in
+    let dest = c.args.event.key.dest in
+    let S : LogsView → Type 0 = λ v. IfSome (state_in v.log.objects dest) (λ s. IsTrue (m.lawful dest s.cells)) in
+    subst S (sym c.self.view_is) c.requires.lawful
+
+pub process-requires-clause-above : goal.process-requires-clause-above
+process-requires-clause-above g c = λ k l.
+    let event = c.args.event in
+    let S : LogsView → Type 0 = λ v. Each (λ key. key_lt key event.key ≡ true) (keys_of (dones_at event.key.dest v.log.done)) in
+    subst S (sym c.self.view_is) c.requires.above
+
+pub process-requires-clause-went : goal.process-requires-clause-went
+process-requires-clause-went g c = λ k l.
+    let S : LogsView → Type 0 = λ v. fault_of (dones_at c.args.event.key.dest v.log.done) ≡ None in
+    subst S (sym c.self.view_is) c.requires.went
+
+pub process-requires-clause-sent : goal.process-requires-clause-sent
+process-requires-clause-sent g c = λ k l.
+    let S : LogsView → Type 0 = λ v. IfSome (state_in v.log.objects c.args.event.key.dest) (λ s. s.sent < 2 ^ 60) in
+    subst S (sym c.self.view_is) c.requires.sent
+
+pub process-requires-clause-few : goal.process-requires-clause-few
+process-requires-clause-few g c = λ k l.
+    let S : LogsView → Type 0 = λ v. length v.log.done + 1 < 2 ^ 60 in
+    subst S (sym c.self.view_is) c.requires.few
 
 pub invariant_of-self : goal.invariant_of-self
 invariant_of-self g c =

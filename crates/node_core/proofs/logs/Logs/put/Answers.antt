@@ -1,5 +1,5 @@
 -- An object comes to the logs.
-use Rattle.std.proofs.Common.{◌≡◌, ◌≢◌, ℕ, ◌+◌, ◌<◌, ◌≤◌, List, length, None, is_some, true, refl, sym, ap, subst, ◌∙◌, arith}
+use Rattle.std.proofs.Common.{ℕ, ◌<◌, length, sym, ap, subst, ◌∙◌, arith}
 use Rattle.std.specs.Arc.{arc_value}
 use Rattle.std.specs.Prelude.{slice_set}
 use Rattle.object_log.specs.EventLogs.{ObjectView, state_in}
@@ -14,7 +14,8 @@ overflow_cast-objects c =
     let x : ObjectView = record { object = c.args.moved.log.object; state = c.args.moved.log.state } in
     let away = ap (λ (v : LogsView). state_in v.log.objects x.object) c.self.view_is ∙ c.requires.away in
     let same = ap (λ (v : LogsView). length v.homes.homes) c.self.view_is in
-    let lt : x.object < length (arc_value i.homes).homes = (let below = c.requires.inside in omega arith) in
+    let W : ℕ → Type 0 = λ n. x.object < n in
+    let lt : x.object < length (arc_value i.homes).homes = subst W (sym same) c.requires.inside in
     let few = come-few i.log.log.objects x (length (arc_value i.homes).homes) c.tells.ensures.apart away lt c.self.invariant.inside in
     let long = ap (λ (h : HomesView). length h.homes) c.deref.ensures in
     let count = c.objects-few.ensures in
@@ -27,7 +28,8 @@ put-requires-clause-places c =
     let x : ObjectView = record { object = c.args.moved.log.object; state = c.args.moved.log.state } in
     let away = ap (λ (v : LogsView). state_in v.log.objects x.object) c.self.view_is ∙ c.requires.away in
     let same = ap (λ (v : LogsView). length v.homes.homes) c.self.view_is in
-    let lt : x.object < length (arc_value i.homes).homes = (let below = c.requires.inside in omega arith) in
+    let W : ℕ → Type 0 = λ n. x.object < n in
+    let lt : x.object < length (arc_value i.homes).homes = subst W (sym same) c.requires.inside in
     let few = come-few i.log.log.objects x (length (arc_value i.homes).homes) c.tells.ensures.apart away lt c.self.invariant.inside in
     let room = c.requires.places in omega arith
 
@@ -37,7 +39,8 @@ put-requires-clause-numbered c =
     let x : ObjectView = record { object = c.args.moved.log.object; state = c.args.moved.log.state } in
     let away = ap (λ (v : LogsView). state_in v.log.objects x.object) c.self.view_is ∙ c.requires.away in
     let same = ap (λ (v : LogsView). length v.homes.homes) c.self.view_is in
-    let lt : x.object < length (arc_value i.homes).homes = (let below = c.requires.inside in omega arith) in
+    let W : ℕ → Type 0 = λ n. x.object < n in
+    let lt : x.object < length (arc_value i.homes).homes = subst W (sym same) c.requires.inside in
     let few = come-few i.log.log.objects x (length (arc_value i.homes).homes) c.tells.ensures.apart away lt c.self.invariant.inside in
     let long = ap (λ (h : HomesView). length h.homes) c.deref.ensures in
     let count = c.objects-few.ensures in
@@ -50,7 +53,8 @@ invariant_of-self c =
     let x : ObjectView = record { object = c.args.moved.log.object; state = c.args.moved.log.state } in
     let away = ap (λ (v : LogsView). state_in v.log.objects x.object) c.self.view_is ∙ c.requires.away in
     let same = ap (λ (v : LogsView). length v.homes.homes) c.self.view_is in
-    let lt : x.object < length (arc_value i.homes).homes = (let below = c.requires.inside in omega arith) in
+    let W : ℕ → Type 0 = λ n. x.object < n in
+    let lt : x.object < length (arc_value i.homes).homes = subst W (sym same) c.requires.inside in
     let nodes = c.requires.nodes ∙ sym (ap (λ (v : LogsView). v.homes.nodes) c.self.view_is) in
     let objects = c.requires.objects ∙ sym same in
     let p = c.put.ensures in
@@ -65,7 +69,8 @@ returns-clause-states c other apart =
     let x : ObjectView = record { object = c.args.moved.log.object; state = c.args.moved.log.state } in
     let away = ap (λ (v : LogsView). state_in v.log.objects x.object) c.self.view_is ∙ c.requires.away in
     let same = ap (λ (v : LogsView). length v.homes.homes) c.self.view_is in
-    let lt : x.object < length (arc_value i.homes).homes = (let below = c.requires.inside in omega arith) in
+    let W : ℕ → Type 0 = λ n. x.object < n in
+    let lt : x.object < length (arc_value i.homes).homes = subst W (sym same) c.requires.inside in
     let nodes = c.requires.nodes ∙ sym (ap (λ (v : LogsView). v.homes.nodes) c.self.view_is) in
     let objects = c.requires.objects ∙ sym same in
     let p = c.put.ensures in

@@ -1,11 +1,11 @@
 -- An object comes with its log and its waiting events.
-use Rattle.std.proofs.Common.{◌≡◌, ℕ, ◌+◌, ◌<◌, ◌≤◌, List, length, None, Option, sym, ap, ◌∙◌, subst, refl, arith}
+use Rattle.std.proofs.Common.{ℕ, ◌<◌, ◌≤◌, length, sym, ap, ◌∙◌, subst, refl}
 use Rattle.std.specs.Arc.{arc_value}
 use Rattle.node_core.specs.Homes.{HomesView}
 use Rattle.node_core.specs.Moving.{CanCome, HasCome, MovedView}
 use Rattle.node_core.specs.Stores.{StoreView}
 use Rattle.node_core.proofs.MovingShown.{hand-come, shown-come, state-away, store-come}
-use Rattle.node_core.proofs.ShownFacts.{marks-long, shown-long}
+use Rattle.node_core.proofs.ShownFacts.{shown-long}
 use Rattle.node_core.proofs.StoreLemmas.{store_of}
 use Rattle.node_core.proofs.store.Store.take_in.Goals as goal
 
@@ -18,7 +18,8 @@ put-requires-clause-away c =
     let M : MovedView → Type 0 = λ v. CanCome (arc_value c.args.homes) c.args.self.now v in
     let S : StoreView → Type 0 = λ s. CanCome (arc_value c.args.homes) s moved in
     let can = subst S (sym c.self.view_is) (subst M (sym c.moved.view_is) c.requires) in
-    let within : moved.log.object < length i.logs.homes.homes = (let lt = can.inside in let long = shown-long i.logs in omega arith) in
+    let W : ℕ → Type 0 = λ n. moved.log.object < n in
+    let within : moved.log.object < length i.logs.homes.homes = subst W (shown-long i.logs) can.inside in
     state-away i.logs moved.log.object within can.away
 
 pub put-requires-clause-inside : goal.put-requires-clause-inside
@@ -30,8 +31,8 @@ put-requires-clause-inside c =
     let M : MovedView → Type 0 = λ v. CanCome (arc_value c.args.homes) c.args.self.now v in
     let S : StoreView → Type 0 = λ s. CanCome (arc_value c.args.homes) s moved in
     let can = subst S (sym c.self.view_is) (subst M (sym c.moved.view_is) c.requires) in
-    let within : moved.log.object < length i.logs.homes.homes = (let lt = can.inside in let long = shown-long i.logs in omega arith) in
-    within
+    let W : ℕ → Type 0 = λ n. moved.log.object < n in
+    subst W (shown-long i.logs) can.inside
 
 pub put-requires-clause-places : goal.put-requires-clause-places
 put-requires-clause-places c =
@@ -42,8 +43,8 @@ put-requires-clause-places c =
     let M : MovedView → Type 0 = λ v. CanCome (arc_value c.args.homes) c.args.self.now v in
     let S : StoreView → Type 0 = λ s. CanCome (arc_value c.args.homes) s moved in
     let can = subst S (sym c.self.view_is) (subst M (sym c.moved.view_is) c.requires) in
-    let within : moved.log.object < length i.logs.homes.homes = (let lt = can.inside in let long = shown-long i.logs in omega arith) in
-    let room = can.places in let long = shown-long i.logs in omega arith
+    let R : ℕ → Type 0 = λ n. n ≤ moved.places in
+    subst R (shown-long i.logs) can.places
 
 pub invariant_of-self : goal.invariant_of-self
 invariant_of-self c =
@@ -54,7 +55,8 @@ invariant_of-self c =
     let M : MovedView → Type 0 = λ v. CanCome (arc_value c.args.homes) c.args.self.now v in
     let S : StoreView → Type 0 = λ s. CanCome (arc_value c.args.homes) s moved in
     let can = subst S (sym c.self.view_is) (subst M (sym c.moved.view_is) c.requires) in
-    let within : moved.log.object < length i.logs.homes.homes = (let lt = can.inside in let long = shown-long i.logs in omega arith) in
+    let W : ℕ → Type 0 = λ n. moved.log.object < n in
+    let within : moved.log.object < length i.logs.homes.homes = subst W (shown-long i.logs) can.inside in
     let same = ap (λ (h : HomesView). length h.homes) c.put.ensures.homes ∙ can.objects in
     let p = c.put.ensures in
     store-come (arc_value c.args.homes) i.logs c.put.new.self old moved refl refl c.self.invariant can c.tells-3.ensures.sound same within p.slot p.states p.dones p.count
@@ -68,7 +70,8 @@ give_back-requires c =
     let M : MovedView → Type 0 = λ v. CanCome (arc_value c.args.homes) c.args.self.now v in
     let S : StoreView → Type 0 = λ s. CanCome (arc_value c.args.homes) s moved in
     let can = subst S (sym c.self.view_is) (subst M (sym c.moved.view_is) c.requires) in
-    let within : moved.log.object < length i.logs.homes.homes = (let lt = can.inside in let long = shown-long i.logs in omega arith) in
+    let W : ℕ → Type 0 = λ n. moved.log.object < n in
+    let within : moved.log.object < length i.logs.homes.homes = subst W (shown-long i.logs) can.inside in
     let same = ap (λ (h : HomesView). length h.homes) c.put.ensures.homes ∙ can.objects in
     let p = c.put.ensures in
     hand-come (arc_value c.args.homes) i.logs c.put.new.self old moved refl refl c.self.invariant can c.tells-3.ensures.sound same within p.slot p.states p.dones p.count c.put.new.self.homes i.queue.spare
@@ -82,7 +85,8 @@ returns-clause-come c =
     let M : MovedView → Type 0 = λ v. CanCome (arc_value c.args.homes) c.args.self.now v in
     let S : StoreView → Type 0 = λ s. CanCome (arc_value c.args.homes) s moved in
     let can = subst S (sym c.self.view_is) (subst M (sym c.moved.view_is) c.requires) in
-    let within : moved.log.object < length i.logs.homes.homes = (let lt = can.inside in let long = shown-long i.logs in omega arith) in
+    let W : ℕ → Type 0 = λ n. moved.log.object < n in
+    let within : moved.log.object < length i.logs.homes.homes = subst W (shown-long i.logs) can.inside in
     let same = ap (λ (h : HomesView). length h.homes) c.put.ensures.homes ∙ can.objects in
     let p = c.put.ensures in
     let has = shown-come (arc_value c.args.homes) i.logs c.put.new.self old moved refl refl c.self.invariant can c.tells-3.ensures.sound same within p.slot p.states p.dones p.count c.put.new.self.homes c.give_back.new.self c.give_back.ensures in
