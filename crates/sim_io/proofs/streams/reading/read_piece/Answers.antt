@@ -1,0 +1,34 @@
+-- Which bytes a read took, where it gave some and where it failed.
+use Rattle.std.proofs.Common.{◌++◌, [], take, ap, ◌∙◌, arith}
+use Rattle.std.proofs.KnownBytes.{Consumes-nil, Consumes-kept}
+use Rattle.std.proofs.lemmas.List.{length-take}
+use Rattle.std.proofs.lemmas.Result.{err_from_is_err_and}
+use Rattle.sim_io.proofs.streams.reading.read_piece.Goals as goal
+
+pub returns-in-Err-clause-refused : goal.returns-in-Err-clause-refused
+returns-in-Err-clause-refused g c =
+    let old = g.S.Source.left c.args.source.now in
+    ([], omega arith, Consumes-kept old old (g.S.Source.left c.read.new.self) [] (Consumes-nil old) c.in-Err.ensures.taken)
+
+pub returns-in_err-extend_from_slice-in-Ok-clause-refused : goal.returns-in_err-extend_from_slice-in-Ok-clause-refused
+returns-in_err-extend_from_slice-in-Ok-clause-refused g c =
+    let refusal = err_from_is_err_and c.from_residual.result c.from_residual.ensures.1 in
+    let piece = take c.in-Ok.count c.read.new.into in
+    rw refusal.1 (piece, omega (arith, length-take c.in-Ok.count c.read.new.into), c.in-Ok.ensures.taken.0)
+
+pub returns-in_ok-extend_from_slice-in-Ok-clause-appended : goal.returns-in_ok-extend_from_slice-in-Ok-clause-appended
+returns-in_ok-extend_from_slice-in-Ok-clause-appended g c =
+    let piece = take c.in-Ok.count c.read.new.into in
+    (
+      piece,
+      c.in_ok-extend_from_slice-in-Ok.ensures.items ∙ ap (λ more. c.args.bytes.now.items ++ more) c.split_at.ensures.front,
+      omega (arith, length-take c.in-Ok.count c.read.new.into),
+      c.in-Ok.ensures.taken.0,
+      c.in-Ok.ensures.gave,
+    )
+
+pub returns-in_ok-extend_from_slice-in-Ok-clause-end : goal.returns-in_ok-extend_from_slice-in-Ok-clause-end
+returns-in_ok-extend_from_slice-in-Ok-clause-end g c = λ none. c.in-Ok.ensures.taken.1 none (omega arith)
+
+pub returns-in_ok-extend_from_slice-in-Ok-clause-ended : goal.returns-in_ok-extend_from_slice-in-Ok-clause-ended
+returns-in_ok-extend_from_slice-in-Ok-clause-ended g c = λ none. c.in-Ok.ensures.end none (omega arith)
