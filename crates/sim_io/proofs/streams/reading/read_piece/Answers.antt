@@ -18,8 +18,7 @@ returns-in_err-extend_from_slice-in-Ok-clause-refused g c =
 
 pub returns-in_ok-extend_from_slice-in-Ok-clause-appended : goal.returns-in_ok-extend_from_slice-in-Ok-clause-appended
 returns-in_ok-extend_from_slice-in-Ok-clause-appended g c =
-    let piece = take c.in-Ok.count c.read.new.into in
-    (
+    let piece = take c.in-Ok.count c.read.new.into in (
       piece,
       c.in_ok-extend_from_slice-in-Ok.ensures.items ∙ ap (λ more. c.args.bytes.now.items ++ more) c.split_at.ensures.front,
       omega (arith, length-take c.in-Ok.count c.read.new.into),
