@@ -76,6 +76,19 @@ pub fn words_of(alloc: Global, line: &str) -> Result<Vec<String>, AllocError> {
     Ok(words)
 }
 
+/// Texts, each so many times, one after another.
+pub type Parts = &'static [(&'static str, usize)];
+
+/// The text of these parts.
+pub fn built(alloc: Global, parts: &[(&str, usize)]) -> Result<String, AllocError> {
+    let mut text = String::new(alloc);
+    for (part, count) in parts {
+        let many = part.repeat(alloc, *count)?;
+        text.push_str(many.as_str())?;
+    }
+    Ok(text)
+}
+
 /// The network of what stands at the top, and of these objects.
 pub fn network(alloc: Global, top: &str, objects: &str) -> Result<String, AllocError> {
     format!(in alloc; "format = 1\nmodel = \"network\"\n{top}\n{objects}")
@@ -84,9 +97,4 @@ pub fn network(alloc: Global, top: &str, objects: &str) -> Result<String, AllocE
 /// The circuit of what stands at the top, and of these gates.
 pub fn circuit(alloc: Global, top: &str, gates: &str) -> Result<String, AllocError> {
     format!(in alloc; "format = 2\nmodel = \"circuit\"\n{top}\n{gates}")
-}
-
-/// A model of PHOLD in the first format, with this table.
-pub fn phold(alloc: Global, table: &str) -> Result<String, AllocError> {
-    format!(in alloc; "format = 1\nmodel = \"phold\"\nend = 9\n[phold]\n{table}")
 }

@@ -11,6 +11,9 @@ use std::alloc::Global;
 use std::process::Abort;
 use std::test::Fail;
 
+/// A time, an object and the words that are told there.
+type Record = (u64, u32, &'static [u32]);
+
 /// A part of this word.
 fn part(word: u32) -> Part {
     Part { word, a: 0, b: 0 }
@@ -25,12 +28,8 @@ fn parts_of(alloc: Global, words: &[u32]) -> Result<Vec<Part>, OutOfMemory> {
     Ok(parts)
 }
 
-/// The totals of records of a time, an object and the words that are told, for two objects.
-fn sum_up(
-    rt: &impl Abort,
-    alloc: Global,
-    records: &[(u64, u32, &[u32])],
-) -> Result<Totals, OutOfMemory>
+/// The totals of records for two objects.
+fn sum_up(rt: &impl Abort, alloc: Global, records: &[Record]) -> Result<Totals, OutOfMemory>
     requires { length records.now ≤ 1000 }
     ensures { IfOk result (λ totals. length totals.objects ≡ 2) }
 {
@@ -51,6 +50,7 @@ fn assert_lines(
     alloc: Global,
     totals: &Totals,
     wanted: &str,
+    shows: &str,
 ) -> Result<(), OutOfMemory>
     requires { length totals.now.objects ≡ 2 }
 {
@@ -60,108 +60,100 @@ fn assert_lines(
         text.extend_from_slice(name.as_bytes())?;
         totals.of_object(object).put(alloc, &mut text)?;
     }
-    assert!(rt; text.as_slice() == wanted.as_bytes());
+    assert!(rt; text.as_slice() == wanted.as_bytes(), "{shows}");
     Ok(())
 }
 
-/// These records have totals with these lines.
-fn assert_totals(
-    rt: &impl Abort,
-    alloc: Global,
-    records: &[(u64, u32, &[u32])],
-    wanted: &str,
-) -> Result<(), OutOfMemory>
-    requires { length records.now ≤ 1000 }
-{
-    let totals = sum_up(rt, alloc, records)?;
-    assert_lines(rt, alloc, &totals, wanted)
+/// Records, and the lines of their totals.
+struct Case {
+    shows: &'static str,
+    records: &'static [Record],
+    lines: &'static str,
 }
 
-#[test]
-fn a_station_and_a_sink(rt: HostRuntime) -> Result<(), Fail> {
-    let (taken, waiting) = ([TAKEN_WORD], [WAITING_WORD]);
-    let (done, left) = ([DONE_WORD], [LEFT_WORD]);
-    let records = [
-        (1, 0, taken.as_slice()),
-        (3, 0, waiting.as_slice()),
-        (4, 0, done.as_slice()),
-        (4, 1, left.as_slice()),
-        (5, 0, waiting.as_slice()),
-        (7, 0, done.as_slice()),
-        (7, 1, left.as_slice()),
-        (10, 0, done.as_slice()),
-        (10, 1, left.as_slice()),
-    ];
-    let wanted = "p0 arrivals 3 served 3 lost 0 busy 9 waiting 3\n\
-                  p1 arrivals 3 served 3 lost 0 busy 0 waiting 0\n";
-    assert_totals(&rt, rt.alloc(), &records, wanted)?;
-    Ok(())
+/// A case of one record with this word, and what the line of its object counts.
+macro_rules! one_word {
+    ($word:ident, $counts:literal) => {
+        Case {
+            shows: "a word counts for what it tells",
+            records: &[(9, 0, &[$word])],
+            lines: concat!(
+                $counts,
+                " busy 0 waiting 0\np1 arrivals 0 served 0 lost 0 busy 0 waiting 0\n"
+            ),
+        }
+    };
 }
 
-#[test]
-fn a_traced_station_and_a_quiet_sink(rt: HostRuntime) -> Result<(), Fail> {
-    // a traced station tells its load too
-    let taken = [TAKEN_WORD, LOAD_WORD];
-    let waiting = [WAITING_WORD, LOAD_WORD];
-    let done = [DONE_WORD, LOAD_WORD];
-    let records = [
-        (1, 0, taken.as_slice()),
-        (3, 0, waiting.as_slice()),
-        (4, 0, done.as_slice()),
-        (4, 1, &[]),
-        (5, 0, waiting.as_slice()),
-        (7, 0, done.as_slice()),
-        (7, 1, &[]),
-        (10, 0, done.as_slice()),
-        (10, 1, &[]),
-    ];
-    let wanted = "p0 arrivals 3 served 3 lost 0 busy 9 waiting 3\n\
-                  p1 arrivals 0 served 0 lost 0 busy 0 waiting 0\n";
-    assert_totals(&rt, rt.alloc(), &records, wanted)?;
-    Ok(())
-}
-
-#[test]
-fn each_word_counts_for_what_it_tells(rt: HostRuntime) -> Result<(), Fail> {
-    let alloc = rt.alloc();
-    for (word, wanted) in [
-        (HOP_WORD, "p0 arrivals 1 served 1 lost 0"),
-        (MADE_WORD, "p0 arrivals 0 served 1 lost 0"),
-        (TAKEN_WORD, "p0 arrivals 1 served 0 lost 0"),
-        (WAITING_WORD, "p0 arrivals 1 served 0 lost 0"),
-        (LOST_WORD, "p0 arrivals 1 served 0 lost 1"),
-        (DONE_WORD, "p0 arrivals 0 served 1 lost 0"),
-        (HELD_WORD, "p0 arrivals 1 served 1 lost 0"),
-        (ROUTED_WORD, "p0 arrivals 1 served 1 lost 0"),
-        (LEFT_WORD, "p0 arrivals 1 served 1 lost 0"),
-        (LOAD_WORD, "p0 arrivals 0 served 0 lost 0"),
-    ] {
-        let others = " busy 0 waiting 0\np1 arrivals 0 served 0 lost 0 busy 0 waiting 0\n";
-        let wanted = format!(in alloc; "{wanted}{others}")?;
-        let word = [word];
-        let records = [(9, 0, word.as_slice())];
-        assert_totals(&rt, alloc, &records, wanted.as_str())?;
-    }
-    Ok(())
-}
-
-#[test]
-fn all_parts_of_a_record_are_told_at_its_time(rt: HostRuntime) -> Result<(), Fail> {
-    let comes = [TAKEN_WORD, WAITING_WORD, WAITING_WORD];
-    let both = [DONE_WORD, DONE_WORD];
-    let (goes, none) = (both.as_slice(), [].as_slice());
-    let records = [
-        (2, 1, none),
-        (2, 1, comes.as_slice()),
-        (5, 1, none),
-        (6, 1, goes),
-        (9, 1, goes),
-        (11, 1, goes),
-    ];
+const CASES: [Case; 13] = [
+    Case {
+        shows: "a station and a sink",
+        records: &[
+            (1, 0, &[TAKEN_WORD]),
+            (3, 0, &[WAITING_WORD]),
+            (4, 0, &[DONE_WORD]),
+            (4, 1, &[LEFT_WORD]),
+            (5, 0, &[WAITING_WORD]),
+            (7, 0, &[DONE_WORD]),
+            (7, 1, &[LEFT_WORD]),
+            (10, 0, &[DONE_WORD]),
+            (10, 1, &[LEFT_WORD]),
+        ],
+        lines: "p0 arrivals 3 served 3 lost 0 busy 9 waiting 3
+p1 arrivals 3 served 3 lost 0 busy 0 waiting 0
+",
+    },
+    Case {
+        shows: "a traced station, which tells its load too, and a quiet sink",
+        records: &[
+            (1, 0, &[TAKEN_WORD, LOAD_WORD]),
+            (3, 0, &[WAITING_WORD, LOAD_WORD]),
+            (4, 0, &[DONE_WORD, LOAD_WORD]),
+            (4, 1, &[]),
+            (5, 0, &[WAITING_WORD, LOAD_WORD]),
+            (7, 0, &[DONE_WORD, LOAD_WORD]),
+            (7, 1, &[]),
+            (10, 0, &[DONE_WORD, LOAD_WORD]),
+            (10, 1, &[]),
+        ],
+        lines: "p0 arrivals 3 served 3 lost 0 busy 9 waiting 3
+p1 arrivals 0 served 0 lost 0 busy 0 waiting 0
+",
+    },
+    one_word!(HOP_WORD, "p0 arrivals 1 served 1 lost 0"),
+    one_word!(MADE_WORD, "p0 arrivals 0 served 1 lost 0"),
+    one_word!(TAKEN_WORD, "p0 arrivals 1 served 0 lost 0"),
+    one_word!(WAITING_WORD, "p0 arrivals 1 served 0 lost 0"),
+    one_word!(LOST_WORD, "p0 arrivals 1 served 0 lost 1"),
+    one_word!(DONE_WORD, "p0 arrivals 0 served 1 lost 0"),
+    one_word!(HELD_WORD, "p0 arrivals 1 served 1 lost 0"),
+    one_word!(ROUTED_WORD, "p0 arrivals 1 served 1 lost 0"),
+    one_word!(LEFT_WORD, "p0 arrivals 1 served 1 lost 0"),
+    one_word!(LOAD_WORD, "p0 arrivals 0 served 0 lost 0"),
     // one is served and two wait from 2 to 6, one is served from then to 9
-    let wanted = "p0 arrivals 0 served 0 lost 0 busy 0 waiting 0\n\
-                  p1 arrivals 3 served 6 lost 0 busy 7 waiting 8\n";
-    assert_totals(&rt, rt.alloc(), &records, wanted)?;
+    Case {
+        shows: "all parts of a record are told at its time",
+        records: &[
+            (2, 1, &[]),
+            (2, 1, &[TAKEN_WORD, WAITING_WORD, WAITING_WORD]),
+            (5, 1, &[]),
+            (6, 1, &[DONE_WORD, DONE_WORD]),
+            (9, 1, &[DONE_WORD, DONE_WORD]),
+            (11, 1, &[DONE_WORD, DONE_WORD]),
+        ],
+        lines: "p0 arrivals 0 served 0 lost 0 busy 0 waiting 0
+p1 arrivals 3 served 6 lost 0 busy 7 waiting 8
+",
+    },
+];
+
+#[test]
+fn totals_are_sums_of_what_records_tell(rt: HostRuntime) -> Result<(), Fail> {
+    for case in &CASES {
+        assert!(rt; case.records.len() <= 1000);
+        let totals = sum_up(&rt, rt.alloc(), case.records)?;
+        assert_lines(&rt, rt.alloc(), &totals, case.lines, case.shows)?;
+    }
     Ok(())
 }
 
@@ -185,6 +177,6 @@ fn sums_of_more_than_64_bits(rt: HostRuntime) -> Result<(), Fail> {
     // 2^18 servers for 2^47 - 1 ticks: 2^65 - 2^18
     let wanted = "p0 arrivals 262144 served 1 lost 0 busy 36893488147418841088 waiting 0\n\
                   p1 arrivals 0 served 0 lost 0 busy 0 waiting 0\n";
-    assert_lines(&rt, rt.alloc(), &totals, wanted)?;
+    assert_lines(&rt, rt.alloc(), &totals, wanted, "sums")?;
     Ok(())
 }
