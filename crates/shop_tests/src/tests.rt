@@ -16,8 +16,9 @@ use std::test::Fail;
 use std::thread::Threads;
 use test_texts::words_of;
 
-/// A model and the text of its run.
+/// A model, the text of its run, and what that shows.
 struct Run {
+    shows: &'static str,
     model: &'static str,
     text: &'static str,
 }
@@ -86,22 +87,49 @@ fn told_by<R: AllocGlobal + Threads + Sync>(
     ended_by(rt, words, source, sink_of(alloc, &[])?)
 }
 
-/// By these words an input has this status and this text, of which nothing is noted.
-fn assert_answer<R: Abort + AllocGlobal + Threads + Sync>(
-    rt: &R,
-    words: &str,
-    input: &str,
-    status: u8,
-    text: &str,
-) -> Result<(), Fail> {
-    told_by(rt, words, input)?.assert(rt, status, text, "", words);
+/// One thread, nodes, and nodes that work side by side.
+const MACHINES: [&str; 3] = ["one", "run", "run --nodes 3 --workers 2"];
+
+/// By each of them a model has its text.
+fn assert_run<R: Abort + AllocGlobal + Threads + Sync>(rt: &R, run: &Run) -> Result<(), Fail> {
+    for words in &MACHINES {
+        told_by(rt, words, run.model)?.assert(rt, 0, run.text, "", run.shows);
+    }
     Ok(())
 }
 
-/// On one thread, on nodes and on nodes that work side by side a model has its text.
-fn assert_run<R: Abort + AllocGlobal + Threads + Sync>(rt: &R, run: &Run) -> Result<(), Fail> {
-    for words in ["one", "run", "run --nodes 3 --workers 2"] {
-        assert_answer(rt, words, run.model, 0, run.text)?;
+/// Words, an input, the status with which a run of them ends, and what it writes. Nothing is noted.
+type Answer = (&'static str, &'static str, u8, &'static str);
+
+/// Each input has its status and its text.
+fn assert_answers<R: Abort + AllocGlobal + Threads + Sync>(
+    rt: &R,
+    answers: &[Answer],
+) -> Result<(), Fail> {
+    for (words, input, status, text) in answers {
+        told_by(rt, words, input)?.assert(rt, *status, text, "", words);
     }
     Ok(())
+}
+
+#[test]
+fn totals_cycles_states_and_tables_are_those_of_an_independent_simulator(
+    rt: HostRuntime,
+) -> Result<(), Fail> {
+    assert_answers(&rt, &totals::ALL)?;
+    assert_answers(&rt, &tables::ALL)
+}
+
+/// By each machine each model has its text.
+fn assert_runs<R: Abort + AllocGlobal + Threads + Sync>(rt: &R, runs: &[Run]) -> Result<(), Fail> {
+    for run in runs {
+        assert_run(rt, run)?;
+    }
+    Ok(())
+}
+
+#[test]
+fn models_have_their_texts_by_each_machine(rt: HostRuntime) -> Result<(), Fail> {
+    assert_runs(&rt, &runs::ALL)?;
+    assert_runs(&rt, &times::ALL)
 }

@@ -1,10 +1,9 @@
-//! Texts of whole runs, one after another and on nodes: who is served, who waits, who goes where.
+//! Texts of whole runs: who is served, who waits, who goes where.
+use super::Run;
 use super::models::MILL;
-use super::{Run, assert_run};
-use std::test::Fail;
 
-/// A mill serves three parts, of which two wait.
 const MILL_RUN: Run = Run {
+    shows: "parts wait for a mill",
     model: MILL,
     text: "1.0 part make 1 1
 1.1 mill take 1 1
@@ -24,8 +23,8 @@ end 20 events 14
 ",
 };
 
-/// The urgent go first, and who came first of the calm.
 const DESK: Run = Run {
+    shows: "the urgent are called first, and who came first of the calm",
     model: "format = 1
 model = \"shop\"
 end = 20
@@ -62,8 +61,8 @@ end 20 events 24
 ",
 };
 
-/// Two jobs come at one instant: the urgent one is taken.
 const INSTANT: Run = Run {
+    shows: "of two jobs that come at one instant the urgent one is taken",
     model: "format = 1
 model = \"shop\"
 end = 9
@@ -85,8 +84,8 @@ end 9 events 9
 ",
 };
 
-/// Three orders at three machines, which are done at tick 12.
 const ORDERS: Run = Run {
+    shows: "three orders go through three machines and are done at tick 12",
     model: "format = 1
 model = \"shop\"
 end = 20
@@ -128,8 +127,8 @@ end 20 events 28
 ",
 };
 
-/// A branch sends two items back, whose words of stream 1 modulo 5 are 3 or 4.
 const FEEDBACK: Run = Run {
+    shows: "a branch sends two items back, whose words of stream 1 modulo 5 are 3 or 4",
     model: "format = 1
 model = \"shop\"
 end = 20
@@ -160,8 +159,8 @@ end 20 events 20
 ",
 };
 
-/// Delays by a table.
 const WALK: Run = Run {
+    shows: "delays are drawn by a table",
     model: "format = 1
 model = \"shop\"
 end = 60
@@ -186,8 +185,8 @@ end 60 events 15
 ",
 };
 
-/// A room is held while a nurse serves and after.
 const ROOM: Run = Run {
+    shows: "a room is held while a nurse serves and after",
     model: "format = 1
 model = \"shop\"
 end = 12
@@ -213,8 +212,8 @@ end 12 events 15
 ",
 };
 
-/// Who finds no place goes to another station, or is given up.
 const SPARE: Run = Run {
+    shows: "who finds no place goes to another station or is given up",
     model: "format = 1
 model = \"shop\"
 end = 9
@@ -239,8 +238,8 @@ end 9 events 14
 ",
 };
 
-/// Batches, listed arrivals, a greatest count, and two dues.
 const BATCHES: Run = Run {
+    shows: "batches and listed arrivals come until their end, and some are late",
     model: "format = 1
 model = \"shop\"
 end = 6
@@ -274,8 +273,8 @@ end 6 events 22
 ",
 };
 
-/// Who came last is called first, and who comes as a server frees finds a place.
 const STACK: Run = Run {
+    shows: "who came last is called first, and who comes as a server frees finds a place",
     model: "format = 1
 model = \"shop\"
 end = 9
@@ -300,52 +299,6 @@ end 9 events 14
 ",
 };
 
-#[test]
-fn parts_wait_for_a_mill(rt: HostRuntime) -> Result<(), Fail> {
-    assert_run(&rt, &MILL_RUN)
-}
-
-#[test]
-fn the_urgent_are_called_first(rt: HostRuntime) -> Result<(), Fail> {
-    assert_run(&rt, &DESK)
-}
-
-#[test]
-fn of_one_instant_the_urgent_come_first(rt: HostRuntime) -> Result<(), Fail> {
-    assert_run(&rt, &INSTANT)
-}
-
-#[test]
-fn three_orders_go_through_three_machines(rt: HostRuntime) -> Result<(), Fail> {
-    assert_run(&rt, &ORDERS)
-}
-
-#[test]
-fn a_branch_sends_jobs_back(rt: HostRuntime) -> Result<(), Fail> {
-    assert_run(&rt, &FEEDBACK)
-}
-
-#[test]
-fn delays_are_drawn_by_a_table(rt: HostRuntime) -> Result<(), Fail> {
-    assert_run(&rt, &WALK)
-}
-
-#[test]
-fn a_room_is_held_over_steps(rt: HostRuntime) -> Result<(), Fail> {
-    assert_run(&rt, &ROOM)
-}
-
-#[test]
-fn who_finds_no_place_goes_elsewhere(rt: HostRuntime) -> Result<(), Fail> {
-    assert_run(&rt, &SPARE)
-}
-
-#[test]
-fn batches_come_until_their_end_and_some_are_late(rt: HostRuntime) -> Result<(), Fail> {
-    assert_run(&rt, &BATCHES)
-}
-
-#[test]
-fn who_came_last_is_called_first(rt: HostRuntime) -> Result<(), Fail> {
-    assert_run(&rt, &STACK)
-}
+pub(super) const ALL: [Run; 10] = [
+    MILL_RUN, DESK, INSTANT, ORDERS, FEEDBACK, WALK, ROOM, SPARE, BATCHES, STACK,
+];

@@ -1,6 +1,6 @@
 //! Tables of replications: those that an independent simulator wrote, workers, and reads and writes that fail.
 use super::models::{JUMP, MILL, MILL_FROM_4, MILL_FROM_21};
-use super::{Ended, assert_answer, ended_by, sink_of, source_of, told_by};
+use super::{Answer, Ended, ended_by, sink_of, source_of, told_by};
 use std::alloc::AllocGlobal;
 use std::process::Abort;
 use std::test::Fail;
@@ -15,49 +15,57 @@ class = [ { name = \"x\", every = { law = \"uniform\", low = 1, high = 9 }, rout
   { name = \"y\", times = [3, 3, 9], due = 4, route = [ { at = \"b\", service = { law = \"uniform\", low = 1, high = 6 }, patience = { law = \"fixed\", value = 2 } } ] } ]
 ";
 
-/// The first line of each table.
-const HEAD: &str =
-    "seed,line,came,begun,done,lost,reneged,busy,waiting,open,down,waited,made,left,dropped,late,ages,inside,ticks,events,stop\n";
-
-#[test]
-fn tables_are_those_of_an_independent_simulator(rt: HostRuntime) -> Result<(), Fail> {
-    for (words, model, rows, status) in [
-        (
-            "replicate 2 --first 5",
-            MILL,
-            "5,mill,3,3,3,0,0,9,3,20,0,,,,,,,,20,14,end\n5,mill/part,3,3,3,0,0,,,,,3,,,,,,,20,14,end\n5,part,,,,,,,,,,,3,3,0,0,12,12,20,14,end\n6,mill,3,3,3,0,0,9,3,20,0,,,,,,,,20,14,end\n6,mill/part,3,3,3,0,0,,,,,3,,,,,,,20,14,end\n6,part,,,,,,,,,,,3,3,0,0,12,12,20,14,end\n",
-            0,
-        ),
-        (
-            "replicate 1",
-            MILL_FROM_4,
-            "0,mill,1,2,3,0,0,6,2,16,0,,,,,,,,16,14,end\n0,mill/part,1,2,3,0,0,,,,,3,,,,,,,16,14,end\n0,part,,,,,,,,,,,1,3,0,0,12,8,16,14,end\n",
-            0,
-        ),
-        (
-            "replicate 1",
-            MILL_FROM_21,
-            "0,mill,0,0,0,0,0,0,0,0,0,,,,,,,,0,14,end\n0,mill/part,0,0,0,0,0,,,,,0,,,,,,,0,14,end\n0,part,,,,,,,,,,,0,0,0,0,0,0,0,14,end\n",
-            0,
-        ),
-        (
-            "replicate 1",
-            JUMP,
-            "0,c,,,,,,,,,,,1,0,0,0,0,0,0,3,limit\n",
-            7,
-        ),
-        (
-            "replicate 2 --first 9223372036854775807",
-            DRAWS,
-            "9223372036854775807,a,11,11,10,0,0,72,1,120,0,,,,,,,,60,69,end\n9223372036854775807,a/x,11,11,10,0,0,,,,,1,,,,,,,60,69,end\n9223372036854775807,b,13,7,7,6,0,27,0,60,0,,,,,,,,60,69,end\n9223372036854775807,b/x,10,6,6,4,0,,,,,0,,,,,,,60,69,end\n9223372036854775807,b/y,3,1,1,2,0,,,,,0,,,,,,,60,69,end\n9223372036854775807,x,,,,,,,,,,,11,6,4,0,68,97,60,69,end\n9223372036854775807,y,,,,,,,,,,,3,1,2,0,3,3,60,69,end\n0,a,13,13,12,0,0,88,18,120,0,,,,,,,,60,87,end\n0,a/x,13,13,12,0,0,,,,,18,,,,,,,60,87,end\n0,b,15,10,9,5,0,35,0,60,0,,,,,,,,60,87,end\n0,b/x,12,8,7,4,0,,,,,0,,,,,,,60,87,end\n0,b/y,3,2,2,1,0,,,,,0,,,,,,,60,87,end\n0,x,,,,,,,,,,,13,7,4,0,82,136,60,87,end\n0,y,,,,,,,,,,,3,2,1,0,5,5,60,87,end\n",
-            0,
-        ),
-    ] {
-        let table = [HEAD, rows].concat(rt.alloc())?;
-        assert_answer(&rt, words, model, status, table.as_str())?;
-    }
-    Ok(())
+/// The table of these rows.
+macro_rules! table {
+    ($rows:literal) => {
+        concat!(
+            "seed,line,came,begun,done,lost,reneged,busy,waiting,open,down,waited,made,left,dropped,late,ages,inside,ticks,events,stop\n",
+            $rows
+        )
+    };
 }
+
+/// Tables that an independent simulator wrote.
+pub(super) const ALL: [Answer; 5] = [
+    (
+        "replicate 2 --first 5",
+        MILL,
+        0,
+        table!(
+            "5,mill,3,3,3,0,0,9,3,20,0,,,,,,,,20,14,end\n5,mill/part,3,3,3,0,0,,,,,3,,,,,,,20,14,end\n5,part,,,,,,,,,,,3,3,0,0,12,12,20,14,end\n6,mill,3,3,3,0,0,9,3,20,0,,,,,,,,20,14,end\n6,mill/part,3,3,3,0,0,,,,,3,,,,,,,20,14,end\n6,part,,,,,,,,,,,3,3,0,0,12,12,20,14,end\n"
+        ),
+    ),
+    (
+        "replicate 1",
+        MILL_FROM_4,
+        0,
+        table!(
+            "0,mill,1,2,3,0,0,6,2,16,0,,,,,,,,16,14,end\n0,mill/part,1,2,3,0,0,,,,,3,,,,,,,16,14,end\n0,part,,,,,,,,,,,1,3,0,0,12,8,16,14,end\n"
+        ),
+    ),
+    (
+        "replicate 1",
+        MILL_FROM_21,
+        0,
+        table!(
+            "0,mill,0,0,0,0,0,0,0,0,0,,,,,,,,0,14,end\n0,mill/part,0,0,0,0,0,,,,,0,,,,,,,0,14,end\n0,part,,,,,,,,,,,0,0,0,0,0,0,0,14,end\n"
+        ),
+    ),
+    (
+        "replicate 1",
+        JUMP,
+        7,
+        table!("0,c,,,,,,,,,,,1,0,0,0,0,0,0,3,limit\n"),
+    ),
+    (
+        "replicate 2 --first 9223372036854775807",
+        DRAWS,
+        0,
+        table!(
+            "9223372036854775807,a,11,11,10,0,0,72,1,120,0,,,,,,,,60,69,end\n9223372036854775807,a/x,11,11,10,0,0,,,,,1,,,,,,,60,69,end\n9223372036854775807,b,13,7,7,6,0,27,0,60,0,,,,,,,,60,69,end\n9223372036854775807,b/x,10,6,6,4,0,,,,,0,,,,,,,60,69,end\n9223372036854775807,b/y,3,1,1,2,0,,,,,0,,,,,,,60,69,end\n9223372036854775807,x,,,,,,,,,,,11,6,4,0,68,97,60,69,end\n9223372036854775807,y,,,,,,,,,,,3,1,2,0,3,3,60,69,end\n0,a,13,13,12,0,0,88,18,120,0,,,,,,,,60,87,end\n0,a/x,13,13,12,0,0,,,,,18,,,,,,,60,87,end\n0,b,15,10,9,5,0,35,0,60,0,,,,,,,,60,87,end\n0,b/x,12,8,7,4,0,,,,,0,,,,,,,60,87,end\n0,b/y,3,2,2,1,0,,,,,0,,,,,,,60,87,end\n0,x,,,,,,,,,,,13,7,4,0,82,136,60,87,end\n0,y,,,,,,,,,,,3,2,1,0,5,5,60,87,end\n"
+        ),
+    ),
+];
 
 #[test]
 fn one_worker_and_64_write_the_same_bytes(rt: HostRuntime) -> Result<(), Fail> {

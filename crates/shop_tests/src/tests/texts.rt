@@ -14,6 +14,16 @@ use std::test::Fail;
 /// The code and the item with which a text is refused. A text that is read has code 0 and item 0.
 type Answer = (u8, u32);
 
+/// What becomes of the first place of a text in the changed one, and the answer to that.
+type Change = (&'static str, &'static str, Answer);
+
+/// Changes of a text, and what their answers show.
+struct Changes {
+    shows: &'static str,
+    text: &'static str,
+    changes: &'static [Change],
+}
+
 /// The only step of the mill's parts.
 const STEP: &str = "{ at = \"mill\", service = { law = \"fixed\", value = 3 } }";
 
@@ -34,35 +44,18 @@ fn shop_of(alloc: Global, text: &str) -> Result<(Shop, Terms), Fail> {
     Ok(read)
 }
 
-/// A text has this answer.
-fn assert_answer<R: Abort>(rt: &R, alloc: Global, text: &str, wanted: Answer) {
-    assert!(rt; answer_of(alloc, text.as_bytes()) == Some(wanted), "{text}");
-}
-
 /// The text with the first place of `old` replaced.
 fn replaced(alloc: Global, text: &str, old: &str, new: &str) -> Result<String, Fail> {
     let (front, back) = text.split_once(old).ok_or("no such place")?;
     Ok(format!(in alloc; "{front}{new}{back}")?)
 }
 
-/// Each of these changes of a text, of which the first place of the first becomes the second, has its answer.
-fn assert_changed<R: Abort>(
-    rt: &R,
-    alloc: Global,
-    text: &str,
-    changes: &[(&str, &str, Answer)],
-) -> Result<(), Fail> {
-    for (old, new, wanted) in changes {
-        let changed = replaced(alloc, text, old, new)?;
-        assert_answer(rt, alloc, changed.as_str(), *wanted);
-    }
-    Ok(())
-}
-
-/// The mill's text with another step in place of its only one has this answer.
-fn assert_steps<R: Abort>(rt: &R, alloc: Global, steps: &[(&str, Answer)]) -> Result<(), Fail> {
-    for (step, wanted) in steps {
-        assert_changed(rt, alloc, MILL, &[(STEP, *step, *wanted)])?;
+/// Each change has its answer.
+fn assert_changes<R: Abort>(rt: &R, alloc: Global, all: &Changes) -> Result<(), Fail> {
+    for (old, new, wanted) in all.changes {
+        let text = replaced(alloc, all.text, old, new)?;
+        let answer = answer_of(alloc, text.as_bytes());
+        assert!(rt; answer == Some(*wanted), "{}: {new}", all.shows);
     }
     Ok(())
 }
@@ -110,58 +103,77 @@ times = [9]
 route = [ { go = [\"out\"] } ]
 ";
 
+const NOTHING: &str = "format = 1\nmodel = \"shop\"\nend = 0\n";
+
+/// Texts of shops, their ends and limits, and how many objects and initial events they have.
+const SHOPS: [(&str, u64, u64, u32, u32); 3] = [
+    (MILL, 20, 10_000_000, 2, 1),
+    (CLINIC, 480, 1_000, 4, 7),
+    (NOTHING, 0, 10_000_000, 0, 0),
+];
+
 #[test]
-fn shops_have_their_objects_and_starts(rt: HostRuntime) -> Result<(), Fail> {
-    let alloc = rt.alloc();
-    let nothing = "format = 1\nmodel = \"shop\"\nend = 0\n";
-    for (text, objects, starts) in [(MILL, 2, 1), (CLINIC, 4, 7), (nothing, 0, 0)] {
-        let (shop, _terms) = shop_of(alloc, text)?;
-        assert!(rt; shop.objects() == objects, "{text}");
-        assert!(rt; shop.starts() == starts, "{text}");
+fn shops_have_their_terms_objects_and_initial_events(rt: HostRuntime) -> Result<(), Fail> {
+    for (text, end, limit, objects, starts) in &SHOPS {
+        let (shop, terms) = shop_of(rt.alloc(), text)?;
+        assert!(rt; terms.end == *end && terms.limit == *limit, "{text}");
+        assert!(rt; shop.objects() == *objects, "{text}");
+        assert!(rt; shop.starts() == *starts, "{text}");
     }
     Ok(())
 }
 
-#[test]
-fn a_shop_has_its_terms(rt: HostRuntime) -> Result<(), Fail> {
-    let alloc = rt.alloc();
-    for (text, end, limit) in [(MILL, 20, 10_000_000), (CLINIC, 480, 1_000)] {
-        let (_shop, terms) = shop_of(alloc, text)?;
-        assert!(rt; (terms.end, terms.limit) == (end, limit), "{text}");
-    }
+/// Objects, and how many words and lines their cells have. A station has six words, one for each level, and one for each of
+/// the most servers.
+const CELLS: [(u32, u32, u32); 3] = [(0, 6 + 2 + 3, 9), (1, 6 + 1 + 1, 5), (2, 3, 0)];
+
+/// An object of a model has cells of so many words and lines at first.
+fn assert_cells<R: Abort, M: Model>(
+    rt: &R,
+    alloc: Global,
+    model: &M,
+    cells: &(u32, u32, u32),
+) -> Result<(), Fail> {
+    let (object, words, lines) = cells;
+    assert!(rt; *object < model.objects());
+    let first = model.first_cells(alloc, *object)?;
+    assert!(rt;
+        first.words() == *words && first.lines() == *lines,
+        "{object}"
+    );
     Ok(())
 }
 
-#[test]
-fn a_line_has_a_level_for_each_priority(rt: HostRuntime) -> Result<(), Fail> {
-    let alloc = rt.alloc();
-    let (shop, _terms) = shop_of(alloc, CLINIC)?;
-    // Six words, one for each level, and one for each of the most servers.
-    for (object, words, lines) in [(0, 6 + 2 + 3, 9), (1, 6 + 1 + 1, 5), (2, 3, 0)] {
-        assert!(rt; object < shop.objects());
-        let cells = shop
-            .first_cells(alloc, object)
-            .ok()
-            .ok_or("there is memory")?;
-        assert!(rt;
-            (cells.words(), cells.lines()) == (words, lines),
-            "{object}"
-        );
-    }
-    Ok(())
-}
-
-#[test]
-fn names_are_told(rt: HostRuntime) -> Result<(), Fail> {
-    let alloc = rt.alloc();
-    let (shop, _terms) = shop_of(alloc, CLINIC)?;
+/// What all objects of a model are called, each with a space behind it.
+fn names_of<M: Model>(alloc: Global, model: &M) -> Result<Vec<u8>, Fail> {
     let mut names = Vec::new(alloc);
-    for object in 0..shop.objects() {
-        shop.put_name(alloc, object, &mut names)
-            .ok()
-            .ok_or("there is memory")?;
+    for object in 0..model.objects() {
+        model.put_name(alloc, object, &mut names)?;
         names.push(b' ')?;
     }
+    Ok(names)
+}
+
+#[test]
+fn a_line_has_a_level_for_each_priority_and_names_are_told(rt: HostRuntime) -> Result<(), Fail> {
+    let (shop, _terms) = shop_of(rt.alloc(), CLINIC)?;
+    for cells in &CELLS {
+        assert_cells(&rt, rt.alloc(), &shop, cells)?;
+    }
+    let names = names_of(rt.alloc(), &shop)?;
     assert!(rt; names.as_slice() == b"desk room calm urgent ".as_slice());
+    Ok(())
+}
+
+#[test]
+fn changed_texts_are_read_or_refused_for_the_first_check_that_fails(
+    rt: HostRuntime,
+) -> Result<(), Fail> {
+    for all in &refusals::ALL {
+        assert_changes(&rt, rt.alloc(), all)?;
+    }
+    for all in &limits::ALL {
+        assert_changes(&rt, rt.alloc(), all)?;
+    }
     Ok(())
 }

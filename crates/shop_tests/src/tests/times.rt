@@ -1,10 +1,9 @@
 //! Texts of runs in which shifts change, stations stand still and jobs lose their patience.
+use super::Run;
 use super::models::PHONE;
-use super::{Run, assert_run};
-use std::test::Fail;
 
-/// A second and a third server open, and two close again.
 const TILL: Run = Run {
+    shows: "a shift opens two servers, and another one closes them",
     model: "format = 1
 model = \"shop\"
 end = 20
@@ -41,8 +40,8 @@ end 20 events 26
 ",
 };
 
-/// Shifts that come again after six ticks.
 const GATE: Run = Run {
+    shows: "shifts come again after six ticks",
     model: "format = 1
 model = \"shop\"
 end = 13
@@ -72,8 +71,8 @@ end 13 events 19
 ",
 };
 
-/// A saw that stands still in a service.
 const SAW: Run = Run {
+    shows: "a standstill puts a service off",
     model: "format = 1
 model = \"shop\"
 end = 20
@@ -97,8 +96,8 @@ end 20 events 14
 ",
 };
 
-/// Two standstills in one service, and who lost patience before a calmer class.
 const STANDSTILLS: Run = Run {
+    shows: "two standstills put a service off twice, and who lost patience goes before a calmer class",
     model: "format = 1
 model = \"shop\"
 end = 18
@@ -136,8 +135,8 @@ end 18 events 31
 ",
 };
 
-/// Who lost patience leaves at the tick at which a service ends.
 const PHONE_RUN: Run = Run {
+    shows: "patience ends before a server calls",
     model: PHONE,
     text: "0.0 caller make 1 1
 0.1 phone take 1 1
@@ -156,27 +155,4 @@ end 10 events 15
 ",
 };
 
-#[test]
-fn a_shift_opens_and_closes_servers(rt: HostRuntime) -> Result<(), Fail> {
-    assert_run(&rt, &TILL)
-}
-
-#[test]
-fn shifts_come_again(rt: HostRuntime) -> Result<(), Fail> {
-    assert_run(&rt, &GATE)
-}
-
-#[test]
-fn a_standstill_puts_a_service_off(rt: HostRuntime) -> Result<(), Fail> {
-    assert_run(&rt, &SAW)
-}
-
-#[test]
-fn two_standstills_put_a_service_off_twice(rt: HostRuntime) -> Result<(), Fail> {
-    assert_run(&rt, &STANDSTILLS)
-}
-
-#[test]
-fn patience_ends_before_a_server_calls(rt: HostRuntime) -> Result<(), Fail> {
-    assert_run(&rt, &PHONE_RUN)
-}
+pub(super) const ALL: [Run; 5] = [TILL, GATE, SAW, STANDSTILLS, PHONE_RUN];

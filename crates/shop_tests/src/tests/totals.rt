@@ -1,7 +1,6 @@
 //! Totals, cycles and saved states as an independent simulator wrote them.
-use super::assert_answer;
+use super::Answer;
 use super::models::{JUMP, MILL, MILL_FROM_4, MILL_FROM_21, PHONE};
-use std::test::Fail;
 
 /// Two servers to which nobody comes.
 const QUIET: &str = "format = 1
@@ -74,69 +73,66 @@ const PHONE_RESUMED: &str = "4.1 caller leave 1 4
 end 10 events 15
 ";
 
-#[test]
-fn totals_are_sums_over_what_is_told(rt: HostRuntime) -> Result<(), Fail> {
-    for (model, status, text) in [
-        (
-            MILL,
-            0,
-            "mill came 3 begun 3 done 3 lost 0 reneged 0 busy 9 waiting 3 open 20 down 0
+/// Totals are sums over what is told, cycles end at their horizons, a jump for ever ends at the limit, and a saved state keeps
+/// who lost patience.
+pub(super) const ALL: [Answer; 10] = [
+    (
+        "totals",
+        MILL,
+        0,
+        "mill came 3 begun 3 done 3 lost 0 reneged 0 busy 9 waiting 3 open 20 down 0
 mill/part came 3 begun 3 done 3 lost 0 reneged 0 waited 3
 part made 3 left 3 dropped 0 late 0 ages 12 inside 12
 end 20 events 14
 ",
-        ),
-        (
-            MILL_FROM_4,
-            0,
-            "mill came 1 begun 2 done 3 lost 0 reneged 0 busy 6 waiting 2 open 16 down 0
+    ),
+    (
+        "totals",
+        MILL_FROM_4,
+        0,
+        "mill came 1 begun 2 done 3 lost 0 reneged 0 busy 6 waiting 2 open 16 down 0
 mill/part came 1 begun 2 done 3 lost 0 reneged 0 waited 3
 part made 1 left 3 dropped 0 late 0 ages 12 inside 8
 end 20 events 14
 ",
-        ),
-        (
-            MILL_FROM_21,
-            0,
-            "mill came 0 begun 0 done 0 lost 0 reneged 0 busy 0 waiting 0 open 0 down 0
+    ),
+    (
+        "totals",
+        MILL_FROM_21,
+        0,
+        "mill came 0 begun 0 done 0 lost 0 reneged 0 busy 0 waiting 0 open 0 down 0
 mill/part came 0 begun 0 done 0 lost 0 reneged 0 waited 0
 part made 0 left 0 dropped 0 late 0 ages 0 inside 0
 end 20 events 14
 ",
-        ),
-        (
-            QUIET,
-            0,
-            "s came 0 begun 0 done 0 lost 0 reneged 0 busy 0 waiting 0 open 12 down 0
+    ),
+    (
+        "totals",
+        QUIET,
+        0,
+        "s came 0 begun 0 done 0 lost 0 reneged 0 busy 0 waiting 0 open 12 down 0
 s/c came 0 begun 0 done 0 lost 0 reneged 0 waited 0
 c made 0 left 0 dropped 0 late 0 ages 0 inside 0
 end 9 events 0
 ",
-        ),
-        (
-            JUMP,
-            7,
-            "c made 1 left 0 dropped 0 late 0 ages 0 inside 0
+    ),
+    (
+        "totals",
+        JUMP,
+        7,
+        "c made 1 left 0 dropped 0 late 0 ages 0 inside 0
 limit 3
 ",
-        ),
-        (
-            CHAIN,
-            1,
-            "c made 1 left 0 dropped 0 late 0 ages 0 inside 0
+    ),
+    (
+        "totals",
+        CHAIN,
+        1,
+        "c made 1 left 0 dropped 0 late 0 ages 0 inside 0
 fault 0.65535 c chain
 ",
-        ),
-    ] {
-        assert_answer(&rt, "totals", model, status, text)?;
-    }
-    Ok(())
-}
-
-#[test]
-fn cycles_end_at_their_horizons(rt: HostRuntime) -> Result<(), Fail> {
-    assert_answer(
-        &rt,
+    ),
+    (
         "run --cycles",
         MILL,
         0,
@@ -164,13 +160,8 @@ cycle 7 horizon 10.1 events 1
 cycle 8 horizon 21.0 events 1
 end 20 events 14
 ",
-    )
-}
-
-#[test]
-fn a_jump_for_ever_ends_at_the_limit(rt: HostRuntime) -> Result<(), Fail> {
-    assert_answer(
-        &rt,
+    ),
+    (
         "run",
         JUMP,
         7,
@@ -179,11 +170,7 @@ fn a_jump_for_ever_ends_at_the_limit(rt: HostRuntime) -> Result<(), Fail> {
 0.2 c go 1 0
 limit 3
 ",
-    )
-}
-
-#[test]
-fn a_saved_state_keeps_who_lost_patience(rt: HostRuntime) -> Result<(), Fail> {
-    assert_answer(&rt, "save 4", PHONE, 0, PHONE_SAVED)?;
-    assert_answer(&rt, "resume", PHONE_STATE, 0, PHONE_RESUMED)
-}
+    ),
+    ("save 4", PHONE, 0, PHONE_SAVED),
+    ("resume", PHONE_STATE, 0, PHONE_RESUMED),
+];

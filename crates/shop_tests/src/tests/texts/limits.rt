@@ -1,279 +1,409 @@
 //! Both sides of each limit of a text: the numbers that are just read and just refused, and the longest lists.
-use super::{STEP, assert_answer, replaced};
+use super::{Answer, Changes, STEP, answer_of, replaced};
 use crate::tests::models::MILL;
 use std::alloc::Global;
 use std::process::Abort;
 use std::test::Fail;
+use test_texts::{Parts, built};
 
-/// A number of the mill's text: where it goes, and what goes there with `#` for the number.
-type Number = (&'static str, &'static str);
+/// A number of the mill's text: where it goes, what goes there with `#` for the number, the item that it belongs to, and a
+/// number that is just too low, the least and the greatest that are read, and one that is just too high.
+type Number = (&'static str, &'static str, u32, [&'static str; 4]);
 
-/// A number that is just too low, the least and the greatest that are read, and one that is just too high.
-type Bounds = [&'static str; 4];
+const TICKS: [&str; 4] = ["-1", "0", "70368744177663", "70368744177664"];
 
-const TICKS: Bounds = ["-1", "0", "70368744177663", "70368744177664"];
+const DELAYS: [&str; 4] = ["-1", "0", "1099511627776", "1099511627777"];
 
-const DELAYS: Bounds = ["-1", "0", "1099511627776", "1099511627777"];
+const SERVERS: [&str; 4] = ["-1", "0", "1024", "1025"];
 
-const SERVERS: Bounds = ["-1", "0", "1024", "1025"];
+const WEIGHTS: [&str; 4] = ["-1", "0", "65535", "65536"];
 
-/// A number is read within its bounds, and refused beside them at this item.
-fn assert_bounds<R: Abort>(
-    rt: &R,
-    alloc: Global,
-    item: u32,
-    numbers: &[(Number, Bounds)],
-) -> Result<(), Fail> {
-    for ((old, new), bounds) in numbers {
-        let answers = [(5, item), (0, 0), (0, 0), (7, item)];
-        for (number, wanted) in bounds.iter().zip(answers.iter()) {
-            let new = replaced(alloc, *new, "#", *number)?;
-            let text = replaced(alloc, MILL, *old, new.as_str())?;
-            assert_answer(rt, alloc, text.as_str(), *wanted);
-        }
-    }
+const FIXED: &str = "law = \"fixed\", value = 3 } }";
+
+const NUMBERS: [Number; 25] = [
+    ("end = 20", "end = #", 0, TICKS),
+    ("end = 20", "end = 20\nfrom = #", 0, TICKS),
+    (
+        "end = 20",
+        "end = 20\nlimit = #",
+        0,
+        ["0", "1", "1000000000", "1000000001"],
+    ),
+    ("line = 10", "servers = #", 1, SERVERS),
+    ("line = 10", "line = #", 1, ["-1", "0", "65536", "65537"]),
+    (
+        "line = 10",
+        "shifts = [ { at = #, servers = 1 } ]",
+        1,
+        DELAYS,
+    ),
+    (
+        "line = 10",
+        "shifts = [ { at = 1, servers = # } ]",
+        1,
+        SERVERS,
+    ),
+    (
+        "line = 10",
+        "period = #",
+        1,
+        ["0", "1", "1099511627776", "1099511627777"],
+    ),
+    ("first = 1", "first = #", 2, TICKS),
+    ("first = 1", "until = #", 2, TICKS),
+    ("first = 1", "times = [#]", 2, TICKS),
+    (
+        "count = 3",
+        "count = #",
+        2,
+        ["0", "1", "9999999", "10000000"],
+    ),
+    ("count = 3", "priority = #", 2, ["-1", "0", "7", "8"]),
+    ("count = 3", "due = #", 2, TICKS),
+    ("value = 2", "value = #", 2, DELAYS),
+    (
+        FIXED,
+        "law = \"uniform\", low = 1099511627776, high = # } }",
+        2,
+        ["-1", "1099511627776", "1099511627776", "1099511627777"],
+    ),
+    (
+        FIXED,
+        "law = \"uniform\", low = 4, high = # } }",
+        2,
+        ["3", "4", "4294967299", "4294967300"],
+    ),
+    (
+        FIXED,
+        "law = \"geometric\", p = #, cap = 1 } }",
+        2,
+        ["0", "1", "4294967295", "4294967296"],
+    ),
+    (
+        FIXED,
+        "law = \"geometric\", p = 1, cap = # } }",
+        2,
+        ["0", "1", "65536", "65537"],
+    ),
+    (
+        FIXED,
+        "law = \"geometric\", p = 1, cap = 1, unit = # } }",
+        2,
+        ["0", "1", "16777216", "16777217"],
+    ),
+    (FIXED, "law = \"table\", values = [#] } }", 2, DELAYS),
+    (
+        FIXED,
+        "law = \"table\", values = [1, 2], weights = [1, #] } }",
+        2,
+        WEIGHTS,
+    ),
+    (
+        FIXED,
+        "law = \"steps\", bounds = [7, #] } }",
+        2,
+        ["7", "8", "4294967303", "4294967304"],
+    ),
+    (
+        FIXED,
+        "law = \"steps\", bounds = [1, 2, 3], weights = [#, 1] } }",
+        2,
+        WEIGHTS,
+    ),
+    (
+        STEP,
+        "{ go = [\"out\", \"out\"], weights = [#, 1] }",
+        2,
+        WEIGHTS,
+    ),
+];
+
+/// The answer to the mill's text with something new in place of what is old, with this value for its `#`.
+fn answer_at(alloc: Global, old: &str, new: &str, value: &str) -> Result<Option<Answer>, Fail> {
+    let new = replaced(alloc, new, "#", value)?;
+    let text = replaced(alloc, MILL, old, new.as_str())?;
+    Ok(answer_of(alloc, text.as_bytes()))
+}
+
+/// A number is read within its bounds, and refused beside them.
+fn assert_bounds<R: Abort>(rt: &R, alloc: Global, number: &Number) -> Result<(), Fail> {
+    let (old, new, item, bounds) = number;
+    let low = answer_at(alloc, old, new, bounds[0])?;
+    assert!(rt; low == Some((5, *item)), "{new}");
+    let least = answer_at(alloc, old, new, bounds[1])?;
+    assert!(rt; least == Some((0, 0)), "{new}");
+    let most = answer_at(alloc, old, new, bounds[2])?;
+    assert!(rt; most == Some((0, 0)), "{new}");
+    let high = answer_at(alloc, old, new, bounds[3])?;
+    assert!(rt; high == Some((7, *item)), "{new}");
     Ok(())
 }
 
 #[test]
-fn numbers_of_the_top_table_have_bounds(rt: HostRuntime) -> Result<(), Fail> {
-    let numbers = [
-        (("end = 20", "end = #"), TICKS),
-        (("end = 20", "end = 20\nfrom = #"), TICKS),
-        (
-            ("end = 20", "end = 20\nlimit = #"),
-            ["0", "1", "1000000000", "1000000001"],
-        ),
-    ];
-    assert_bounds(&rt, rt.alloc(), 0, &numbers)?;
-    for (seed, wanted) in [
-        ("-1", (5, 0)),
-        ("0", (0, 0)),
-        ("9223372036854775807", (0, 0)),
-    ] {
-        let seed = replaced(rt.alloc(), "end = 20\nseed = #", "#", seed)?;
-        let text = replaced(rt.alloc(), MILL, "end = 20", seed.as_str())?;
-        assert_answer(&rt, rt.alloc(), text.as_str(), wanted);
+fn each_number_of_a_shop_has_bounds(rt: HostRuntime) -> Result<(), Fail> {
+    for number in &NUMBERS {
+        assert_bounds(&rt, rt.alloc(), number)?;
     }
     Ok(())
 }
 
-#[test]
-fn numbers_of_a_station_have_bounds(rt: HostRuntime) -> Result<(), Fail> {
-    let numbers = [
-        (("line = 10", "servers = #"), SERVERS),
-        (("line = 10", "line = #"), ["-1", "0", "65536", "65537"]),
-        (
-            ("line = 10", "shifts = [ { at = #, servers = 1 } ]"),
-            DELAYS,
-        ),
-        (
-            ("line = 10", "shifts = [ { at = 1, servers = # } ]"),
-            SERVERS,
-        ),
-        (
-            ("line = 10", "period = #"),
-            ["0", "1", "1099511627776", "1099511627777"],
-        ),
-    ];
-    assert_bounds(&rt, rt.alloc(), 1, &numbers)
+/// The mill's text but for its route, with the way out in place of its step.
+const UNLINKED: &str = "format = 1
+model = \"shop\"
+end = 20
+station = [ { name = \"mill\", line = 10 } ]
+class = [ { name = \"part\", first = 1, every = { law = \"fixed\", value = 2 }, count = 3, route = [ { go = [\"out\"] } ] } ]
+";
+
+pub(super) const ALL: [Changes; 3] = [
+    Changes {
+        shows: "a seed has bounds of its own",
+        text: MILL,
+        changes: &[
+            ("end = 20", "end = 20\nseed = -1", (5, 0)),
+            ("end = 20", "end = 20\nseed = 0", (0, 0)),
+            ("end = 20", "end = 20\nseed = 9223372036854775807", (0, 0)),
+        ],
+    },
+    Changes {
+        shows: "the name of a station has 1 to 16 letters",
+        text: UNLINKED,
+        changes: &[
+            ("mill", "", (5, 1)),
+            ("mill", "m", (0, 0)),
+            ("mill", "a-mill_of_Basel7", (0, 0)),
+            ("mill", "a-mill_of_Basel77", (5, 1)),
+            ("mill", "m.", (5, 1)),
+        ],
+    },
+    Changes {
+        shows: "a label has 1 to 16 letters",
+        text: MILL,
+        changes: &[
+            (STEP, "{ label = \"\", free = \"mill\" }", (5, 2)),
+            (STEP, "{ label = \"m\", free = \"mill\" }", (0, 0)),
+            (
+                STEP,
+                "{ label = \"a-mill_of_Basel7\", free = \"mill\" }",
+                (0, 0),
+            ),
+            (
+                STEP,
+                "{ label = \"a-mill_of_Basel77\", free = \"mill\" }",
+                (5, 2),
+            ),
+            (STEP, "{ label = \"m.\", free = \"mill\" }", (5, 2)),
+        ],
+    },
+];
+
+/// A text with a long list, the place where it goes, its parts, and the answer.
+type Long = (&'static str, &'static str, Parts, Answer);
+
+/// What stands before the ticks of a first class, and of a second one.
+const TICKS_OF_ONE: &str =
+    "format = 1\nmodel = \"shop\"\nend = 1\nclass = [ { name = \"a\", times = [";
+
+const TICKS_OF_ANOTHER: &str = "], route = [ { go = [\"out\"] } ] }, { name = \"b\", times = [";
+
+/// What stands before the stations.
+const STATIONS: &str = "format = 1\nmodel = \"shop\"\nend = 1\nstation = [";
+
+const LONG: [Long; 14] = [
+    // a table of delays
+    (
+        MILL,
+        STEP,
+        &[
+            ("{ delay = { law = \"table\", values = [", 1),
+            ("7,", 1_024),
+            ("] } }", 1),
+        ],
+        (0, 0),
+    ),
+    (
+        MILL,
+        STEP,
+        &[
+            ("{ delay = { law = \"table\", values = [", 1),
+            ("7,", 1_025),
+            ("] } }", 1),
+        ],
+        (7, 2),
+    ),
+    // the ways of a branch
+    (
+        MILL,
+        STEP,
+        &[("{ go = [", 1), ("\"out\",", 64), ("] }", 1)],
+        (0, 0),
+    ),
+    (
+        MILL,
+        STEP,
+        &[("{ go = [", 1), ("\"out\",", 65), ("] }", 1)],
+        (7, 2),
+    ),
+    // the steps of a route
+    (MILL, STEP, &[("{ free = \"mill\" },", 1_024)], (0, 0)),
+    (MILL, STEP, &[("{ free = \"mill\" },", 1_025)], (7, 2)),
+    // all classes name so many ticks
+    (
+        "#",
+        "#",
+        &[
+            (TICKS_OF_ONE, 1),
+            ("1,", 249_999),
+            (TICKS_OF_ANOTHER, 1),
+            ("1], route = [ { go = [\"out\"] } ] } ]\n", 1),
+        ],
+        (0, 0),
+    ),
+    (
+        "#",
+        "#",
+        &[
+            (TICKS_OF_ONE, 1),
+            ("1,", 249_999),
+            (TICKS_OF_ANOTHER, 1),
+            ("1, -1], route = [ { go = [\"out\"] } ] } ]\n", 1),
+        ],
+        (7, 2),
+    ),
+    // there are so many stations and classes in all
+    (
+        "#",
+        "#",
+        &[
+            (STATIONS, 1),
+            ("{},", 65_536),
+            ("]\nclass = [", 1),
+            ("{},", 0),
+            ("]\n", 1),
+        ],
+        (3, 1),
+    ),
+    (
+        "#",
+        "#",
+        &[
+            (STATIONS, 1),
+            ("{},", 65_537),
+            ("]\nclass = [", 1),
+            ("{},", 0),
+            ("]\n", 1),
+        ],
+        (7, 0),
+    ),
+    (
+        "#",
+        "#",
+        &[
+            (STATIONS, 1),
+            ("{},", 0),
+            ("]\nclass = [", 1),
+            ("{},", 65_536),
+            ("]\n", 1),
+        ],
+        (3, 1),
+    ),
+    (
+        "#",
+        "#",
+        &[
+            (STATIONS, 1),
+            ("{},", 0),
+            ("]\nclass = [", 1),
+            ("{},", 65_537),
+            ("]\n", 1),
+        ],
+        (7, 0),
+    ),
+    (
+        "#",
+        "#",
+        &[
+            (STATIONS, 1),
+            ("{},", 32_768),
+            ("]\nclass = [", 1),
+            ("{},", 32_768),
+            ("]\n", 1),
+        ],
+        (3, 1),
+    ),
+    (
+        "#",
+        "#",
+        &[
+            (STATIONS, 1),
+            ("{},", 32_768),
+            ("]\nclass = [", 1),
+            ("{},", 32_769),
+            ("]\n", 1),
+        ],
+        (7, 0),
+    ),
+];
+
+/// The answer to a text with a long list.
+fn answer_to(alloc: Global, long: &Long) -> Result<Option<Answer>, Fail> {
+    let (text, place, parts, _wanted) = long;
+    let list = built(alloc, parts)?;
+    let text = replaced(alloc, text, place, list.as_str())?;
+    Ok(answer_of(alloc, text.as_bytes()))
 }
 
 #[test]
-fn numbers_of_a_class_have_bounds(rt: HostRuntime) -> Result<(), Fail> {
-    let count = ["0", "1", "9999999", "10000000"];
-    let numbers = [
-        (("first = 1", "first = #"), TICKS),
-        (("first = 1", "until = #"), TICKS),
-        (("first = 1", "times = [#]"), TICKS),
-        (("count = 3", "count = #"), count),
-        (("count = 3", "priority = #"), ["-1", "0", "7", "8"]),
-        (("count = 3", "due = #"), TICKS),
-        (("value = 2", "value = #"), DELAYS),
-    ];
-    assert_bounds(&rt, rt.alloc(), 2, &numbers)
-}
-
-#[test]
-fn numbers_of_laws_have_bounds(rt: HostRuntime) -> Result<(), Fail> {
-    let fixed = "law = \"fixed\", value = 3 } }";
-    let weight = ["-1", "0", "65535", "65536"];
-    let numbers = [
-        (
-            (
-                fixed,
-                "law = \"uniform\", low = 1099511627776, high = # } }",
-            ),
-            ["-1", "1099511627776", "1099511627776", "1099511627777"],
-        ),
-        (
-            (fixed, "law = \"uniform\", low = 4, high = # } }"),
-            ["3", "4", "4294967299", "4294967300"],
-        ),
-        (
-            (fixed, "law = \"geometric\", p = #, cap = 1 } }"),
-            ["0", "1", "4294967295", "4294967296"],
-        ),
-        (
-            (fixed, "law = \"geometric\", p = 1, cap = # } }"),
-            ["0", "1", "65536", "65537"],
-        ),
-        (
-            (fixed, "law = \"geometric\", p = 1, cap = 1, unit = # } }"),
-            ["0", "1", "16777216", "16777217"],
-        ),
-        ((fixed, "law = \"table\", values = [#] } }"), DELAYS),
-        (
-            (
-                fixed,
-                "law = \"table\", values = [1, 2], weights = [1, #] } }",
-            ),
-            weight,
-        ),
-        (
-            (fixed, "law = \"steps\", bounds = [7, #] } }"),
-            ["7", "8", "4294967303", "4294967304"],
-        ),
-        (
-            (
-                fixed,
-                "law = \"steps\", bounds = [1, 2, 3], weights = [#, 1] } }",
-            ),
-            weight,
-        ),
-        (
-            (STEP, "{ go = [\"out\", \"out\"], weights = [#, 1] }"),
-            weight,
-        ),
-    ];
-    assert_bounds(&rt, rt.alloc(), 2, &numbers)
-}
-
-/// So many times this text, with commas between.
-fn many(alloc: Global, text: &str, count: usize) -> Result<String, Fail> {
-    let mut all = String::new(alloc);
-    for _ in 0..count {
-        all.push_str(text)?;
-        all.push(',')?;
+fn long_lists_are_read_or_refused(rt: HostRuntime) -> Result<(), Fail> {
+    for (row, long) in LONG.iter().enumerate() {
+        assert!(rt; answer_to(rt.alloc(), long)? == Some(long.3), "row {row}");
     }
-    Ok(all)
+    Ok(())
 }
 
-/// So many numbers from 0 on, each in place of the `#` of a text, with commas between.
-fn numbered(alloc: Global, text: &str, count: u32) -> Result<String, Fail> {
-    let (front, back) = text.split_once("#").ok_or("no such place")?;
-    let mut all = String::new(alloc);
-    for number in 0..count {
-        let next = format!(in alloc; "{front}{number}{back},")?;
+/// A list whose entries rise: the place where it goes, what stands before it, an entry with `#` for its number, what stands
+/// behind, how many entries there are, and the answer.
+type Rising = (
+    &'static str,
+    &'static str,
+    &'static str,
+    &'static str,
+    u32,
+    Answer,
+);
+
+const SHIFT: &str = "{ at = #, servers = 1 }";
+
+const BOUNDS: &str = "{ delay = { law = \"steps\", bounds = [";
+
+const RISING: [Rising; 4] = [
+    (STEP, BOUNDS, "#", "] } }", 1_025, (0, 0)),
+    (STEP, BOUNDS, "#", "] } }", 1_026, (7, 2)),
+    ("line = 10", "shifts = [", SHIFT, "]", 1_024, (0, 0)),
+    ("line = 10", "shifts = [", SHIFT, "]", 1_025, (7, 1)),
+];
+
+/// What stands before, so many numbers from 0 on, each in place of the `#` of an entry, with commas, and what stands behind.
+fn numbered(alloc: Global, rising: &Rising) -> Result<String, Fail> {
+    let (_place, front, entry, back, count, _wanted) = rising;
+    let (before, behind) = entry.split_once("#").ok_or("no such place")?;
+    let mut all = String::from_str(alloc, front)?;
+    for number in 0..*count {
+        let next = format!(in alloc; "{before}{number}{behind},")?;
         all.push_str(next.as_str())?;
     }
+    all.push_str(back)?;
     Ok(all)
-}
-
-/// A list in the mill's text: where it goes, with its entries in place of `#`.
-fn assert_list<R: Abort>(
-    rt: &R,
-    alloc: Global,
-    place: (&str, &str),
-    entries: &str,
-    wanted: (u8, u32),
-) -> Result<(), Fail> {
-    let (old, new) = place;
-    let new = replaced(alloc, new, "#", entries)?;
-    let text = replaced(alloc, MILL, old, new.as_str())?;
-    assert_answer(rt, alloc, text.as_str(), wanted);
-    Ok(())
-}
-
-#[test]
-fn lists_have_a_greatest_length(rt: HostRuntime) -> Result<(), Fail> {
-    let alloc = rt.alloc();
-    let values = (STEP, "{ delay = { law = \"table\", values = [#] } }");
-    let ways = (STEP, "{ go = [#] }");
-    for (place, entry, most) in [
-        (values, "7", 1_024),
-        (ways, "\"out\"", 64),
-        ((STEP, "#"), "{ free = \"mill\" }", 1_024),
-    ] {
-        let fits = many(alloc, entry, most)?;
-        assert_list(&rt, alloc, place, fits.as_str(), (0, 0))?;
-        let long = many(alloc, entry, most + 1)?;
-        assert_list(&rt, alloc, place, long.as_str(), (7, 2))?;
-    }
-    Ok(())
 }
 
 #[test]
 fn lists_of_numbers_that_rise_have_a_greatest_length(rt: HostRuntime) -> Result<(), Fail> {
-    let alloc = rt.alloc();
-    let bounds = (STEP, "{ delay = { law = \"steps\", bounds = [#] } }");
-    let shifts = ("line = 10", "shifts = [#]");
-    for (place, entry, most, item) in [
-        (bounds, "#", 1_025, 2),
-        (shifts, "{ at = #, servers = 1 }", 1_024, 1),
-    ] {
-        let fits = numbered(alloc, entry, most)?;
-        assert_list(&rt, alloc, place, fits.as_str(), (0, 0))?;
-        let long = numbered(alloc, entry, most + 1)?;
-        assert_list(&rt, alloc, place, long.as_str(), (7, item))?;
-    }
-    Ok(())
-}
-
-#[test]
-fn classes_name_so_many_ticks_in_all(rt: HostRuntime) -> Result<(), Fail> {
-    let alloc = rt.alloc();
-    let fits = many(alloc, "1", 249_999)?;
-    let text = format!(in alloc;
-        "format = 1
-model = \"shop\"
-end = 1
-class = [ {{ name = \"a\", times = [{fits}], route = [ {{ go = [\"out\"] }} ] }}, {{ name = \"b\", times = [1], route = [ {{ go = [\"out\"] }} ] }} ]
-"
-    )?;
-    assert_answer(&rt, alloc, text.as_str(), (0, 0));
-    let long = replaced(alloc, text.as_str(), "times = [1]", "times = [1, -1]")?;
-    assert_answer(&rt, alloc, long.as_str(), (7, 2));
-    Ok(())
-}
-
-#[test]
-fn names_and_labels_have_1_to_16_letters(rt: HostRuntime) -> Result<(), Fail> {
-    let alloc = rt.alloc();
-    let unlinked = replaced(alloc, MILL, STEP, "{ go = [\"out\"] }")?;
-    for (name, named, labelled) in [
-        ("", (5, 1), (5, 2)),
-        ("m", (0, 0), (0, 0)),
-        ("a-mill_of_Basel7", (0, 0), (0, 0)),
-        ("a-mill_of_Basel77", (5, 1), (5, 2)),
-        ("m.", (5, 1), (5, 2)),
-    ] {
-        let station = replaced(alloc, unlinked.as_str(), "mill", name)?;
-        assert_answer(&rt, alloc, station.as_str(), named);
-        let step = format!(in alloc; "{{ label = \"{name}\", free = \"mill\" }}")?;
-        let label = replaced(alloc, MILL, STEP, step.as_str())?;
-        assert_answer(&rt, alloc, label.as_str(), labelled);
-    }
-    Ok(())
-}
-
-#[test]
-fn stations_and_classes_are_so_many_in_all(rt: HostRuntime) -> Result<(), Fail> {
-    let alloc = rt.alloc();
-    for (stations, classes, wanted) in [
-        (65_536, 0, (3, 1)),
-        (65_537, 0, (7, 0)),
-        (0, 65_536, (3, 1)),
-        (0, 65_537, (7, 0)),
-        (32_768, 32_768, (3, 1)),
-        (32_768, 32_769, (7, 0)),
-    ] {
-        let stations = many(alloc, "{}", stations)?;
-        let classes = many(alloc, "{}", classes)?;
-        let text = format!(in alloc;
-            "format = 1\nmodel = \"shop\"\nend = 1\nstation = [{stations}]\nclass = [{classes}]\n"
-        )?;
-        assert_answer(&rt, alloc, text.as_str(), wanted);
+    for rising in &RISING {
+        let (place, _front, _entry, _back, count, wanted) = rising;
+        let list = numbered(rt.alloc(), rising)?;
+        let text = replaced(rt.alloc(), MILL, place, list.as_str())?;
+        let answer = answer_of(rt.alloc(), text.as_bytes());
+        assert!(rt; answer == Some(*wanted), "{count} after {place}");
     }
     Ok(())
 }
