@@ -238,17 +238,15 @@ fn assert_by_all<R: Abort + Threads + Sync>(
     assert_case(rt, alloc, case, Machine::Nodes(moving))
 }
 
-#[test]
-fn jobs_of_one_stamp_are_ordered_by_rank(rt: HostRuntime) -> Result<(), Fail> {
-    assert_by_all(&rt, rt.alloc(), &RANKED)
-}
+/// The cases of what the second format adds.
+const CASES: [Case; 3] = [RANKED, QUIET, TRACED];
 
 #[test]
-fn quiet_objects_tell_nothing_and_are_counted(rt: HostRuntime) -> Result<(), Fail> {
-    assert_by_all(&rt, rt.alloc(), &QUIET)
-}
-
-#[test]
-fn a_traced_station_tells_its_load_after_each_event(rt: HostRuntime) -> Result<(), Fail> {
-    assert_by_all(&rt, rt.alloc(), &TRACED)
+fn the_second_format_adds_ranks_quiet_objects_and_traced_stations(
+    rt: HostRuntime,
+) -> Result<(), Fail> {
+    for case in &CASES {
+        assert_by_all(&rt, rt.alloc(), case)?;
+    }
+    Ok(())
 }

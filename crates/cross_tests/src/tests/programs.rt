@@ -14,7 +14,7 @@ mod writes;
 
 use btb_program::btb;
 use node_team::{Gate, Open};
-use sim_io::{MemSink, MemSource};
+use sim_io::{MemSink, MemSource, Sink, Source};
 use std::alloc::{AllocGlobal, Global};
 use std::process::Abort;
 use std::test::Fail;
@@ -55,6 +55,19 @@ fn text_of(alloc: Global, sink: &MemSink) -> Result<String, Fail> {
     Ok(String::from_str(alloc, text)?)
 }
 
+/// The status of a run of these words over any streams.
+fn status_of<R: AllocGlobal + Threads + Sync, S: Source, K: Sink, N: Sink, G: Gate>(
+    rt: &R,
+    words: &str,
+    source: &mut S,
+    out: &mut K,
+    notes: &mut N,
+    gate: &G,
+) -> Result<u8, Fail> {
+    let words = words_of(rt.alloc(), words)?;
+    Ok(btb(rt, &words, source, out, notes, gate))
+}
+
 /// How a run of these words ends over these streams.
 fn ended_by<R: AllocGlobal + Threads + Sync, G: Gate>(
     rt: &R,
@@ -64,9 +77,8 @@ fn ended_by<R: AllocGlobal + Threads + Sync, G: Gate>(
     gate: &G,
 ) -> Result<Ended, Fail> {
     let alloc = rt.alloc();
-    let words = words_of(alloc, words)?;
     let mut notes = sink_of(alloc, &[], &[])?;
-    let status = btb(rt, &words, &mut source, &mut out, &mut notes, gate);
+    let status = status_of(rt, words, &mut source, &mut out, &mut notes, gate)?;
     Ok(Ended {
         status,
         text: text_of(alloc, &out)?,

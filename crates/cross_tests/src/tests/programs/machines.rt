@@ -97,18 +97,21 @@ fn assert_machine<R: Abort + AllocGlobal + Threads + Sync>(
     Ok(())
 }
 
+/// Commands, on how many nodes each runs, and how many events are processed in the first cycle.
+const COMMANDS: [(&str, usize, u64); 5] = [
+    ("one", 0, 0),
+    ("run --nodes 2 --ahead 3", 2, 3),
+    ("run", 4, 8),
+    ("totals", 4, 8),
+    ("save 2", 4, 8),
+];
+
 #[test]
 fn each_command_runs_on_four_nodes_that_work_eight_events_ahead(
     rt: HostRuntime,
 ) -> Result<(), Fail> {
-    for (words, nodes, first) in [
-        ("one", 0, 0),
-        ("run --nodes 2 --ahead 3", 2, 3),
-        ("run", 4, 8),
-        ("totals", 4, 8),
-        ("save 2", 4, 8),
-    ] {
-        assert_machine(&rt, words, SPARSE, nodes, first)?;
+    for (words, nodes, first) in &COMMANDS {
+        assert_machine(&rt, words, SPARSE, *nodes, *first)?;
     }
     let initial = told_by(&rt, "save 0", SPARSE)?;
     assert_machine(&rt, "resume", initial.text.as_str(), 4, 8)
@@ -188,16 +191,18 @@ impl Gate for Crowd {
     fn did(&self, _node: u32, _key: &Key) {}
 }
 
-// Without workers four threads have two nodes each.
+/// Words, and how many threads they have. Without workers four threads have two nodes each.
+const WORKERS: [(&str, u64); 4] = [
+    ("run --nodes 8 --workers 1", 1),
+    ("run --nodes 8 --workers 2", 2),
+    ("run --nodes 8 --workers 3", 3),
+    ("run --nodes 8", 4),
+];
+
 #[test]
 fn as_many_nodes_advance_at_once_as_there_are_workers(rt: HostRuntime) -> Result<(), Fail> {
-    for (words, workers) in [
-        ("run --nodes 8 --workers 1", 1),
-        ("run --nodes 8 --workers 2", 2),
-        ("run --nodes 8 --workers 3", 3),
-        ("run --nodes 8", 4),
-    ] {
-        let gate = Crowd::new(workers);
+    for (words, workers) in &WORKERS {
+        let gate = Crowd::new(*workers);
         assert!(rt; told_at(&rt, words, SPARSE, &gate)?.status == 0, "{words}");
         assert!(rt; gate.has_met.load(Ordering::SeqCst), "{words}");
         assert!(rt; !gate.has_more.load(Ordering::SeqCst), "{words}");

@@ -1,14 +1,13 @@
 //! Reads and writes that fail at any call, and streams that go byte by byte.
-use super::{ended_by, sink_of, source_of, text_of, told_by};
-use btb_program::btb;
+use super::{ended_by, sink_of, source_of, status_of, text_of, told_by};
 use node_team::Open;
 use sim_io::{CleanSink, CleanSource, MemSink, MemSource};
 use std::alloc::AllocGlobal;
 use std::process::Abort;
 use std::test::Fail;
 use std::thread::Threads;
+use test_texts::SHOP;
 use test_texts::wanted::SHOP_TEXT;
-use test_texts::{SHOP, words_of};
 
 #[test]
 fn a_read_that_fails_at_any_call(rt: HostRuntime) -> Result<(), Fail> {
@@ -28,28 +27,38 @@ fn a_read_that_fails_at_any_call(rt: HostRuntime) -> Result<(), Fail> {
     Ok(())
 }
 
+/// How much of the text is taken before each write. The buckets have 16, 31, 30, 34, 30, 34 and 19 bytes and the stop line 17,
+/// in pieces of ten.
+const TAKEN: [usize; 24] = [
+    0, 10, 16, 26, 36, 46, 47, 57, 67, 77, 87, 97, 107, 111, 121, 131, 141, 151, 161, 171, 175,
+    185, 194, 204,
+];
+
+/// Where writes fail at these calls and take nothing at those, a run ends so.
+fn assert_written<R: Abort + AllocGlobal + Threads + Sync>(
+    rt: &R,
+    fails: &[u64],
+    idle: &[u64],
+    wanted: (u8, &str, &str),
+) -> Result<(), Fail> {
+    let source = source_of(rt.alloc(), SHOP.as_bytes(), &[])?;
+    let out = sink_of(rt.alloc(), fails, idle)?;
+    let run = ended_by(rt, "run", source, out, &Open)?;
+    run.assert(rt, wanted.0, wanted.1, wanted.2, "a write that fails");
+    Ok(())
+}
+
 #[test]
 fn a_write_that_fails_at_any_call(rt: HostRuntime) -> Result<(), Fail> {
-    let alloc = rt.alloc();
-    // The buckets have 16, 31, 30, 34, 30, 34 and 19 bytes and the stop line 17, in pieces of ten.
-    for (call, length) in (1..).zip([
-        0, 10, 16, 26, 36, 46, 47, 57, 67, 77, 87, 97, 107, 111, 121, 131, 141, 151, 161, 171, 175,
-        185, 194, 204,
-    ]) {
+    for (call, length) in (1..).zip(TAKEN) {
         let front = SHOP_TEXT.as_bytes().get(..length).ok_or("length")?;
         let front = std::str::from_utf8(front)?;
-        let failing = sink_of(alloc, &[call], &[])?;
-        let idle = sink_of(alloc, &[], &[call])?;
-        for out in [failing, idle] {
-            let source = source_of(alloc, SHOP.as_bytes(), &[])?;
-            let run = ended_by(&rt, "run", source, out, &Open)?;
-            run.assert(&rt, 5, front, "write failed\n", "a write that fails");
-        }
+        let wanted = (5, front, "write failed\n");
+        assert_written(&rt, &[call], &[], wanted)?;
+        assert_written(&rt, &[], &[call], wanted)?;
     }
-    let source = source_of(alloc, SHOP.as_bytes(), &[])?;
-    let run = ended_by(&rt, "run", source, sink_of(alloc, &[25], &[25])?, &Open)?;
-    run.assert(&rt, 0, SHOP_TEXT, "", "all calls but those that come");
-    Ok(())
+    // all calls but those that come
+    assert_written(&rt, &[25], &[25], (0, SHOP_TEXT, ""))
 }
 
 #[test]
@@ -65,41 +74,77 @@ fn bytes_may_come_and_go_one_by_one(rt: HostRuntime) -> Result<(), Fail> {
 #[test]
 fn clean_input_and_output_have_no_faults(rt: HostRuntime) -> Result<(), Fail> {
     let alloc = rt.alloc();
-    let words = words_of(alloc, "run")?;
     let mut source = CleanSource::new(SHOP.as_bytes().to_vec(alloc)?);
     let (mut out, mut notes) = (CleanSink::new(), CleanSink::new());
-    let status = btb(&rt, &words, &mut source, &mut out, &mut notes, &Open);
+    let status = status_of(&rt, "run", &mut source, &mut out, &mut notes, &Open)?;
     assert!(rt; status == 0);
     Ok(())
 }
 
-/// A run of this word over this model has this status and text, where the writes of its text and of its notes fail at these
-/// calls, and this much of its notes is taken.
+/// A run whose writes of its text and of its notes fail at these calls, its status, its text, and how much of its notes is
+/// taken.
+struct FailingNotes {
+    word: &'static str,
+    model: &'static str,
+    writes: &'static [u64],
+    note_writes: &'static [u64],
+    status: u8,
+    text: &'static str,
+    notes: &'static str,
+}
+
+/// The run has its status, its text and its notes.
 fn assert_notes<R: Abort + AllocGlobal + Threads + Sync>(
     rt: &R,
-    word: &str,
-    model: &str,
-    fails: [&[u64]; 2],
-    status: u8,
-    taken: [&str; 2],
+    failing: &FailingNotes,
 ) -> Result<(), Fail> {
     let alloc = rt.alloc();
-    let words = words_of(alloc, word)?;
-    let mut source = source_of(alloc, model.as_bytes(), &[])?;
-    let mut out = sink_of(alloc, fails[0], &[])?;
-    let mut notes = sink_of(alloc, fails[1], &[])?;
-    let ended = btb(rt, &words, &mut source, &mut out, &mut notes, &Open);
-    assert!(rt; ended == status);
-    assert!(rt; text_of(alloc, &out)?.as_str() == taken[0]);
-    assert!(rt; text_of(alloc, &notes)?.as_str() == taken[1]);
+    let mut source = source_of(alloc, failing.model.as_bytes(), &[])?;
+    let mut out = sink_of(alloc, failing.writes, &[])?;
+    let mut notes = sink_of(alloc, failing.note_writes, &[])?;
+    let status = status_of(rt, failing.word, &mut source, &mut out, &mut notes, &Open)?;
+    assert!(rt; status == failing.status);
+    assert!(rt; text_of(alloc, &out)?.as_str() == failing.text);
+    assert!(rt; text_of(alloc, &notes)?.as_str() == failing.notes);
     Ok(())
 }
 
+const FAILING: [FailingNotes; 3] = [
+    FailingNotes {
+        word: "run",
+        model: "",
+        writes: &[],
+        note_writes: &[2],
+        status: 3,
+        text: "",
+        notes: "model: 3 M",
+    },
+    FailingNotes {
+        word: "go",
+        model: SHOP,
+        writes: &[],
+        note_writes: &[1],
+        status: 2,
+        text: "",
+        notes: "",
+    },
+    FailingNotes {
+        word: "run",
+        model: SHOP,
+        writes: &[3],
+        note_writes: &[1],
+        status: 5,
+        text: "1.0 in make 1 2\n",
+        notes: "",
+    },
+];
+
 #[test]
 fn failing_notes_change_only_the_notes(rt: HostRuntime) -> Result<(), Fail> {
-    assert_notes(&rt, "run", "", [&[], &[2]], 3, ["", "model: 3 M"])?;
-    assert_notes(&rt, "go", SHOP, [&[], &[1]], 2, ["", ""])?;
-    assert_notes(&rt, "run", SHOP, [&[3], &[1]], 5, ["1.0 in make 1 2\n", ""])
+    for failing in &FAILING {
+        assert_notes(&rt, failing)?;
+    }
+    Ok(())
 }
 
 #[test]

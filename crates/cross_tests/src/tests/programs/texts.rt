@@ -70,7 +70,7 @@ fn assert_all<R: Abort + AllocGlobal + Threads + Sync>(
     Ok(())
 }
 
-const NETWORKS: [Told; 10] = [
+const MODELS: [Told; 16] = [
     (SHOP, 0, SHOP_TEXT),
     // the end is told before a limit that is just met
     (SHOP_OF_TWELVE, 0, SHOP_TEXT),
@@ -108,14 +108,6 @@ const NETWORKS: [Told; 10] = [
         0,
         "end 70368744177663 events 0\n",
     ),
-];
-
-#[test]
-fn networks_have_one_text(rt: HostRuntime) -> Result<(), Fail> {
-    assert_all(&rt, &RECORDS, &NETWORKS)
-}
-
-const HOPS: [Told; 4] = [
     // equal stamps are ordered by destination
     (TIE, 0, TIE_TEXT),
     (SHORT_TIE, 7, "0.0 p1 hop 5 2\n5.0 p0 hop 5 1\nlimit 2\n"),
@@ -131,14 +123,6 @@ const HOPS: [Told; 4] = [
         0,
         "0.0 p0 hop 5 0\n5.0 p0 hop 3 0\nend 7 events 2\n",
     ),
-];
-
-#[test]
-fn hops_have_one_text(rt: HostRuntime) -> Result<(), Fail> {
-    assert_all(&rt, &RECORDS, &HOPS)
-}
-
-const CIRCUITS: [Told; 2] = [
     (
         PULSE,
         0,
@@ -157,11 +141,6 @@ end 5 events 7
     ),
 ];
 
-#[test]
-fn circuits_have_one_text(rt: HostRuntime) -> Result<(), Fail> {
-    assert_all(&rt, &RECORDS, &CIRCUITS)
-}
-
 const WITH_CYCLES: [Told; 5] = [
     (SHOP, 0, SHOP_CYCLES),
     (SHOP_OF_ELEVEN, 7, ELEVEN_EVENTS),
@@ -176,6 +155,9 @@ const WITH_CYCLES: [Told; 5] = [
 ];
 
 #[test]
-fn each_whole_bucket_has_its_horizon_told(rt: HostRuntime) -> Result<(), Fail> {
+fn models_have_one_text_and_each_whole_bucket_has_its_horizon_told(
+    rt: HostRuntime,
+) -> Result<(), Fail> {
+    assert_all(&rt, &RECORDS, &MODELS)?;
     assert_all(&rt, &CYCLES, &WITH_CYCLES)
 }

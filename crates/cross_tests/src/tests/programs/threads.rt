@@ -73,14 +73,16 @@ impl Gate for Meet {
     }
 }
 
+/// Words, and the object that they put on node 1: the station in round placement, the sink in blocks.
+const PLACED: [(&str, u32); 2] = [
+    ("run --nodes 2 --placement round", 1),
+    ("run --nodes 2 --placement block", 2),
+];
+
 #[test]
 fn two_nodes_run_at_once_each_with_its_own_objects(rt: HostRuntime) -> Result<(), Fail> {
-    // round puts the station on node 1, block the sink
-    for (words, object) in [
-        ("run --nodes 2 --placement round", 1),
-        ("run --nodes 2 --placement block", 2),
-    ] {
-        let gate = Meet::new(object);
+    for (words, object) in &PLACED {
+        let gate = Meet::new(*object);
         let run = told_at(&rt, words, SHOP, &gate)?;
         run.assert(&rt, 0, SHOP_TEXT, "", words);
         assert!(rt; gate.zero_met.load(Ordering::SeqCst));
@@ -137,70 +139,31 @@ impl Gate for Trace {
     }
 }
 
-/// A node processes events of just these stamps, in this order, and the run has this text.
-fn assert_trace<R: Abort + AllocGlobal + Threads + Sync>(
-    rt: &R,
-    words: &str,
-    model: &str,
-    text: &str,
+/// Words and a model, the text of the run, and the ticks and steps of the events that one of its nodes processes, in this
+/// order.
+struct Traced {
+    words: &'static str,
+    model: &'static str,
+    text: &'static str,
     node: u32,
-    stamps: &[(u64, u64)],
+    stamps: &'static [(u64, u64)],
+}
+
+/// The run has this text, and its node processes just these events.
+fn assert_traced<R: Abort + AllocGlobal + Threads + Sync>(
+    rt: &R,
+    traced: &Traced,
 ) -> Result<(), Fail> {
     let alloc = rt.alloc();
-    let gate = Trace::new(alloc, node)?;
-    let run = told_at(rt, words, model, &gate)?;
-    run.assert(rt, 0, text, "", words);
-    assert!(rt; gate.told(alloc)?.as_slice() == stamps);
+    let gate = Trace::new(alloc, traced.node)?;
+    let run = told_at(rt, traced.words, traced.model, &gate)?;
+    run.assert(rt, 0, traced.text, "", traced.words);
+    assert!(rt;
+        gate.told(alloc)?.as_slice() == traced.stamps,
+        "{}",
+        traced.words
+    );
     Ok(())
-}
-
-/// What a node does that doesn't run ahead, and one that does, at a station that meets a fault only where it runs ahead.
-const PLAIN: [(u64, u64); 9] = [
-    (5, 0),
-    (9, 0),
-    (9, 1),
-    (10, 0),
-    (11, 0),
-    (14, 0),
-    (14, 1),
-    (18, 0),
-    (18, 1),
-];
-
-const AHEAD: [(u64, u64); 11] = [
-    (5, 0),
-    (10, 0),
-    (11, 0),
-    (9, 0),
-    (10, 0),
-    (11, 0),
-    (9, 1),
-    (14, 0),
-    (14, 1),
-    (18, 0),
-    (18, 1),
-];
-
-#[test]
-fn a_node_processes_again_what_a_straggler_undid(rt: HostRuntime) -> Result<(), Fail> {
-    let words = "run --nodes 1 --ahead 0";
-    assert_trace(&rt, words, FALSE_FAULT, FALSE_FAULT_TEXT, 0, &PLAIN)?;
-    let words = "run --nodes 1 --ahead 8";
-    assert_trace(&rt, words, FALSE_FAULT, FALSE_FAULT_TEXT, 0, &AHEAD)
-}
-
-// The source goes to node 1 after the first cycle, the station to node 2 after the second, the sink to node 0 after the
-// third.
-#[test]
-fn an_object_is_processed_at_the_node_whose_turn_it_was(rt: HostRuntime) -> Result<(), Fail> {
-    let zero = [(1, 0), (4, 1), (7, 1), (10, 1)];
-    let one = [(1, 1), (3, 0), (5, 0)];
-    // what it does at 7.0 it undoes once the third job has come
-    let two = [(3, 1), (4, 0), (7, 0), (5, 1), (7, 0), (10, 0)];
-    let words = "run --nodes 3 --moves turn";
-    assert_trace(&rt, words, SHOP, SHOP_TEXT, 0, &zero)?;
-    assert_trace(&rt, words, SHOP, SHOP_TEXT, 1, &one)?;
-    assert_trace(&rt, words, SHOP, SHOP_TEXT, 2, &two)
 }
 
 /// The text of `LONGER_TIE`.
@@ -216,15 +179,108 @@ const LONGER_TIE_TEXT: &str = "0.0 p1 hop 5 2
 end 20 events 9
 ";
 
-// After the first cycle node 0 has both events and two objects. So p0 goes to node 1, with the event that it has processed at
-// 5, and back after the second cycle; and to node 1 again after the fourth.
+/// What a node does that doesn't run ahead, and one that does, at a station that meets a fault only where it runs ahead: it
+/// processes again what a straggler undid.
+const STRAGGLERS: [Traced; 2] = [
+    Traced {
+        words: "run --nodes 1 --ahead 0",
+        model: FALSE_FAULT,
+        text: FALSE_FAULT_TEXT,
+        node: 0,
+        stamps: &[
+            (5, 0),
+            (9, 0),
+            (9, 1),
+            (10, 0),
+            (11, 0),
+            (14, 0),
+            (14, 1),
+            (18, 0),
+            (18, 1),
+        ],
+    },
+    Traced {
+        words: "run --nodes 1 --ahead 8",
+        model: FALSE_FAULT,
+        text: FALSE_FAULT_TEXT,
+        node: 0,
+        stamps: &[
+            (5, 0),
+            (10, 0),
+            (11, 0),
+            (9, 0),
+            (10, 0),
+            (11, 0),
+            (9, 1),
+            (14, 0),
+            (14, 1),
+            (18, 0),
+            (18, 1),
+        ],
+    },
+];
+
+/// The source goes to node 1 after the first cycle, the station to node 2 after the second, the sink to node 0 after the
+/// third. What node 2 does at 7.0 it undoes once the third job has come.
+const BY_TURN: [Traced; 3] = [
+    Traced {
+        words: "run --nodes 3 --moves turn",
+        model: SHOP,
+        text: SHOP_TEXT,
+        node: 0,
+        stamps: &[(1, 0), (4, 1), (7, 1), (10, 1)],
+    },
+    Traced {
+        words: "run --nodes 3 --moves turn",
+        model: SHOP,
+        text: SHOP_TEXT,
+        node: 1,
+        stamps: &[(1, 1), (3, 0), (5, 0)],
+    },
+    Traced {
+        words: "run --nodes 3 --moves turn",
+        model: SHOP,
+        text: SHOP_TEXT,
+        node: 2,
+        stamps: &[(3, 1), (4, 0), (7, 0), (5, 1), (7, 0), (10, 0)],
+    },
+];
+
+/// After the first cycle node 0 has both events and two objects. So p0 goes to node 1, with the event that it has processed at
+/// 5, and back after the second cycle; and to node 1 again after the fourth.
+const BY_LOAD: [Traced; 2] = [
+    Traced {
+        words: "run --nodes 2 --moves load",
+        model: LONGER_TIE,
+        text: LONGER_TIE_TEXT,
+        node: 0,
+        stamps: &[(5, 0), (5, 0), (10, 0), (15, 0), (20, 0)],
+    },
+    Traced {
+        words: "run --nodes 2 --moves load",
+        model: LONGER_TIE,
+        text: LONGER_TIE_TEXT,
+        node: 1,
+        stamps: &[(0, 0), (10, 0), (15, 0), (20, 0)],
+    },
+];
+
+/// Each of these runs is as it says.
+fn assert_all_traced<R: Abort + AllocGlobal + Threads + Sync>(
+    rt: &R,
+    all: &[Traced],
+) -> Result<(), Fail> {
+    for traced in all {
+        assert_traced(rt, traced)?;
+    }
+    Ok(())
+}
+
 #[test]
-fn an_object_goes_to_a_node_that_has_less_to_do(rt: HostRuntime) -> Result<(), Fail> {
-    let zero = [(5, 0), (5, 0), (10, 0), (15, 0), (20, 0)];
-    let one = [(0, 0), (10, 0), (15, 0), (20, 0)];
-    let words = "run --nodes 2 --moves load";
-    assert_trace(&rt, words, LONGER_TIE, LONGER_TIE_TEXT, 0, &zero)?;
-    assert_trace(&rt, words, LONGER_TIE, LONGER_TIE_TEXT, 1, &one)
+fn nodes_process_again_what_was_undone_and_what_moved_to_them(rt: HostRuntime) -> Result<(), Fail> {
+    assert_all_traced(&rt, &STRAGGLERS)?;
+    assert_all_traced(&rt, &BY_TURN)?;
+    assert_all_traced(&rt, &BY_LOAD)
 }
 
 /// Holds the first entry of node 1 until node 0 has processed an event, and keeps the stamps of node 1.

@@ -1,13 +1,12 @@
 //! When the text is written, and what a failing end of it answers.
-use super::{Ended, ended_by, source_of, text_of};
-use btb_program::btb;
+use super::{Ended, ended_by, source_of, status_of, text_of};
 use node_team::Open;
 use sim_io::{GatheringSink, MemSink};
 use std::alloc::AllocGlobal;
 use std::process::Abort;
 use std::test::Fail;
 use std::thread::Threads;
-use test_texts::{LONG_TIE, words_of};
+use test_texts::LONG_TIE;
 
 /// What each bucket of three tells, and why the simulation stopped.
 const PIECES: [&str; 4] = [
@@ -63,8 +62,7 @@ fn assert_gathered<R: Abort + AllocGlobal + Threads + Sync>(
     let mut out = GatheringSink::new(alloc, inner);
     let mut notes = MemSink::new(alloc, 4096, Vec::new(alloc), Vec::new(alloc), 4096)?;
     let mut source = source_of(alloc, LONG_TIE.as_bytes(), &[])?;
-    let words = words_of(alloc, "run")?;
-    let ended = btb(rt, &words, &mut source, &mut out, &mut notes, &Open);
+    let ended = status_of(rt, "run", &mut source, &mut out, &mut notes, &Open)?;
     assert!(rt; ended == status, "{call}");
     assert!(rt; out.inner().bytes() == text);
     assert!(rt; text_of(alloc, &notes)?.as_str() == line);
