@@ -6,6 +6,7 @@ use Rattle.random_streams.specs.declared.law.TheConstants.{MOST_VALUE, MOST_TRIA
 use Rattle.random_streams.specs.declared.weights.TheConstants.{MOST_WEIGHTS, MOST_WEIGHT}
 use Rattle.model_core.specs.declared.limits.TheConstants.{MOST_OBJECTS, MOST_ENTRIES, MOST_TEXT_BYTES, MOST_NODES, MOST_AHEAD, MOST_DEMO_STATIONS, MOST_EVENTS}
 use Rattle.model_core.specs.declared.words.TheConstants.{HOP_WORD, MADE_WORD, TAKEN_WORD, WAITING_WORD, LOST_WORD, DONE_WORD, HELD_WORD, ROUTED_WORD, LEFT_WORD, LOAD_WORD, LEVEL_WORD, ENDLESS_CHAIN, LINE_FULL, LATE}
+use Rattle.speedes_queue.specs.declared.slots.TheConstants.{SLOTS}
 use Rattle.queue_models.specs.declared.source.TheConstants.{MOST_JOBS}
 use Rattle.queue_models.specs.declared.station.TheConstants.{MOST_SERVERS, MOST_WAITING}
 use Rattle.circuit_model.specs.declared.limits.TheConstants.{MOST_DELAY, MOST_FLIPS, MOST_FED, MOST_PINS}
@@ -64,6 +65,8 @@ pub record Numbers : Type 0 where
   pub default_ahead : DEFAULT_AHEAD ≡ 8
   pub most_saved_cycles : MOST_SAVED_CYCLES ≡ 9999999
   pub most_state_bytes : MOST_STATE_BYTES ≡ 67108864
+  -- the slots of a queue of events
+  pub slots : SLOTS ≡ 57
   -- exit statuses
   pub end : END ≡ 0
   pub event_fault : EVENT_FAULT ≡ 1

@@ -8,11 +8,11 @@ use random_streams::{Law, Stream, draw_by};
 use std::alloc::Global;
 
 /// The kind of all events: the token comes to a station. What one tells: the station holds it. The fault: it comes late.
-const TOKEN: u32 = 1;
+pub const TOKEN: u32 = 1;
 
-const HOLDS: u32 = 1;
+pub const HOLDS: u32 = 1;
 
-const LATE: u32 = 2;
+pub const LATE: u32 = 2;
 
 /// A ring of stations. The cells of each are two words: its random place, and the tick at which the token came last.
 #[derive(Debug, Drop)]

@@ -45,6 +45,7 @@ returns c = record {
   default_ahead = refl;
   most_saved_cycles = refl;
   most_state_bytes = refl;
+  slots = refl;
   end = refl;
   event_fault = refl;
   words = refl;
