@@ -1,15 +1,14 @@
 -- What is answered if a simulation is saved: its records, and the text of its state, unless that is too long.
-use Rattle.std.proofs.Common.{◌≡◌, ◌≢◌, ◌<◌, ◌≤◌, ℕ, List, [], ◌++◌, length, true, false, Option, Result, Ok, Err, refl, sym, ap, ◌∙◌, subst, append-nil, append_assoc, le-leb}
+use Rattle.std.proofs.Common.{◌≡◌, ◌≢◌, ◌<◌, ◌≤◌, ℕ, List, [], ◌++◌, length, true, false, Result, Ok, Err, refl, sym, ap, ◌∙◌, subst, append-nil, le-leb}
 use Rattle.std.specs.Prelude.{is_err, OnOk}
 use Rattle.std.proofs.lemmas.Bool.{lt-leb}
-use Rattle.std.proofs.KnownBytes.{Appends-trans}
+use Rattle.sim_io.proofs.TakenLemmas.{Appends-trans}
 use Rattle.model_core.specs.Meaning.{Meaning}
 use Rattle.sim_spec.specs.declared.terms.Terms.{Terms}
 use Rattle.sim_spec.specs.State.{State, initial_state}
 use Rattle.run_tally.specs.Tallies.{TotalsOf}
 use Rattle.sim_io.specs.declared.streams.sink.Sink.{Ghosts as Sink}
 use Rattle.sim_io.specs.Causes.{Rose}
-use Rattle.sim_io.specs.Transfers.{AppendsPrefix}
 use Rattle.sim_io.proofs.TransferLemmas.{AppendsPrefix-next, prefix_longer}
 use Rattle.sim_text.specs.declared.unfinished.Unfinished.{Unfinished}
 use Rattle.sim_text.specs.WholeTexts.{first_lines}

@@ -1,6 +1,6 @@
 //! The commands of saved states.
 ghost use Rattle.std.specs.Prelude.{◌≡◌, ◌≤◌, ◌+◌, length, Ok, OnOk};
-ghost use Rattle.std.specs.Io.KnownBytes.{Appends, Keeps};
+ghost use Rattle.sim_io.specs.Taken.{Appends, Keeps};
 ghost use Rattle.sim_io.specs.declared.words.TheConstants.{MOST_SAVED_CYCLES};
 ghost use Rattle.sim_io.specs.Causes.{HasCause};
 ghost use Rattle.sim_io.specs.Transfers.{AppendsPrefix};

@@ -1,6 +1,6 @@
 -- What was handed on of a text.
 use Rattle.std.specs.Prelude.{Result, OnOk, IsErrOf}
-use Rattle.std.specs.Io.KnownBytes.{Keeps}
+use Rattle.sim_io.specs.Taken.{Keeps}
 use Rattle.sim_io.specs.declared.streams.sink.Sink.{Ghosts as Sink}
 use Rattle.sim_text.specs.declared.unfinished.Unfinished.{Unfinished}
 use Rattle.sim_text.specs.declared.unfinished.Unfinished.TheVariants.{OutOfMemory}

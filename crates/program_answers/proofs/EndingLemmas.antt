@@ -1,7 +1,7 @@
 -- How the program ends, and what it answers so.
 use Rattle.std.proofs.Common.{◌≡◌, ◌≢◌, ◌≤◌, ℕ, List, [], inl, inr, refl, sym, ap, ◌∙◌, subst, arith}
-use Rattle.std.specs.Io.KnownBytes.{Appends, Keeps}
-use Rattle.std.proofs.KnownBytes.{Appends-nil}
+use Rattle.sim_io.specs.Taken.{Appends, Keeps}
+use Rattle.sim_io.proofs.TakenLemmas.{Appends-nil}
 use Rattle.sim_spec.specs.declared.stop.Stop.{Stop}
 use Rattle.sim_spec.specs.declared.stop.Stop.TheVariants.{End, Limit, Fault}
 use Rattle.sim_io.specs.declared.streams.sink.Sink.{Ghosts as Sink}

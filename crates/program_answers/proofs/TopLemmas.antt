@@ -1,9 +1,11 @@
 -- What is handed on and noted, and what is answered to words.
 use Rattle.std.proofs.Common.{◌≡◌, ◌≢◌, ◌⊎◌, List, ◌++◌, append_assoc, Option, Some, None, ℕ, Result, Ok, Err, inl, inr, sym, ap, ◌∙◌, subst}
 use Rattle.std.specs.Prelude.{OnErr}
+use Rattle.std.specs.Io.KnownBytes.{Appends as AppendsKnown}
 use Rattle.std.specs.declared.io.ErrorKind.{ErrorKind}
-use Rattle.std.specs.Io.KnownBytes.{Appends}
-use Rattle.std.proofs.KnownBytes.{Appends-kept, Appends-trans}
+use Rattle.std.proofs.KnownBytes.{Appends-trans}
+use Rattle.sim_io.specs.Taken.{Taken, Appends}
+use Rattle.sim_io.proofs.TakenLemmas.{Appends-kept}
 use Rattle.sim_io.specs.declared.streams.sink.Sink.{Ghosts as Sink}
 use Rattle.sim_io.specs.declared.streams.source.Source.{Ghosts as Source}
 use Rattle.sim_io.specs.declared.words.WordFault.TheVariants.{BadValue}
@@ -21,14 +23,17 @@ on_err_map (Ok x) f p = tt
 on_err_map (Err e) f p = f p
 
 -- what was handed on of a prefix of the output is a prefix of it
-pub hands_on_prefix : (taken told handed : Option (List ℕ)) (a : Answer) → WritesPrefix taken told a → KeepsBackSome told handed → HandsOnPrefix taken handed a
-hands_on_prefix None told handed a part back = tt
-hands_on_prefix (Some before) None handed a part back = absurd part.3
-hands_on_prefix (Some before) (Some now) handed a part back = (
-  back.0 ++ part.1,
-  Appends-trans handed (Some now) (Some (before ++ a.output)) back.0 part.1 back.1
-      (ap (λ xs. before ++ xs) part.2 ∙ sym (append_assoc before part.0 part.1) ∙ ap (λ xs. xs ++ part.1) (sym part.3)),
+known_prefix : (taken told handed : Option (List ℕ)) (front back rest : List ℕ) (a : Answer) → a.output ≡ front ++ back → AppendsKnown taken told front → AppendsKnown handed told rest
+    → HandsOnPrefix taken handed a
+known_prefix None told handed front back rest a is written kept = tt
+known_prefix (Some before) None handed front back rest a is written kept = absurd written
+known_prefix (Some before) (Some now) handed front back rest a is written kept = (
+  rest ++ back,
+  Appends-trans handed (Some now) (Some (before ++ a.output)) rest back kept (ap (λ xs. before ++ xs) is ∙ sym (append_assoc before front back) ∙ ap (λ xs. xs ++ back) (sym written)),
 )
+
+pub hands_on_prefix : (taken told handed : Taken) (a : Answer) → WritesPrefix taken told a → KeepsBackSome told handed → HandsOnPrefix taken.known handed.known a
+hands_on_prefix taken told handed a part back = known_prefix taken.known told.known handed.known part.0 part.1 back.0 a part.2 part.3.known back.1.known
 
 -- a status that tells of a fault is none of an answer
 tells_none : (status : ℕ) → TellsFault status → IsAnswering status → ⊥
@@ -52,7 +57,7 @@ module _ {S K N : Type 0} (notes : Sink N) (ending : Ending) (old new : Streams 
     hands_on : (a : Answer) → EndsWith sink out told ending a → HandsOnAnswer sink out told (status_of_ending ending) a
     hands_on a so = record {
       handed = λ done kept. Appends-kept _ _ _ _ (so.given.output done) (writing.handed done.1 kept);
-      handed_prefix = hands_on_prefix _ _ _ a so.given.prefix in_order;
+      handed_prefix = hands_on_prefix (sink.told out) (sink.told told) (sink.handed told) a so.given.prefix in_order;
     }
 
   -- how the words end is what is answered to them, and its line is noted

@@ -1,11 +1,12 @@
 -- What a program writes, what it notes, and the status with which it ends.
 use Rattle.std.specs.Prelude.{◌≡◌, ◌⊎◌, ℕ, Bool, true, false, List, [], ◌++◌, Option, Some, IfSome, codes, decimal}
-use Rattle.std.specs.Io.KnownBytes.{Appends}
+use Rattle.std.specs.Io.KnownBytes.{Appends as AppendsKnown}
+use Rattle.sim_io.specs.Taken.{Taken, Appends}
 use Rattle.sim_spec.specs.declared.stop.Stop.{Stop}
 use Rattle.sim_spec.specs.declared.stop.Stop.TheVariants.{End, Limit, Fault}
 use Rattle.sim_io.specs.declared.words.WordFault.{WordFault}
 use Rattle.sim_io.specs.Words.{fault_name}
-use Rattle.sim_io.specs.Transfers.{AppendsPrefix, KeepsBackSome}
+use Rattle.sim_io.specs.Transfers.{AppendsPrefix}
 use Rattle.program_answers.specs.declared.status.TheConstants.{END, EVENT_FAULT, WORDS, MODEL, EVENT_LIMIT}
 
 pub record Answer : Type 0 where
@@ -56,12 +57,12 @@ abbrev pub OfAccepted : Asked → Option (List ℕ) → (Answer → Type 0) → 
 OfAccepted asked left P = (bytes : List ℕ) → IsInput asked left bytes → asked.accepts bytes ≡ true → P (asked.answer bytes)
 
 -- the output of the answer was written, or a prefix of it
-abbrev pub WritesOutput : Option (List ℕ) → Option (List ℕ) → Answer → Type 0
+abbrev pub WritesOutput : Taken → Taken → Answer → Type 0
 WritesOutput old new a = Appends old new a.output
 
-abbrev pub WritesPrefix : Option (List ℕ) → Option (List ℕ) → Answer → Type 0
+abbrev pub WritesPrefix : Taken → Taken → Answer → Type 0
 WritesPrefix old new a = AppendsPrefix old new a.output
 
 -- all that was handed on is a prefix of what had been taken before and the output
 abbrev pub HandsOnPrefix : Option (List ℕ) → Option (List ℕ) → Answer → Type 0
-HandsOnPrefix taken handed a = IfSome taken (λ before. KeepsBackSome (Some (before ++ a.output)) handed)
+HandsOnPrefix taken handed a = IfSome taken (λ before. (rest : List ℕ) × AppendsKnown handed (Some (before ++ a.output)) rest)

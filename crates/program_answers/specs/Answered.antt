@@ -1,12 +1,12 @@
 -- What a program does: what it reads, writes and notes, and the status with which it ends.
 use Rattle.std.specs.Prelude.{◌≡◌, ◌≢◌, ◌≤◌, ◌⊎◌, ◌↔◌, ℕ, true, false, List, length, drop, Some, IfSome}
-use Rattle.std.specs.Io.KnownBytes.{Appends, Keeps}
+use Rattle.sim_io.specs.Taken.{Appends, GivesMore, Keeps}
 use Rattle.std.specs.declared.io.ErrorKind.{ErrorKind}
 use Rattle.sim_io.specs.declared.streams.sink.Sink.{Ghosts as Sink}
 use Rattle.sim_io.specs.declared.streams.source.Source.{Ghosts as Source}
 use Rattle.sim_io.specs.declared.words.WordFault.TheVariants.{BadValue}
 use Rattle.sim_io.specs.Causes.{Rose}
-use Rattle.sim_io.specs.Transfers.{AppendsPrefix, GivesMore}
+use Rattle.sim_io.specs.Transfers.{AppendsPrefix}
 use Rattle.program_answers.specs.declared.ending.Ending.{Ending}
 use Rattle.program_answers.specs.declared.status.TheConstants.{WORDS, READ_FAULT, WRITE_FAULT, OUT_OF_MEMORY, STATE}
 use Rattle.program_answers.specs.Answer.{Answer, Asked, words_line, OfAnswer, OfAccepted, HandsOnPrefix, WritesOutput, WritesPrefix}
@@ -22,7 +22,7 @@ module _ {K : Type 0} (sink : Sink K) (old new : K) (status : ℕ) where
   -- it is handed on: all of it with the answer, if nothing was kept back before, and else a prefix of it
   pub record HandsOnAnswer (a : Answer) : Type 0 where
     pub handed : IsAnswering status → Keeps (sink.told old) (sink.handed old) → WritesOutput (sink.told old) (sink.handed new) a
-    pub handed_prefix : HandsOnPrefix (sink.told old) (sink.handed new) a
+    pub handed_prefix : HandsOnPrefix (sink.told old).known (sink.handed new).known a
 
   -- a fault of writing is told where one came, and nowhere else; if none came, all that was written is handed on
   pub record TellsWriting : Type 0 where

@@ -1,6 +1,6 @@
 -- How the program ends, with which status and with which line among the notes.
-use Rattle.std.specs.Prelude.{◌≡◌, ◌≢◌, ◌⊎◌, ◌==◌, if◌then◌else◌, ℕ, List, [], Option, Result, Ok, Err, codes}
-use Rattle.std.specs.Io.KnownBytes.{Appends}
+use Rattle.std.specs.Prelude.{◌≡◌, ◌≢◌, ◌⊎◌, ◌==◌, if◌then◌else◌, ℕ, List, [], Result, Ok, Err, codes}
+use Rattle.sim_io.specs.Taken.{Taken, Appends}
 use Rattle.sim_io.specs.Transfers.{AppendsPrefix}
 use Rattle.sim_spec.specs.declared.stop.Stop.{Stop}
 use Rattle.sim_text.specs.declared.unfinished.Unfinished.{Unfinished}
@@ -59,10 +59,10 @@ noted_line status notes =
     else notes
 
 -- the line of a status was noted, or a prefix of it
-abbrev pub NotesLine : ℕ → Option (List ℕ) → Option (List ℕ) → Answer → Type 0
+abbrev pub NotesLine : ℕ → Taken → Taken → Answer → Type 0
 NotesLine status old new a = Appends old new (noted_line status a.notes)
 
-abbrev pub NotesPrefix : ℕ → Option (List ℕ) → Option (List ℕ) → Answer → Type 0
+abbrev pub NotesPrefix : ℕ → Taken → Taken → Answer → Type 0
 NotesPrefix status old new a = AppendsPrefix old new (noted_line status a.notes)
 
 -- the status is the answer's, or tells of a fault of reading, a fault of writing or want of memory

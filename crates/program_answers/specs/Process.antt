@@ -1,15 +1,15 @@
 -- What a program does over the streams of a process, in terms of what the standard library tells of them.
-use Rattle.std.specs.Prelude.{◌≡◌, ◌≢◌, ◌<◌, ◌≤◌, ◌⊎◌, ◌↔◌, ℕ, true, false, List, drop, Option, Some, IfSome, String}
+use Rattle.std.specs.Prelude.{◌≡◌, ◌≢◌, ◌<◌, ◌≤◌, ◌⊎◌, ◌↔◌, ℕ, true, false, List, ◌++◌, drop, Option, Some, IfSome, String}
 use Rattle.std.specs.Io.KnownBytes.{Appends}
 use Rattle.std.specs.declared.alloc.Global.{Global}
 use Rattle.std.specs.declared.io.ErrorKind.{ErrorKind}
 use Rattle.sim_io.specs.declared.streams.sink.Sink.{Ghosts as Sink}
 use Rattle.sim_io.specs.declared.streams.source.Source.{Ghosts as Source}
 use Rattle.sim_io.specs.declared.words.WordFault.TheVariants.{BadValue}
-use Rattle.sim_io.specs.Transfers.{AppendsPrefix}
+use Rattle.sim_io.specs.Taken.{Keeps}
 use Rattle.program_answers.specs.declared.process_end.ProcessEnd.{ProcessEnd}
 use Rattle.program_answers.specs.declared.status.TheConstants.{WORDS, READ_FAULT, WRITE_FAULT, OUT_OF_MEMORY, STATE}
-use Rattle.program_answers.specs.Answer.{Asked, words_line, OfAnswer, HandsOnPrefix, WritesOutput}
+use Rattle.program_answers.specs.Answer.{Asked, words_line, OfAnswer, HandsOnPrefix}
 use Rattle.program_answers.specs.Answered.{Streams, streams}
 use Rattle.program_answers.specs.Endings.{noted_line, IsAnswering, TellsFault}
 
@@ -17,13 +17,14 @@ module _ {S K L I O N : Type 0} (source : Source S) (sink : Sink K) (notes : Sin
   -- what adapters tell is what the streams do
   pub record StandFor (adapters : Streams S K L) (given : Streams I O N) : Type 0 where
     pub left : source.left adapters.source ≡ remaining given.source
-    pub handed : sink.handed adapters.out ≡ contents given.out
-    pub told : notes.told adapters.notes ≡ noted given.notes
+    pub handed : (sink.handed adapters.out).known ≡ contents given.out
+    pub told : (notes.told adapters.notes).known ≡ noted given.notes
 
   -- adapters that were just made: nothing is kept back, and nothing has failed
   pub record AreMadeOf (adapters : Streams S K L) (given : Streams I O N) : Type 0 where
     pub stand : StandFor adapters given
-    pub nothing_kept : sink.told adapters.out ≡ contents given.out
+    pub told : (sink.told adapters.out).known ≡ contents given.out
+    pub nothing_kept : Keeps (sink.told adapters.out) (sink.handed adapters.out)
     pub no_read_faults : source.faults adapters.source ≡ 0
     pub no_write_faults : sink.faults adapters.out ≡ 0
     pub no_note_faults : notes.faults adapters.notes ≡ 0
@@ -39,13 +40,13 @@ module _ {S K L I O N : Type 0} (source : Source S) (sink : Sink K) (notes : Sin
 module _ {I O N : Type 0} (remaining : I → Option (List ℕ)) (contents : O → Option (List ℕ)) (noted : N → Option (List ℕ)) (old : Streams I O N) (ended : ProcessEnd I O N) where
   -- the line of the status is noted, or a prefix of it where a write failed
   pub record NotesStreams (line : List ℕ) : Type 0 where
-    pub prefix : AppendsPrefix (noted old.notes) (noted ended.notes) (noted_line ended.status line)
+    pub prefix : (front back : List ℕ) × (noted_line ended.status line ≡ front ++ back) × Appends (noted old.notes) (noted ended.notes) front
     pub whole : Appends (noted old.notes) (noted ended.notes) (noted_line ended.status line) ⊎ (0 < ended.note_faults)
 
   -- all that a program does over a reader, a writer, and another one for its notes, with words that ask for this
   pub record AnswersStreams (asked : Asked) : Type 0 where
     pub known : ended.status ≤ STATE
-    pub output : OfAnswer asked (remaining old.source) (λ a. IsAnswering ended.status → WritesOutput (contents old.out) (contents ended.output) a)
+    pub output : OfAnswer asked (remaining old.source) (λ a. IsAnswering ended.status → Appends (contents old.out) (contents ended.output) a.output)
     pub same_status : OfAnswer asked (remaining old.source) (λ a. IsAnswering ended.status → ended.status ≡ a.status)
     pub prefix : OfAnswer asked (remaining old.source) (HandsOnPrefix (contents old.out) (contents ended.output))
     pub refused_words : (ended.status ≡ WORDS) ↔ (asked.refused ≡ true)

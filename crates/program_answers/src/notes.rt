@@ -1,6 +1,6 @@
 //! What is noted of how the program ends.
 ghost use Rattle.std.specs.Prelude.{◌≡◌, ◌⊎◌, IfOk, OnOk, OnErr};
-ghost use Rattle.std.specs.Io.KnownBytes.{Appends, Keeps};
+ghost use Rattle.sim_io.specs.Taken.{Appends, Keeps};
 ghost use Rattle.sim_io.specs.Causes.{HasCause, Rose};
 ghost use Rattle.sim_io.specs.Transfers.{AppendsPrefix};
 ghost use Rattle.program_answers.specs.Answer.{words_line, refusal_line};

@@ -1,7 +1,7 @@
 -- The rows of replications, some of them and then the others.
-use Rattle.std.proofs.Common.{◌≡◌, ℕ, suc, ◌+◌, ◌-◌, ◌≤◌, List, [], ◌∷◌, ◌++◌, map, refl, sym, ap, ◌∙◌, arith, append-nil, append_assoc, Option, subst}
+use Rattle.std.proofs.Common.{◌≡◌, ℕ, suc, ◌+◌, ◌-◌, ◌≤◌, List, [], ◌∷◌, ◌++◌, map, refl, sym, ap, ◌∙◌, arith, append-nil, append_assoc, subst}
 use Rattle.std.specs.List.{flat_map, range_with_len}
-use Rattle.std.specs.Io.KnownBytes.{Appends}
+use Rattle.sim_io.specs.Taken.{Taken, Appends}
 use Rattle.std.proofs.lemmas.Grind.{flat_map-append}
 use Rattle.std.proofs.lemmas.List.{map-append}
 use Rattle.sim_io.specs.Transfers.{AppendsPrefix}
@@ -44,11 +44,11 @@ module _ (s : StudyOf) (number i all : ℕ) (within : i ≤ all) where
   rest = ap (rows_between s number) (omega arith) ∙ rows_between-split s number i (all - i)
 
   -- so far is a prefix
-  pub so_far-prefix : (old now : Option (List ℕ)) → Appends old now (rows_between s number i) → AppendsPrefix old now (rows_between s number all)
+  pub so_far-prefix : (old now : Taken) → Appends old now (rows_between s number i) → AppendsPrefix old now (rows_between s number all)
   so_far-prefix old now written = (rows_between s number i, rows_between s (number + i) (all - i), rest, written)
 
 -- and so it is with a part of what comes next
-pub next-prefix : (s : StudyOf) (number i k all : ℕ) → i + k ≤ all → (old mid now : Option (List ℕ)) → Appends old mid (rows_between s number i) → AppendsPrefix mid now (rows_between s (number + i) k)
+pub next-prefix : (s : StudyOf) (number i k all : ℕ) → i + k ≤ all → (old mid now : Taken) → Appends old mid (rows_between s number i) → AppendsPrefix mid now (rows_between s (number + i) k)
     → AppendsPrefix old now (rows_between s number all)
 next-prefix s number i k all within old mid now written part =
     let behind = rows_between s (number + (i + k)) (all - (i + k)) in
@@ -65,7 +65,7 @@ pub stops-batch : (s : StudyOf) (done many until : ℕ) → done + many ≡ unti
 stops-batch s done many until is =
     ap (λ n. stops_between s 0 done ++ stops_between s n many) (omega arith) ∙ sym (stops_between-split s 0 done many) ∙ ap (stops_between s 0) is
 
-pub batch-prefix : (s : StudyOf) (done many all : ℕ) → done + many ≤ all → (old mid now : Option (List ℕ)) → Appends old mid (rows_between s 0 done) → AppendsPrefix mid now (rows_between s done many)
+pub batch-prefix : (s : StudyOf) (done many all : ℕ) → done + many ≤ all → (old mid now : Taken) → Appends old mid (rows_between s 0 done) → AppendsPrefix mid now (rows_between s done many)
     → AppendsPrefix old now (rows_between s 0 all)
 batch-prefix s done many all within old mid now written part =
     let same : done ≡ 0 + done = omega arith in
@@ -75,5 +75,5 @@ pub one_row : (s : StudyOf) (number : ℕ) → rows_at s number ≡ rows_between
 unfolding rows_between
 one_row s number = sym (append-nil (rows_at s number))
 
-pub prefix_next : (old mid new : Option (List ℕ)) (head rows : List ℕ) → Appends old mid head → AppendsPrefix mid new rows → AppendsPrefix old new (head ++ rows)
+pub prefix_next : (old mid new : Taken) (head rows : List ℕ) → Appends old mid head → AppendsPrefix mid new rows → AppendsPrefix old new (head ++ rows)
 prefix_next old mid new head rows written part = AppendsPrefix-next old mid new head rows [] (head ++ rows) written part (ap (λ rows. head ++ rows) (sym (append-nil rows)))

@@ -1,6 +1,6 @@
 //! The table of many replications.
 ghost use Rattle.std.specs.Prelude.{◌≡◌, ◌≤◌, ◌<◌, ◌^◌, ◌++◌, ℕ, List, length, IfOk, OnOk, IsErrOf};
-ghost use Rattle.std.specs.Io.KnownBytes.{Keeps};
+ghost use Rattle.sim_io.specs.Taken.{Keeps};
 ghost use Rattle.steal_pool.specs.declared.worker.TheConstants.{MOST_WORKERS};
 ghost use Rattle.sim_spec.specs.declared.stop.Stop.{Stop};
 ghost use Rattle.sim_text.specs.declared.unfinished.Unfinished.TheVariants.{OutOfMemory as NoMemory};

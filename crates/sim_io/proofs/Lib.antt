@@ -1,5 +1,6 @@
 pub mod CycleTextLemmas
 pub mod TextLemmas
+pub mod TakenLemmas
 pub mod TransferLemmas
 pub mod NumberLemmas
 pub mod WordLemmas

@@ -3,6 +3,7 @@ pub mod CycleTexts
 pub mod Gathering
 pub mod Heads
 pub mod Memory
+pub mod Taken
 pub mod Texts
 pub mod Transfers
 pub mod Words

@@ -1,7 +1,7 @@
 -- A simulation that ends before its time.
 use Rattle.std.proofs.Common.{◌≡◌, List, Result}
 use Rattle.std.specs.Prelude.{IsErrAnd}
-use Rattle.std.specs.Io.KnownBytes.{Appends}
+use Rattle.sim_io.specs.Taken.{Appends}
 use Rattle.model_core.specs.Meaning.{Meaning}
 use Rattle.sim_spec.specs.declared.bucket.Bucket.{Bucket}
 use Rattle.sim_spec.specs.declared.stop.Stop.{Stop}

@@ -1,7 +1,7 @@
 -- The first cycles of a simulation: those so far, and those that may still come.
 use Rattle.std.proofs.Common.{◌≡◌, ◌≤◌, ◌-◌, ℕ, zero, suc, ◌+◌, Bool, true, false, List, [], ◌∷◌, ◌++◌, length, length-append, Option, Some, None, refl, sym, ap, ◌∙◌, append-nil, append_assoc, subst, arith}
 use Rattle.std.specs.Prelude.{is_some}
-use Rattle.std.specs.Io.KnownBytes.{Appends}
+use Rattle.sim_io.specs.Taken.{Taken, Appends}
 use Rattle.event_key.specs.declared.key.Key.{Key}
 use Rattle.model_core.specs.declared.note.Note.{Note}
 use Rattle.model_core.specs.Meaning.{Meaning}
@@ -118,7 +118,7 @@ module _ (m : Meaning) (t : Terms) (from : State) (standing : Standing) (so_far 
   )
 
   -- so it is a prefix of them
-  pub lines-prefix : (old new : Option (List ℕ)) (most : ℕ) → length so_far ≤ most → Appends old new (record_lines m (records_of_buckets so_far)) → AppendsPrefix old new (first_lines m t most from)
+  pub lines-prefix : (old new : Taken) (most : ℕ) → length so_far ≤ most → Appends old new (record_lines m (records_of_buckets so_far)) → AppendsPrefix old new (first_lines m t most from)
   lines-prefix old new most few told = let begins = lines-begin most few in (record_lines m (records_of_buckets so_far), begins.0, begins.1, told)
 
   -- where no cycle comes any more, they are all that is told, and the engine stands at the state after them
@@ -136,7 +136,7 @@ module _ (m : Meaning) (t : Terms) (from : State) (standing : Standing) (so_far 
   }
 
   -- the records of these cycles were written
-  pub told_first : (old now : Option (List ℕ)) → Appends old now (record_lines m (records_of_buckets so_far)) → HasToldFirst m t from old now standing
+  pub told_first : (old now : Taken) → Appends old now (record_lines m (records_of_buckets so_far)) → HasToldFirst m t from old now standing
   told_first old now told =
       let all = all-so_far 0 (none_yet m t are.state are.fault) in
       record {

@@ -1,7 +1,7 @@
 -- What was told of the buckets so far, and what is told in the end, are the text.
-use Rattle.std.proofs.Common.{◌≡◌, ℕ, ◌+◌, Bool, List, [], ◌∷◌, ◌++◌, length, Option, refl, sym, ap, ◌∙◌, subst, arith, append-nil, append_assoc}
-use Rattle.std.proofs.KnownBytes.{Appends-trans}
-use Rattle.std.specs.Io.KnownBytes.{Appends}
+use Rattle.std.proofs.Common.{◌≡◌, ℕ, ◌+◌, Bool, List, [], ◌∷◌, ◌++◌, length, refl, sym, ap, ◌∙◌, subst, arith, append-nil, append_assoc}
+use Rattle.sim_io.proofs.TakenLemmas.{Appends-trans}
+use Rattle.sim_io.specs.Taken.{Taken, Appends}
 use Rattle.event_key.specs.declared.key.Key.{Key}
 use Rattle.model_core.specs.declared.note.Note.{Note}
 use Rattle.model_core.specs.Meaning.{Meaning}
@@ -94,7 +94,7 @@ text-ends m t totals from (Telling.Demo n) bs count stop ends =
     ∙ ap (λ count. demo_line n count (whole_cycles bs) (last_stamp 0 (records_of_buckets bs)) ++ stop_line m t (run m t from).last.count (run m t from).stop) ends.counted
     ∙ ap (λ line. demo_line n count (whole_cycles bs) (last_stamp 0 (records_of_buckets bs)) ++ line) (last_line m t from bs count stop ends)
 
-module _ (m : Meaning) (t : Terms) (totals : TotalsOf) (from : State) (telling : Telling) (start now : Option (List ℕ)) (bs : List Bucket) (told : Appends start now (lines_so_far m telling bs)) where
+module _ (m : Meaning) (t : Terms) (totals : TotalsOf) (from : State) (telling : Telling) (start now : Taken) (bs : List Bucket) (told : Appends start now (lines_so_far m telling bs)) where
   -- what was told so far is a prefix of the text
   pub told-prefix : (more : List Bucket) → (cycles m t from).buckets ≡ bs ++ more → AppendsPrefix start now (text_from m t totals telling from)
   told-prefix more all =
@@ -102,7 +102,7 @@ module _ (m : Meaning) (t : Terms) (totals : TotalsOf) (from : State) (telling :
       (lines_so_far m telling bs, begins.0, begins.1, told)
 
   -- so it is where a bucket is told in part
-  pub bucket-prefix : (b : Bucket) (number : ℕ) (more : List Bucket) (later : Option (List ℕ)) → number ≡ length bs + 1 → (cycles m t from).buckets ≡ (bs ++ b ∷ []) ++ more
+  pub bucket-prefix : (b : Bucket) (number : ℕ) (more : List Bucket) (later : Taken) → number ≡ length bs + 1 → (cycles m t from).buckets ≡ (bs ++ b ∷ []) ++ more
       → AppendsPrefix now later (told_at_once m telling number b) → AppendsPrefix start later (text_from m t totals telling from)
   bucket-prefix b number more later is all part =
       let begins = text-begins m t totals from telling (bs ++ b ∷ []) more all in
@@ -111,7 +111,7 @@ module _ (m : Meaning) (t : Terms) (totals : TotalsOf) (from : State) (telling :
       begins.1 ∙ ap (λ lines. lines ++ begins.0) (lines_so_far-more m telling bs b number is) ∙ append_assoc (lines_so_far m telling bs) next begins.0 in
       writes_prefix start now later (text_from m t totals telling from) (next ++ begins.0) next begins.0 (lines_so_far m telling bs, told, whole) refl part
 
-  pub bucket-told : (b : Bucket) (number : ℕ) (later : Option (List ℕ)) → number ≡ length bs + 1 → Appends now later (told_at_once m telling number b)
+  pub bucket-told : (b : Bucket) (number : ℕ) (later : Taken) → number ≡ length bs + 1 → Appends now later (told_at_once m telling number b)
       → Appends start later (lines_so_far m telling (bs ++ b ∷ []))
   bucket-told b number later is written =
       subst (Appends start later) (sym (lines_so_far-more m telling bs b number is))
@@ -122,11 +122,11 @@ module _ (m : Meaning) (t : Terms) (totals : TotalsOf) (from : State) (telling :
     so_ends = (lines_so_far m telling bs, told, text-ends m t totals from telling bs count stop ends)
 
     -- and where the end is told in part
-    pub end-prefix : (later : Option (List ℕ)) → AppendsPrefix now later (told_in_the_end totals telling bs count stop ++ stop_line m t count stop)
+    pub end-prefix : (later : Taken) → AppendsPrefix now later (told_in_the_end totals telling bs count stop ++ stop_line m t count stop)
         → AppendsPrefix start later (text_from m t totals telling from)
     end-prefix later part =
         writes_prefix start now later (text_from m t totals telling from) _ (told_in_the_end totals telling bs count stop ++ stop_line m t count stop) [] so_ends (sym (append-nil _)) part
 
-    pub end-told : (later : Option (List ℕ)) → Appends now later (told_in_the_end totals telling bs count stop ++ stop_line m t count stop)
+    pub end-told : (later : Taken) → Appends now later (told_in_the_end totals telling bs count stop ++ stop_line m t count stop)
         → Appends start later (text_from m t totals telling from)
     end-told later written = writes_last start now later (text_from m t totals telling from) _ so_ends written

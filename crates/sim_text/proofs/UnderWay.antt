@@ -5,7 +5,7 @@ use Rattle.std.proofs.lemmas.List.{append-nil}
 use Rattle.std.proofs.lemmas.List.Elements.{All-cons}
 use Rattle.std.specs.List.{AllPairs}
 use Rattle.std.specs.Prelude.{IsSome, Result}
-use Rattle.std.specs.Io.KnownBytes.{Appends}
+use Rattle.sim_io.specs.Taken.{Taken, Appends}
 use Rattle.delta_exchange.specs.declared.memory.OutOfMemory.{OutOfMemory}
 use Rattle.event_key.specs.declared.key.Key.{Key}
 use Rattle.event_key.specs.Keys.{key_lt}
@@ -62,7 +62,7 @@ pub record IsUnderWay (m : Meaning) (t : Terms) (from : State) (standing : Stand
   pub few_whole : fault ≡ None → length so_far ≤ state.count
 
 -- a simulation under way has told of its buckets so far what was written of them
-pub told_so_far : (m : Meaning) (t : Terms) (from : State) (telling : Telling) (old now : Option (List ℕ)) (standing : Standing) (so_far : List Bucket) → IsUnderWay m t from standing so_far
+pub told_so_far : (m : Meaning) (t : Terms) (from : State) (telling : Telling) (old now : Taken) (standing : Standing) (so_far : List Bucket) → IsUnderWay m t from standing so_far
     → Appends old now (lines_so_far m telling so_far) → HasToldSoFar m t telling from old now standing
 told_so_far m t from telling old now standing so_far way told = record {
   state = way.state;

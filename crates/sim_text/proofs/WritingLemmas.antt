@@ -1,10 +1,10 @@
 -- What was written so far, and what is still to come.
-use Rattle.std.proofs.Common.{◌≡◌, ℕ, List, ◌++◌, sym, ap, ◌∙◌, subst, append_assoc, Option}
-use Rattle.std.proofs.KnownBytes.{Appends-trans}
-use Rattle.std.specs.Io.KnownBytes.{Appends}
+use Rattle.std.proofs.Common.{◌≡◌, ℕ, List, ◌++◌, sym, ap, ◌∙◌, subst, append_assoc}
+use Rattle.sim_io.proofs.TakenLemmas.{Appends-trans}
+use Rattle.sim_io.specs.Taken.{Taken, Appends}
 use Rattle.sim_io.specs.Transfers.{AppendsPrefix, AppendsSome}
 
-module _ (a b c : Option (List ℕ)) (whole : List ℕ) where
+module _ (a b c : Taken) (whole : List ℕ) where
   -- all that is left is written
   pub writes_last : (rest : List ℕ) → AppendsSome a b whole rest → Appends b c rest → Appends a c whole
   writes_last rest some written =

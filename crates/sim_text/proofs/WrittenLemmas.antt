@@ -1,8 +1,8 @@
 -- What was written, by how it ended.
-use Rattle.std.proofs.Common.{◌≡◌, ℕ, ◌≤◌, List, [], Option, Result, Ok, Err, refl, subst, arith}
+use Rattle.std.proofs.Common.{◌≡◌, ℕ, ◌≤◌, List, [], Result, Ok, Err, refl, subst, arith}
 use Rattle.std.specs.Prelude.{IsErrAnd}
-use Rattle.std.specs.Io.KnownBytes.{Appends}
-use Rattle.std.proofs.KnownBytes.{Appends-nil}
+use Rattle.sim_io.specs.Taken.{Taken, Appends}
+use Rattle.sim_io.proofs.TakenLemmas.{Appends-nil}
 use Rattle.model_core.specs.Meaning.{Meaning}
 use Rattle.sim_spec.specs.declared.stop.Stop.{Stop}
 use Rattle.sim_spec.specs.declared.terms.Terms.{Terms}
@@ -18,7 +18,7 @@ use Rattle.sim_text.specs.WholeTexts.{text_from}
 use Rattle.sim_text.specs.Written.{HasWritten, HasSimulated}
 
 -- nothing was written yet
-pub no_prefix : (told : Option (List ℕ)) (bytes : List ℕ) → AppendsPrefix told told bytes
+pub no_prefix : (told : Taken) (bytes : List ℕ) → AppendsPrefix told told bytes
 no_prefix told bytes = ([], bytes, refl, Appends-nil told)
 
 -- no write had failed before

@@ -1,6 +1,6 @@
 -- What was told before a cycle begins.
 use Rattle.std.specs.Prelude.{◌≡◌, ℕ, ◌+◌, List, [], ◌++◌, length, Option}
-use Rattle.std.specs.Io.KnownBytes.{Appends}
+use Rattle.sim_io.specs.Taken.{Taken, Appends}
 use Rattle.event_key.specs.declared.key.Key.{Key}
 use Rattle.model_core.specs.Meaning.{Meaning}
 use Rattle.sim_spec.specs.declared.bucket.Bucket.{Bucket}
@@ -20,7 +20,7 @@ lines_so_far m (Telling.Demo n) bs = []
 
 -- a simulation has come to a standing: all that is told at once of its buckets so far, which have all the events that are
 -- done, was written
-pub record HasToldSoFar (m : Meaning) (t : Terms) (telling : Telling) (from : State) (old now : Option (List ℕ)) (at : Standing) : Type 0 where
+pub record HasToldSoFar (m : Meaning) (t : Terms) (telling : Telling) (from : State) (old now : Taken) (at : Standing) : Type 0 where
   pub state : State
   pub fault : Option (Key × ℕ)
   pub at_state : at ≡ stands state fault
@@ -31,7 +31,7 @@ pub record HasToldSoFar (m : Meaning) (t : Terms) (telling : Telling) (from : St
   pub told : Appends old now (lines_so_far m telling so_far)
 
 -- a simulation has come to a standing after so many cycles: all their records were written
-pub record HasToldFirst (m : Meaning) (t : Terms) (from : State) (old now : Option (List ℕ)) (at : Standing) : Type 0 where
+pub record HasToldFirst (m : Meaning) (t : Terms) (from : State) (old now : Taken) (at : Standing) : Type 0 where
   pub done : ℕ
   pub fault : Option (Key × ℕ)
   pub at_state : at ≡ stands (cycles_for done m t from).last fault

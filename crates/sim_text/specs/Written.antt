@@ -1,6 +1,6 @@
 -- What was written of a text, and what is told of it.
 use Rattle.std.specs.Prelude.{◌≡◌, ℕ, ◌≤◌, List, Result, OnOk, OnErr, IfOk, IsErrOf}
-use Rattle.std.specs.Io.KnownBytes.{Appends}
+use Rattle.sim_io.specs.Taken.{Appends}
 use Rattle.model_core.specs.Meaning.{Meaning}
 use Rattle.sim_spec.specs.declared.stop.Stop.{Stop}
 use Rattle.sim_spec.specs.declared.terms.Terms.{Terms}

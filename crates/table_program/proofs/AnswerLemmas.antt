@@ -1,8 +1,8 @@
 -- How a table ends, and what is answered so.
-use Rattle.std.proofs.Common.{◌≡◌, ◌≤◌, ◌<◌, ◌^◌, ℕ, Bool, true, false, List, [], ◌∷◌, Option, Some, None, Result, Ok, Err, inl, inr, refl, sym, ap, ◌∙◌, subst, arith}
+use Rattle.std.proofs.Common.{◌≡◌, ◌≤◌, ◌<◌, ◌^◌, ℕ, Bool, true, false, List, [], ◌∷◌, Option, Some, None, Result, Ok, Err, inl, inr, refl, sym, ap, ◌∙◌, arith}
 use Rattle.std.specs.Prelude.{IfOk, IfSome, IsErrOf, OnErr, OnOk, if◌then◌else◌, unwrap_or}
 use Rattle.std.specs.List.{list_any}
-use Rattle.std.specs.Io.KnownBytes.{Appends, Keeps}
+use Rattle.sim_io.specs.Taken.{Appends, Keeps}
 use Rattle.model_reader.specs.Checks.{Checked}
 use Rattle.sim_io.specs.declared.streams.reading.TheConstants.{ENOUGH_BYTES}
 use Rattle.sim_io.specs.declared.streams.sink.Sink.{Ghosts as Sink}
@@ -24,7 +24,7 @@ use Rattle.replications.specs.declared.words.TheConstants.{LAST_SEED}
 use Rattle.replications.specs.ReplicateWords.{IsGivenWithin}
 use Rattle.replications.specs.Studies.{StudyOf, graver, gravest, stops_between, table_text}
 use Rattle.table_program.specs.Families.{FamilyOf, FamilyReading, FamilyLaws}
-use Rattle.table_program.specs.TableAnswers.{is_fault, is_limit, status_of_stops, answer_to_family, answer_to_study, answer_to_read, answer_to_words}
+use Rattle.table_program.specs.TableAnswers.{is_fault, is_limit, status_of_stops, answer_to_study, answer_to_read, answer_to_words}
 
 -- the status of the gravest stop tells whether some run stopped at a fault, or else some at its limit
 pub gravest-status : (stops : List Stop) → status_of_stop (gravest stops) ≡ status_of_stops stops

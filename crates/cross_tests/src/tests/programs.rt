@@ -1,4 +1,5 @@
 //! Whole runs of the program, over sources and sinks in memory.
+mod counts;
 mod long;
 mod longest_state;
 mod machines;

@@ -1,9 +1,9 @@
 //! A source and a sink that never fail.
 ghost use Rattle.std.specs.Prelude.{◌≡◌, None, Some, List, [], ℕ, ◌<◌, Ok, IfOk, OnOk, length, min, take};
 ghost use Rattle.std.specs.Io.{ReadsAtMost, WritesAtMost};
-ghost use Rattle.std.specs.Io.KnownBytes.{Keeps, ReadConsumes, WriteAppends};
+ghost use Rattle.std.specs.Io.KnownBytes.{ReadConsumes};
 ghost use Rattle.sim_io.specs.Causes.{CountsIdle, HasCause};
-ghost use Rattle.sim_io.specs.Transfers.{GivesMore};
+ghost use Rattle.sim_io.specs.Taken.{GivesMore, Keeps, WriteAppends, told_bytes};
 
 use crate::streams::failed::Failed;
 use crate::streams::sink::Sink;
@@ -72,17 +72,17 @@ impl CleanSink {
 }
 
 impl Sink for CleanSink {
-    ghost use Rattle.std.proofs.KnownBytes.{Appends-nil};
+    ghost use Rattle.sim_io.specs.Gathering.{nothing_back};
 
-    ghost told = { λ _. None };
+    ghost told = { λ _. told_bytes None };
 
-    ghost handed = { λ _. None };
+    ghost handed = { λ _. told_bytes None };
 
     ghost faults = { λ _. 0 };
 
     fn write(&mut self, bytes: &[u8]) -> Result<usize, Failed>
         ensures bound { WritesAtMost result bytes.now }
-        ensures taken { WriteAppends None None result bytes.now }
+        ensures taken { WriteAppends (told_bytes None) (told_bytes None) result bytes.now }
         ensures cause { HasCause 0 0 result }
         ensures idle { CountsIdle 0 0 bytes.now result }
         ensures quiet { IfOk result (λ n. 0 < n → ◌≡◌ {A = ℕ} 0 0) }
@@ -92,8 +92,8 @@ impl Sink for CleanSink {
     }
 
     fn flush(&mut self) -> Result<(), Failed>
-        ensures taken { Keeps None None }
-        ensures all { OnOk result (Keeps None None) }
+        ensures taken { Keeps (told_bytes None) (told_bytes None) }
+        ensures all { OnOk result (Keeps (told_bytes None) (told_bytes None)) }
         ensures cause { HasCause 0 0 result }
         ensures quiet { OnOk result (◌≡◌ {A = ℕ} 0 0) }
         ensures done { result ≡ Ok tt }
@@ -101,5 +101,5 @@ impl Sink for CleanSink {
         Ok(())
     }
 
-    ghost in_order = { λ _. ([], Appends-nil None) };
+    ghost in_order = { λ _. nothing_back (told_bytes None) };
 }

@@ -1,8 +1,8 @@
 //! A sink that joins small writes, since a write to a file or a pipe costs more than many lines.
 ghost use Rattle.std.specs.Prelude.{◌≡◌, ◌≤◌, ◌<◌, IfOk, OnOk, [], drop, vec_len};
 ghost use Rattle.std.specs.Io.{WritesAtMost};
-ghost use Rattle.std.specs.Io.KnownBytes.{WriteAppends, append_known};
 ghost use Rattle.sim_io.specs.Causes.{CountsIdle, HasCause};
+ghost use Rattle.sim_io.specs.Taken.{WriteAppends, append_taken};
 ghost use Rattle.sim_io.specs.Transfers.{AppendsSome};
 
 use crate::room::append;
@@ -85,7 +85,7 @@ fn hand_on<K: Sink>(gathered: &mut Vec<u8>, inner: &mut K) -> Result<(), Failed>
 /// Takes bytes for which there is no room beside what was gathered.
 fn take_more<K: Sink>(gathered: &mut Vec<u8>, inner: &mut K, bytes: &[u8]) -> Result<usize, Failed>
     ensures bound { WritesAtMost result bytes.now }
-    ensures taken { WriteAppends (append_known (K.told inner.old) gathered.old.items) (append_known (K.told inner.new) gathered.new.items) result bytes.now }
+    ensures taken { WriteAppends (append_taken (K.told inner.old) gathered.old.items) (append_taken (K.told inner.new) gathered.new.items) result bytes.now }
     ensures cause { HasCause (K.faults inner.old) (K.faults inner.new) result }
     ensures idle { CountsIdle (K.faults inner.old) (K.faults inner.new) bytes.now result }
     ensures quiet { IfOk result (λ n. 0 < n → K.faults inner.new ≡ K.faults inner.old) }
@@ -101,7 +101,7 @@ fn take_more<K: Sink>(gathered: &mut Vec<u8>, inner: &mut K, bytes: &[u8]) -> Re
 impl<K: Sink> Sink for GatheringSink<K> {
     ghost use Rattle.sim_io.specs.Gathering.{gathered_last};
 
-    ghost told = { λ sink. append_known (K.told sink.inner) sink.gathered };
+    ghost told = { λ sink. append_taken (K.told sink.inner) sink.gathered };
 
     ghost handed = { λ sink. K.handed sink.inner };
 

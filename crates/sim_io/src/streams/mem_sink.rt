@@ -1,9 +1,9 @@
 //! A sink in memory whose faults are chosen by the numbers of its calls.
 ghost use Rattle.std.specs.Prelude.{◌≡◌, ◌≤◌, ◌<◌, ◌↔◌, Some, Ok, [], length, Contains, IsErr, IfOk, OnOk};
 ghost use Rattle.std.specs.Io.{WritesAtMost};
-ghost use Rattle.std.specs.Io.KnownBytes.{Keeps, WriteAppends};
 ghost use Rattle.sim_io.specs.Causes.{CountsIdle, HasCause, next_count};
 ghost use Rattle.sim_io.specs.Memory.{taken_count, faults_after, KeepsSinkRules};
+ghost use Rattle.sim_io.specs.Taken.{Keeps, WriteAppends, told_bytes};
 
 use crate::streams::failed::Failed;
 use crate::streams::sink::Sink;
@@ -84,17 +84,17 @@ impl MemSink {
 }
 
 impl Sink for MemSink {
-    ghost use Rattle.std.proofs.KnownBytes.{Appends-nil};
+    ghost use Rattle.sim_io.specs.Gathering.{nothing_back};
 
-    ghost told = { λ sink. Some sink.taken };
+    ghost told = { λ sink. told_bytes (Some sink.taken) };
 
-    ghost handed = { λ sink. Some sink.taken };
+    ghost handed = { λ sink. told_bytes (Some sink.taken) };
 
     ghost faults = { λ sink. sink.faults };
 
     fn write(&mut self, bytes: &[u8]) -> Result<usize, Failed>
         ensures bound { WritesAtMost result bytes.now }
-        ensures taken { WriteAppends (Some self.old.taken) (Some self.new.taken) result bytes.now }
+        ensures taken { WriteAppends (told_bytes (Some self.old.taken)) (told_bytes (Some self.new.taken)) result bytes.now }
         ensures cause { HasCause self.old.faults self.new.faults result }
         ensures idle { CountsIdle self.old.faults self.new.faults bytes.now result }
         ensures quiet { IfOk result (λ n. 0 < n → self.new.faults ≡ self.old.faults) }
@@ -123,8 +123,8 @@ impl Sink for MemSink {
 
     /// It keeps nothing back, and this is none of the calls that are counted.
     fn flush(&mut self) -> Result<(), Failed>
-        ensures taken { Keeps (Some self.old.taken) (Some self.new.taken) }
-        ensures all { OnOk result (Keeps (Some self.new.taken) (Some self.new.taken)) }
+        ensures taken { Keeps (told_bytes (Some self.old.taken)) (told_bytes (Some self.new.taken)) }
+        ensures all { OnOk result (Keeps (told_bytes (Some self.new.taken)) (told_bytes (Some self.new.taken))) }
         ensures cause { HasCause self.old.faults self.new.faults result }
         ensures quiet { OnOk result (self.new.faults ≡ self.old.faults) }
         ensures done { result ≡ Ok tt }
@@ -133,5 +133,5 @@ impl Sink for MemSink {
         Ok(())
     }
 
-    ghost in_order = { λ sink. ([], Appends-nil (Some sink.taken)) };
+    ghost in_order = { λ sink. nothing_back (told_bytes (Some sink.taken)) };
 }

@@ -3,7 +3,7 @@ ghost use Rattle.std.specs.Prelude.{◌≡◌, ◌≤◌, ◌<◌, ◌↔◌, So
 ghost use Rattle.std.specs.Io.{ReadsAtMost};
 ghost use Rattle.std.specs.Io.KnownBytes.{ReadConsumes};
 ghost use Rattle.sim_io.specs.Causes.{CountsFailures, HasCause, next_count};
-ghost use Rattle.sim_io.specs.Transfers.{GivesMore};
+ghost use Rattle.sim_io.specs.Taken.{GivesMore};
 ghost use Rattle.sim_io.specs.Memory.{moved_count, KeepsSourceRules};
 
 use crate::streams::failed::Failed;

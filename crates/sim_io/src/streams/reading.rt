@@ -2,7 +2,8 @@
 ghost use Rattle.std.specs.Prelude.{◌≡◌, ◌⊎◌, ◌+◌, ◌-◌, ◌≤◌, ◌<◌, ◌++◌, ◌^◌, ℕ, List, length, vec_len, IfOk, OnOk, OnErr, IsErrOf};
 ghost use Rattle.std.specs.Io.KnownBytes.{Consumes, IsAtEnd};
 ghost use Rattle.sim_io.specs.Causes.{Rose};
-ghost use Rattle.sim_io.specs.Transfers.{GivesMore, TakesUpTo, TakesSome};
+ghost use Rattle.sim_io.specs.Taken.{GivesMore};
+ghost use Rattle.sim_io.specs.Transfers.{TakesUpTo, TakesSome};
 ghost use Rattle.sim_io.specs.declared.streams.reading.ReadEnd.TheVariants.{OutOfMemory};
 
 use crate::streams::failed::Failed;

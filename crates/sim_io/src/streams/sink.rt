@@ -1,19 +1,20 @@
 //! Where bytes go.
-ghost use Rattle.std.specs.Prelude.{◌≡◌, ◌<◌, ℕ, List, Option, OnOk, IfOk};
+ghost use Rattle.std.specs.Prelude.{◌≡◌, ◌<◌, ℕ, OnOk, IfOk};
 ghost use Rattle.std.specs.Io.{WritesAtMost};
-ghost use Rattle.std.specs.Io.KnownBytes.{Keeps, WriteAppends};
 ghost use Rattle.sim_io.specs.Causes.{CountsIdle, HasCause};
+ghost use Rattle.sim_io.specs.Taken.{Keeps, Taken, WriteAppends};
 ghost use Rattle.sim_io.specs.Transfers.{KeepsBackSome};
 
 use crate::streams::failed::Failed;
 
 /// Something that takes bytes, and hands them on to where they go. It may keep the last ones back for a while.
 pub trait Sink {
-    /// The bytes taken so far, where it tells them.
-    ghost told: { Self → Option (List ℕ) };
+    /// The bytes taken so far: which they are, where it tells them, and what holds of them. That is for proofs alone: a sink
+    /// that tells no bytes can have it hold of just those that its writes took, and code for any sink keeps to that.
+    ghost told: { Self → Taken };
 
     /// Those of them that it has handed on.
-    ghost handed: { Self → Option (List ℕ) };
+    ghost handed: { Self → Taken };
 
     /// How often a write failed or took nothing, a count that rises there alone.
     ghost faults: { Self → ℕ };

@@ -3,7 +3,7 @@ ghost use Rattle.std.specs.Prelude.{◌≡◌, ◌<◌, ℕ, List, Option, IfOk,
 ghost use Rattle.std.specs.Io.{ReadsAtMost};
 ghost use Rattle.std.specs.Io.KnownBytes.{ReadConsumes};
 ghost use Rattle.sim_io.specs.Causes.{HasCause};
-ghost use Rattle.sim_io.specs.Transfers.{GivesMore};
+ghost use Rattle.sim_io.specs.Taken.{GivesMore};
 
 use crate::streams::failed::Failed;
 

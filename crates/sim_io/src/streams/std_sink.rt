@@ -1,8 +1,8 @@
 //! A writer of std as a sink.
 ghost use Rattle.std.specs.Prelude.{◌≡◌, ◌<◌, IfOk, OnOk};
 ghost use Rattle.std.specs.Io.{WritesAtMost};
-ghost use Rattle.std.specs.Io.KnownBytes.{Keeps, WriteAppends};
 ghost use Rattle.sim_io.specs.Causes.{CountsFailures, CountsIdle, CountsWrites, HasCause};
+ghost use Rattle.sim_io.specs.Taken.{Keeps, WriteAppends, told_bytes};
 
 use crate::streams::failed::Failed;
 use crate::streams::sink::Sink;
@@ -19,8 +19,8 @@ pub struct StdSink<W> {
 impl<W: Write> StdSink<W> {
     /// A sink that hands what it takes to the writer.
     pub fn new(writer: W) -> StdSink<W>
-        ensures told { ⟦<StdSink<W> as Sink>⟧.told result ≡ W.contents writer }
-        ensures handed { ⟦<StdSink<W> as Sink>⟧.handed result ≡ W.contents writer }
+        ensures told { (⟦<StdSink<W> as Sink>⟧.told result).known ≡ W.contents writer }
+        ensures handed { (⟦<StdSink<W> as Sink>⟧.handed result).known ≡ W.contents writer }
         ensures faults { ⟦<StdSink<W> as Sink>⟧.faults result ≡ 0 }
     {
         StdSink { writer, faults: 0 }
@@ -35,7 +35,7 @@ impl<W: Write> StdSink<W> {
 
     /// The writer.
     pub fn into_inner(self) -> W
-        ensures { W.contents result ≡ ⟦<StdSink<W> as Sink>⟧.told self }
+        ensures { W.contents result ≡ (⟦<StdSink<W> as Sink>⟧.told self).known }
     {
         let StdSink { writer, faults: _ } = self;
         writer
@@ -43,12 +43,11 @@ impl<W: Write> StdSink<W> {
 }
 
 impl<W: Write> Sink for StdSink<W> {
-    ghost use Rattle.std.specs.Prelude.{[]};
-    ghost use Rattle.std.proofs.KnownBytes.{Appends-nil};
+    ghost use Rattle.sim_io.specs.Gathering.{nothing_back};
 
-    ghost told = { λ sink. W.contents sink.writer };
+    ghost told = { λ sink. told_bytes (W.contents sink.writer) };
 
-    ghost handed = { λ sink. W.contents sink.writer };
+    ghost handed = { λ sink. told_bytes (W.contents sink.writer) };
 
     ghost faults = { λ sink. sink.faults };
 
@@ -89,5 +88,5 @@ impl<W: Write> Sink for StdSink<W> {
         }
     }
 
-    ghost in_order = { λ sink. ([], Appends-nil (W.contents sink.writer)) };
+    ghost in_order = { λ sink. nothing_back (told_bytes (W.contents sink.writer)) };
 }

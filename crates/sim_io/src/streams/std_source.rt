@@ -3,7 +3,7 @@ ghost use Rattle.std.specs.Prelude.{◌≡◌, ◌<◌, IfOk, OnOk, length, take
 ghost use Rattle.std.specs.Io.{ReadsAtMost};
 ghost use Rattle.std.specs.Io.KnownBytes.{ReadConsumes};
 ghost use Rattle.sim_io.specs.Causes.{CountsFailures, HasCause};
-ghost use Rattle.sim_io.specs.Transfers.{GivesMore};
+ghost use Rattle.sim_io.specs.Taken.{GivesMore};
 
 use crate::streams::failed::Failed;
 use crate::streams::source::Source;

@@ -1,7 +1,7 @@
 //! Writing a whole text.
 ghost use Rattle.std.specs.Prelude.{◌≡◌, ◌≤◌, OnOk, OnErr, length, take};
-ghost use Rattle.std.specs.Io.KnownBytes.{Appends};
 ghost use Rattle.sim_io.specs.Causes.{HasCause};
+ghost use Rattle.sim_io.specs.Taken.{Appends};
 ghost use Rattle.sim_io.specs.Transfers.{AppendsPrefix};
 
 use crate::streams::failed::Failed;

@@ -1,6 +1,6 @@
 -- The text of the state, unless it is too long: that is told then.
 use Rattle.std.proofs.Common.{◌≡◌, ℕ, List, true, length, refl, sym, ap, ◌∙◌, subst, arith}
-use Rattle.std.specs.Io.KnownBytes.{Appends}
+use Rattle.sim_io.specs.Taken.{Appends}
 use Rattle.sim_io.specs.Transfers.{AppendsPrefix}
 use Rattle.run_save.specs.StateTexts.{state_text}
 use Rattle.program_answers.specs.declared.ending.Ending.{Ending}

@@ -1,8 +1,8 @@
 -- What was written of a line that is written part by part.
 use Rattle.std.proofs.Common.{ℕ, List, [], ◌++◌, refl, ◌∙◌, subst}
 use Rattle.std.specs.Prelude.{codes}
-use Rattle.std.proofs.KnownBytes.{Appends-nil, Appends-trans}
-use Rattle.std.specs.Io.KnownBytes.{Appends}
+use Rattle.sim_io.proofs.TakenLemmas.{Appends-nil, Appends-trans}
+use Rattle.sim_io.specs.Taken.{Appends}
 use Rattle.sim_io.specs.Transfers.{AppendsPrefix}
 use Rattle.sim_io.specs.Words.{fault_name}
 use Rattle.sim_io.proofs.TransferLemmas.{AppendsPrefix-next}

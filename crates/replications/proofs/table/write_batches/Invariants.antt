@@ -1,5 +1,5 @@
 use Rattle.std.proofs.Common.{◌≡◌, ◌-◌, ◌≤◌}
-use Rattle.std.specs.Io.KnownBytes.{Appends}
+use Rattle.sim_io.specs.Taken.{Appends}
 use Rattle.replications.specs.Families.{study_of}
 use Rattle.replications.specs.Studies.{rows_between, stops_between, gravest}
 use Rattle.replications.proofs.table.write_batches.Given as goal

@@ -1,6 +1,6 @@
 use Rattle.std.proofs.Common.{subst}
-use Rattle.std.proofs.KnownBytes.{Appends-trans}
-use Rattle.std.specs.Io.KnownBytes.{Appends}
+use Rattle.sim_io.proofs.TakenLemmas.{Appends-trans}
+use Rattle.sim_io.specs.Taken.{Appends}
 use Rattle.sim_io.specs.Transfers.{AppendsPrefix}
 use Rattle.replications.specs.Families.{study_of}
 use Rattle.replications.specs.Studies.{rows_between, table_text}

@@ -1,6 +1,6 @@
 use Rattle.std.proofs.Common.{◌+◌, ◌∷◌, [], ◌++◌, List, length, refl, sym, ap, ◌∙◌, subst, arith, append-nil, append_assoc}
-use Rattle.std.proofs.KnownBytes.{Appends-nil, Appends-trans}
-use Rattle.std.specs.Io.KnownBytes.{Appends}
+use Rattle.sim_io.proofs.TakenLemmas.{Appends-nil, Appends-trans}
+use Rattle.sim_io.specs.Taken.{Appends}
 use Rattle.sim_io.specs.Transfers.{AppendsPrefix}
 use Rattle.sim_spec.specs.declared.stop.Stop.{Stop}
 use Rattle.replications.specs.Studies.{rows_at, rows_between, stops_between, graver, gravest}

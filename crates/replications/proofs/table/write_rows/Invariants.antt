@@ -1,5 +1,5 @@
 use Rattle.std.proofs.Common.{◌≡◌, ℕ, ◌≤◌, ◌++◌, List}
-use Rattle.std.specs.Io.KnownBytes.{Appends}
+use Rattle.sim_io.specs.Taken.{Appends}
 use Rattle.sim_spec.specs.declared.stop.Stop.{Stop}
 use Rattle.replications.specs.Studies.{StudyOf, AreDone, rows_between, stops_between, gravest}
 use Rattle.replications.proofs.table.write_rows.Given as goal

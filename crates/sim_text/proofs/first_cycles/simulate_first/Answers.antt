@@ -1,7 +1,7 @@
 -- Each turn tells the records of one bucket; the last one finds that so many are done, or that the simulation has ended.
 use Rattle.std.proofs.Common.{ℕ, ◌+◌, ◌++◌, ◌∷◌, [], length-append, refl, sym, ap, ◌∙◌, subst, arith}
-use Rattle.std.proofs.KnownBytes.{Appends-nil, Appends-trans}
-use Rattle.std.specs.Io.KnownBytes.{Appends}
+use Rattle.sim_io.proofs.TakenLemmas.{Appends-nil, Appends-trans}
+use Rattle.sim_io.specs.Taken.{Appends}
 use Rattle.std.specs.Prelude.{List, None}
 use Rattle.event_key.specs.declared.key.Key.{Key}
 use Rattle.model_core.specs.declared.note.Note.{Note}

@@ -1,7 +1,7 @@
 -- Each turn writes the lines of one bucket; the last one says why the simulation stopped.
 use Rattle.std.proofs.Common.{ℕ, ◌+◌, ◌++◌, ◌∷◌, [], false, List, Ok, length-append, refl, sym, ap, ◌∙◌, subst, arith}
-use Rattle.std.proofs.KnownBytes.{Appends-nil}
-use Rattle.std.specs.Io.KnownBytes.{Appends}
+use Rattle.sim_io.proofs.TakenLemmas.{Appends-nil}
+use Rattle.sim_io.specs.Taken.{Appends}
 use Rattle.std.specs.Prelude.{Result, OnOk}
 use Rattle.delta_exchange.specs.declared.memory.OutOfMemory.{OutOfMemory}
 use Rattle.model_core.specs.Meaning.{Meaning}

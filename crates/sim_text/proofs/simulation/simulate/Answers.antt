@@ -1,7 +1,7 @@
 -- Each turn tells of one bucket; the last one tells what was kept of all, and why the simulation stopped.
 use Rattle.std.proofs.Common.{ℕ, ◌+◌, ◌++◌, ◌∷◌, [], List, length-append, refl, sym, ap, ◌∙◌, subst, arith}
-use Rattle.std.proofs.KnownBytes.{Appends-nil}
-use Rattle.std.specs.Io.KnownBytes.{Appends}
+use Rattle.sim_io.proofs.TakenLemmas.{Appends-nil}
+use Rattle.sim_io.specs.Taken.{Appends}
 use Rattle.sim_spec.specs.State.{State}
 use Rattle.sim_io.specs.Transfers.{AppendsPrefix}
 use Rattle.sim_text.proofs.Told.{none_so_far, bucket-prefix, bucket-told, end-prefix, end-told}

@@ -1,6 +1,6 @@
 use Rattle.std.proofs.Common.{◌≡◌, ◌≤◌, ◌+◌, ◌-◌, vec_len}
 use Rattle.std.specs.Io.KnownBytes.{Consumes}
-use Rattle.sim_io.specs.Transfers.{GivesMore}
+use Rattle.sim_io.specs.Taken.{GivesMore}
 use Rattle.sim_io.proofs.streams.reading.read_some.Given as goal
 
 abbrev pub invariant-loop-source : goal.invariant-loop-source

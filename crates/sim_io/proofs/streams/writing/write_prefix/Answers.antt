@@ -1,7 +1,7 @@
 -- A write goes on from where the last one stopped.
 use Rattle.std.proofs.Common.{rules, arith}
 use Rattle.std.proofs.Math.Seq.{take-add}
-use Rattle.std.proofs.KnownBytes.{Appends-trans}
+use Rattle.sim_io.proofs.TakenLemmas.{Appends-trans}
 use Rattle.sim_io.proofs.streams.writing.write_prefix.Goals as goal
 
 pub loop-at-preserved : goal.loop-at-preserved

@@ -1,5 +1,5 @@
 use Rattle.std.proofs.Common.{◌≡◌, length, take, ◌-◌, ◌≤◌}
-use Rattle.std.specs.Io.KnownBytes.{Appends}
+use Rattle.sim_io.specs.Taken.{Appends}
 use Rattle.sim_io.proofs.streams.writing.write_prefix.Given as goal
 
 abbrev pub invariant-loop-at : goal.invariant-loop-at
