@@ -63,10 +63,11 @@ fn object_named(
     ensures name { IfOk result (λ object. object.name ≡ name.now) }
 {
     let word = required_text(table, "kind", item)?;
+    let name = name_of(alloc, name)?;
     let kind = named_kind(alloc, table, word, item)?;
     let fields = common_fields(table, &kind, format, item)?;
     Ok(NamedItem {
-        name: name_of(alloc, name)?,
+        name,
         kind,
         rank: fields.rank,
         quiet: fields.quiet,
