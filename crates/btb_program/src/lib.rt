@@ -8,6 +8,7 @@ mod running;
 mod stack;
 mod top;
 
+pub use model_program::{Gate, Open};
 pub use process::{run_process, run_streams};
 pub use program::run_program;
 pub use top::btb;

@@ -9,7 +9,7 @@ ghost use Rattle.btb_program.specs.Answer.{asked_by};
 ghost use Rattle.btb_program.specs.SavedRuns.{IsSavedSo};
 
 use crate::program::run_program;
-use node_team::Open;
+use model_program::Open;
 use program_answers::{ProcessEnd, StdStreams, program_words};
 use std::alloc::{AllocGlobal, Global};
 use std::env::Env;

@@ -6,7 +6,7 @@ ghost use Rattle.btb_program.specs.Answer.{asked_by};
 ghost use Rattle.btb_program.specs.SavedRuns.{IsSavedSo};
 
 use crate::top::btb;
-use node_team::Gate;
+use model_program::Gate;
 use program_answers::{conclude, unread_words};
 use sim_io::{Sink, Source};
 use std::alloc::AllocGlobal;

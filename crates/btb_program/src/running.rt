@@ -8,10 +8,8 @@ ghost use Rattle.btb_program.specs.Answer.{asked_by, demo_answer};
 ghost use Rattle.btb_program.specs.SavedRuns.{IsSavedSo};
 
 use crate::stack::grow_stack;
-use model_program::{machine_of, run_command, telling_of};
-use model_runs::{Job, Stage, run_model};
+use model_program::{Gate, Job, Stage, machine_of, run_command, run_model, telling_of};
 use model_text::{AnyModel, ModelTexts, ModelTotals};
-use node_team::Gate;
 use program_answers::{Ending, ending_of};
 use queue_models::ring;
 use sim_io::{Settings, Sink, Source, read_words};

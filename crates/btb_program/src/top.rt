@@ -6,8 +6,7 @@ ghost use Rattle.btb_program.specs.Answer.{asked_by};
 ghost use Rattle.btb_program.specs.SavedRuns.{IsSavedSo};
 
 use crate::running::run_words;
-use model_runs::Stage;
-use node_team::Gate;
+use model_program::{Gate, Stage};
 use program_answers::conclude;
 use sim_io::{Sink, Source};
 use std::alloc::AllocGlobal;

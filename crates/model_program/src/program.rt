@@ -7,8 +7,7 @@ ghost use Rattle.model_program.specs.SavedRuns.{IsSavedSo};
 
 use crate::running::run_words;
 use model_reader::ModelReader;
-use model_runs::Stage;
-use node_team::Gate;
+use model_runs::{Gate, Stage};
 use program_answers::{conclude, unread_words};
 use sim_io::{Sink, Source};
 use std::alloc::AllocGlobal;

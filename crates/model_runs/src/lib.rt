@@ -14,6 +14,7 @@ mod told;
 
 pub use job::Job;
 pub use machine::{DEFAULT_SPREAD, Machine, Spread};
+pub use node_team::{Gate, Open};
 pub use running::run_model;
 pub use saving::{resume_model, save_model};
 pub use stage::Stage;

@@ -10,6 +10,7 @@ mod seeded;
 mod shop_rows;
 mod shop_seeds;
 
+pub use model_program::{Gate, Open};
 pub use process::{run_process, run_streams};
 pub use program::run_program;
 pub use reader::ShopTables;

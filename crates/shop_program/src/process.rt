@@ -10,7 +10,7 @@ ghost use Rattle.shop_text.specs.ShopTexts.{shop_text};
 ghost use Rattle.shop_program.specs.Answer.{asked_by};
 
 use crate::program::run_program;
-use node_team::Open;
+use model_program::Open;
 use program_answers::{ProcessEnd, StdStreams, program_words};
 use std::alloc::{AllocGlobal, Global};
 use std::env::Env;

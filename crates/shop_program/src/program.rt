@@ -7,8 +7,7 @@ ghost use Rattle.shop_text.specs.ShopTexts.{shop_text};
 ghost use Rattle.shop_program.specs.Answer.{asked_by};
 
 use crate::running::run_words;
-use model_runs::Stage;
-use node_team::Gate;
+use model_program::{Gate, Stage};
 use program_answers::{conclude, unread_words};
 use sim_io::{Sink, Source};
 use std::alloc::AllocGlobal;

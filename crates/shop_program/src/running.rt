@@ -10,9 +10,7 @@ ghost use Rattle.shop_text.specs.ShopTexts.{shop_text};
 ghost use Rattle.shop_program.specs.Answer.{after_replicate, asked_by};
 
 use crate::reader::ShopTables;
-use model_program::run_command;
-use model_runs::Stage;
-use node_team::Gate;
+use model_program::{Gate, Stage, run_command};
 use program_answers::Ending;
 use shop_text::ShopTexts;
 use sim_io::{Sink, Source, read_model_words};
