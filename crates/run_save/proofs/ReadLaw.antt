@@ -1,14 +1,14 @@
 -- What is read was written so.
-use Rattle.std.proofs.Common.{◌≡◌, ℕ, ◌-◌, ◌^◌, ◌<◌, ◌≤◌, List, ◌++◌, length, None, Ok, Err, sym, ap, subst, ◌∙◌, arith}
+use Rattle.std.proofs.Common.{◌≡◌, ℕ, ◌-◌, ◌^◌, ◌<◌, ◌≤◌, List, ◌++◌, length, None, Ok, Err, refl, sym, ap, subst, ◌∙◌, arith}
 use Rattle.std.specs.Prelude.{codes, nat_le, nat_lt, ◌&&◌, ◌==◌}
-use Rattle.std.specs.List.{flat_map}
+use Rattle.std.specs.List.{AllByRecursion, flat_map}
 use Rattle.std.proofs.lemmas.Bool.{and_parts, leb-true, ltb-true, eqb-true}
 use Rattle.model_core.specs.declared.limits.TheConstants.{MOST_OBJECTS, MOST_TEXT_BYTES}
 use Rattle.model_reader.specs.Checks as models
 use Rattle.model_reader.specs.Readings.{ModelOf}
 use Rattle.run_save.specs.declared.reading.TheConstants.{MOST_STATE_BYTES}
 use Rattle.run_save.specs.declared.refusal.StateCause.TheVariants.{TooLong}
-use Rattle.run_save.specs.Checks.{wanted}
+use Rattle.run_save.specs.Checks.{Checked, wanted, ◌>>=◌}
 use Rattle.run_save.specs.LawfulChecks.{lawful_check}
 use Rattle.run_save.specs.Lines.{Draft, named, object, event, model_bytes, whole_text}
 use Rattle.run_save.specs.Rests.{Rest, formed, after, next_line, in_turn, each}
@@ -47,6 +47,52 @@ model-takes rest model reads =
     } in
     subst (λ (bytes : List ℕ). IsModelText rest bytes) (same_given size.0.1.bytes model whole.2) made
 
+-- the lines from the objects on
+abbrev body : ℕ → ℕ → Rest → Checked Draft
+body count many rest = do
+  objects ← each object many rest
+  waiting ← named (codes "events") (2 ^ 64 - 1) objects.1
+  pending ← in_turn event None waiting.0 waiting.1
+  model ← model_bytes pending.1
+  Ok (record { state = record { objects = objects.0; pending = pending.0; count = count }; model = model; line = pending.1.line })
+
+-- a draft whose lines from the objects on were written so
+record IsBodyOf (count many : ℕ) (rest : Rest) (draft : Draft) : Type 0 where
+  text : rest.bytes ≡ flat_map object_text draft.state.objects ++ (named_text (codes "events") (length draft.state.pending)
+    ++ (flat_map event_text draft.state.pending ++ (named_text (codes "model") (length draft.model) ++ draft.model)))
+  counted : count ≡ draft.state.count
+  numbered : many ≡ length draft.state.objects
+  some : 0 < length draft.model
+  few : length draft.model ≤ MOST_TEXT_BYTES
+  objects : AllByRecursion FitsObject draft.state.objects
+  waiting : length draft.state.pending < 2 ^ 64
+  turn : FitInTurn Follows None draft.state.pending
+
+body-takes : (count many : ℕ) (rest : Rest) (draft : Draft) → body count many rest ≡ Ok draft → IsBodyOf count many rest draft
+body-takes count many rest draft reads =
+    let objects = bound (each object many rest) _ draft reads in
+    let waiting = bound (named (codes "events") (2 ^ 64 - 1) objects.0.1) _ draft objects.2 in
+    let pending = bound (in_turn event None waiting.0.0 waiting.0.1) _ draft waiting.2 in
+    let model = bound (model_bytes pending.0.1) _ draft pending.2 in
+    let own_objects = in_turn-takes (λ _. object) object_text (λ _. FitsObject) object-taken many None rest objects.0 objects.1 in
+    let own_waiting = named-takes (codes "events") (2 ^ 64 - 1) objects.0.1 waiting.0 (omega arith) waiting.1 in
+    let own_pending = in_turn-takes event event_text Follows event-taken waiting.0.0 None waiting.0.1 pending.0 pending.1 in
+    let own_model = model-takes pending.0.1 model.0 model.1 in
+    let made : Draft = record { state = record { objects = objects.0.0; pending = pending.0.0; count = count }; model = model.0; line = pending.0.1.line } in
+    let whole : IsBodyOf count many rest made = record {
+      text = own_objects.0 ∙ ap (λ (t : List ℕ). flat_map object_text objects.0.0 ++ t) (own_waiting.0
+        ∙ ap (λ (t : List ℕ). named_text (codes "events") waiting.0.0 ++ t) (own_pending.0 ∙ ap (λ (t : List ℕ). flat_map event_text pending.0.0 ++ t) own_model.text)
+        ∙ ap (λ k. named_text (codes "events") k ++ (flat_map event_text pending.0.0 ++ (named_text (codes "model") (length model.0) ++ model.0))) (sym own_pending.1));
+      counted = refl;
+      numbered = sym own_objects.1;
+      some = own_model.some;
+      few = own_model.few;
+      objects = each_from_turn FitsObject None objects.0.0 own_objects.2;
+      waiting = omega (arith, own_waiting.1, own_pending.1);
+      turn = own_pending.2;
+    } in
+    subst (λ (d : Draft). IsBodyOf count many rest d) (same_given made draft model.2) whole
+
 -- a draft that was written so
 record IsWrittenAs (bytes : List ℕ) (draft : Draft) : Type 0 where
   text : bytes ≡ state_text draft.state draft.model
@@ -63,43 +109,28 @@ text-takes rest draft reads =
     let second = bound (next_line head.0) _ draft head.2 in
     let count = bound (named (codes "count") (2 ^ 64 - 1) second.0) _ draft second.2 in
     let many = bound (named (codes "objects") MOST_OBJECTS count.0.1) _ draft count.2 in
-    let objects = bound (each object many.0.0 many.0.1) _ draft many.2 in
-    let waiting = bound (named (codes "events") (2 ^ 64 - 1) objects.0.1) _ draft objects.2 in
-    let pending = bound (in_turn event None waiting.0.0 waiting.0.1) _ draft waiting.2 in
-    let model = bound (model_bytes pending.0.1) _ draft pending.2 in
     let own_count = named-takes (codes "count") (2 ^ 64 - 1) second.0 count.0 (omega arith) count.1 in
     let own_many = named-takes (codes "objects") MOST_OBJECTS count.0.1 many.0 (omega arith) many.1 in
-    let own_objects = in_turn-takes (λ _. object) object_text (λ _. FitsObject) object-taken many.0.0 None many.0.1 objects.0 objects.1 in
-    let own_waiting = named-takes (codes "events") (2 ^ 64 - 1) objects.0.1 waiting.0 (omega arith) waiting.1 in
-    let own_pending = in_turn-takes event event_text Follows event-taken waiting.0.0 None waiting.0.1 pending.0 pending.1 in
-    let own_model = model-takes pending.0.1 model.0 model.1 in
-    let made : Draft = record { state = record { objects = objects.0.0; pending = pending.0.0; count = count.0.0 }; model = model.0; line = pending.0.1.line } in
-    let tail : List ℕ = named_text (codes "model") (length model.0) ++ model.0 in
-    let parts : rest.bytes ≡ state_text made.state made.model =
-    after-takes (codes "state 1") rest head.0 head.1 ∙ ap (λ (t : List ℕ). codes "state 1" ++ t) (next_line-takes head.0 second.0 second.1
-    ∙ ap (λ (t : List ℕ). codes "\n" ++ t) (own_count.0
-    ∙ ap (λ (t : List ℕ). named_text (codes "count") count.0.0 ++ t) (own_many.0
-    ∙ ap (λ (t : List ℕ). named_text (codes "objects") many.0.0 ++ t) (own_objects.0
-    ∙ ap (λ (t : List ℕ). flat_map object_text objects.0.0 ++ t) (own_waiting.0
-    ∙ ap (λ (t : List ℕ). named_text (codes "events") waiting.0.0 ++ t) (own_pending.0
-    ∙ ap (λ (t : List ℕ). flat_map event_text pending.0.0 ++ t) own_model.text)
-    ∙ ap (λ k. named_text (codes "events") k ++ (flat_map event_text pending.0.0 ++ tail)) (sym own_pending.1)))
-    ∙ ap (λ k. named_text (codes "objects") k ++ (flat_map object_text objects.0.0 ++ (named_text (codes "events") (length pending.0.0) ++ (flat_map event_text pending.0.0 ++ tail)))) (sym own_objects.1)))) in
-    let fits : FitsTypes made.state = record {
-      count = omega (arith, own_count.1);
-      objects = each_from_turn FitsObject None objects.0.0 own_objects.2;
-      many = omega (arith, own_waiting.1, own_pending.1);
-      pending = told_fits None pending.0.0 own_pending.2;
-    } in
-    let whole : IsWrittenAs rest.bytes made = record {
-      text = parts;
-      some = own_model.some;
-      few = own_model.few;
-      few_objects = omega (arith, own_many.1, own_objects.1);
-      fits = fits;
-      turn = own_pending.2;
-    } in
-    subst (λ (d : Draft). IsWrittenAs rest.bytes d) (same_given made draft model.2) whole
+    let own = body-takes count.0.0 many.0.0 many.0.1 draft many.2 in
+    let lines : List ℕ = flat_map object_text draft.state.objects ++ (named_text (codes "events") (length draft.state.pending)
+        ++ (flat_map event_text draft.state.pending ++ (named_text (codes "model") (length draft.model) ++ draft.model))) in
+    record {
+      text = after-takes (codes "state 1") rest head.0 head.1 ∙ ap (λ (t : List ℕ). codes "state 1" ++ t) (next_line-takes head.0 second.0 second.1
+        ∙ ap (λ (t : List ℕ). codes "\n" ++ t) (own_count.0
+        ∙ ap (λ (t : List ℕ). named_text (codes "count") count.0.0 ++ t) (own_many.0 ∙ ap (λ (t : List ℕ). named_text (codes "objects") many.0.0 ++ t) own.text
+        ∙ ap (λ k. named_text (codes "objects") k ++ lines) own.numbered)
+        ∙ ap (λ k. named_text (codes "count") k ++ (named_text (codes "objects") (length draft.state.objects) ++ lines)) own.counted));
+      some = own.some;
+      few = own.few;
+      few_objects = omega (arith, own_many.1, own.numbered);
+      fits = record {
+        count = omega (arith, own_count.1, own.counted);
+        objects = own.objects;
+        many = own.waiting;
+        pending = told_fits None draft.state.pending own.turn;
+      };
+      turn = own.turn;
+    }
 
 -- a model that is read at a line is read
 read_at-read : (line : ℕ) (check : models.Checked ModelOf) (read : ModelOf) → read_at line check ≡ Ok read → check ≡ Ok read
