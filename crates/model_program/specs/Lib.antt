@@ -1,3 +1,4 @@
+pub use Rattle.model_runs.specs.Machines
 pub mod Answer
 pub mod SavedRuns
 pub mod Setting

@@ -10,7 +10,7 @@ mod saving;
 mod setting;
 mod state_refusal;
 
-pub use model_runs::{Gate, Job, Open, Stage, run_model};
+pub use model_runs::{DEFAULT_SPREAD, Gate, Job, Machine, Open, Spread, Stage, run_model};
 pub use process::{run_process, run_streams};
 pub use program::{ModelProgram, run_program};
 pub use running::run_command;
