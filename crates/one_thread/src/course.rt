@@ -85,6 +85,7 @@ impl Course {
     pub fn merge(&mut self)
         ensures state { state_of self.new ≡ state_of self.old }
         ensures fresh { self.new.queue.fresh_least ≡ NO_STAMP }
+        ensures at_hand { self.new.queue.at_hand ≡ self.old.queue.at_hand }
     {
         self.queue.merge();
     }
