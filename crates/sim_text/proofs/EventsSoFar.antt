@@ -1,5 +1,5 @@
 -- A run under way, by the events that led to where it stands.
-use Rattle.std.proofs.Common.{◌≡◌, ℕ, ◌+◌, ◌≤◌, ◌<◌, List, [], ◌++◌, length, Option, Some, None, false, refl, sym, ap, ◌∙◌, subst, append_assoc, append-nil, length-append, arith}
+use Rattle.std.proofs.Common.{◌≡◌, ℕ, ◌+◌, ◌≤◌, ◌<◌, List, [], ◌++◌, Option, Some, None, false, refl, sym, ap, ◌∙◌, subst, append_assoc, append-nil, arith}
 use Rattle.event_key.specs.declared.key.Key.{Key}
 use Rattle.model_core.specs.declared.note.Note.{Note}
 use Rattle.model_core.specs.Meaning.{Meaning, MeaningLaws}
@@ -16,7 +16,7 @@ use Rattle.sim_spec.proofs.RunLemmas.{run-leads, run-stops}
 use Rattle.sim_io.specs.CycleTexts.{PlainText}
 use Rattle.sim_io.specs.Taken.{Taken, Appends}
 use Rattle.sim_io.specs.Texts.{record_lines, run_text, text_of_run, stop_line, IsAtObject}
-use Rattle.sim_io.specs.Transfers.{AppendsPrefix, AppendsSome}
+use Rattle.sim_io.specs.Transfers.{AppendsPrefix}
 use Rattle.sim_io.proofs.TakenLemmas.{Appends-trans}
 use Rattle.sim_io.proofs.TextLemmas.{record_lines-append}
 use Rattle.sim_text.specs.declared.telling.Telling.TheVariants.{Lines}

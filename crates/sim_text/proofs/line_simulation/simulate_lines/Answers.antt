@@ -1,5 +1,5 @@
 -- Each turn writes the lines of a stretch of the run; the last one says why the simulation stopped.
-use Rattle.std.proofs.Common.{ℕ, ◌+◌, ◌++◌, [], List, Ok, refl, sym, ap, ◌∙◌, subst, arith}
+use Rattle.std.proofs.Common.{ℕ, ◌++◌, [], List, Ok, refl, sym, ap, ◌∙◌, subst, arith}
 use Rattle.sim_io.proofs.TakenLemmas.{Appends-nil}
 use Rattle.sim_io.specs.Taken.{Appends}
 use Rattle.std.specs.Prelude.{Result, OnOk}
