@@ -62,7 +62,11 @@ impl<M: Model> OneThreadRun<M> {
 
 impl<M: Model> OneThreadRun<M> {
     /// A stretch of the run, which appends the lines of its own events. After a refusal nothing more is done.
-    pub fn write_stretch(&mut self, alloc: Global, lines: &mut LineBuffer) -> Result<(), OutOfMemory>
+    pub fn write_stretch(
+        &mut self,
+        alloc: Global,
+        lines: &mut LineBuffer,
+    ) -> Result<(), OutOfMemory>
         requires goes_on { ended (M.meaning self.old.engine.model) self.old.engine.terms self.old.engine.standing ≡ None }
         requires empty { lines.old ≡ [] }
         ensures { OneWrites M.meaning self.old result self.new lines.new }

@@ -3,7 +3,6 @@ use Rattle.std.proofs.Common.{◌≡◌, ℕ, ◌≤◌, List, [], ◌∷◌, �
 use Rattle.std.specs.Prelude.{Some, None}
 use Rattle.event_key.specs.declared.key.Key.{Key}
 use Rattle.event_key.specs.declared.stamp.TheConstants.{NO_STAMP}
-use Rattle.event_key.specs.Stamps.{end_stamp}
 use Rattle.model_core.specs.declared.event.Event.{Event}
 use Rattle.model_core.specs.declared.note.Note.{Note}
 use Rattle.model_core.specs.Meaning.{Meaning}

@@ -1,5 +1,5 @@
 -- Each event of a stretch is the next one of the run.
-use Rattle.std.proofs.Common.{◌≡◌, ℕ, ◌++◌, ◌∷◌, [], List, Option, Some, None, length-append, refl, subst, sym, ap, ◌∙◌, arith, append-nil, append_assoc}
+use Rattle.std.proofs.Common.{◌≡◌, ◌++◌, ◌∷◌, [], Some, None, length-append, refl, subst, sym, ap, arith, append-nil, append_assoc}
 use Rattle.std.specs.Prelude.{Result, OnOk}
 use Rattle.event_key.specs.declared.key.Key.{Key}
 use Rattle.delta_exchange.specs.declared.memory.OutOfMemory.{OutOfMemory}
@@ -8,7 +8,7 @@ use Rattle.run_recorder.proofs.StretchLemmas.{leads-more}
 use Rattle.sim_spec.specs.Run.{does, next, Leads}
 use Rattle.sim_spec.specs.State.{State, Lawful}
 use Rattle.sim_spec.proofs.LawfulLemmas.{next-lawful}
-use Rattle.one_thread.specs.Engines.{Course, state_of}
+use Rattle.one_thread.specs.Engines.{state_of}
 use Rattle.one_thread.specs.Turns.{IsTurn}
 use Rattle.one_thread.specs.declared.turn.Turn.{Turn}
 use Rattle.one_thread.specs.declared.turn.Turn.TheVariants.{Does, Ends, Limit, Fault}
