@@ -16,8 +16,7 @@ use sim_text::LineBuffer;
 use std::alloc::Global;
 use std::sync::Arc;
 
-/// How many events are done from one writing of their lines to the next: so many that what is done once for all of them costs
-/// next to nothing, and so few that their lines take little memory.
+/// After about how many events of a large bucket their lines are written: so few that they take little memory.
 const STRETCH: u32 = 1_024;
 
 /// A simulation of a model, on one thread.
@@ -76,7 +75,8 @@ impl<M: Model> OneThreadRun<M> {
             ensures { OnOk result (lines.new ≡ lines.old ++ event_lines (M.meaning model.now) key.now note.now) }
         { lines.put(alloc, model, key, note) };
         self.engine.tell_stretch(STRETCH, lines, &put)?;
-        self.told = Told::new(self.engine.ended(), self.engine.count());
+        self.told.ended = self.engine.ended();
+        self.told.count = self.engine.count();
         Ok(())
     }
 }

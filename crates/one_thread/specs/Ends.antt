@@ -1,5 +1,5 @@
 -- How a bucket ended, and what was told of it, or of a stretch of a run.
-use Rattle.std.specs.Prelude.{◌≡◌, ℕ, List, ◌++◌, Ok}
+use Rattle.std.specs.Prelude.{◌≡◌, List, ◌++◌, Ok}
 use Rattle.event_key.specs.declared.key.Key.{Key}
 use Rattle.model_core.specs.declared.note.Note.{Note}
 use Rattle.model_core.specs.Meaning.{Meaning}
@@ -20,8 +20,8 @@ pub record HasTold {T : Type 0} (Holds : T → List (Key × Note) → Type 0) (m
   pub told : (records : List (Key × Note)) → Holds before records → Holds after (records ++ bucket.done)
   pub gives : CycleGives m t old (Ok bucket) new
 
--- an engine has done a stretch of its run, so many events at most, which are all told
-pub record HasToldStretch {T : Type 0} (Holds : T → List (Key × Note) → Type 0) (m : Meaning) (t : Terms) (old : Standing) (most : ℕ) (before after : T) (new : Standing) : Type 0 where
+-- an engine has done a stretch of its run, of which all is told
+pub record HasToldStretch {T : Type 0} (Holds : T → List (Key × Note) → Type 0) (m : Meaning) (t : Terms) (old : Standing) (before after : T) (new : Standing) : Type 0 where
   pub done : List (Key × Note)
   pub told : (records : List (Key × Note)) → Holds before records → Holds after (records ++ done)
-  pub stretch : IsStretch m t old most done new
+  pub stretch : IsStretch m t old done new

@@ -154,11 +154,11 @@ impl<M: SimulationModel> OneThread<M> {
         }
     }
 
-    /// Fires the next events, so many at most and whatever buckets they are of, and tells of each as it is done. After a refusal
-    /// the engine is spent: each later call is refused too.
+    /// Fires the next events of a bucket, and tells of each as it is done: all that are left, or so many and a few more. Where no
+    /// event of the last bucket is left, another one begins. After a refusal the engine is spent: each later call is refused too.
     pub fn tell_stretch<T: Recorder, F: Fn(&mut T, &M, &Key, &Note) -> Result<(), OutOfMemory>>(
         &mut self,
-        most: u32,
+        enough: u32,
         into: &mut T,
         tell: &F,
     ) -> Result<(), OutOfMemory>
@@ -169,7 +169,7 @@ impl<M: SimulationModel> OneThread<M> {
             → (before : List (Key × Note)) → T.holds (M.meaning self.old.model) t.now before
             → OnOk r (T.holds (M.meaning self.old.model) f.now (before ++ (key.now, note.now) ∷ [])) }
         ensures told { OnOk result (HasToldStretch (T.holds (M.meaning self.old.model)) (M.meaning self.old.model) self.old.terms
-            self.old.standing most into.old into.new self.new.standing) }
+            self.old.standing into.old into.new self.new.standing) }
         ensures refused { OnErr result (self.new.standing ≡ spent) }
         ensures model { self.new.model ≡ self.old.model }
         ensures terms { self.new.terms ≡ self.old.terms }
@@ -181,7 +181,7 @@ impl<M: SimulationModel> OneThread<M> {
             course,
             &*self.model,
             &self.terms,
-            most,
+            enough,
             &mut self.sheet,
             into,
             tell,

@@ -1,4 +1,4 @@
-//! A stretch of a run: events one after another, whatever buckets they are of.
+//! A stretch of a run: events one after another, of a whole bucket or a part of one.
 ghost use Rattle.std.specs.Prelude.{◌≡◌, ◌<◌, ◌++◌, ◌∷◌, [], List, IfOk, OnOk, None};
 ghost use Rattle.event_key.specs.declared.key.Key.{Key};
 ghost use Rattle.model_core.specs.declared.note.Note.{Note};
@@ -16,8 +16,9 @@ use model_core::{Effect, Note, OutOfMemory};
 use run_recorder::Recorder;
 use sim_spec::Terms;
 
-/// Fires the next events in their order, so many at most, each over the same sheet, and tells of each as it is done. Answers
-/// the fault that comes next, where one does.
+/// Fires the next events of a bucket in their order, each over the same sheet, and tells of each as it is done. Answers the fault
+/// that comes next, where one does. Where no event of the last bucket is left, another one begins. Once so many events are done it
+/// ends where the queue pauses, so that no event has a test for that.
 pub fn fire_stretch<
     M: Model,
     T: Recorder,
@@ -26,7 +27,7 @@ pub fn fire_stretch<
     course: &mut Course,
     model: &M,
     terms: &Terms,
-    most: u32,
+    enough: u32,
     sheet: &mut Effect,
     into: &mut T,
     tell: &F,
@@ -38,21 +39,22 @@ pub fn fire_stretch<
         → (before : List (Key × Note)) → T.holds (M.meaning model.now) t.now before
         → OnOk r (T.holds (M.meaning model.now) f.now (before ++ (key.now, note.now) ∷ [])) }
     ensures told { IfOk result (λ fault. HasToldStretch (T.holds (M.meaning model.now)) (M.meaning model.now) terms.now
-        (stands (state_of course.old) None) most into.old into.new (stands (state_of course.new) fault)) }
+        (stands (state_of course.old) None) into.old into.new (stands (state_of course.new) fault)) }
     ensures lawful { OnOk result (Lawful (M.meaning model.now) terms.now (state_of course.new)) }
     ensures settled { OnOk result (IsSettled course.new.queue) }
 {
     keeps_laws(model);
-    for _ in 0..most {
-        // nothing is fresh, since no horizon ends a stretch
-        course.merge();
+    course.begin_next();
+    let upto = course.count().saturating_add(u64::from(enough));
+    loop {
         match course.turn(model, terms, sheet)? {
             Turn::Does(key) => tell(into, model, &key, &sheet.note)?,
             Turn::Ends(_) => return Ok(None),
             Turn::Limit => return Ok(None),
             Turn::Fault(key, code) => return Ok(Some((key, code))),
         }
-        course.settle()?;
+        if course.settle()? && course.count() >= upto {
+            return Ok(None);
+        }
     }
-    Ok(None)
 }

@@ -113,8 +113,8 @@ module _ (m : Meaning) (t : Terms) (from : State) (at : Standing) (done : List (
   told_events old now told = record { done = done; state = way.state; fault = way.fault; at_state = way.at_state; leads = way.leads; told = told }
 
   -- a stretch more
-  pub comes_on : MeaningLaws m → (most : ℕ) → 0 < most → (more : List (Key × Note)) (new : Standing) → ended m t at ≡ None → IsStretch m t at most more new → HasCome m t from new (done ++ more) (number + 1)
-  comes_on laws most some more new goes stretch =
+  pub comes_on : MeaningLaws m → (more : List (Key × Note)) (new : Standing) → ended m t at ≡ None → IsStretch m t at more new → HasCome m t from new (done ++ more) (number + 1)
+  comes_on laws more new goes stretch =
       let same = stands-injective stretch.from way.state None way.fault (sym stretch.begins ∙ way.at_state) in
       let L : State → Type 0 = λ s. Leads m t s more stretch.last in
       let leads = subst L same.0 stretch.leads in
@@ -128,7 +128,7 @@ module _ (m : Meaning) (t : Terms) (from : State) (at : Standing) (done : List (
         leads = leads-append m t done more from way.state stretch.last way.leads leads;
         failed = stretch.failed;
         few = omega (arith, counted, few);
-        few_more = λ on. let whole = stretch.whole on in omega (arith, counted, few, whole, some);
+        few_more = λ on. let some = stretch.some on in omega (arith, counted, few, some);
       }
 
 -- an engine that had not ended has come on by the stretch whose lines it wrote
@@ -143,8 +143,8 @@ pub has_come_on : (m : Meaning) (t : Terms) {E : Type 0} (meaning : E → Meanin
 has_come_on m t meaning terms StandsIn old new done number from stop lines laws same_meaning same_terms r is_stop none written =
     let own_none : ended (meaning old) (terms old) r.at ≡ None = sym is_stop ∙ none in
     let made : DoesStretch meaning terms StandsIn old r.at written.done new = written.does r.at r.stands own_none in
-    let P : Meaning → Type 0 = λ x. IsStretch x (terms old) r.at made.most written.done made.left in
-    let Q : Terms → Type 0 = λ x. IsStretch m x r.at made.most written.done made.left in
+    let P : Meaning → Type 0 = λ x. IsStretch x (terms old) r.at written.done made.left in
+    let Q : Terms → Type 0 = λ x. IsStretch m x r.at written.done made.left in
     let stretch = subst Q same_terms (subst P same_meaning made.stretch) in
     let goes = ended-same m (meaning old) t (terms old) r.at None same_meaning same_terms (sym own_none) in
     record {
@@ -154,7 +154,7 @@ has_come_on m t meaning terms StandsIn old new done number from stop lines laws 
         lawful = r.lawful;
         at = made.left;
         stands = made.stands;
-        way = comes_on m t from r.at done number r.way laws made.most made.some written.done made.left goes stretch;
+        way = comes_on m t from r.at done number r.way laws written.done made.left goes stretch;
       };
     }
 

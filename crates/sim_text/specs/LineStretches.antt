@@ -1,5 +1,5 @@
 -- A stretch of a run that writes the lines of its own events.
-use Rattle.std.specs.Prelude.{◌≡◌, ℕ, ◌<◌, List, Option, None, Result, OnOk}
+use Rattle.std.specs.Prelude.{◌≡◌, ℕ, List, Option, None, Result, OnOk}
 use Rattle.delta_exchange.specs.declared.memory.OutOfMemory.{OutOfMemory}
 use Rattle.event_key.specs.declared.key.Key.{Key}
 use Rattle.model_core.specs.declared.note.Note.{Note}
@@ -26,9 +26,7 @@ module _ {E : Type 0} (meaning : E → Meaning) (terms : E → Terms) (StandsIn 
   pub record DoesStretch (old : E) (at : Standing) (done : List (Key × Note)) (new : E) : Type 0 where
     pub left : Standing
     pub stands : StandsIn new left
-    pub most : ℕ
-    pub some : 0 < most
-    pub stretch : IsStretch (meaning old) (terms old) at most done left
+    pub stretch : IsStretch (meaning old) (terms old) at done left
     pub same_meaning : meaning new ≡ meaning old
     pub same_terms : terms new ≡ terms old
 

@@ -1,14 +1,15 @@
-use Rattle.std.proofs.Common.{◌≡◌, ◌++◌, List, length}
+use Rattle.std.proofs.Common.{◌≡◌, ◌++◌, ◌-◌, [], List}
 use Rattle.event_key.specs.declared.key.Key.{Key}
 use Rattle.model_core.specs.declared.note.Note.{Note}
 use Rattle.sim_spec.specs.Run.{Leads}
 use Rattle.sim_spec.specs.State.{Lawful}
 use Rattle.tick_queue.specs.Queues.{IsSettled}
 use Rattle.one_thread.specs.Engines.{state_of}
+use Rattle.one_thread.specs.Turns.{IsOpen}
 use Rattle.one_thread.proofs.stretch.fire_stretch.Given as goal
 
-abbrev pub invariant-loop : goal.invariant-loop
-invariant-loop g l =
+abbrev pub invariant-loop-key : goal.invariant-loop-key
+invariant-loop-key g l =
     let m = g.M.Model.meaning l.model in
     record {
       so_far : List (Key × Note);
@@ -16,5 +17,8 @@ invariant-loop g l =
       told : (before : List (Key × Note)) → g.T.Recorder.holds m l.fn.into before → g.T.Recorder.holds m l.into (before ++ so_far);
       lawful : Lawful m l.terms (state_of l.course);
       settled : IsSettled l.course.queue;
-      counted : length so_far ≡ l.counter;
+      begun : so_far ≡ [] → IsOpen l.course;
     }
+
+abbrev pub decreases-loop-key : goal.decreases-loop-key
+decreases-loop-key g l = l.terms.limit - l.course.count

@@ -19,14 +19,12 @@ returns g c =
     let old = c.args.self.now.engine in
     let new = c.tell_stretch.new.self in
     let told = c.in_ok-tell_stretch.ensures.told in
-    let P : Standing → Type 0 = λ s. IsStretch (g.M.Model.meaning old.model) old.terms s 1024 told.done new.standing in
+    let P : Standing → Type 0 = λ s. IsStretch (g.M.Model.meaning old.model) old.terms s told.done new.standing in
     record {
       done = told.done;
       does = λ at standing more. record {
         left = new.standing;
         stands = (refl, tells _ _ new.standing _ c.new.result _ _ refl c.new.ensures.ended c.ended.ensures c.new.ensures.count c.count.ensures.standing);
-        most = 1024;
-        some = omega arith;
         stretch = subst P standing.0 told.stretch;
         same_meaning = ap g.M.Model.meaning c.tell_stretch.ensures.model;
         same_terms = c.tell_stretch.ensures.terms;

@@ -45,7 +45,7 @@ invariant_of-self-in-Err g c =
 
 pub returns-in-Ok-clause-told : goal.returns-in-Ok-clause-told
 returns-in-Ok-clause-told g c =
-    stretch_given g.M.Model.meaning g.T.Recorder.holds c.args.self.now (arc_value c.self.inside.model) c.deref.result.now c.self.inside.terms c.self.inside.course c.self.inside.fault c.in-Some.course c.args.most
+    stretch_given g.M.Model.meaning g.T.Recorder.holds c.args.self.now (arc_value c.self.inside.model) c.deref.result.now c.self.inside.terms c.self.inside.course c.self.inside.fault c.in-Some.course
     c.args.into.now c.fire_stretch.new.into (stands (state_of c.fire_stretch.new.course) c.in-Ok.fault) c.self.view_is c.in-Some.is c.deref.ensures c.requires.goes_on c.in-Ok.ensures.told
 
 pub returns-in-Err-clause-refused : goal.returns-in-Err-clause-refused
