@@ -104,7 +104,7 @@ impl Course {
         }
     }
 
-    /// Brings the first event to hand. Answers whether the queue had paused.
+    /// Brings the first event to hand. Answers whether the queue had paused and objects are many.
     #[inline(always)]
     pub fn settle(&mut self) -> Result<bool, OutOfMemory>
         ensures state { OnOk result (state_of self.new ≡ state_of self.old) }
@@ -115,8 +115,7 @@ impl Course {
             return Ok(false);
         }
         self.queue.settle()?;
-        self.ahead.look(&self.objects, &self.queue);
-        Ok(true)
+        Ok(self.ahead.look(&self.objects, &self.queue))
     }
 
     /// Fires the next event of the bucket, where there is one, and tells of it in the sheet.

@@ -154,8 +154,9 @@ impl<M: SimulationModel> OneThread<M> {
         }
     }
 
-    /// Fires the next events of a bucket, and tells of each as it is done: all that are left, or so many and a few more. Where no
-    /// event of the last bucket is left, another one begins. After a refusal the engine is spent: each later call is refused too.
+    /// Fires the next events of a bucket, and tells of each as it is done: all that are left, or, where objects are many, so many
+    /// and a few more. Where no event of the last bucket is left, another one begins. After a refusal the engine is spent: each
+    /// later call is refused too.
     pub fn tell_stretch<T: Recorder, F: Fn(&mut T, &M, &Key, &Note) -> Result<(), OutOfMemory>>(
         &mut self,
         enough: u32,
