@@ -49,6 +49,7 @@ impl Course {
         let objects = first_objects(alloc, model)?;
         let mut queue = first_events(alloc, model)?;
         ReadAhead::pace(&objects, &mut queue);
+        queue.settle()?;
         Ok(Course {
             objects,
             queue,
