@@ -1,5 +1,5 @@
 -- A stretch of the engine that is told in lines is one of the run, which tells where it stands then.
-use Rattle.std.proofs.Common.{◌<◌, [], refl, sym, ap, subst, rules, arith}
+use Rattle.std.proofs.Common.{◌<◌, [], refl, sym, ap, subst, rules}
 use Rattle.run_recorder.specs.Stretches.{IsStretch}
 use Rattle.sim_spec.specs.Standing.{Standing}
 use Rattle.model_runs.proofs.RunLemmas.{tells, no_lines, lines_more}
@@ -24,7 +24,7 @@ returns g c =
       done = told.done;
       does = λ at standing more. record {
         left = new.standing;
-        stands = (refl, tells _ _ new.standing _ c.new.result _ _ refl c.new.ensures.ended c.ended.ensures c.new.ensures.count c.count.ensures.standing);
+        stands = (refl, tells _ _ new.standing _ _ _ _ refl refl c.ended-self.ensures refl c.count-self.ensures.standing);
         stretch = subst P standing.0 told.stretch;
         same_meaning = ap g.M.Model.meaning c.tell_stretch.ensures.model;
         same_terms = c.tell_stretch.ensures.terms;
