@@ -5,7 +5,7 @@ use Rattle.model_core.specs.Meaning.{Meaning}
 use Rattle.sim_spec.specs.declared.bucket.Bucket.{Bucket}
 use Rattle.sim_spec.specs.declared.terms.Terms.{Terms}
 use Rattle.sim_spec.specs.Standing.{Standing, ended, IsCountAt, DoesCycles}
-use Rattle.sim_text.specs.LineCycles.{WritesCycle}
+use Rattle.sim_text.specs.LineStretches.{WritesStretch}
 use Rattle.cycle_core.specs.Standings.{WorldStandsAt}
 use Rattle.node_team.specs.Handings.{AreWorkers}
 use Rattle.model_runs.specs.declared.one_thread_run.OneThreadRun.{OneThreadRun}
@@ -25,9 +25,9 @@ module _ {M : Type 0} (meaning_of : M → Meaning) where
   abbrev pub OneCycles : OneThreadRun M → Result Bucket OutOfMemory → OneThreadRun M → Type 0
   OneCycles = DoesCycles (λ (run : OneThreadRun M). meaning_of run.engine.model) (λ (run : OneThreadRun M). run.engine.terms) OneStandsAt
 
-  -- a cycle that writes the lines of its own events
+  -- a stretch that writes the lines of its own events
   abbrev pub OneWrites : OneThreadRun M → Result (Unit {0}) OutOfMemory → OneThreadRun M → List ℕ → Type 0
-  OneWrites = WritesCycle (λ (run : OneThreadRun M). meaning_of run.engine.model) (λ (run : OneThreadRun M). run.engine.terms) OneStandsAt
+  OneWrites = WritesStretch (λ (run : OneThreadRun M). meaning_of run.engine.model) (λ (run : OneThreadRun M). run.engine.terms) OneStandsAt
 
   -- so it is with the nodes of a team, of which there can be so many workers
   abbrev pub TeamStandsAt : TeamRun M → Standing → Type 0

@@ -16,6 +16,9 @@ use sim_text::LineBuffer;
 use std::alloc::Global;
 use std::sync::Arc;
 
+/// After about how many events of a large bucket their lines are written: so few that they take little memory.
+const STRETCH: u32 = 1_024;
+
 /// A simulation of a model, on one thread.
 #[derive(Drop)]
 pub struct OneThreadRun<M: Model> {
@@ -57,8 +60,12 @@ impl<M: Model> OneThreadRun<M> {
 }
 
 impl<M: Model> OneThreadRun<M> {
-    /// One cycle, which appends the lines of its own events. After a refusal the run has no cycle more.
-    pub fn write_cycle(&mut self, alloc: Global, lines: &mut LineBuffer) -> Result<(), OutOfMemory>
+    /// A stretch of the run, which appends the lines of its own events. After a refusal nothing more is done.
+    pub fn write_stretch(
+        &mut self,
+        alloc: Global,
+        lines: &mut LineBuffer,
+    ) -> Result<(), OutOfMemory>
         requires goes_on { ended (M.meaning self.old.engine.model) self.old.engine.terms self.old.engine.standing ≡ None }
         requires empty { lines.old ≡ [] }
         ensures { OneWrites M.meaning self.old result self.new lines.new }
@@ -67,8 +74,9 @@ impl<M: Model> OneThreadRun<M> {
             requires { key.now.dest < (M.meaning model.now).objects }
             ensures { OnOk result (lines.new ≡ lines.old ++ event_lines (M.meaning model.now) key.now note.now) }
         { lines.put(alloc, model, key, note) };
-        self.engine.tell_bucket(lines, &put)?;
-        self.told = Told::new(self.engine.ended(), self.engine.count());
+        self.engine.tell_stretch(STRETCH, lines, &put)?;
+        self.told.ended = self.engine.ended();
+        self.told.count = self.engine.count();
         Ok(())
     }
 }

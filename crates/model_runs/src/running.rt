@@ -67,7 +67,7 @@ pub(crate) fn on_nodes<M: Model>(
     Ok((model, run))
 }
 
-/// Runs a model on one thread, and writes the lines of its events, each bucket's as its events are fired.
+/// Runs a model on one thread, and writes the lines of its events, stretch by stretch.
 fn run_lines<M: Model, K: Sink>(
     alloc: Global,
     model: M,
@@ -78,12 +78,12 @@ fn run_lines<M: Model, K: Sink>(
 {
     let (model, mut run) = one_thread(alloc, model, terms)?;
     law_initial(&*model, &terms);
-    let cycle = |run: &mut OneThreadRun<M>, alloc: Global, _out: &K, lines: &mut LineBuffer|
+    let stretch = |run: &mut OneThreadRun<M>, alloc: Global, _out: &K, lines: &mut LineBuffer|
         requires { IsSend M.row × IsSync M.row
             × (ended (M.meaning run.old.engine.model) run.old.engine.terms run.old.engine.standing ≡ None) × (lines.old ≡ []) }
         ensures { OneWrites M.meaning run.old result run.new lines.new }
-    { run.write_cycle(alloc, lines) };
-    simulate_lines(alloc, &*model, &terms, &mut run, &cycle, out)
+    { run.write_stretch(alloc, lines) };
+    simulate_lines(alloc, &*model, &terms, &mut run, &stretch, out)
 }
 
 /// Runs a model on one thread, and writes what is to be told of its simulation.

@@ -43,7 +43,7 @@ ended_next meaning value model read terms place fault c stop is is_place is_faul
     ∙ (λ i. ended (meaning model) terms (standing_of (sym is_place i) (sym is_fault i))) ∙ ap (λ v. ended (meaning v.model) v.terms v.standing) is
 
 -- an engine that has not ended and has a simulation had no fault
-begins_at : (m : Meaning) (t : Terms) (c : Course) (fault : Option (Key × ℕ)) → ended m t (stands (state_of c) fault) ≡ None → stands (state_of c) fault ≡ stands (state_of c) None
+pub begins_at : (m : Meaning) (t : Terms) (c : Course) (fault : Option (Key × ℕ)) → ended m t (stands (state_of c) fault) ≡ None → stands (state_of c) fault ≡ stands (state_of c) None
 unfolding ended
 begins_at m t c None none = refl
 begins_at m t c (Some fault) some = absurd (cc)

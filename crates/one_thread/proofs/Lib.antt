@@ -4,5 +4,6 @@ pub mod EngineLemmas
 pub mod FireLemmas
 pub mod Parts
 pub mod QueueLemmas
+pub mod StretchLemmas
 pub mod TurnLemmas
 pub mod UnderWay

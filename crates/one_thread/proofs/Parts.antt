@@ -18,7 +18,7 @@ use Rattle.key_order.specs.Pending.{enqueue_all}
 use Rattle.key_order.specs.Stamps.{least_stamp, NoneBelow}
 use Rattle.key_order.proofs.EachLemmas.{Each-map}
 use Rattle.key_order.proofs.EnqueueLemmas.{IsAscending-without_all, Each-enqueue_all, enqueue_all-append, enqueue_all-behind}
-use Rattle.key_order.proofs.StampLemmas.{after-below, NoneBelow-least_stamp, least_stamp-append, least_stamp-le}
+use Rattle.key_order.proofs.StampLemmas.{after-below, NoneBelow-least_stamp, least_stamp-append}
 use Rattle.one_thread.specs.Engines.{Course, state_of}
 use Rattle.one_thread.specs.Turns.{horizon_of, NoneDue, IsDue, IsDone, IsFailed, IsFull}
 use Rattle.one_thread.proofs.TurnLemmas.{horizon_is}

@@ -14,7 +14,7 @@ use Rattle.one_thread.specs.Engines.{Course, state_of}
 use Rattle.one_thread.specs.Turns.{horizon_of, NoneDue, IsDone, IsFailed, IsFull}
 use Rattle.one_thread.proofs.BucketLemmas.{InBucket, starts, goes_on}
 use Rattle.one_thread.proofs.EndLemmas.{Ends, ends_whole, ends_faulted, ends_limited}
-use Rattle.one_thread.proofs.Parts.{Parts, HasParts, state_at, none_due, done_parts, failed_parts, full_parts, parts_begin, parts_stay}
+use Rattle.one_thread.proofs.Parts.{Parts, HasParts, none_due, done_parts, failed_parts, full_parts, parts_begin, parts_stay}
 
 pub record UnderWay (m : Meaning) (t : Terms) (s : State) (told : List (Key × Note)) (c : Course) : Type 0 where
   pub parts : Parts

@@ -1,4 +1,4 @@
--- How a bucket ended, and what was told of it.
+-- How a bucket ended, and what was told of it, or of a stretch of a run.
 use Rattle.std.specs.Prelude.{◌≡◌, List, ◌++◌, Ok}
 use Rattle.event_key.specs.declared.key.Key.{Key}
 use Rattle.model_core.specs.declared.note.Note.{Note}
@@ -6,6 +6,7 @@ use Rattle.model_core.specs.Meaning.{Meaning}
 use Rattle.sim_spec.specs.declared.bucket.Bucket.{Bucket}
 use Rattle.sim_spec.specs.declared.terms.Terms.{Terms}
 use Rattle.sim_spec.specs.Standing.{Standing, CycleGives}
+use Rattle.run_recorder.specs.Stretches.{IsStretch}
 use Rattle.one_thread.specs.declared.bucket_end.BucketEnd.{BucketEnd}
 
 -- how this bucket ended
@@ -18,3 +19,9 @@ pub record HasTold {T : Type 0} (Holds : T → List (Key × Note) → Type 0) (m
   pub end_is : end ≡ end_of bucket
   pub told : (records : List (Key × Note)) → Holds before records → Holds after (records ++ bucket.done)
   pub gives : CycleGives m t old (Ok bucket) new
+
+-- an engine has done a stretch of its run, of which all is told
+pub record HasToldStretch {T : Type 0} (Holds : T → List (Key × Note) → Type 0) (m : Meaning) (t : Terms) (old : Standing) (before after : T) (new : Standing) : Type 0 where
+  pub done : List (Key × Note)
+  pub told : (records : List (Key × Note)) → Holds before records → Holds after (records ++ done)
+  pub stretch : IsStretch m t old done new

@@ -35,12 +35,14 @@ impl ReadAhead {
         }
     }
 
-    /// Looks ahead at a pause of the queue, where objects are many.
+    /// Looks ahead at a pause of the queue, where objects are many, and answers whether they are.
     #[inline(always)]
-    pub fn look(&mut self, objects: &[Object], queue: &TickQueue) {
-        if objects.len() > FEW {
-            self.read_next(objects, queue);
+    pub fn look(&mut self, objects: &[Object], queue: &TickQueue) -> bool {
+        if objects.len() <= FEW {
+            return false;
         }
+        self.read_next(objects, queue);
+        true
     }
 
     /// Reads the objects of the events that are fired after the next look ahead, as far as these events are at hand.

@@ -4,7 +4,6 @@ ghost use Rattle.std.specs.List.{range_with_len};
 ghost use Rattle.model_core.specs.Meaning.{MeaningLaws};
 ghost use Rattle.key_order.specs.Pending.{in_order};
 ghost use Rattle.sim_spec.specs.State.{start_event};
-ghost use Rattle.tick_queue.specs.Queues.{IsSettled};
 
 use event_firing::first_event;
 use model_core::OutOfMemory;
@@ -12,11 +11,10 @@ use model_core::model::Model as SimulationModel;
 use std::alloc::Global;
 use tick_queue::TickQueue;
 
-/// A queue of the initial events, the first of them at hand.
+/// A queue of the initial events.
 pub fn first_events<M: SimulationModel>(alloc: Global, model: &M) -> Result<TickQueue, OutOfMemory>
     requires { MeaningLaws (M.meaning model.now) }
     ensures pending { IfOk result (λ queue. queue.pending ≡ in_order (map (start_event (M.meaning model.now)) (range_with_len 0 (M.meaning model.now).starts))) }
-    ensures settled { IfOk result (λ queue. IsSettled queue) }
 {
     let mut queue = TickQueue::new(alloc)?;
     let starts = model.starts();
@@ -24,6 +22,5 @@ pub fn first_events<M: SimulationModel>(alloc: Global, model: &M) -> Result<Tick
     for i in 0..starts {
         queue.push(first_event(model, i))?;
     }
-    queue.settle()?;
     Ok(queue)
 }

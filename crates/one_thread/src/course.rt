@@ -6,7 +6,7 @@ ghost use Rattle.sim_spec.specs.Standing.{end_or_limit};
 ghost use Rattle.sim_spec.specs.Run.{next};
 ghost use Rattle.tick_queue.specs.Queues.{IsSettled};
 ghost use Rattle.one_thread.specs.Engines.{state_of};
-ghost use Rattle.one_thread.specs.Turns.{IsTurn, HasDue};
+ghost use Rattle.one_thread.specs.Turns.{IsOpen, IsTurn, HasDue};
 
 use crate::ahead::ReadAhead;
 use crate::beginning::first_events;
@@ -49,6 +49,7 @@ impl Course {
         let objects = first_objects(alloc, model)?;
         let mut queue = first_events(alloc, model)?;
         ReadAhead::pace(&objects, &mut queue);
+        queue.settle()?;
         Ok(Course {
             objects,
             queue,
@@ -89,19 +90,33 @@ impl Course {
         self.queue.merge();
     }
 
-    /// Brings the first event to hand.
+    /// Begins another bucket, where no event is left below the horizon of the last one.
     #[inline(always)]
-    pub fn settle(&mut self) -> Result<(), OutOfMemory>
+    pub fn begin_next(&mut self)
+        requires settled { IsSettled self.old.queue }
+        ensures state { state_of self.new ≡ state_of self.old }
+        ensures settled { IsSettled self.new.queue }
+        ensures due { IsOpen self.new }
+    {
+        if let Some(event) = self.queue.first()
+            && event.key.stamp >= self.queue.fresh_least()
+        {
+            self.queue.merge();
+        }
+    }
+
+    /// Brings the first event to hand. Answers whether the queue had paused and objects are many.
+    #[inline(always)]
+    pub fn settle(&mut self) -> Result<bool, OutOfMemory>
         ensures state { OnOk result (state_of self.new ≡ state_of self.old) }
         ensures fresh { self.new.queue.fresh_least ≡ self.old.queue.fresh_least }
         ensures settled { OnOk result (IsSettled self.new.queue) }
     {
         if !self.queue.pauses() {
-            return Ok(());
+            return Ok(false);
         }
         self.queue.settle()?;
-        self.ahead.look(&self.objects, &self.queue);
-        Ok(())
+        Ok(self.ahead.look(&self.objects, &self.queue))
     }
 
     /// Fires the next event of the bucket, where there is one, and tells of it in the sheet.

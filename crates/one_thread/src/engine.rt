@@ -5,11 +5,12 @@ ghost use Rattle.event_key.specs.declared.key.Key.{Key};
 ghost use Rattle.model_core.specs.declared.note.Note.{Note};
 ghost use Rattle.sim_spec.specs.State.{State, initial_state};
 ghost use Rattle.sim_spec.specs.Standing.{stands, spent, ended, CycleGives};
-ghost use Rattle.one_thread.specs.Ends.{HasTold};
+ghost use Rattle.one_thread.specs.Ends.{HasTold, HasToldStretch};
 
 use crate::bucket::fire_bucket;
 use crate::bucket_end::BucketEnd;
 use crate::course::Course;
+use crate::stretch::fire_stretch;
 use event_key::Key;
 use model_core::model::Model as SimulationModel;
 use model_core::{Effect, Note, OutOfMemory, RecordBuffer, Records};
@@ -145,6 +146,50 @@ impl<M: SimulationModel> OneThread<M> {
             Ok(end) => {
                 self.fault = end.fault;
                 Ok(end)
+            }
+            Err(refused) => {
+                spend(&mut self.course);
+                Err(refused)
+            }
+        }
+    }
+
+    /// Fires the next events of a bucket, and tells of each as it is done: all that are left, or, where objects are many, so many
+    /// and a few more. Where no event of the last bucket is left, another one begins. After a refusal the engine is spent: each
+    /// later call is refused too.
+    pub fn tell_stretch<T: Recorder, F: Fn(&mut T, &M, &Key, &Note) -> Result<(), OutOfMemory>>(
+        &mut self,
+        enough: u32,
+        into: &mut T,
+        tell: &F,
+    ) -> Result<(), OutOfMemory>
+        requires goes_on { ended (M.meaning self.old.model) self.old.terms self.old.standing ≡ None }
+        requires may { (t : _) (model : _) (key : _) (note : _) → model.now ≡ self.old.model → key.now.dest < (M.meaning self.old.model).objects
+            → F.pre tell.now t model key note }
+        requires does { (t : _) (model : _) (key : _) (note : _) (r : _) (f : _) → model.now ≡ self.old.model → F.post tell.now t model key note r f
+            → (before : List (Key × Note)) → T.holds (M.meaning self.old.model) t.now before
+            → OnOk r (T.holds (M.meaning self.old.model) f.now (before ++ (key.now, note.now) ∷ [])) }
+        ensures told { OnOk result (HasToldStretch (T.holds (M.meaning self.old.model)) (M.meaning self.old.model) self.old.terms
+            self.old.standing into.old into.new self.new.standing) }
+        ensures refused { OnErr result (self.new.standing ≡ spent) }
+        ensures model { self.new.model ≡ self.old.model }
+        ensures terms { self.new.terms ≡ self.old.terms }
+    {
+        let Some(course) = &mut self.course else {
+            return Err(OutOfMemory);
+        };
+        match fire_stretch(
+            course,
+            &*self.model,
+            &self.terms,
+            enough,
+            &mut self.sheet,
+            into,
+            tell,
+        ) {
+            Ok(fault) => {
+                self.fault = fault;
+                Ok(())
             }
             Err(refused) => {
                 spend(&mut self.course);

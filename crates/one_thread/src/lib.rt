@@ -12,6 +12,7 @@ mod bucket_end;
 mod course;
 mod engine;
 mod sending;
+mod stretch;
 mod turn;
 
 pub use bucket_end::BucketEnd;

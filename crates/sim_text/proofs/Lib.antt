@@ -1,4 +1,5 @@
 pub mod EarlyEnds
+pub mod EventsSoFar
 pub mod First
 pub mod GoesOnLaw
 pub mod RecordLemmas

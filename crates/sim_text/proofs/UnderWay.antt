@@ -91,7 +91,7 @@ leads-at_objects m t keeps s (told ∷ records) last lawful leads =
     (next-placed m t s (does told leads.0) lawful leads.1)
     (leads-at_objects m t keeps leads.0 records last (keeps s told leads.0 lawful leads.1) leads.2)
 
-at_object : (m : Meaning) (stop : Stop) → IsPlaced m (stops stop) → IsAtObject m stop
+pub at_object : (m : Meaning) (stop : Stop) → IsPlaced m (stops stop) → IsAtObject m stop
 at_object m End h = tt
 at_object m Limit h = tt
 at_object m (Fault key code) h = h

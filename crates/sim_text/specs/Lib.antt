@@ -1,4 +1,4 @@
-pub mod LineCycles
+pub mod LineStretches
 pub mod Reports
 pub mod Rest
 pub mod SoFar

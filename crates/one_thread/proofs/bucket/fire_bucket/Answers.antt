@@ -1,14 +1,13 @@
 -- The bucket grows event by event, and ends as the definition ends it.
-use Rattle.std.proofs.Common.{◌≡◌, ◌<◌, ◌++◌, ◌∷◌, [], List, Option, Some, None, true, false, ◌∙◌, refl, ap, subst, sym, arith, append-nil, append_assoc}
+use Rattle.std.proofs.Common.{◌++◌, ◌∷◌, [], Some, None, true, false, ◌∙◌, refl, ap, subst, sym, arith, append-nil, append_assoc}
 use Rattle.std.specs.Prelude.{Result, OnOk}
 use Rattle.event_key.specs.declared.key.Key.{Key}
 use Rattle.delta_exchange.specs.declared.memory.OutOfMemory.{OutOfMemory}
 use Rattle.model_core.specs.declared.note.Note.{Note}
 use Rattle.sim_spec.specs.declared.bucket.Bucket.{Bucket}
-use Rattle.sim_spec.specs.State.{State, Lawful}
-use Rattle.tick_queue.specs.Queues.{IsSettled}
+use Rattle.sim_spec.specs.State.{State}
 use Rattle.one_thread.specs.Ends.{end_of}
-use Rattle.one_thread.specs.Engines.{Course, state_of}
+use Rattle.one_thread.specs.Engines.{state_of}
 use Rattle.one_thread.specs.Turns.{IsTurn}
 use Rattle.one_thread.specs.declared.turn.Turn.{Turn}
 use Rattle.one_thread.specs.declared.turn.Turn.TheVariants.{Does, Ends, Limit, Fault}

@@ -1,9 +1,7 @@
 -- A cycle of the engine is a bucket of its simulation, of which all is told.
-use Rattle.std.proofs.Common.{◌<◌, ◌++◌, ◌∷◌, [], List, Option, ap, subst, sym, ◌∙◌}
+use Rattle.std.proofs.Common.{◌<◌, ◌++◌, ◌∷◌, [], Option, ap, subst, sym, ◌∙◌}
 use Rattle.std.specs.Arc.{arc_value}
 use Rattle.std.specs.Prelude.{OnOk}
-use Rattle.event_key.specs.declared.key.Key.{Key}
-use Rattle.model_core.specs.declared.note.Note.{Note}
 use Rattle.sim_spec.specs.Standing.{IsLawfulStanding}
 use Rattle.one_thread.specs.Engines.{Course, EngineView, IsReady, standing_of, state_of}
 use Rattle.one_thread.proofs.EngineLemmas.{told_given, lawful_at, spent_lawful, stands_lawful}
