@@ -1,4 +1,4 @@
-use Rattle.std.proofs.Common.{◌≡◌, ◌+◌, ℕ, List, length, sym, ◌∙◌, subst, arith}
+use Rattle.std.proofs.Common.{◌≡◌, ◌+◌, ◌≤◌, ℕ, List, length, sym, ◌∙◌, subst}
 use Rattle.sim_spec.specs.Cut.{after}
 use Rattle.cycle_core.specs.Busy.{NamesBusy}
 use Rattle.cycle_core.specs.Worlds.{StandsAt}
@@ -35,9 +35,7 @@ finish-requires-clause-count g c lifetimes outlives =
     let closed = c.in_ok-bound.ensures.closed in
     let cycled = closed-cycle g.M.Model.meaning c.args.setting.now.ahead c.args.world.now c.close_world.new.world c.in_ok-bound.bound closed c.end_world.ensures.laws (λ place x at. c.in_ok-records.ensures.known place x at)
     c.in_ok-cut.cut c.in_ok-cut.ensures c.end_world.new.world c.in_ok-records.records.items (λ place x at. c.in_ok-records.ensures.known_now place x at) c.in_ok-records.ensures.world c.in_ok-records.ensures.ended c.requires.stands.0 c.requires.stands.1 in
-    let fits = cycled.fits in
-    let long : c.len.result ≡ length c.in_ok-records.records.items = c.len.ensures in
-    omega arith
+    subst (λ n. c.end_world.new.world.count + n ≤ c.end_world.new.world.terms.limit) (sym c.len.ensures) cycled.fits
 
 pub returns-clause-bucket : goal.returns-clause-bucket
 returns-clause-bucket g c s stands =
