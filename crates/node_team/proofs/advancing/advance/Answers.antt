@@ -1,4 +1,4 @@
-use Rattle.std.proofs.Common.{rules, ◌≡◌, ℕ, ◌≤◌, refl, ◌∙◌, ap, arith}
+use Rattle.std.proofs.Common.{rules, ◌≡◌, ℕ, ◌≤◌, refl, sym, ◌∙◌, ap, subst, arith}
 use Rattle.event_key.specs.Stamps.{end_stamp}
 use Rattle.node_team.proofs.AdvanceLemmas.{held-floor, advancing-first, advancing-more, advancing-refused, idle-later, told-none, told-on}
 use Rattle.node_team.proofs.advancing.advance.Goals as goal
@@ -95,3 +95,13 @@ far-init g c =
 pub returns-in-None-2-clause-told : goal.returns-in-None-2-clause-told
 returns-in-None-2-clause-told g c =
     told-on (g.G.Gate.was_told c.args.gate.now) c.args.node.now c.far.node c.turn-in-far.new.node c.far.invariant.0.works.same.number c.far.invariant.5 c.turn-in-far.ensures.told
+
+pub turn-requires-clause-bound : goal.turn-requires-clause-bound
+turn-requires-clause-bound g c lifetimes outlives =
+    let before = c.near.invariant.0 in
+    subst (λ t. c.near.below ≤ end_stamp t.end) (sym before.works.same.terms) (below-end _ _ _ _ c.near.invariant.1 before.seen c.requires.can.seen)
+
+pub turn-requires-in-far-clause-bound : goal.turn-requires-in-far-clause-bound
+turn-requires-in-far-clause-bound g c lifetimes outlives =
+    let end : c.end_bound-end.result ≡ end_stamp c.args.node.now.terms.end = c.end_bound-end.ensures ∙ ap (λ t. end_stamp t.end) c.terms.ensures in
+    subst (λ t. c.end_bound-end.result ≤ end_stamp t.end) (sym c.far.invariant.0.works.same.terms) (just-end _ _ end)
