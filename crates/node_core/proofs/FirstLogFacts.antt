@@ -12,21 +12,9 @@ use Rattle.object_log.specs.Objects.{IsPlaced}
 use Rattle.event_log.specs.NodeLogs.{NodeLogView}
 use Rattle.node_core.specs.Homes.{HomesView, home_of}
 use Rattle.node_core.specs.Logged.{AreLogged}
-use Rattle.node_core.specs.NewLogs.{first_logs}
+use Rattle.node_core.specs.NewLogs.{AreFirst, first_logs}
 use Rattle.node_core.proofs.LoggedFacts.{none-homed}
 use Rattle.node_core.proofs.NewFacts.{log-elsewhere, log-here, logs-more}
-
--- the log of those of the first n objects that are a node's, each of which was put behind the others
-pub record AreFirst (m : Meaning) (homes : HomesView) (number n : ℕ) (v : NodeLogView) (places : List ℕ) (here : ℕ) : Type 0 where
-  pub long : length places ≡ n
-  pub nodes : v.nodes ≡ homes.nodes
-  pub chained : v.chained ≡ []
-  pub done : v.log.done ≡ []
-  pub here_is : here ≡ length v.log.objects
-  pub few : here ≤ n
-  pub inside : (object : ℕ) → is_some (state_in v.log.objects object) ≡ true → object < n
-  pub placed : (object : ℕ) → is_some (state_in v.log.objects object) ≡ true → IsPlaced v.log (slice_index_or places object 0) object
-  pub logs : logs_upto v.log n ≡ first_logs m (home_of homes) number n
 
 none-found : (found : Option ObjectState) → (is_some found ≡ true → ⊥) → found ≡ None
 none-found None none = refl

@@ -1,4 +1,4 @@
-use Rattle.std.proofs.Common.{◌≡◌, length, refl, sym, ap, ◌∙◌, subst, arith}
+use Rattle.std.proofs.Common.{◌≡◌, ℕ, ◌≤◌, length, refl, sym, ap, ◌∙◌, subst, arith}
 use Rattle.event_key.specs.Stamps.{end_stamp}
 use Rattle.node_core.specs.Nodes.{NodeView}
 use Rattle.cycle_core.specs.Works.{IsSettled}
@@ -7,10 +7,21 @@ use Rattle.node_team.proofs.AdvanceLemmas.{told-none, told-on}
 use Rattle.node_team.proofs.AloneLemmas.{past-first, past-more, past-settled}
 use Rattle.node_team.proofs.alone.advance_alone.Goals as goal
 
+no-less : (n : ℕ) → n ≤ n
+no-less n = omega arith
+
+no-fewer : (a b c : ℕ) → a ≤ b → b ≤ c → a ≤ c
+no-fewer a b c more most = omega arith
+
+pub step_told-requires-clause-bound : goal.step_told-requires-clause-bound
+step_told-requires-clause-bound g c lifetimes outlives =
+    let before = c.near.invariant.0 in
+    subst (λ t. c.near.fallen ≤ end_stamp t.end) (sym before.works.same.terms) (no-fewer _ _ _ before.within c.requires.within)
+
 pub near-init : goal.near-init
 near-init g c = (
   settling-first g.M.Model.meaning c.args.node.now c.args.bound c.requires.from,
-  omega arith,
+  no-less _,
   told-none (g.G.Gate.was_told c.args.gate.now c.args.node.now.number) c.args.node.now c.args.node.now refl,
 )
 
@@ -31,7 +42,7 @@ near-preserved g c =
     let one = did.processed in
     let deep = before.1 in (
       rw c.min-fallen.ensures
-          (settling-more g.M.Model.meaning c.args.node.now c.args.bound c.near.fallen c.near.fallen c.in-Did.least c.in-Did.key c.near.node c.step_told.new.node (omega arith) before.0 did),
+          (settling-more g.M.Model.meaning c.args.node.now c.args.bound c.near.fallen c.near.fallen c.in-Did.least c.in-Did.key c.near.node c.step_told.new.node (no-fewer _ _ _ low within) before.0 did),
       omega arith,
       told-on (g.G.Gate.was_told c.args.gate.now) c.args.node.now c.near.node c.step_told.new.node before.0.works.same.number before.2 c.step_told.ensures.told,
     )

@@ -1,7 +1,8 @@
-use Rattle.std.proofs.Common.{◌≡◌, ◌+◌, ℕ, List, length, sym, ◌∙◌, subst, arith}
+use Rattle.std.proofs.Common.{◌≡◌, ◌+◌, ◌≤◌, ℕ, List, ap, length, sym, ◌∙◌, subst}
 use Rattle.sim_spec.specs.Cut.{after}
 use Rattle.cycle_core.specs.Busy.{NamesBusy}
 use Rattle.cycle_core.specs.Worlds.{StandsAt}
+use Rattle.cycle_core.proofs.ChangedNodes.{same-then}
 use Rattle.node_team.proofs.CycleLemmas.{closed-cycle, closed-here}
 use Rattle.node_team.proofs.RiseLemmas.{all-rise}
 use Rattle.node_team.proofs.cycling.run_cycle.Goals as goal
@@ -35,9 +36,7 @@ finish-requires-clause-count g c lifetimes outlives =
     let closed = c.in_ok-bound.ensures.closed in
     let cycled = closed-cycle g.M.Model.meaning c.args.setting.now.ahead c.args.world.now c.close_world.new.world c.in_ok-bound.bound closed c.end_world.ensures.laws (λ place x at. c.in_ok-records.ensures.known place x at)
     c.in_ok-cut.cut c.in_ok-cut.ensures c.end_world.new.world c.in_ok-records.records.items (λ place x at. c.in_ok-records.ensures.known_now place x at) c.in_ok-records.ensures.world c.in_ok-records.ensures.ended c.requires.stands.0 c.requires.stands.1 in
-    let fits = cycled.fits in
-    let long : c.len.result ≡ length c.in_ok-records.records.items = c.len.ensures in
-    omega arith
+    subst (λ n. c.end_world.new.world.count + n ≤ c.end_world.new.world.terms.limit) (sym c.len.ensures) cycled.fits
 
 pub returns-clause-bucket : goal.returns-clause-bucket
 returns-clause-bucket g c s stands =
@@ -70,3 +69,15 @@ returns-clause-work g c =
     rw c.finish.ensures
     (all-rise g.M.Model.meaning c.args.setting.now.ahead c.in_ok-bound.bound c.in_ok-cut.cut.below c.args.world.now.nodes closed.mids c.close_world.new.world.nodes c.end_world.new.world.nodes c.in_ok-records.records.items closed.run closed.works
     c.in_ok-records.ensures.ended)
+
+pub returns-in_err-records-clause-made : goal.returns-in_err-records-clause-made
+returns-in_err-records-clause-made g c = same-then c.args.world.now c.close_world.new.world c.end_world.new.world c.close_world.ensures.made c.end_world.ensures.made
+
+pub returns-clause-made : goal.returns-clause-made
+returns-clause-made g c =
+    let done = c.finish.ensures in
+    same-then c.args.world.now c.end_world.new.world _ (same-then c.args.world.now c.close_world.new.world c.end_world.new.world c.close_world.ensures.made c.end_world.ensures.made)
+    (record { model = ap (λ w. w.model) done; terms = ap (λ w. w.terms) done; homes = ap (λ w. w.homes) done })
+
+pub returns-clause-fault : goal.returns-clause-fault
+returns-clause-fault g c = ap (λ w. w.fault) c.finish.ensures ∙ sym (ap (λ b. b.fault) c.bucket_of.ensures)

@@ -1,9 +1,10 @@
-use Rattle.std.proofs.Common.{◌≡◌, ap, sym, ◌∙◌, subst}
+use Rattle.std.proofs.Common.{◌≡◌, [], ap, sym, ◌∙◌, subst}
 use Rattle.event_key.specs.Stamps.{end_stamp}
 use Rattle.horizon_word.specs.Views.{new_seat}
 use Rattle.cycle_core.specs.Known.{AreKnown}
 use Rattle.cycle_core.specs.Places.{AtEach}
 use Rattle.cycle_core.specs.Worlds.{WorldView, StandsAt, AreNodesOf}
+use Rattle.cycle_core.proofs.ChangedNodes.{nodes-alone}
 use Rattle.node_team.specs.Forks.{CanAllRun, AllHaveRun}
 use Rattle.node_team.specs.Teams.{IsFloorOf}
 use Rattle.node_team.proofs.RunningLemmas.{can-run, run-nodes, run-stands}
@@ -38,3 +39,39 @@ returns-clause-stands g c s stands =
     let world : c.put_nodes.new.self ≡ record w { nodes = c.in_ok-nodes.nodes.items } = c.put_nodes.ensures.world ∙ ap with_nodes c.take_nodes-nodes.ensures.world in
     let law = rw c.terms-terms.ensures at (rw c.model.ensures at c.law_world.ensures.steps) in
     subst (λ v. StandsAt (g.M.Model.meaning w.model) v s) (sym world) (run-stands (g.M.Model.meaning) w c.args.setting.now.ahead c.in_ok-nodes.nodes.items run law s stands)
+
+pub put_nodes-requires-clause-none : goal.put_nodes-requires-clause-none
+put_nodes-requires-clause-none g c lifetimes outlives = ap (λ v. v.nodes) c.take_nodes-nodes.ensures.world
+
+pub put_nodes-requires-clause-awake : goal.put_nodes-requires-clause-awake
+put_nodes-requires-clause-awake g c lifetimes outlives = ap (λ v. v.is_spent) c.take_nodes-nodes.ensures.world ∙ c.requires.stands.1.has.awake
+
+pub returns-in_err-word-clause-made : goal.returns-in_err-word-clause-made
+returns-in_err-word-clause-made g c =
+    let taken = c.take_nodes-nodes.ensures.world in
+    record { model = ap (λ v. v.model) taken; terms = ap (λ v. v.terms) taken; homes = ap (λ v. v.homes) taken }
+
+pub returns-in_err-nodes-clause-made : goal.returns-in_err-nodes-clause-made
+returns-in_err-nodes-clause-made g c =
+    let taken = c.take_nodes-nodes.ensures.world in
+    record { model = ap (λ v. v.model) taken; terms = ap (λ v. v.terms) taken; homes = ap (λ v. v.homes) taken }
+
+pub returns-clause-made : goal.returns-clause-made
+returns-clause-made g c =
+    let taken = c.take_nodes-nodes.ensures.world in
+    let put = c.put_nodes.ensures.world in
+    record {
+      model = ap (λ v. v.model) put ∙ ap (λ v. v.model) taken;
+      terms = ap (λ v. v.terms) put ∙ ap (λ v. v.terms) taken;
+      homes = ap (λ v. v.homes) put ∙ ap (λ v. v.homes) taken;
+    }
+
+pub returns-clause-world : goal.returns-clause-world
+returns-clause-world g c =
+    let bare : WorldView _ → WorldView _ = λ v. record v { nodes = [] } in
+    nodes-alone (bare c.args.world.now) c.take_nodes-nodes.new.self _ _ c.take_nodes-nodes.ensures.world c.put_nodes.ensures.world
+
+pub returns-clause-run : goal.returns-clause-run
+returns-clause-run g c =
+    subst (λ ns. AllHaveRun g.M.Model.meaning c.args.setting.now.ahead c.args.world.now.nodes ns) (sym (ap (λ v. v.nodes) c.put_nodes.ensures.world))
+    (subst (λ ns. AllHaveRun g.M.Model.meaning c.args.setting.now.ahead ns c.in_ok-nodes.nodes.items) c.take_nodes-nodes.ensures.nodes c.in_ok-nodes.ensures)

@@ -23,6 +23,11 @@ index_mut-object-requires g c =
     let within = placed-within c.self.inside.objects.items c.self.inside.events.items c.args.self.now.log c.args.place c.args.event.key.dest (ap (λ (v : NodeLogView). v.log) c.self.view_is) c.requires.place in
     omega (arith, within, c.self.inside.objects.ok.0)
 
+pub process-requires-clause-object : goal.process-requires-clause-object
+process-requires-clause-object g c = λ k l.
+    let O : ℕ → Type 0 = λ n. n < (g.M.Model.meaning c.args.model.now).objects in
+    subst O (placed-dest c.self.inside.objects.items c.self.inside.events.items c.args.self.now.log c.args.place c.args.event.key.dest (ap (λ (v : NodeLogView). v.log) c.self.view_is) c.requires.place c.index_mut-object.result.now c.index_mut-object.ensures.value) c.requires.object
+
 pub process-requires-clause-dest : goal.process-requires-clause-dest
 process-requires-clause-dest g c = λ k l.
     placed-dest c.self.inside.objects.items c.self.inside.events.items c.args.self.now.log c.args.place c.args.event.key.dest (ap (λ (v : NodeLogView). v.log) c.self.view_is) c.requires.place c.index_mut-object.result.now c.index_mut-object.ensures.value
@@ -114,3 +119,6 @@ pub returns-clause-homed : goal.returns-clause-homed
 returns-clause-homed g c = λ homed.
     let H : NodeLogView → Type 0 = λ v. AreHomed c.args.homes.now v.chained in
     c.process.ensures.homed (subst H (sym c.self.view_is) homed)
+
+pub returns-clause-nodes : goal.returns-clause-nodes
+returns-clause-nodes g c = c.process.ensures.nodes ∙ ap (λ (v : NodeLogView). v.nodes) c.self.view_is

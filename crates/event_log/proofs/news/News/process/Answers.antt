@@ -1,21 +1,24 @@
 -- The object fires the event, which joins the news.
-use Rattle.std.proofs.Common.{◌≡◌, ℕ, ◌+◌, ◌-◌, ◌<◌, ◌≤◌, ◌^◌, min, List, [], ◌∷◌, ◌++◌, length, map, refl, sym, ap, ◌∙◌, subst, arith, length-append}
+use Rattle.std.proofs.Common.{◌≡◌, ℕ, ◌+◌, ◌-◌, ◌<◌, ◌≤◌, ◌^◌, min, List, [], ◌∷◌, ◌++◌, length, map, refl, sym, ap, ◌∙◌, subst, arith, length-append, Fits, w32}
 use Rattle.std.proofs.lemmas.List.{append-nil, length-map}
 use Rattle.std.specs.Prelude.{Option, Some}
 use Rattle.std.specs.List.{AllByRecursion as Each}
 use Rattle.event_key.specs.declared.key.Key.{Key}
+use Rattle.event_key.specs.Stamps.{time_part}
 use Rattle.event_key.specs.declared.stamp.TheConstants.{NO_STAMP}
 use Rattle.delta_exchange.specs.declared.change.Change.{Change}
 use Rattle.key_order.specs.Stamps.{least_stamp}
 use Rattle.model_core.specs.declared.effect.Effect.{Effect}
 use Rattle.model_core.specs.declared.effect.Ending.{Ending}
+use Rattle.model_core.specs.declared.effect.Ending.TheVariants.{Goes}
 use Rattle.model_core.specs.declared.event.Event.{Event}
+use Rattle.model_core.specs.declared.event.Send.{Send}
 use Rattle.model_core.specs.declared.note.Note.{Note}
-use Rattle.model_core.specs.Meaning.{Meaning}
-use Rattle.sim_spec.specs.Firing.{emissions}
+use Rattle.model_core.specs.Meaning.{Meaning, SendsInRange}
+use Rattle.sim_spec.specs.Firing.{emissions, has_endless_chain}
 use Rattle.sim_spec.proofs.SerialLemmas.{length-emissions}
 use Rattle.object_log.specs.Dones.{Done}
-use Rattle.object_log.specs.Objects.{HasFired}
+use Rattle.object_log.specs.Objects.{HasFired, KeptObject}
 use Rattle.object_log.proofs.HeldLemmas.{least-start}
 use Rattle.object_log.specs.Fired.{HasFiredInto, HasGone, failed_of, went_of}
 use Rattle.event_log.specs.declared.row.Row.{Row}
@@ -26,6 +29,34 @@ use Rattle.event_log.proofs.news.News.process.Goals as goal
 
 none-most : (n : ℕ) → 0 ≤ n
 none-most n = omega arith
+
+no-fewer : (a b c : ℕ) → a ≤ b → b ≤ c → a ≤ c
+no-fewer a b c more most = omega arith
+
+-- the serials of so few messages fit
+serials-fit : (serial was sends : ℕ) → serial ≡ was → was < 2 ^ 60 → sends ≤ 8 → serial + sends < 2 ^ 64
+serials-fit serial was sends serial_is before few = omega arith
+
+-- the event's own cell comes to those that were made ready
+cells-ready : (sends room full : ℕ) → sends ≤ 8 → 8 ≤ room → full ≡ min (room + 1) (2 ^ 60) → sends ≤ full
+cells-ready sends room full few enough full_is = omega arith
+
+-- so few messages more are few
+still-few : (now was sends : ℕ) → now ≡ was → was + 8 < 2 ^ 60 → sends ≤ 8 → now + sends < 2 ^ 60
+still-few now was sends now_is few few_sends = omega arith
+
+-- changes come behind others
+none-lost : (to from now was added : ℕ) → to ≡ now → from ≡ was → now ≡ was + added → from ≤ to
+none-lost to from now was added to_is from_is more = omega arith
+
+few-changes : (to from now was added : ℕ) → to ≡ now → from ≡ was → now ≡ was + added → added ≤ 16 → Fits w32 (to - from)
+few-changes to from now was added to_is from_is more few = omega arith
+
+few-sends : (sends known : List Send) → sends ≡ known → length known ≤ 8 → length sends ≤ 8
+few-sends sends known is few = subst (λ (ss : List Send). length ss ≤ 8) (sym is) few
+
+word-few : (n : ℕ) → n ≤ 8 → Fits w32 n
+word-few n few = omega arith
 
 -- so many changes came
 changes-counted : (to from now was added : ℕ) → to ≡ now → from ≡ was → now ≡ was + added → to - from + was ≡ now
@@ -76,6 +107,74 @@ returns-in_default-fired-clause-err g c =
     let made = c.make_room-room.ensures in
     let undo = c.in_default-fired.ensures.kept ∙ made.undo in
     (λ i. news_view (made.rows i) (made.told i) (undo i) (made.sent i) c.self.inside.fault (made.nodes i)) ∙ c.self.view_is
+
+-- what a caller knows of an event that went
+gone : (m : Meaning) (old new : KeptObject) (e y : Event) (k : Ending) (x : Effect) (was now : List Change) → y ≡ e → k ≡ Goes → HasFiredInto m old new y k x was now → HasGone m old new e x was now
+gone m old new e y k x was now y_is k_is fired =
+    let K : Ending → Type 0 = λ k. HasFiredInto m old new y k x was now in
+    let F : Event → Type 0 = λ y. HasGone m old new y x was now in
+    subst F y_is (subst K k_is fired)
+
+pub hold_all-least-requires-clause-time : goal.hold_all-least-requires-clause-time
+hold_all-least-requires-clause-time g c =
+    let T : Event → Type 0 = λ e. time_part e.key.stamp < 2 ^ 46 in
+    subst T (sym c.recycle-event.ensures.value) c.requires.time
+
+pub hold_all-least-requires-clause-stepping : goal.hold_all-least-requires-clause-stepping
+hold_all-least-requires-clause-stepping g c =
+    let fired = gone (g.M.Model.meaning c.args.model.now) c.args.object.now c.fire_into-fired.new.self c.args.event _ _ c.fire_into-fired.new.sheet _ _ c.get.ensures c.in-Goes.is c.in-Ok-fired.ensures.ok in
+    (λ i. has_endless_chain (c.recycle-event.ensures.value i).key.stamp (c.as_slice-sends.ensures i)) ∙ fired.stepping
+
+pub hold_all-least-requires-clause-ranged : goal.hold_all-least-requires-clause-ranged
+hold_all-least-requires-clause-ranged g c =
+    let fired = gone (g.M.Model.meaning c.args.model.now) c.args.object.now c.fire_into-fired.new.self c.args.event _ _ c.fire_into-fired.new.sheet _ _ c.get.ensures c.in-Goes.is c.in-Ok-fired.ensures.ok in
+    let R : List Send → Type 0 = λ ss. SendsInRange (length c.args.homes.now) ss in
+    let O : ℕ → Type 0 = λ n. SendsInRange n c.fire_into-fired.new.sheet.sends in
+    subst R (sym c.as_slice-sends.ensures) (subst O (sym c.requires.known) fired.ranged)
+
+pub hold_all-least-requires-clause-serials : goal.hold_all-least-requires-clause-serials
+hold_all-least-requires-clause-serials g c =
+    let fired = gone (g.M.Model.meaning c.args.model.now) c.args.object.now c.fire_into-fired.new.self c.args.event _ _ c.fire_into-fired.new.sheet _ _ c.get.ensures c.in-Goes.is c.in-Ok-fired.ensures.ok in
+    let few = few-sends _ _ c.as_slice-sends.ensures fired.few_sends in
+    serials-fit _ _ _ c.sent-serial.ensures c.requires.sent few
+
+pub hold_all-least-requires-clause-cells : goal.hold_all-least-requires-clause-cells
+hold_all-least-requires-clause-cells g c =
+    let fired = gone (g.M.Model.meaning c.args.model.now) c.args.object.now c.fire_into-fired.new.self c.args.event _ _ c.fire_into-fired.new.sheet _ _ c.get.ensures c.in-Goes.is c.in-Ok-fired.ensures.ok in
+    let few = few-sends _ _ c.as_slice-sends.ensures fired.few_sends in
+    cells-ready _ _ _ few c.in-Ok.ensures.cells c.recycle-event.ensures.spare
+
+pub hold_all-least-requires-clause-room : goal.hold_all-least-requires-clause-room
+hold_all-least-requires-clause-room g c =
+    let fired = gone (g.M.Model.meaning c.args.model.now) c.args.object.now c.fire_into-fired.new.self c.args.event _ _ c.fire_into-fired.new.sheet _ _ c.get.ensures c.in-Goes.is c.in-Ok-fired.ensures.ok in
+    let few = few-sends _ _ c.as_slice-sends.ensures fired.few_sends in
+    no-fewer _ _ _ few c.in-Ok.ensures.sent_room
+
+pub hold_all-least-requires-clause-few : goal.hold_all-least-requires-clause-few
+hold_all-least-requires-clause-few g c =
+    let fired = gone (g.M.Model.meaning c.args.model.now) c.args.object.now c.fire_into-fired.new.self c.args.event _ _ c.fire_into-fired.new.sheet _ _ c.get.ensures c.in-Goes.is c.in-Ok-fired.ensures.ok in
+    let few = few-sends _ _ c.as_slice-sends.ensures fired.few_sends in
+    let now = ap length c.make_room-room.ensures.sent ∙ ap (λ (v : NewsView). length v.sent) c.self.view_is in
+    still-few _ _ _ now c.requires.few few
+
+pub overflow_sub-changes : goal.overflow_sub-changes
+overflow_sub-changes g c =
+    let fired = gone (g.M.Model.meaning c.args.model.now) c.args.object.now c.fire_into-fired.new.self c.args.event _ _ c.fire_into-fired.new.sheet _ _ c.get.ensures c.in-Goes.is c.in-Ok-fired.ensures.ok in
+    let before = c.make_room-room.new.undo in
+    let added = ap length fired.added ∙ length-append before.items fired.undo in
+    none-lost _ _ _ _ _ (c.len.ensures ∙ c.fire_into-fired.new.undo.ok.0) (c.len-from.ensures ∙ before.ok.0) added
+
+pub overflow_cast-changes : goal.overflow_cast-changes
+overflow_cast-changes g c =
+    let fired = gone (g.M.Model.meaning c.args.model.now) c.args.object.now c.fire_into-fired.new.self c.args.event _ _ c.fire_into-fired.new.sheet _ _ c.get.ensures c.in-Goes.is c.in-Ok-fired.ensures.ok in
+    let before = c.make_room-room.new.undo in
+    let added = ap length fired.added ∙ length-append before.items fired.undo in
+    few-changes _ _ _ _ _ (c.len.ensures ∙ c.fire_into-fired.new.undo.ok.0) (c.len-from.ensures ∙ before.ok.0) added fired.few_changes
+
+pub overflow_cast-sends : goal.overflow_cast-sends
+overflow_cast-sends g c =
+    let fired = gone (g.M.Model.meaning c.args.model.now) c.args.object.now c.fire_into-fired.new.self c.args.event _ _ c.fire_into-fired.new.sheet _ _ c.get.ensures c.in-Goes.is c.in-Ok-fired.ensures.ok in
+    word-few _ (few-sends _ _ c.as_slice-sends.ensures fired.few_sends)
 
 pub hold_all-least-requires-clause-homes : goal.hold_all-least-requires-clause-homes
 hold_all-least-requires-clause-homes g c =

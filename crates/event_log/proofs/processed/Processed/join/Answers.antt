@@ -17,6 +17,13 @@ use Rattle.event_log.proofs.processed.Processed.join.Goals as goal
 no-fewer : (a b c : ℕ) → a ≤ b → b ≤ c → a ≤ c
 no-fewer a b c more most = omega arith
 
+-- messages come behind others
+none-lost : (to from now was added : ℕ) → to ≡ now → from ≡ was → now ≡ was + added → from ≤ to
+none-lost to from now was added to_is from_is more = omega arith
+
+idle-few : (idle done news : ℕ) → idle ≤ done → done ≡ news → news + 8 < 2 ^ 60 → idle < 2 ^ 60
+idle-few idle done news most same few = omega arith
+
 pub make_room-room-requires-clause-few : goal.make_room-room-requires-clause-few
 make_room-room-requires-clause-few g c =
     let F : ℕ → Type 0 = λ k. k + 8 < 2 ^ 60 in
@@ -150,3 +157,22 @@ returns-in-Err-clause-homed g c = λ homed_are.
     let H : ProcessedView → Type 0 = λ v. AreHomed c.args.homes.now v.chained in
     let N : NewsView → Type 0 = λ v. AreHomed c.args.homes.now v.sent in
     subst N (sym c.in-Err.ensures.err) (subst H (sym c.self.view_is) homed_are)
+
+pub overflow_sub-sent : goal.overflow_sub-sent
+overflow_sub-sent g c =
+    let h = c.in-Ok-process.ensures.ok in
+    let was = c.self.inside.news.sent in
+    none-lost _ _ _ _ _ c.sent.ensures c.sent-sent.ensures (ap length h.sent ∙ length-append was (map (homed c.args.homes.now) h.entry.sends))
+
+pub idle_after-self-inside-requires : goal.idle_after-self-inside-requires
+idle_after-self-inside-requires g c =
+    idle-few _ _ _ c.self.invariant.idle_most (ap (λ (v : ProcessedView). length v.news) c.self.view_is) c.requires.can.few
+
+pub returns-in_default-clause-nodes : goal.returns-in_default-clause-nodes
+returns-in_default-clause-nodes g c = ap (λ (v : ProcessedView). v.nodes) c.self.view_is
+
+pub returns-in-Ok-process-clause-nodes : goal.returns-in-Ok-process-clause-nodes
+returns-in-Ok-process-clause-nodes g c = c.in-Ok-process.ensures.ok.nodes ∙ ap (λ (v : ProcessedView). v.nodes) c.self.view_is
+
+pub returns-in-Err-clause-nodes : goal.returns-in-Err-clause-nodes
+returns-in-Err-clause-nodes g c = ap (λ (v : NewsView). v.nodes) c.in-Err.ensures.err ∙ ap (λ (v : ProcessedView). v.nodes) c.self.view_is

@@ -1,9 +1,12 @@
 -- An event is settled, done and kept.
-use Rattle.std.proofs.Common.{◌+◌, length, sym, refl, ap, ◌∙◌, subst, arith}
-use Rattle.delta_exchange.specs.Changes.{cells_after_all, inverses_of}
-use Rattle.delta_exchange.specs.Spares.{NoneFell}
-use Rattle.event_firing.proofs.ReactionLemmas.{settled-laws}
+use Rattle.std.proofs.Common.{◌≡◌, ℕ, ◌+◌, ◌<◌, ◌≤◌, ◌^◌, List, length, sym, refl, ap, ◌∙◌, subst}
+use Rattle.event_key.specs.Stamps.{time_part}
+use Rattle.delta_exchange.specs.declared.change.Change.{Change}
+use Rattle.delta_exchange.specs.Changes.{CellData, AllFit, cells_after_all, inverses_of}
+use Rattle.delta_exchange.specs.Spares.{HaveRoom, NoneFell}
+use Rattle.event_firing.proofs.ReactionLemmas.{settled-goes, settled-laws}
 use Rattle.model_core.specs.declared.effect.Ending.{Ending}
+use Rattle.model_core.specs.declared.event.Event.{Event}
 use Rattle.model_core.specs.Effects.{outcome_by}
 use Rattle.model_core.specs.Meaning.{Meaning}
 use Rattle.sim_spec.specs.Firing.{emissions}
@@ -12,6 +15,7 @@ use Rattle.object_log.specs.Dones.{Done}
 use Rattle.object_log.specs.declared.done.Verdict.TheVariants.{Failed}
 use Rattle.object_log.specs.Objects.{HasFired, IsSameObject, KeptObject}
 use Rattle.object_log.specs.Outcomes.{changes_of}
+use Rattle.object_log.proofs.FireFacts.{entry-kept, entry-taken, lawful-at, no-fewer, no-less, sent-fits, serials-fit, spare-kept, spare-sent, still}
 use Rattle.object_log.proofs.HeldLemmas.{least-start}
 use Rattle.object_log.proofs.ProcessLemmas.{fires-fails, fires-goes, named-here, settled-here}
 use Rattle.object_log.proofs.SendLemmas.{delays-in}
@@ -34,6 +38,107 @@ keep_effect-done-requires-clause-delays g c =
     let laws = settled-laws m c.args.self.now.object c.args.self.now.cells.contents c.args.event x c.keeps_laws.ensures c.requires.object c.requires.lawful goes in
     delays-in _ x.sends laws.sends
 
+pub settle-requires-clause-object : goal.settle-requires-clause-object
+settle-requires-clause-object g c = λ k l.
+    let B : ℕ → Type 0 = λ n. n < (g.M.Model.meaning c.args.model.now).objects in
+    subst B (sym (ap (λ (e : Event). e.key.dest) c.get.ensures ∙ c.requires.dest)) c.requires.object
+
+pub settle-requires-clause-lawful : goal.settle-requires-clause-lawful
+settle-requires-clause-lawful g c = λ k l.
+    lawful-at (g.M.Model.meaning c.args.model.now) _ _ _ _ (ap (λ (e : Event). e.key.dest) c.get.ensures ∙ c.requires.dest) (ap (λ (o : KeptObject). o.cells.contents) c.self.view_is) c.requires.lawful
+
+pub settle-requires-clause-time : goal.settle-requires-clause-time
+settle-requires-clause-time g c = λ k l.
+    let T : Event → Type 0 = λ e. time_part e.key.stamp < 2 ^ 46 in
+    subst T (sym c.get.ensures) c.requires.time
+
+pub returns-in_default-clause-err : goal.returns-in_default-clause-err
+returns-in_default-clause-err g c =
+    let P : KeptObject → Type 0 = λ o. IsSameObject c.args.self.now o in
+    subst P (sym c.self.view_is) (still c.args.self.now)
+
+pub returns-in_default-clause-spare : goal.returns-in_default-clause-spare
+returns-in_default-clause-spare g c = spare-kept _ _ _ _ _ (no-less c.args.pool.now.events) refl (ap (λ (o : KeptObject). o.sent) c.self.view_is)
+
+pub returns-in_default-clause-entries : goal.returns-in_default-clause-entries
+returns-in_default-clause-entries g c = entry-kept _ _ (no-less c.args.pool.now.entries)
+
+pub returns-in_default-room-clause-err : goal.returns-in_default-room-clause-err
+returns-in_default-room-clause-err g c =
+    let made = c.make_room-room.ensures in
+    let N : KeptObject → Type 0 = λ o. NoneFell o.cells.spare c.make_room-room.new.cells.spare in
+    record {
+      object = ap (λ (o : KeptObject). o.object) c.self.view_is;
+      contents = made.contents ∙ ap (λ (o : KeptObject). o.cells.contents) c.self.view_is;
+      sent = ap (λ (o : KeptObject). o.sent) c.self.view_is;
+      none_fell = subst N c.self.view_is made.none_fell;
+    }
+
+pub returns-in_default-room-clause-spare : goal.returns-in_default-room-clause-spare
+returns-in_default-room-clause-spare g c = spare-kept _ _ _ _ _ c.make_room-room.ensures.events_kept refl (ap (λ (o : KeptObject). o.sent) c.self.view_is)
+
+pub returns-in_default-room-clause-entries : goal.returns-in_default-room-clause-entries
+returns-in_default-room-clause-entries g c = entry-kept _ _ c.make_room-room.ensures.entries_kept
+
+pub keep_effect-done-requires-clause-undo : goal.keep_effect-done-requires-clause-undo
+keep_effect-done-requires-clause-undo g c = c.in-Ok-room.ensures.list ∙ c.changes_of-changes.ensures ∙ ap (λ (n : Ending). changes_of n c.settle.new.sheet) c.in-Goes.is
+
+pub keep_effect-done-requires-clause-fits : goal.keep_effect-done-requires-clause-fits
+keep_effect-done-requires-clause-fits g c =
+    let m : Meaning = g.M.Model.meaning c.args.model.now in
+    let x = c.settle.new.sheet in
+    let cells = ap (λ (o : KeptObject). o.cells.contents) c.self.view_is in
+    let outcome = settled-here m c.args.self.now c.self.inside.cells.contents c.get.result.now c.args.event _ c.in-Ok.ensures c.get.ensures c.requires.dest cells in
+    let goes = ap (λ (n : Ending). outcome_by n x) (sym c.in-Goes.is) ∙ outcome in
+    let laws = settled-laws m c.args.self.now.object c.args.self.now.cells.contents c.args.event x c.keeps_laws.ensures c.requires.object c.requires.lawful goes in
+    let F : CellData → Type 0 = λ cs. AllFit x.changes cs in
+    subst F (sym (c.make_room-room.ensures.contents ∙ cells)) laws.fits
+
+pub keep_effect-done-requires-clause-room : goal.keep_effect-done-requires-clause-room
+keep_effect-done-requires-clause-room g c =
+    let R : List Change → Type 0 = λ cs. HaveRoom cs c.make_room-room.new.cells.spare in
+    subst R (c.changes_of-changes.ensures ∙ ap (λ (n : Ending). changes_of n c.settle.new.sheet) c.in-Goes.is) c.in-Ok-room.ensures.changes
+
+pub keep_effect-done-requires-clause-stepping : goal.keep_effect-done-requires-clause-stepping
+keep_effect-done-requires-clause-stepping g c =
+    let m : Meaning = g.M.Model.meaning c.args.model.now in
+    let old = c.args.self.now in
+    let x = c.settle.new.sheet in
+    let outcome = settled-here m old c.self.inside.cells.contents c.get.result.now c.args.event _ c.in-Ok.ensures c.get.ensures c.requires.dest (ap (λ (o : KeptObject). o.cells.contents) c.self.view_is) in
+    let goes = ap (λ (n : Ending). outcome_by n x) (sym c.in-Goes.is) ∙ outcome in
+    (settled-goes c.args.event.key.stamp (m.effect old.object old.cells.contents c.args.event) x goes).1
+
+pub keep_effect-done-requires-clause-serials : goal.keep_effect-done-requires-clause-serials
+keep_effect-done-requires-clause-serials g c =
+    let m : Meaning = g.M.Model.meaning c.args.model.now in
+    let x = c.settle.new.sheet in
+    let outcome = settled-here m c.args.self.now c.self.inside.cells.contents c.get.result.now c.args.event _ c.in-Ok.ensures c.get.ensures c.requires.dest (ap (λ (o : KeptObject). o.cells.contents) c.self.view_is) in
+    let goes = ap (λ (n : Ending). outcome_by n x) (sym c.in-Goes.is) ∙ outcome in
+    let laws = settled-laws m c.args.self.now.object c.args.self.now.cells.contents c.args.event x c.keeps_laws.ensures c.requires.object c.requires.lawful goes in
+    serials-fit _ _ _ (ap (λ (o : KeptObject). o.sent) c.self.view_is) c.requires.sent laws.few_sends
+
+pub keep_effect-done-requires-clause-few : goal.keep_effect-done-requires-clause-few
+keep_effect-done-requires-clause-few g c =
+    let m : Meaning = g.M.Model.meaning c.args.model.now in
+    let x = c.settle.new.sheet in
+    let outcome = settled-here m c.args.self.now c.self.inside.cells.contents c.get.result.now c.args.event _ c.in-Ok.ensures c.get.ensures c.requires.dest (ap (λ (o : KeptObject). o.cells.contents) c.self.view_is) in
+    let goes = ap (λ (n : Ending). outcome_by n x) (sym c.in-Goes.is) ∙ outcome in
+    (settled-laws m c.args.self.now.object c.args.self.now.cells.contents c.args.event x c.keeps_laws.ensures c.requires.object c.requires.lawful goes).few_sends
+
+pub keep_effect-done-requires-clause-events : goal.keep_effect-done-requires-clause-events
+keep_effect-done-requires-clause-events g c =
+    let m : Meaning = g.M.Model.meaning c.args.model.now in
+    let x = c.settle.new.sheet in
+    let outcome = settled-here m c.args.self.now c.self.inside.cells.contents c.get.result.now c.args.event _ c.in-Ok.ensures c.get.ensures c.requires.dest (ap (λ (o : KeptObject). o.cells.contents) c.self.view_is) in
+    let goes = ap (λ (n : Ending). outcome_by n x) (sym c.in-Goes.is) ∙ outcome in
+    let laws = settled-laws m c.args.self.now.object c.args.self.now.cells.contents c.args.event x c.keeps_laws.ensures c.requires.object c.requires.lawful goes in
+    no-fewer _ _ _ laws.few_sends c.in-Ok-room.ensures.sends
+
+pub enter-requires-in-Goes : goal.enter-requires-in-Goes
+enter-requires-in-Goes g c =
+    let E : ℕ → Type 0 = λ n. 1 ≤ n in
+    subst E (sym c.keep_effect-done.ensures.entries) c.in-Ok-room.ensures.entry
+
 pub overflow_add-self : goal.overflow_add-self
 overflow_add-self g c =
     let m : Meaning = g.M.Model.meaning c.args.model.now in
@@ -41,21 +146,46 @@ overflow_add-self g c =
     let outcome = settled-here m c.args.self.now c.self.inside.cells.contents c.get.result.now c.args.event _ c.in-Ok.ensures c.get.ensures c.requires.dest (ap (λ (o : KeptObject). o.cells.contents) c.self.view_is) in
     let goes = ap (λ (n : Ending). outcome_by n x) (sym c.in-Goes.is) ∙ outcome in
     let laws = settled-laws m c.args.self.now.object c.args.self.now.cells.contents c.args.event x c.keeps_laws.ensures c.requires.object c.requires.lawful goes in
-    let sent = ap (λ (o : KeptObject). o.sent) c.self.view_is in
     let long = ap length c.keep_effect-done.ensures.sends ∙ length-emissions c.args.event.key.stamp c.args.event.key.dest c.self.inside.sent x.sends in
-    let counted = c.len.ensures ∙ ap (λ (x : Done). length x.sends) c.done.view_is in
-    let few = laws.few_sends in
-    omega arith
+    let counted = c.len.ensures ∙ ap (λ (x : Done). length x.sends) c.done.view_is ∙ long in
+    let F : ℕ → Type 0 = λ n. n ≤ 8 in
+    sent-fits _ _ _ (ap (λ (o : KeptObject). o.sent) c.self.view_is) c.requires.sent (subst F (sym counted) laws.few_sends)
 
 pub returns-in-Goes-clause-spare : goal.returns-in-Goes-clause-spare
 returns-in-Goes-clause-spare g c =
-    let sent = ap (λ (o : KeptObject). o.sent) c.self.view_is in
     let long = ap length c.keep_effect-done.ensures.sends ∙ length-emissions c.args.event.key.stamp c.args.event.key.dest c.self.inside.sent c.settle.new.sheet.sends in
-    let counted = c.len.ensures ∙ ap (λ (x : Done). length x.sends) c.done.view_is in
-    let made = c.make_room-room.ensures.events_kept in
-    let left = c.keep_effect-done.ensures.events in
-    let entered = c.enter-in-Goes.ensures.events in
-    omega arith
+    let counted = c.len.ensures ∙ ap (λ (x : Done). length x.sends) c.done.view_is ∙ long in
+    let L : ℕ → Type 0 = λ n. c.keep_effect-done.new.pool.events + n ≡ c.make_room-room.new.pool.events in
+    spare-sent _ _ _ _ _ _ _ c.make_room-room.ensures.events_kept (subst L (sym counted) c.keep_effect-done.ensures.events) c.enter-in-Goes.ensures.events (ap (λ (o : KeptObject). o.sent) c.self.view_is)
+
+pub returns-in-Goes-clause-lawful : goal.returns-in-Goes-clause-lawful
+returns-in-Goes-clause-lawful g c =
+    let m : Meaning = g.M.Model.meaning c.args.model.now in
+    let x = c.settle.new.sheet in
+    let cells = ap (λ (o : KeptObject). o.cells.contents) c.self.view_is in
+    let outcome = settled-here m c.args.self.now c.self.inside.cells.contents c.get.result.now c.args.event _ c.in-Ok.ensures c.get.ensures c.requires.dest cells in
+    let goes = ap (λ (n : Ending). outcome_by n x) (sym c.in-Goes.is) ∙ outcome in
+    let laws = settled-laws m c.args.self.now.object c.args.self.now.cells.contents c.args.event x c.keeps_laws.ensures c.requires.object c.requires.lawful goes in
+    lawful-at m _ _ _ _ (ap (λ (o : KeptObject). o.object) c.self.view_is) (c.keep_effect-done.ensures.cells ∙ ap (cells_after_all x.changes) (c.make_room-room.ensures.contents ∙ cells)) laws.lawful
+
+pub returns-in-Goes-clause-entries : goal.returns-in-Goes-clause-entries
+returns-in-Goes-clause-entries g c = entry-taken _ _ _ _ c.make_room-room.ensures.entries_kept c.keep_effect-done.ensures.entries c.enter-in-Goes.ensures.entries
+
+pub returns-in-Goes-clause-lent : goal.returns-in-Goes-clause-lent
+returns-in-Goes-clause-lent g c = c.enter-in-Goes.ensures.lent ∙ c.keep_effect-done.ensures.lent ∙ c.in-Ok-room.ensures.lent
+
+pub returns-in-Fails-clause-lawful : goal.returns-in-Fails-clause-lawful
+returns-in-Fails-clause-lawful g c =
+    lawful-at (g.M.Model.meaning c.args.model.now) _ _ _ _ (ap (λ (o : KeptObject). o.object) c.self.view_is) (c.make_room-room.ensures.contents ∙ ap (λ (o : KeptObject). o.cells.contents) c.self.view_is) c.requires.lawful
+
+pub returns-in-Fails-clause-spare : goal.returns-in-Fails-clause-spare
+returns-in-Fails-clause-spare g c = spare-kept _ _ _ _ _ c.make_room-room.ensures.events_kept c.enter.ensures.events (ap (λ (o : KeptObject). o.sent) c.self.view_is)
+
+pub returns-in-Fails-clause-entries : goal.returns-in-Fails-clause-entries
+returns-in-Fails-clause-entries g c = entry-taken _ _ _ _ c.make_room-room.ensures.entries_kept refl c.enter.ensures.entries
+
+pub returns-in-Fails-clause-lent : goal.returns-in-Fails-clause-lent
+returns-in-Fails-clause-lent g c = c.enter.ensures.lent ∙ c.in-Ok-room.ensures.lent
 
 pub returns-in-Fails-clause-ok : goal.returns-in-Fails-clause-ok
 returns-in-Fails-clause-ok g c =

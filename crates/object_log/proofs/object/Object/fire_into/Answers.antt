@@ -1,9 +1,9 @@
 -- An event is settled, and done into the list.
-use Rattle.std.proofs.Common.{◌≡◌, ◌+◌, List, ◌++◌, length, take, drop, sym, refl, ap, ◌∙◌, subst, arith}
+use Rattle.std.proofs.Common.{◌≡◌, ℕ, ◌+◌, ◌<◌, ◌≤◌, List, ◌++◌, length, take, drop, sym, refl, ap, ◌∙◌, subst}
 use Rattle.std.proofs.lemmas.List.{drop_at}
 use Rattle.delta_exchange.specs.declared.change.Change.{Change}
-use Rattle.delta_exchange.specs.Changes.{cells_after_all, inverses_of}
-use Rattle.delta_exchange.specs.Spares.{NoneFell}
+use Rattle.delta_exchange.specs.Changes.{AllFit, CellData, cells_after_all, inverses_of}
+use Rattle.delta_exchange.specs.Spares.{HaveRoom, NoneFell}
 use Rattle.delta_exchange.specs.Undoing.{UndoRestores}
 use Rattle.event_firing.proofs.ReactionLemmas.{settled-goes, settled-laws}
 use Rattle.model_core.specs.declared.effect.Effect.{Effect}
@@ -15,7 +15,7 @@ use Rattle.object_log.specs.Objects.{IsSameObject, KeptObject}
 use Rattle.object_log.specs.Outcomes.{changes_of}
 use Rattle.object_log.proofs.ProcessLemmas.{fires-fails, fires-goes, named-here, settled-here}
 use Rattle.object_log.specs.Fired.{failed_of, went_of}
-use Rattle.object_log.proofs.FireFacts.{long-inverses, put-behind, still}
+use Rattle.object_log.proofs.FireFacts.{lawful-at, long-inverses, no-more, put-behind, sent-fits, still}
 use Rattle.object_log.proofs.object.Object.fire_into.Goals as goal
 
 pub room-requires : goal.room-requires
@@ -27,6 +27,70 @@ room-requires g c =
     let x : Effect = c.settle.new.sheet in
     named-here m c.args.self.now c.self.inside.cells.contents e c.in_ok-ending.ending x c.as_slice-changes.result.now
     c.keeps_laws.ensures c.requires.object c.requires.lawful outcome cells (c.as_slice-changes.ensures ∙ sym (ap (λ (n : Ending). changes_of n x) c.in-Goes.is))
+
+pub settle-requires-clause-lawful : goal.settle-requires-clause-lawful
+settle-requires-clause-lawful g c = λ k l.
+    lawful-at (g.M.Model.meaning c.args.model.now) _ _ _ _ c.requires.dest (ap (λ (o : KeptObject). o.cells.contents) c.self.view_is) c.requires.lawful
+
+pub settle-requires-clause-object : goal.settle-requires-clause-object
+settle-requires-clause-object g c = λ k l.
+    let B : ℕ → Type 0 = λ n. n < (g.M.Model.meaning c.args.model.now).objects in
+    subst B (sym c.requires.dest) c.requires.object
+
+pub apply-requires-clause-fit : goal.apply-requires-clause-fit
+apply-requires-clause-fit g c =
+    let m : Meaning = g.M.Model.meaning c.args.model.now in
+    let old = c.args.self.now in
+    let x : Effect = c.settle.new.sheet in
+    let cells = ap (λ (o : KeptObject). o.cells.contents) c.self.view_is in
+    let outcome = settled-here m old c.self.inside.cells.contents c.args.event.now c.args.event.now _ c.in_ok-ending.ensures refl c.requires.dest cells in
+    let goes = ap (λ (k : Ending). outcome_by k x) (sym c.in-Goes.is) ∙ outcome in
+    let laws = settled-laws m old.object old.cells.contents c.args.event.now x c.keeps_laws.ensures c.requires.object c.requires.lawful goes in
+    let F : CellData → Type 0 = λ cs. AllFit x.changes cs in
+    let P : List Change → Type 0 = λ cs. AllFit cs c.room.new.self.contents in
+    let full : c.extend_from_slice.new.self.items ≡ c.args.undo.now.items ++ x.changes = c.in-Ok.ensures.items ∙ ap (λ (cs : List Change). c.args.undo.now.items ++ cs) c.as_slice-changes.ensures in
+    let from : c.len-from.result ≡ length c.args.undo.now.items = c.len-from.ensures ∙ c.args.undo.now.ok.0 in
+    let added : c.split_at_mut-added.result.1.now ≡ x.changes = c.split_at_mut-added.ensures.back ∙ ap (drop c.len-from.result) (c.as_mut_slice.ensures.value ∙ full) ∙ drop_at c.args.undo.now.items x.changes c.len-from.result (sym from) in
+    subst P (sym added) (subst F (sym (c.room.ensures.same ∙ cells)) laws.fits)
+
+pub apply-requires-clause-room : goal.apply-requires-clause-room
+apply-requires-clause-room g c =
+    let x : Effect = c.settle.new.sheet in
+    let R : List Change → Type 0 = λ cs. HaveRoom cs c.room.new.self.spare in
+    let full : c.extend_from_slice.new.self.items ≡ c.args.undo.now.items ++ x.changes = c.in-Ok.ensures.items ∙ ap (λ (cs : List Change). c.args.undo.now.items ++ cs) c.as_slice-changes.ensures in
+    let from : c.len-from.result ≡ length c.args.undo.now.items = c.len-from.ensures ∙ c.args.undo.now.ok.0 in
+    let added : c.split_at_mut-added.result.1.now ≡ x.changes = c.split_at_mut-added.ensures.back ∙ ap (drop c.len-from.result) (c.as_mut_slice.ensures.value ∙ full) ∙ drop_at c.args.undo.now.items x.changes c.len-from.result (sym from) in
+    subst R (sym (added ∙ sym c.as_slice-changes.ensures)) c.in_ok-room-in-Goes.ensures.ok
+
+pub overflow_add-self : goal.overflow_add-self
+overflow_add-self g c =
+    let m : Meaning = g.M.Model.meaning c.args.model.now in
+    let old = c.args.self.now in
+    let x : Effect = c.settle.new.sheet in
+    let outcome = settled-here m old c.self.inside.cells.contents c.args.event.now c.args.event.now _ c.in_ok-ending.ensures refl c.requires.dest (ap (λ (o : KeptObject). o.cells.contents) c.self.view_is) in
+    let goes = ap (λ (k : Ending). outcome_by k x) (sym c.in-Goes.is) ∙ outcome in
+    let laws = settled-laws m old.object old.cells.contents c.args.event.now x c.keeps_laws.ensures c.requires.object c.requires.lawful goes in
+    let F : ℕ → Type 0 = λ n. n ≤ 8 in
+    sent-fits _ _ _ (ap (λ (o : KeptObject). o.sent) c.self.view_is) c.requires.sent (subst F (sym (ap length c.as_slice.ensures)) laws.few_sends)
+
+pub returns-in-Fails-clause-lawful : goal.returns-in-Fails-clause-lawful
+returns-in-Fails-clause-lawful g c =
+    lawful-at (g.M.Model.meaning c.args.model.now) _ _ _ _ (ap (λ (o : KeptObject). o.object) c.self.view_is) (ap (λ (o : KeptObject). o.cells.contents) c.self.view_is) c.requires.lawful
+
+pub returns-in-Ok-clause-lawful : goal.returns-in-Ok-clause-lawful
+returns-in-Ok-clause-lawful g c =
+    let m : Meaning = g.M.Model.meaning c.args.model.now in
+    let old = c.args.self.now in
+    let x : Effect = c.settle.new.sheet in
+    let cells = ap (λ (o : KeptObject). o.cells.contents) c.self.view_is in
+    let outcome = settled-here m old c.self.inside.cells.contents c.args.event.now c.args.event.now _ c.in_ok-ending.ensures refl c.requires.dest cells in
+    let goes = ap (λ (k : Ending). outcome_by k x) (sym c.in-Goes.is) ∙ outcome in
+    let laws = settled-laws m old.object old.cells.contents c.args.event.now x c.keeps_laws.ensures c.requires.object c.requires.lawful goes in
+    let full : c.extend_from_slice.new.self.items ≡ c.args.undo.now.items ++ x.changes = c.in-Ok.ensures.items ∙ ap (λ (cs : List Change). c.args.undo.now.items ++ cs) c.as_slice-changes.ensures in
+    let from : c.len-from.result ≡ length c.args.undo.now.items = c.len-from.ensures ∙ c.args.undo.now.ok.0 in
+    let added : c.split_at_mut-added.result.1.now ≡ x.changes = c.split_at_mut-added.ensures.back ∙ ap (drop c.len-from.result) (c.as_mut_slice.ensures.value ∙ full) ∙ drop_at c.args.undo.now.items x.changes c.len-from.result (sym from) in
+    let same = c.room.ensures.same ∙ cells in
+    lawful-at m _ _ _ _ (ap (λ (o : KeptObject). o.object) c.self.view_is) (c.apply.ensures.cells ∙ (λ i. cells_after_all (added i) (same i))) laws.lawful
 
 pub returns-in-Fails-clause-ok : goal.returns-in-Fails-clause-ok
 returns-in-Fails-clause-ok g c =
@@ -57,7 +121,7 @@ returns-in-Ok-clause-ok g c =
     let undo = c.apply.new.changes in
     let front = c.split_at_mut-added.result.0.now in
     let full : all ≡ was ++ x.changes = c.in-Ok.ensures.items ∙ ap (λ (cs : List Change). was ++ cs) c.as_slice-changes.ensures in
-    let from : n ≡ length was = omega (arith, c.len-from.ensures, c.args.undo.now.ok.0) in
+    let from : n ≡ length was = c.len-from.ensures ∙ c.args.undo.now.ok.0 in
     let added : c.split_at_mut-added.result.1.now ≡ x.changes = c.split_at_mut-added.ensures.back ∙ ap (drop n) (c.as_mut_slice.ensures.value ∙ full) ∙ drop_at was x.changes n (sym from) in
     let cells = ap (λ (o : KeptObject). o.cells.contents) view in
     let same = c.room.ensures.same ∙ cells in
@@ -71,7 +135,7 @@ returns-in-Ok-clause-ok g c =
     let R : List Change → Type 0 = λ cs. UndoRestores undo c.apply.new.self cs mid in
     record {
       undo = undo;
-      added = put-behind was x.changes undo front all n c.extend_from_slice.new.self.len full from (c.split_at_mut-added.ensures.front ∙ ap (take n) c.as_mut_slice.ensures.value) long (omega (arith, c.extend_from_slice.new.self.ok.0));
+      added = put-behind was x.changes undo front all n c.extend_from_slice.new.self.len full from (c.split_at_mut-added.ensures.front ∙ ap (take n) c.as_mut_slice.ensures.value) long c.extend_from_slice.new.self.ok.0;
       fired = fires-goes m old new e x (went_of e old.sent x undo) mid goes refl (ap (λ (o : KeptObject). o.object) view)
           (record {
             cells = c.apply.ensures.cells ∙ (λ i. cells_after_all (added i) (same i));
@@ -81,7 +145,7 @@ returns-in-Ok-clause-ok g c =
             verdict = refl;
           })
           same (subst N view c.room.ensures.none_fell) (subst R added c.apply.ensures.undo);
-      few_changes = omega (arith, laws.few_changes);
+      few_changes = no-more _ _ long laws.few_changes;
       few_sends = laws.few_sends;
       stepping = (settled-goes e.key.stamp (m.effect old.object old.cells.contents e) x goes).1;
       ranged = laws.sends;
