@@ -177,14 +177,9 @@ fn events_come_in_the_order_of_a_sorted_list(rt: HostRuntime) -> Result<(), Fail
     assert_acts(&rt, rt.alloc(), acts.as_slice())
 }
 
-#[test]
+/// Of a queue that has merged its events the first one is popped and given back.
 #[tactic(auto, unfolding(key_order::specs::Ascending::Ascends))]
-fn what_is_given_back_comes_again(rt: HostRuntime) -> Result<(), Fail> {
-    let mut counted = Counted::new();
-    for stamp in [30, 10, 20] {
-        counted.push(rt.alloc(), stamp)?;
-    }
-    let Counted { mut queue, .. } = counted;
+fn pop_and_give_back<R: Abort>(rt: &R, queue: &mut Queue) -> Result<(), Fail> {
     queue.merge();
     assert!(rt; queue.fresh_least() == NO_STAMP);
     let first = queue.pop().ok_or("empty")?;
@@ -192,10 +187,26 @@ fn what_is_given_back_comes_again(rt: HostRuntime) -> Result<(), Fail> {
     let mut chain = Chain::new();
     chain.push_back(first);
     queue.give_back(chain);
-    assert!(rt; queue.len() == 3);
-    for stamp in [10, 20, 30] {
+    Ok(())
+}
+
+/// A queue has events at these stamps alone, which are popped in this order.
+fn assert_stamps<R: Abort>(rt: &R, queue: &mut Queue, stamps: &[u64]) -> Result<(), Fail> {
+    assert!(rt; queue.len() == stamps.len());
+    for stamp in stamps {
         let cell = queue.pop().ok_or("empty")?;
-        assert!(rt; cell.into_inner().key.stamp == stamp);
+        assert!(rt; cell.into_inner().key.stamp == *stamp);
     }
     Ok(())
+}
+
+#[test]
+fn what_is_given_back_comes_again(rt: HostRuntime) -> Result<(), Fail> {
+    let mut counted = Counted::new();
+    for stamp in [30, 10, 20] {
+        counted.push(rt.alloc(), stamp)?;
+    }
+    let Counted { mut queue, .. } = counted;
+    pop_and_give_back(&rt, &mut queue)?;
+    assert_stamps(&rt, &mut queue, &[10, 20, 30])
 }
