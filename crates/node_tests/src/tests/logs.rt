@@ -205,10 +205,9 @@ impl<M: SimulationModel> Run<M> {
 fn assert_acts<R: Abort, M: SimulationModel>(
     rt: &R,
     alloc: Global,
-    run: Run<M>,
+    run: &mut Run<M>,
     acts: &[Act],
 ) -> Result<(), Fail> {
-    let mut run = run;
     for (place, act) in acts.iter().enumerate() {
         assert!(rt; run.act(rt, alloc, act)?, "act {place}");
     }

@@ -142,11 +142,10 @@ fn perform_each<R: Abort, M: SimulationModel>(
 fn perform_both<R: Abort, M: SimulationModel>(
     rt: &R,
     alloc: Global,
-    driven: Driven<M>,
+    driven: &mut Driven<M>,
     first: &[Act],
     then: &[Act],
 ) -> Result<(), Fail> {
-    let mut driven = driven;
-    perform_each(rt, alloc, &mut driven, first)?;
-    perform_each(rt, alloc, &mut driven, then)
+    perform_each(rt, alloc, driven, first)?;
+    perform_each(rt, alloc, driven, then)
 }

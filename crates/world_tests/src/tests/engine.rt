@@ -53,18 +53,27 @@ struct Wanted {
     count: u64,
 }
 
-/// The bucket tells that.
-fn assert_bucket<R: Abort>(
+/// Whether a bucket tells that.
+fn tells(alloc: Global, bucket: &Bucket, wanted: &Wanted) -> Result<bool, Fail> {
+    let told = told(alloc, bucket)?;
+    Ok(
+        told.as_slice() == wanted.told
+            && bucket.horizon == wanted.horizon
+            && bucket.fault == None
+            && bucket.limited == wanted.limited,
+    )
+}
+
+/// The engine does this bucket.
+fn assert_bucket<R: Abort, M: SimulationModel>(
     rt: &R,
     alloc: Global,
-    bucket: &Bucket,
+    engine: &mut OneThread<M>,
     wanted: &Wanted,
 ) -> Result<(), Fail> {
-    let told = told(alloc, bucket)?;
-    assert!(rt; told.as_slice() == wanted.told, "{}", wanted.count);
-    assert!(rt; bucket.horizon == wanted.horizon, "{}", wanted.count);
-    assert!(rt; bucket.fault == None, "{}", wanted.count);
-    assert!(rt; bucket.limited == wanted.limited, "{}", wanted.count);
+    let bucket = next_bucket(alloc, engine)?;
+    assert!(rt; tells(alloc, &bucket, wanted)?, "{}", wanted.count);
+    assert!(rt; engine.count() == wanted.count);
     Ok(())
 }
 
@@ -72,17 +81,14 @@ fn assert_bucket<R: Abort>(
 fn assert_ring<R: Abort, M: SimulationModel>(
     rt: &R,
     alloc: Global,
-    engine: OneThread<M>,
+    engine: &mut OneThread<M>,
     buckets: &[Wanted],
     stop: Stop,
 ) -> Result<(), Fail> {
-    let mut engine = engine;
     assert!(rt; engine.terms().end == 9);
     assert!(rt; engine.model().objects() == 3);
     for wanted in buckets {
-        let bucket = next_bucket(alloc, &mut engine)?;
-        assert_bucket(rt, alloc, &bucket, wanted)?;
-        assert!(rt; engine.count() == wanted.count);
+        assert_bucket(rt, alloc, engine, wanted)?;
     }
     assert!(rt; engine.ended() == Some(stop));
     Ok(())
@@ -125,8 +131,8 @@ const BOTH: [Wanted; 2] = [
 
 #[test]
 fn an_event_at_the_horizon_waits(rt: HostRuntime) -> Result<(), Fail> {
-    let engine = ring_engine(rt.alloc(), Terms { end: 9, limit: 100 })?;
-    assert_ring(&rt, rt.alloc(), engine, &BOTH, Stop::End)
+    let mut engine = ring_engine(rt.alloc(), Terms { end: 9, limit: 100 })?;
+    assert_ring(&rt, rt.alloc(), &mut engine, &BOTH, Stop::End)
 }
 
 /// The first bucket, and the first event of the next one.
@@ -142,8 +148,8 @@ const TWO_EVENTS: [Wanted; 2] = [
 
 #[test]
 fn the_limit_cuts_a_bucket(rt: HostRuntime) -> Result<(), Fail> {
-    let engine = ring_engine(rt.alloc(), Terms { end: 9, limit: 2 })?;
-    assert_ring(&rt, rt.alloc(), engine, &TWO_EVENTS, Stop::Limit)
+    let mut engine = ring_engine(rt.alloc(), Terms { end: 9, limit: 2 })?;
+    assert_ring(&rt, rt.alloc(), &mut engine, &TWO_EVENTS, Stop::Limit)
 }
 
 /// The event that has no step left.
@@ -155,22 +161,23 @@ const LAST_KEY: Key = Key {
     serial: 65_534,
 };
 
+/// Whether a bucket has so many records, this horizon and this fault.
+fn is_of(bucket: &Bucket, records: usize, horizon: u64, fault: Option<(Key, u32)>) -> bool {
+    bucket.done.as_buffer().len() == records && bucket.horizon == horizon && bucket.fault == fault
+}
+
 /// An object that sends to itself without delay goes through all steps of a tick.
 fn do_all_steps<R: Abort, M: SimulationModel>(
     rt: &R,
     alloc: Global,
-    engine: OneThread<M>,
+    engine: &mut OneThread<M>,
 ) -> Result<(), Fail> {
-    let mut engine = engine;
     for step in 0..65535 {
-        let bucket = next_bucket(alloc, &mut engine)?;
-        assert!(rt; bucket.done.as_buffer().len() == 1);
-        assert!(rt; bucket.horizon == step + 1);
+        let bucket = next_bucket(alloc, engine)?;
+        assert!(rt; is_of(&bucket, 1, step + 1, None), "{step}");
     }
-    let last = next_bucket(alloc, &mut engine)?;
-    assert!(rt; last.done.as_buffer().is_empty());
-    assert!(rt; last.horizon == 0);
-    assert!(rt; last.fault == Some((LAST_KEY, 1)));
+    let last = next_bucket(alloc, engine)?;
+    assert!(rt; is_of(&last, 0, 0, Some((LAST_KEY, 1))));
     let stop = Stop::Fault {
         key: LAST_KEY,
         code: 1,
@@ -196,6 +203,6 @@ fn a_tick_has_no_step_after_the_last(rt: HostRuntime) -> Result<(), Fail> {
         end: 3,
         limit: 1000000,
     };
-    let engine = OneThread::new(rt.alloc(), Arc::new(rt.alloc(), model)?, terms)?;
-    do_all_steps(&rt, rt.alloc(), engine)
+    let mut engine = OneThread::new(rt.alloc(), Arc::new(rt.alloc(), model)?, terms)?;
+    do_all_steps(&rt, rt.alloc(), &mut engine)
 }

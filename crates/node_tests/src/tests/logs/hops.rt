@@ -49,8 +49,8 @@ fn assert_hops<R: Abort>(rt: &R, alloc: Global, acts: &[Act]) -> Result<(), Fail
     let delay = Law::Uniform { low: 1, high: 10 };
     assert!(rt; delay.is_delay());
     let model = Phold::make(0, 1, delay, true, 0, Vec::new(alloc), 0)?;
-    let run = Run::new(rt, alloc, model, 0)?;
-    assert_acts(rt, alloc, run, acts)
+    let mut run = Run::new(rt, alloc, model, 0)?;
+    assert_acts(rt, alloc, &mut run, acts)
 }
 
 // By an independent ChaCha20 with seed 0, stream 0: at the places 0, 2 and 4 a delay of 1 to 10 ticks is drawn as 5, 3
@@ -160,6 +160,6 @@ fn a_chain_without_end_in_a_tick_is_undone_as_any_event(rt: HostRuntime) -> Resu
     let delay = Law::Fixed { value: 0 };
     assert!(rt; delay.is_delay());
     let model = Phold::make(0, 1, delay, false, 0, Vec::new(rt.alloc()), 0)?;
-    let run = Run::new(&rt, rt.alloc(), model, 7)?;
-    assert_acts(&rt, rt.alloc(), run, &WITHOUT_END)
+    let mut run = Run::new(&rt, rt.alloc(), model, 7)?;
+    assert_acts(&rt, rt.alloc(), &mut run, &WITHOUT_END)
 }

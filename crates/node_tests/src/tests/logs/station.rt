@@ -43,6 +43,6 @@ const TAKES_BACK: [Act; 17] = [
 #[test]
 fn a_straggler_takes_back_a_fault_that_never_happens(rt: HostRuntime) -> Result<(), Fail> {
     let model = strict::station(rt.alloc())?;
-    let run = Run::new(&rt, rt.alloc(), model, 0)?;
-    assert_acts(&rt, rt.alloc(), run, &TAKES_BACK)
+    let mut run = Run::new(&rt, rt.alloc(), model, 0)?;
+    assert_acts(&rt, rt.alloc(), &mut run, &TAKES_BACK)
 }

@@ -24,6 +24,6 @@ fn a_node_without_objects_is_idle(rt: HostRuntime) -> Result<(), Fail> {
     assert!(rt; delay.is_delay());
     let model = Phold::make(0, 1, delay, false, 0, Vec::new(alloc), 0)?;
     let terms = Terms { end: 9, limit: 100 };
-    let driven = Driven::new(&rt, alloc, model, terms, 1, 2)?;
-    perform_both(&rt, alloc, driven, &NOTHING, &[])
+    let mut driven = Driven::new(&rt, alloc, model, terms, 1, 2)?;
+    perform_both(&rt, alloc, &mut driven, &NOTHING, &[])
 }

@@ -114,12 +114,12 @@ fn hops<R: Abort>(rt: &R, alloc: Global) -> Result<Driven<Phold>, Fail> {
 
 #[test]
 fn a_straggler_rolls_back_its_own_object_alone(rt: HostRuntime) -> Result<(), Fail> {
-    let driven = hops(&rt, rt.alloc())?;
-    perform_both(&rt, rt.alloc(), driven, &AHEAD, &STRAGGLES)
+    let mut driven = hops(&rt, rt.alloc())?;
+    perform_both(&rt, rt.alloc(), &mut driven, &AHEAD, &STRAGGLES)
 }
 
 #[test]
 fn what_isnt_below_a_horizon_is_undone(rt: HostRuntime) -> Result<(), Fail> {
-    let driven = hops(&rt, rt.alloc())?;
-    perform_both(&rt, rt.alloc(), driven, &AHEAD, &UNDOES)
+    let mut driven = hops(&rt, rt.alloc())?;
+    perform_both(&rt, rt.alloc(), &mut driven, &AHEAD, &UNDOES)
 }

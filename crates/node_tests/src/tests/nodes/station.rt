@@ -49,8 +49,8 @@ const TAKES_BACK: [Act; 5] = [
 #[test]
 fn a_straggler_takes_back_a_fault(rt: HostRuntime) -> Result<(), Fail> {
     let alloc = rt.alloc();
-    let driven = Driven::new(&rt, alloc, strict::station(alloc)?, TERMS, 0, 1)?;
-    perform_both(&rt, alloc, driven, &AHEAD, &TAKES_BACK)
+    let mut driven = Driven::new(&rt, alloc, strict::station(alloc)?, TERMS, 0, 1)?;
+    perform_both(&rt, alloc, &mut driven, &AHEAD, &TAKES_BACK)
 }
 
 // From there on all is as where no step was refused.
@@ -59,8 +59,8 @@ fn a_refused_step_may_be_made_again(rt: HostRuntime) -> Result<(), Fail> {
     let alloc = rt.alloc();
     for before in 0..3 {
         let model = Stingy::new(strict::station(alloc)?, before);
-        let driven = Driven::new(&rt, alloc, model, TERMS, 0, 1)?;
-        perform_both(&rt, alloc, driven, &REFUSED, &TAKES_BACK)?;
+        let mut driven = Driven::new(&rt, alloc, model, TERMS, 0, 1)?;
+        perform_both(&rt, alloc, &mut driven, &REFUSED, &TAKES_BACK)?;
     }
     Ok(())
 }
