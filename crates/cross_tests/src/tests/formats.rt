@@ -1,10 +1,11 @@
 //! What the second format adds to networks: ranks, quiet objects and traced stations, told with and without lines of cycles.
 ghost use Rattle.model_runs.specs.Machines.{IsMachine};
 
-use super::{short_sink, write_model};
-use model_runs::{DEFAULT_SPREAD, Machine, Spread};
+use model_runs::{DEFAULT_SPREAD, Job, Machine, Spread, Stage, run_model};
+use model_text::{AnyModel, read_model};
+use node_team::Open;
 use run_tally::NoTally;
-use sim_io::Moves;
+use sim_io::{MemSink, Moves};
 use sim_spec::Placement;
 use sim_text::Telling;
 use std::alloc::Global;
@@ -185,11 +186,27 @@ fn assert_case<R: Abort + Threads + Sync>(
     requires { IsMachine machine }
 {
     for (cycles, text) in [(false, case.records), (true, case.cycles)] {
-        let mut out = short_sink(alloc)?;
-        let telling = Telling::Lines { cycles };
-        write_model::<R, NoTally>(rt, alloc, case.model, machine, telling, &mut out)?;
+        let Ok((model, terms)) = read_model(alloc, case.model.as_bytes()) else {
+            return Err(Fail::from("the model is refused"));
+        };
+        let mut out = MemSink::new(alloc, 4096, Vec::new(alloc), Vec::new(alloc), 64)?;
+        let stage = Stage {
+            rt,
+            alloc,
+            gate: &Open,
+        };
+        let job = Job {
+            model,
+            terms,
+            machine,
+            telling: Telling::Lines { cycles },
+        };
+        let ran = run_model::<R, Open, AnyModel, NoTally, MemSink>(stage, job, &mut out);
+        let Ok(_) = ran else {
+            return Err(Fail::from("the text isn't whole"));
+        };
         assert!(rt;
-            out.bytes() == text.as_bytes(),
+            std::str::from_utf8(out.bytes())? == text,
             "{} by {machine:?}",
             case.what
         );

@@ -1,12 +1,13 @@
 //! Totals of one's own: a tally of a few lines, whose lines come at the end of a run.
 ghost use Rattle.model_runs.specs.Machines.{IsMachine};
 
-use super::{short_sink, write_model};
 use event_key::Key;
 use model_core::{OutOfMemory, Part};
-use model_runs::{DEFAULT_SPREAD, Machine};
-use model_text::AnyModel;
+use model_runs::{DEFAULT_SPREAD, Job, Machine, Stage, run_model};
+use model_text::{AnyModel, read_model};
+use node_team::Open;
 use run_tally::Tally;
+use sim_io::MemSink;
 use sim_spec::{Stop, Terms};
 use sim_text::Telling;
 use std::alloc::Global;
@@ -58,10 +59,30 @@ fn assert_counted<R: Abort + Threads + Sync>(
 ) -> Result<(), Fail>
     requires { IsMachine machine }
 {
-    let mut out = short_sink(alloc)?;
-    write_model::<R, Events>(rt, alloc, TIE, machine, Telling::Totals, &mut out)?;
-    let wanted = b"events 3\nend 9 events 3\n";
-    assert!(rt; out.bytes() == wanted.as_slice(), "by {machine:?}");
+    let Ok((model, terms)) = read_model(alloc, TIE.as_bytes()) else {
+        return Err(Fail::from("the model is refused"));
+    };
+    let mut out = MemSink::new(alloc, 4096, Vec::new(alloc), Vec::new(alloc), 64)?;
+    let stage = Stage {
+        rt,
+        alloc,
+        gate: &Open,
+    };
+    let job = Job {
+        model,
+        terms,
+        machine,
+        telling: Telling::Totals,
+    };
+    let ran = run_model::<R, Open, AnyModel, Events, MemSink>(stage, job, &mut out);
+    let Ok(_) = ran else {
+        return Err(Fail::from("the text isn't whole"));
+    };
+    let wanted = "events 3\nend 9 events 3\n";
+    assert!(rt;
+        std::str::from_utf8(out.bytes())? == wanted,
+        "by {machine:?}"
+    );
     Ok(())
 }
 

@@ -31,15 +31,6 @@ pub(super) struct Ended {
 }
 
 impl Ended {
-    /// A run that ended with this status has written and noted this.
-    fn new(alloc: Global, status: u8, out: &MemSink, notes: &MemSink) -> Result<Ended, Fail> {
-        Ok(Ended {
-            status,
-            text: text_of(alloc, out)?,
-            notes: text_of(alloc, notes)?,
-        })
-    }
-
     /// The run ended so.
     fn assert<R: Abort>(&self, rt: &R, status: u8, text: &str, notes: &str, what: &str) {
         assert!(rt; self.text.as_str() == text, "{what}");
@@ -89,7 +80,11 @@ fn ended_by<R: AllocGlobal + Threads + Sync, G: Gate>(
     let alloc = rt.alloc();
     let mut notes = sink_of(alloc, &[], &[])?;
     let status = status_of(rt, words, &mut source, &mut out, &mut notes, gate)?;
-    Ended::new(alloc, status, &out, &notes)
+    Ok(Ended {
+        status,
+        text: text_of(alloc, &out)?,
+        notes: text_of(alloc, &notes)?,
+    })
 }
 
 /// How a run of these words ends that reads this input, and of which a gate is told.

@@ -1,5 +1,5 @@
 //! The program over any reader, at the reader of `btb`: what `btb` does but for demos.
-use super::{Ended, sink_of, source_of};
+use super::{sink_of, source_of, text_of};
 use model_program::{ModelProgram, run_program};
 use model_text::ModelTexts;
 use node_team::Open;
@@ -27,7 +27,9 @@ fn assert_told<R: Abort + AllocGlobal + Threads + Sync>(
     let mut notes = sink_of(alloc, &[], &[])?;
     let said = Ok(words_of(alloc, words)?);
     let status = run_program(rt, &program, said, &mut source, &mut out, &mut notes);
-    Ended::new(alloc, status, &out, &notes)?.assert(rt, wanted.0, wanted.1, wanted.2, words);
+    assert!(rt; text_of(alloc, &out)?.as_str() == wanted.1, "{words}");
+    assert!(rt; text_of(alloc, &notes)?.as_str() == wanted.2, "{words}");
+    assert!(rt; status == wanted.0, "{words}");
     Ok(())
 }
 

@@ -1,5 +1,5 @@
 //! Words and models that are refused, and words that can't be read.
-use super::{Ended, ended_by, sink_of, source_of};
+use super::{ended_by, sink_of, source_of, text_of};
 use btb_program::run_program;
 use node_team::Open;
 use sim_io::MemSource;
@@ -68,7 +68,9 @@ fn assert_program<R: Abort + AllocGlobal + Threads + Sync>(
     let mut out = sink_of(alloc, fails, &[])?;
     let mut notes = sink_of(alloc, &[], &[])?;
     let ended = run_program(rt, words, &mut source, &mut out, &mut notes, &Open);
-    Ended::new(alloc, ended, &out, &notes)?.assert(rt, status, text, line, line);
+    assert!(rt; ended == status);
+    assert!(rt; text_of(alloc, &out)?.as_str() == text);
+    assert!(rt; text_of(alloc, &notes)?.as_str() == line);
     Ok(())
 }
 

@@ -27,37 +27,19 @@ fn saved<R: Abort + AllocGlobal + Threads + Sync>(
     Ok((records, ["state 1\n", state].concat(alloc)?))
 }
 
-/// The state of a model that is saved after so many cycles, which tell these records.
-fn state_after<R: Abort + AllocGlobal + Threads + Sync>(
-    rt: &R,
-    model: &str,
-    cycles: u32,
-    wanted: &str,
-) -> Result<String, Fail> {
-    let (records, state) = saved(rt, model, cycles)?;
-    assert!(rt; records.as_str() == wanted);
-    Ok(state)
-}
-
-/// What goes on from the text of a state has this status, text and note.
-fn assert_resumed<R: Abort + AllocGlobal + Threads + Sync>(
-    rt: &R,
-    state: &str,
-    status: u8,
-    text: &str,
-    line: &str,
-) -> Result<(), Fail> {
-    told_by(rt, "resume", state)?.assert(rt, status, text, line, state);
-    Ok(())
-}
-
 #[test]
 fn a_state_is_saved_behind_the_records_of_its_cycles(rt: HostRuntime) -> Result<(), Fail> {
-    let state = state_after(&rt, TWO_JOBS, 1, "4.0 s take 1 0\n4.0 s wait 2 1\n")?;
+    let (records, state) = saved(&rt, TWO_JOBS, 1)?;
+    assert!(rt; records.as_str() == "4.0 s take 1 0\n4.0 s wait 2 1\n");
     assert!(rt; state.as_str() == SAVED_TWO_JOBS);
-    let rest =
-        "6.0 s done 1 0\n6.1 out leave 1 2\n8.0 s done 2 0\n8.1 out leave 2 4\nend 10 events 6\n";
-    assert_resumed(&rt, state.as_str(), 0, rest, "")
+    told_by(&rt, "resume", state.as_str())?.assert(
+        &rt,
+        0,
+        "6.0 s done 1 0\n6.1 out leave 1 2\n8.0 s done 2 0\n8.1 out leave 2 4\nend 10 events 6\n",
+        "",
+        "resume",
+    );
+    Ok(())
 }
 
 /// Both jobs of the saved model.
@@ -83,37 +65,30 @@ const CHANGES: [(&str, &str, &str); 5] = [
 fn a_state_that_no_simulation_meets_is_refused(rt: HostRuntime) -> Result<(), Fail> {
     for (old, new, line) in &CHANGES {
         let text = SAVED_TWO_JOBS.replacen(rt.alloc(), old, new, 1)?;
-        assert_resumed(&rt, text.as_str(), 8, "", line)?;
+        told_by(&rt, "resume", text.as_str())?.assert(&rt, 8, "", line, new);
     }
     Ok(())
 }
 
 #[test]
 fn a_fault_is_told_by_what_goes_on(rt: HostRuntime) -> Result<(), Fail> {
-    let state = state_after(&rt, STRICT_LINE, 9, "5.0 s take 1 0\n6.0 s wait 2 1\n")?;
+    let (records, state) = saved(&rt, STRICT_LINE, 9)?;
+    assert!(rt; records.as_str() == "5.0 s take 1 0\n6.0 s wait 2 1\n");
     assert!(rt; state.as_str().starts_with("state 1\ncount 2\n"));
     assert!(rt; state.as_str().contains("\nevents 2\nevent 7.0 "));
     assert!(rt; state.as_str().contains("\nevent 105.0 "));
-    assert_resumed(&rt, state.as_str(), 1, "fault 7.0 s line-full\n", "")
-}
-
-/// What a model tells that is saved after so many cycles, and goes on from there.
-fn told_in_two<R: Abort + AllocGlobal + Threads + Sync>(
-    rt: &R,
-    model: &str,
-    cycles: u32,
-) -> Result<String, Fail> {
-    let (records, state) = saved(rt, model, cycles)?;
-    let resumed = told_by(rt, "resume", state.as_str())?;
-    assert!(rt; resumed.status == 0);
-    Ok([records.as_str(), resumed.text.as_str()].concat(rt.alloc())?)
+    told_by(&rt, "resume", state.as_str())?.assert(&rt, 1, "fault 7.0 s line-full\n", "", "resume");
+    Ok(())
 }
 
 #[test]
 fn what_is_told_before_and_after_is_the_whole(rt: HostRuntime) -> Result<(), Fail> {
     for cycles in 0..9 {
-        let whole = told_in_two(&rt, SHOP, cycles)?;
-        assert!(rt; whole.as_str() == SHOP_TEXT, "{cycles}");
+        let (records, state) = saved(&rt, SHOP, cycles)?;
+        let resumed = told_by(&rt, "resume", state.as_str())?;
+        assert!(rt; resumed.status == 0);
+        let whole = [records.as_str(), resumed.text.as_str()].concat(rt.alloc())?;
+        assert!(rt; whole.as_str() == SHOP_TEXT);
     }
     Ok(())
 }

@@ -1,5 +1,5 @@
 //! Reads and writes that fail at any call, and streams that go byte by byte.
-use super::{Ended, ended_by, sink_of, source_of, status_of, told_by};
+use super::{ended_by, sink_of, source_of, status_of, text_of, told_by};
 use node_team::Open;
 use sim_io::{CleanSink, CleanSource, MemSink, MemSource};
 use std::alloc::AllocGlobal;
@@ -103,14 +103,9 @@ fn assert_notes<R: Abort + AllocGlobal + Threads + Sync>(
     let mut out = sink_of(alloc, failing.writes, &[])?;
     let mut notes = sink_of(alloc, failing.note_writes, &[])?;
     let status = status_of(rt, failing.word, &mut source, &mut out, &mut notes, &Open)?;
-    let run = Ended::new(alloc, status, &out, &notes)?;
-    run.assert(
-        rt,
-        failing.status,
-        failing.text,
-        failing.notes,
-        failing.word,
-    );
+    assert!(rt; status == failing.status);
+    assert!(rt; text_of(alloc, &out)?.as_str() == failing.text);
+    assert!(rt; text_of(alloc, &notes)?.as_str() == failing.notes);
     Ok(())
 }
 

@@ -124,19 +124,6 @@ impl Trace {
         }
         Ok(told)
     }
-
-    /// The ticks and steps are these.
-    fn assert<R: Abort>(
-        &self,
-        rt: &R,
-        alloc: Global,
-        stamps: &[(u64, u64)],
-        what: &str,
-    ) -> Result<(), Fail> {
-        let told = self.told(alloc)?;
-        assert!(rt; told.as_slice() == stamps, "{what}");
-        Ok(())
-    }
 }
 
 impl Gate for Trace {
@@ -171,7 +158,12 @@ fn assert_traced<R: Abort + AllocGlobal + Threads + Sync>(
     let gate = Trace::new(alloc, traced.node)?;
     let run = told_at(rt, traced.words, traced.model, &gate)?;
     run.assert(rt, 0, traced.text, "", traced.words);
-    gate.assert(rt, alloc, traced.stamps, traced.words)
+    assert!(rt;
+        gate.told(alloc)?.as_slice() == traced.stamps,
+        "{}",
+        traced.words
+    );
+    Ok(())
 }
 
 /// The text of `LONGER_TIE`.
@@ -300,17 +292,6 @@ struct Behind {
     one: Trace,
 }
 
-impl Behind {
-    fn new(alloc: Global) -> Result<Behind, Fail> {
-        Ok(Behind {
-            came: AtomicBool::new(false),
-            ahead: AtomicBool::new(false),
-            zero: Trace::new(alloc, 0)?,
-            one: Trace::new(alloc, 1)?,
-        })
-    }
-}
-
 impl Gate for Behind {
     fn enter(&self, node: u32) {
         if node == 1 && !self.came.swap(true, Ordering::SeqCst) {
@@ -340,13 +321,18 @@ delay = { law = \"fixed\", value = 5 }
 to = \"next\"
 start = [ { time = 0, at = 0 }, { time = 2, at = 1 }, { time = 6, at = 1 } ]
 ";
-    let gate = Behind::new(alloc)?;
+    let gate = Behind {
+        came: AtomicBool::new(false),
+        ahead: AtomicBool::new(false),
+        zero: Trace::new(alloc, 0)?,
+        one: Trace::new(alloc, 1)?,
+    };
     let words = "run --nodes 2 --ahead 0";
     let text = "0.0 p0 hop 5 1\n2.0 p1 hop 5 0\n5.0 p1 hop 5 0\n6.0 p1 hop 5 0\nend 6 events 4\n";
     told_at(&rt, words, model, &gate)?.assert(&rt, 0, text, "", words);
-    gate.zero.assert(&rt, alloc, &[(0, 0)], "node 0")?;
-    gate.one
-        .assert(&rt, alloc, &[(2, 0), (5, 0), (6, 0)], "node 1")
+    assert!(rt; gate.zero.told(alloc)?.as_slice() == [(0, 0)].as_slice());
+    assert!(rt; gate.one.told(alloc)?.as_slice() == [(2, 0), (5, 0), (6, 0)].as_slice());
+    Ok(())
 }
 
 /// Holds the first entry of node 0 until node 2 has entered, and keeps whether it saw that.

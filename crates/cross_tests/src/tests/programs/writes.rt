@@ -1,5 +1,5 @@
 //! When the text is written, and what a failing end of it answers.
-use super::{Ended, ended_by, source_of, status_of};
+use super::{Ended, ended_by, source_of, status_of, text_of};
 use node_team::Open;
 use sim_io::{GatheringSink, MemSink};
 use std::alloc::AllocGlobal;
@@ -54,7 +54,7 @@ fn assert_gathered<R: Abort + AllocGlobal + Threads + Sync>(
     rt: &R,
     call: u64,
     status: u8,
-    text: &str,
+    text: &[u8],
     line: &str,
 ) -> Result<(), Fail> {
     let alloc = rt.alloc();
@@ -63,7 +63,9 @@ fn assert_gathered<R: Abort + AllocGlobal + Threads + Sync>(
     let mut notes = MemSink::new(alloc, 4096, Vec::new(alloc), Vec::new(alloc), 4096)?;
     let mut source = source_of(alloc, LONG_TIE.as_bytes(), &[])?;
     let ended = status_of(rt, "run", &mut source, &mut out, &mut notes, &Open)?;
-    Ended::new(alloc, ended, out.inner(), &notes)?.assert(rt, status, text, line, text);
+    assert!(rt; ended == status, "{call}");
+    assert!(rt; out.inner().bytes() == text);
+    assert!(rt; text_of(alloc, &notes)?.as_str() == line);
     Ok(())
 }
 
@@ -76,7 +78,7 @@ fn text_that_is_not_handed_on_is_a_write_that_failed(rt: HostRuntime) -> Result<
             .as_bytes()
             .get(..(call as usize - 1) * 10)
             .ok_or("length")?;
-        assert_gathered(&rt, call, 5, std::str::from_utf8(taken)?, "write failed\n")?;
+        assert_gathered(&rt, call, 5, taken, "write failed\n")?;
     }
-    assert_gathered(&rt, 11, 0, text.as_str(), "")
+    assert_gathered(&rt, 11, 0, text.as_bytes(), "")
 }
