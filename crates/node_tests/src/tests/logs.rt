@@ -201,13 +201,15 @@ impl<M: SimulationModel> Run<M> {
     }
 }
 
-/// Each of these comes out as it is told.
+/// With a log of the first object of a model, which has sent so many events, each of these comes out as it is told.
 fn assert_acts<R: Abort, M: SimulationModel>(
     rt: &R,
     alloc: Global,
-    run: &mut Run<M>,
+    model: M,
+    sent: u64,
     acts: &[Act],
 ) -> Result<(), Fail> {
+    let mut run = Run::new(rt, alloc, model, sent)?;
     for (place, act) in acts.iter().enumerate() {
         assert!(rt; run.act(rt, alloc, act)?, "act {place}");
     }

@@ -10,6 +10,7 @@ use event_key::Key;
 use model_core::model::Model as SimulationModel;
 use model_core::{Event, Part};
 use node_core::{Committed, Step, Tallies};
+use sim_spec::Terms;
 use std::alloc::Global;
 use std::process::Abort;
 use std::test::Fail;
@@ -72,10 +73,12 @@ fn step_to_idle<R: Abort, M: SimulationModel>(
 ) -> Result<u32, Fail> {
     let mut refused: u32 = 0;
     for _ in 0..10 {
-        match driven.step(rt, alloc) {
-            Ok(Step::Did { .. }) => {}
-            Ok(Step::Idle) => return Ok(refused),
-            Err(_) => refused = refused.saturating_add(1),
+        let step = driven.step(rt, alloc);
+        if step == Ok(Step::Idle) {
+            return Ok(refused);
+        }
+        if step.is_err() {
+            refused = refused.saturating_add(1);
         }
     }
     Err(Fail::from("the node is never idle"))
@@ -138,14 +141,17 @@ fn perform_each<R: Abort, M: SimulationModel>(
     Ok(())
 }
 
-/// A node does what the one list tells, and then the other.
+/// The node with this number, of so many, does what the one list tells, and then the other.
 fn perform_both<R: Abort, M: SimulationModel>(
     rt: &R,
     alloc: Global,
-    driven: &mut Driven<M>,
+    model: M,
+    terms: Terms,
+    of: (u32, u32),
     first: &[Act],
     then: &[Act],
 ) -> Result<(), Fail> {
-    perform_each(rt, alloc, driven, first)?;
-    perform_each(rt, alloc, driven, then)
+    let mut driven = Driven::new(rt, alloc, model, terms, of.0, of.1)?;
+    perform_each(rt, alloc, &mut driven, first)?;
+    perform_each(rt, alloc, &mut driven, then)
 }

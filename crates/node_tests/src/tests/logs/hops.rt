@@ -1,5 +1,5 @@
 //! A log of PHOLD.
-use super::{Act, Run, assert_acts};
+use super::{Act, assert_acts};
 use event_key::{INITIAL, Key, NO_STAMP, STEPS};
 use model_core::{Event, Part};
 use phold_model::Phold;
@@ -49,8 +49,7 @@ fn assert_hops<R: Abort>(rt: &R, alloc: Global, acts: &[Act]) -> Result<(), Fail
     let delay = Law::Uniform { low: 1, high: 10 };
     assert!(rt; delay.is_delay());
     let model = Phold::make(0, 1, delay, true, 0, Vec::new(alloc), 0)?;
-    let mut run = Run::new(rt, alloc, model, 0)?;
-    assert_acts(rt, alloc, &mut run, acts)
+    assert_acts(rt, alloc, model, 0, acts)
 }
 
 // By an independent ChaCha20 with seed 0, stream 0: at the places 0, 2 and 4 a delay of 1 to 10 ticks is drawn as 5, 3
@@ -160,6 +159,5 @@ fn a_chain_without_end_in_a_tick_is_undone_as_any_event(rt: HostRuntime) -> Resu
     let delay = Law::Fixed { value: 0 };
     assert!(rt; delay.is_delay());
     let model = Phold::make(0, 1, delay, false, 0, Vec::new(rt.alloc()), 0)?;
-    let mut run = Run::new(&rt, rt.alloc(), model, 7)?;
-    assert_acts(&rt, rt.alloc(), &mut run, &WITHOUT_END)
+    assert_acts(&rt, rt.alloc(), model, 7, &WITHOUT_END)
 }

@@ -1,5 +1,5 @@
 //! A log of a station whose line is strict.
-use super::{Act, Run, assert_acts};
+use super::{Act, assert_acts};
 use crate::tests::strict::{self, FIRST_DONE, FIRST_DONE_KEY, JOB_1, JOB_2, JOB_3, KEY_3};
 use event_key::{NO_STAMP, STEPS};
 use model_core::Part;
@@ -43,6 +43,5 @@ const TAKES_BACK: [Act; 17] = [
 #[test]
 fn a_straggler_takes_back_a_fault_that_never_happens(rt: HostRuntime) -> Result<(), Fail> {
     let model = strict::station(rt.alloc())?;
-    let mut run = Run::new(&rt, rt.alloc(), model, 0)?;
-    assert_acts(&rt, rt.alloc(), &mut run, &TAKES_BACK)
+    assert_acts(&rt, rt.alloc(), model, 0, &TAKES_BACK)
 }

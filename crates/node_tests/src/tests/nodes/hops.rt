@@ -1,5 +1,4 @@
 //! A node with two objects of PHOLD that send to each other.
-use super::driven::Driven;
 use super::{Act, perform_both};
 use event_key::{INITIAL, Key, STEPS};
 use model_core::{Event, Part};
@@ -100,26 +99,26 @@ const UNDOES: [Act; 3] = [
     Act::Step(SECOND, 12 * STEPS),
 ];
 
-/// A node that has two objects, whose events take 5 ticks from each to the other.
-fn hops<R: Abort>(rt: &R, alloc: Global) -> Result<Driven<Phold>, Fail> {
+const TERMS: Terms = Terms {
+    end: 20,
+    limit: 1_000,
+};
+
+/// Two objects, whose events take 5 ticks from each to the other.
+fn hops<R: Abort>(rt: &R, alloc: Global) -> Result<Phold, Fail> {
     let delay = Law::Fixed { value: 5 };
     assert!(rt; delay.is_delay());
-    let model = Phold::make(0, 2, delay, false, 0, Vec::new(alloc), 0)?;
-    let terms = Terms {
-        end: 20,
-        limit: 1_000,
-    };
-    Driven::new(rt, alloc, model, terms, 0, 1)
+    Ok(Phold::make(0, 2, delay, false, 0, Vec::new(alloc), 0)?)
 }
 
 #[test]
 fn a_straggler_rolls_back_its_own_object_alone(rt: HostRuntime) -> Result<(), Fail> {
-    let mut driven = hops(&rt, rt.alloc())?;
-    perform_both(&rt, rt.alloc(), &mut driven, &AHEAD, &STRAGGLES)
+    let model = hops(&rt, rt.alloc())?;
+    perform_both(&rt, rt.alloc(), model, TERMS, (0, 1), &AHEAD, &STRAGGLES)
 }
 
 #[test]
 fn what_isnt_below_a_horizon_is_undone(rt: HostRuntime) -> Result<(), Fail> {
-    let mut driven = hops(&rt, rt.alloc())?;
-    perform_both(&rt, rt.alloc(), &mut driven, &AHEAD, &UNDOES)
+    let model = hops(&rt, rt.alloc())?;
+    perform_both(&rt, rt.alloc(), model, TERMS, (0, 1), &AHEAD, &UNDOES)
 }
