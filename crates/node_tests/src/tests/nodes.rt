@@ -65,6 +65,18 @@ fn sent_alone<R: Abort>(
     Ok(sent.into_inner())
 }
 
+/// Whether the next step is refused, or None where no event can be processed.
+fn is_refused<R: Abort, M: SimulationModel>(
+    rt: &R,
+    alloc: Global,
+    driven: &mut Driven<M>,
+) -> Option<bool> {
+    match driven.step(rt, alloc) {
+        Ok(Step::Idle) => None,
+        step => Some(step.is_err()),
+    }
+}
+
 /// Steps the node until it is idle, also after a step that was refused. Answers how many were.
 fn step_to_idle<R: Abort, M: SimulationModel>(
     rt: &R,
@@ -73,11 +85,10 @@ fn step_to_idle<R: Abort, M: SimulationModel>(
 ) -> Result<u32, Fail> {
     let mut refused: u32 = 0;
     for _ in 0..10 {
-        let step = driven.step(rt, alloc);
-        if step == Ok(Step::Idle) {
+        let Some(is_refused) = is_refused(rt, alloc, driven) else {
             return Ok(refused);
-        }
-        if step.is_err() {
+        };
+        if is_refused {
             refused = refused.saturating_add(1);
         }
     }
