@@ -39,6 +39,7 @@ fn assert_taken<R: Abort>(
     taken: &[u8],
     left: &[u8],
 ) -> Result<(), Fail> {
+    assert!(rt; most < 100);
     let mut source = source_of(alloc, &[])?;
     let first = read_some(alloc, &mut source, most)?;
     assert!(rt; first.as_slice() == taken, "{most}");
