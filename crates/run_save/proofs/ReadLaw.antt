@@ -59,7 +59,7 @@ body count many rest = do
 -- a draft whose lines from the objects on were written so
 record IsBodyOf (count many : ℕ) (rest : Rest) (draft : Draft) : Type 0 where
   text : rest.bytes ≡ flat_map object_text draft.state.objects ++ (named_text (codes "events") (length draft.state.pending)
-    ++ (flat_map event_text draft.state.pending ++ (named_text (codes "model") (length draft.model) ++ draft.model)))
+      ++ (flat_map event_text draft.state.pending ++ (named_text (codes "model") (length draft.model) ++ draft.model)))
   counted : count ≡ draft.state.count
   numbered : many ≡ length draft.state.objects
   some : 0 < length draft.model
@@ -81,8 +81,8 @@ body-takes count many rest draft reads =
     let made : Draft = record { state = record { objects = objects.0.0; pending = pending.0.0; count = count }; model = model.0; line = pending.0.1.line } in
     let whole : IsBodyOf count many rest made = record {
       text = own_objects.0 ∙ ap (λ (t : List ℕ). flat_map object_text objects.0.0 ++ t) (own_waiting.0
-        ∙ ap (λ (t : List ℕ). named_text (codes "events") waiting.0.0 ++ t) (own_pending.0 ∙ ap (λ (t : List ℕ). flat_map event_text pending.0.0 ++ t) own_model.text)
-        ∙ ap (λ k. named_text (codes "events") k ++ (flat_map event_text pending.0.0 ++ (named_text (codes "model") (length model.0) ++ model.0))) (sym own_pending.1));
+          ∙ ap (λ (t : List ℕ). named_text (codes "events") waiting.0.0 ++ t) (own_pending.0 ∙ ap (λ (t : List ℕ). flat_map event_text pending.0.0 ++ t) own_model.text)
+          ∙ ap (λ k. named_text (codes "events") k ++ (flat_map event_text pending.0.0 ++ (named_text (codes "model") (length model.0) ++ model.0))) (sym own_pending.1));
       counted = refl;
       numbered = sym own_objects.1;
       some = own_model.some;
@@ -113,13 +113,13 @@ text-takes rest draft reads =
     let own_many = named-takes (codes "objects") MOST_OBJECTS count.0.1 many.0 (omega arith) many.1 in
     let own = body-takes count.0.0 many.0.0 many.0.1 draft many.2 in
     let lines : List ℕ = flat_map object_text draft.state.objects ++ (named_text (codes "events") (length draft.state.pending)
-        ++ (flat_map event_text draft.state.pending ++ (named_text (codes "model") (length draft.model) ++ draft.model))) in
+    ++ (flat_map event_text draft.state.pending ++ (named_text (codes "model") (length draft.model) ++ draft.model))) in
     record {
       text = after-takes (codes "state 1") rest head.0 head.1 ∙ ap (λ (t : List ℕ). codes "state 1" ++ t) (next_line-takes head.0 second.0 second.1
-        ∙ ap (λ (t : List ℕ). codes "\n" ++ t) (own_count.0
-        ∙ ap (λ (t : List ℕ). named_text (codes "count") count.0.0 ++ t) (own_many.0 ∙ ap (λ (t : List ℕ). named_text (codes "objects") many.0.0 ++ t) own.text
-        ∙ ap (λ k. named_text (codes "objects") k ++ lines) own.numbered)
-        ∙ ap (λ k. named_text (codes "count") k ++ (named_text (codes "objects") (length draft.state.objects) ++ lines)) own.counted));
+          ∙ ap (λ (t : List ℕ). codes "\n" ++ t) (own_count.0
+          ∙ ap (λ (t : List ℕ). named_text (codes "count") count.0.0 ++ t) (own_many.0 ∙ ap (λ (t : List ℕ). named_text (codes "objects") many.0.0 ++ t) own.text
+          ∙ ap (λ k. named_text (codes "objects") k ++ lines) own.numbered)
+          ∙ ap (λ k. named_text (codes "count") k ++ (named_text (codes "objects") (length draft.state.objects) ++ lines)) own.counted));
       some = own.some;
       few = own.few;
       few_objects = omega (arith, own_many.1, own.numbered);

@@ -7,8 +7,7 @@ mod times;
 mod totals;
 mod words;
 
-use node_team::Open;
-use shop_program::run_program;
+use shop_program::{Open, run_program};
 use sim_io::{MemSink, MemSource};
 use std::alloc::{AllocGlobal, Global};
 use std::process::Abort;

@@ -1,9 +1,8 @@
 //! What the second format adds to networks: ranks, quiet objects and traced stations, told with and without lines of cycles.
-ghost use Rattle.model_runs.specs.Machines.{IsMachine};
+ghost use Rattle.model_program.specs.Machines.{IsMachine};
 
-use model_runs::{DEFAULT_SPREAD, Job, Machine, Spread, Stage, run_model};
+use model_program::{DEFAULT_SPREAD, Job, Machine, Open, Spread, Stage, run_model};
 use model_text::{AnyModel, read_model};
-use node_team::Open;
 use run_tally::NoTally;
 use sim_io::{MemSink, Moves};
 use sim_spec::Placement;

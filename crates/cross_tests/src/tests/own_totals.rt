@@ -1,11 +1,10 @@
 //! Totals of one's own: a tally of a few lines, whose lines come at the end of a run.
-ghost use Rattle.model_runs.specs.Machines.{IsMachine};
+ghost use Rattle.model_program.specs.Machines.{IsMachine};
 
 use event_key::Key;
 use model_core::{OutOfMemory, Part};
-use model_runs::{DEFAULT_SPREAD, Job, Machine, Stage, run_model};
+use model_program::{DEFAULT_SPREAD, Job, Machine, Open, Stage, run_model};
 use model_text::{AnyModel, read_model};
-use node_team::Open;
 use run_tally::Tally;
 use sim_io::MemSink;
 use sim_spec::{Stop, Terms};

@@ -14,7 +14,7 @@ mod totals;
 mod writes;
 
 use btb_program::btb;
-use node_team::{Gate, Open};
+use model_program::{Gate, Open};
 use sim_io::{MemSink, MemSource, Sink, Source};
 use std::alloc::{AllocGlobal, Global};
 use std::process::Abort;

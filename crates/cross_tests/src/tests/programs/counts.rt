@@ -5,7 +5,7 @@ ghost use Rattle.program_answers.specs.Endings.{IsAnswering};
 ghost use Rattle.btb_program.specs.Answer.{asked_by};
 
 use btb_program::btb;
-use node_team::Open;
+use model_program::Open;
 use sim_io::{CleanSink, CleanSource, Failed, Sink, Source};
 use std::alloc::AllocGlobal;
 use std::marker::Model;

@@ -2,7 +2,7 @@
 ghost use Rattle.std.specs.Prelude.{◌≤◌};
 
 use super::{Ended, assert_by_all, ended_by, sink_of, told_by};
-use node_team::Open;
+use model_program::Open;
 use sim_io::MemSource;
 use std::alloc::{AllocGlobal, Global};
 use std::process::Abort;

@@ -1,6 +1,6 @@
 //! A saved state that is as long as one may be, and one that is a byte longer.
 use super::{ended_by, sink_of};
-use node_team::Open;
+use model_program::Open;
 use sim_io::MemSource;
 use std::alloc::Global;
 use std::test::Fail;

@@ -1,7 +1,7 @@
 //! What runs the simulation of each command, as gates are told.
 use super::{told_at, told_by};
 use event_key::Key;
-use node_team::Gate;
+use model_program::Gate;
 use std::alloc::{AllocGlobal, Global};
 use std::hint;
 use std::process::Abort;

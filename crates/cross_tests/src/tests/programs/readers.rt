@@ -1,8 +1,7 @@
 //! The program over any reader, at the reader of `btb`: what `btb` does but for demos.
 use super::{sink_of, source_of, text_of};
-use model_program::{ModelProgram, run_program};
+use model_program::{ModelProgram, Open, run_program};
 use model_text::ModelTexts;
-use node_team::Open;
 use std::alloc::AllocGlobal;
 use std::process::Abort;
 use std::test::Fail;

@@ -1,7 +1,7 @@
 //! Words and models that are refused, and words that can't be read.
 use super::{ended_by, sink_of, source_of, text_of};
 use btb_program::run_program;
-use node_team::Open;
+use model_program::Open;
 use sim_io::MemSource;
 use std::alloc::{AllocGlobal, Global};
 use std::io::ErrorKind;

@@ -1,6 +1,6 @@
 //! Reads and writes that fail at any call, and streams that go byte by byte.
 use super::{ended_by, sink_of, source_of, status_of, text_of, told_by};
-use node_team::Open;
+use model_program::Open;
 use sim_io::{CleanSink, CleanSource, MemSink, MemSource};
 use std::alloc::AllocGlobal;
 use std::process::Abort;

@@ -1,7 +1,7 @@
 //! What the threads of a run do, as gates are told.
 use super::told_at;
 use event_key::Key;
-use node_team::Gate;
+use model_program::Gate;
 use std::alloc::{AllocGlobal, Global};
 use std::hint;
 use std::process::Abort;

@@ -1,6 +1,6 @@
 //! Sums over a run, and demos.
 use super::{ended_by, sink_of, source_of, told_by};
-use node_team::Open;
+use model_program::Open;
 use std::test::Fail;
 use test_texts::{DRAWN, FALSE_FAULT, LOSING, NOTHING, SHOP, SHOP_OF_TEN, STRICT_LINE};
 

@@ -1,6 +1,6 @@
 //! When the text is written, and what a failing end of it answers.
 use super::{Ended, ended_by, source_of, status_of, text_of};
-use node_team::Open;
+use model_program::Open;
 use sim_io::{GatheringSink, MemSink};
 use std::alloc::AllocGlobal;
 use std::process::Abort;
