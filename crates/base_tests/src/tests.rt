@@ -50,3 +50,36 @@ fn following(word: u64) -> u64 {
     word.wrapping_mul(6364136223846793005)
         .wrapping_add(1442695040888963407)
 }
+
+/// Stamps in their order.
+#[derive(Drop)]
+struct Sorted {
+    stamps: Vec<u64>,
+}
+
+impl Sorted {
+    fn new(alloc: Global) -> Sorted {
+        Sorted {
+            stamps: Vec::new(alloc),
+        }
+    }
+
+    fn len(&self) -> usize {
+        self.stamps.len()
+    }
+
+    /// Puts a stamp to its place.
+    fn push(&mut self, stamp: u64) -> Result<(), Fail> {
+        self.stamps.push(stamp)?;
+        self.stamps.sort_unstable();
+        Ok(())
+    }
+
+    /// Takes the first stamp.
+    fn take(&mut self) -> Option<u64> {
+        if self.stamps.is_empty() {
+            return None;
+        }
+        Some(self.stamps.remove(0))
+    }
+}

@@ -1,11 +1,12 @@
-ghost use Rattle.std.specs.Prelude.{◌≡◌, IfOk};
+ghost use Rattle.std.specs.Prelude.{◌≡◌, [], ◌∷◌, IfOk};
 
 use super::following;
 use event_chain::{Cell, CellPool, Chain};
 use std::alloc::Global;
 use std::collections::VecDeque;
+use std::process::Abort;
 use std::test::Fail;
-use std::thread::{Builder, join};
+use std::thread::{Builder, Threads, join};
 
 /// A cell with a number.
 fn cell(alloc: Global, value: u64) -> Result<Cell<u64>, Fail>
@@ -25,24 +26,43 @@ fn a_cell_holds_its_value(rt: HostRuntime) -> Result<(), Fail> {
     Ok(())
 }
 
-#[test]
-fn a_chain_is_its_values_in_order(rt: HostRuntime) -> Result<(), Fail> {
+/// A chain of these values.
+fn chain_of(alloc: Global, values: &[u64]) -> Result<Chain<u64>, Fail> {
     let mut chain = Chain::new();
-    assert!(rt; chain.front().is_none());
-    assert!(rt; chain.pop_front().is_none());
-    chain.push_back(cell(rt.alloc(), 2)?);
-    chain.push_front(cell(rt.alloc(), 1)?);
-    let mut more = Chain::new();
-    more.push_back(cell(rt.alloc(), 3)?);
-    chain.append(more);
-    assert!(rt; chain.len() == 3);
-    assert!(rt; chain.front() == Some(&1));
-    for value in 1..4 {
+    for value in values {
+        let cell = cell(alloc, *value)?;
+        if chain.len() > 100 {
+            return Err(Fail::from("too many cells"));
+        }
+        chain.push_back(cell);
+    }
+    Ok(chain)
+}
+
+/// A chain has these values, in this order.
+fn assert_values<R: Abort>(rt: &R, mut chain: Chain<u64>, values: &[u64]) -> Result<(), Fail> {
+    assert!(rt; chain.len() == values.len());
+    for value in values {
         let cell = chain.pop_front().ok_or("empty")?;
-        assert!(rt; cell.into_inner() == value);
+        assert!(rt; cell.into_inner() == *value);
     }
     assert!(rt; chain.len() == 0);
     Ok(())
+}
+
+#[test]
+fn a_chain_is_its_values_in_order(rt: HostRuntime) -> Result<(), Fail> {
+    let (first, second) = (cell(rt.alloc(), 1)?, cell(rt.alloc(), 2)?);
+    let more = chain_of(rt.alloc(), &[3])?;
+    let mut chain = Chain::new();
+    assert!(rt; more.len() == 1);
+    assert!(rt; chain.front().is_none());
+    assert!(rt; chain.pop_front().is_none());
+    chain.push_back(second);
+    chain.push_front(first);
+    chain.append(more);
+    assert!(rt; chain.front() == Some(&1));
+    assert_values(&rt, chain, &[1, 2, 3])
 }
 
 #[test]
@@ -62,35 +82,45 @@ fn a_pool_hands_out_the_cells_that_it_gets_back(rt: HostRuntime) -> Result<(), F
     Ok(())
 }
 
+/// Two threads see a chain of one value.
+fn assert_seen<R: Abort + Threads + Sync>(rt: &R, chain: &Chain<u64>, value: u64) {
+    let (len, first) = join(rt, || chain.len(), || chain.front().copied());
+    assert!(rt; len == 1);
+    assert!(rt; first == Some(value));
+}
+
+/// A chain of one cell and a cell with a value may each go to a thread.
+fn assert_moved<R: Abort + Threads + Sync>(rt: &R, chain: Chain<u64>, cell: Cell<u64>, value: u64) {
+    let (len, there) = join(rt, move || chain.len(), move || cell.into_inner());
+    assert!(rt; len == 1);
+    assert!(rt; there == value);
+}
+
 #[test]
 fn cells_cross_threads(rt: HostRuntime) -> Result<(), Fail> {
-    let mut chain = Chain::new();
-    chain.push_back(cell(rt.alloc(), 5)?);
     let cell = cell(rt.alloc(), 6)?;
-    let (len, first) = join(&rt, || chain.len(), || chain.front().copied());
-    assert!(rt; len == 1);
-    assert!(rt; first == Some(5));
-    let (len, value) = join(&rt, move || chain.len(), move || cell.into_inner());
-    assert!(rt; len == 1);
-    assert!(rt; value == 6);
+    let chain = chain_of(rt.alloc(), &[5])?;
+    assert_seen(&rt, &chain, 5);
+    assert_moved(&rt, chain, cell, 6);
     Ok(())
+}
+
+/// A chain of two values.
+fn pair(alloc: Global, first: u64, second: u64) -> Result<Chain<u64>, Fail>
+    ensures { IfOk result (λ chain. chain ≡ first ∷ second ∷ []) }
+{
+    let (first, second) = (cell(alloc, first)?, cell(alloc, second)?);
+    let mut chain = Chain::new();
+    chain.push_back(first);
+    chain.push_back(second);
+    Ok(chain)
 }
 
 #[test]
 fn two_sorted_chains_become_one(rt: HostRuntime) -> Result<(), Fail> {
-    let mut chain = Chain::new();
-    chain.push_back(cell(rt.alloc(), 1)?);
-    chain.push_back(cell(rt.alloc(), 3)?);
-    let mut other = Chain::new();
-    other.push_back(cell(rt.alloc(), 2)?);
-    other.push_back(cell(rt.alloc(), 4)?);
-    chain.merge_sorted(other);
-    for value in 1..5 {
-        let cell = chain.pop_front().ok_or("empty")?;
-        assert!(rt; cell.into_inner() == value);
-    }
-    assert!(rt; chain.len() == 0);
-    Ok(())
+    let mut chain = pair(rt.alloc(), 1, 3)?;
+    chain.merge_sorted(pair(rt.alloc(), 2, 4)?);
+    assert_values(&rt, chain, &[1, 2, 3, 4])
 }
 
 #[test]
@@ -130,6 +160,19 @@ fn filled(pool: &mut CellPool<u64>, alloc: Global, value: u64) -> Result<Cell<u6
 }
 
 impl Beside {
+    fn new(alloc: Global) -> Beside {
+        Beside {
+            chain: Chain::new(),
+            pool: CellPool::new(),
+            plain: VecDeque::new(alloc),
+        }
+    }
+
+    /// Whether the chain has as many values as the list, and the same first one.
+    fn agrees(&self) -> bool {
+        self.chain.len() == self.plain.len() && self.chain.front() == self.plain.front()
+    }
+
     /// A value comes at the back or at the front, two come by a chain of their own, or the first one goes.
     fn step(&mut self, alloc: Global, choice: u64, value: u64) -> Result<(), Fail> {
         if self.chain.len() > 100_000 {
@@ -165,17 +208,12 @@ impl Beside {
 
 #[test]
 fn a_chain_takes_the_steps_of_a_plain_list(rt: HostRuntime) -> Result<(), Fail> {
-    let mut beside = Beside {
-        chain: Chain::new(),
-        pool: CellPool::new(),
-        plain: VecDeque::new(rt.alloc()),
-    };
+    let mut beside = Beside::new(rt.alloc());
     let mut random: u64 = 1;
     for _ in 0..20_000 {
         random = following(random);
         beside.step(rt.alloc(), (random >> 33) % 6, random)?;
-        assert!(rt; beside.chain.len() == beside.plain.len());
-        assert!(rt; beside.chain.front() == beside.plain.front());
+        assert!(rt; beside.agrees());
     }
     Ok(())
 }

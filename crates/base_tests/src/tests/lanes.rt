@@ -40,6 +40,19 @@ fn delivered<L: Lanes>(
     Ok(parcel)
 }
 
+/// Whether the first event of a parcel has this kind.
+fn is_of_kind(parcel: &Parcel, kind: u32) -> bool {
+    parcel
+        .events
+        .front()
+        .is_some_and(|event| event.kind == kind)
+}
+
+/// Whether a parcel of node 0 has one event, which has this kind.
+fn is_one_of_kind(parcel: &Parcel, kind: u32) -> bool {
+    parcel.from == 0 && parcel.events.len() == 1 && is_of_kind(parcel, kind)
+}
+
 /// Node 0 posts to node 1, which receives it after the ends are given back.
 fn hands_over<L: Lanes>(rt: &impl Abort, alloc: Global, lanes: &mut L) -> Result<(), Fail>
     requires nodes { L.nodes lanes.old ≡ 2 }
@@ -50,33 +63,33 @@ fn hands_over<L: Lanes>(rt: &impl Abort, alloc: Global, lanes: &mut L) -> Result
     let events = one_event(alloc, 7)?;
     ends[0].post(1, Parcel { from: 0, events });
     lanes.give_back(ends);
-    let Some(parcel) = lanes.rest(1) else {
-        panic!(rt; "nothing came")
-    };
-    assert!(rt; parcel.from == 0);
-    assert!(rt; parcel.events.len() == 1);
-    assert!(rt; parcel.events.front().is_some_and(|event| event.kind == 7));
+    let came = lanes.rest(1);
+    assert!(rt; came.is_some_and(|parcel| is_one_of_kind(&parcel, 7)));
     assert!(rt; lanes.rest(1).is_none());
     assert!(rt; lanes.rest(0).is_none());
+    Ok(())
+}
+
+/// What is delivered is what was posted.
+fn delivers<L: Lanes>(rt: &impl Abort, alloc: Global, lanes: &mut L) -> Result<(), Fail>
+    requires nodes { L.nodes lanes.old ≡ 2 }
+    requires at_rest { L.are_at_rest lanes.old }
+{
+    let parcel = delivered(alloc, lanes, one_event(alloc, 8)?)?;
+    assert!(rt; is_of_kind(&parcel, 8));
     Ok(())
 }
 
 #[test]
 fn plain_lanes_hand_a_parcel_over(rt: HostRuntime) -> Result<(), Fail> {
     hands_over(&rt, rt.alloc(), &mut PlainLanes::new(rt.alloc(), 2)?)?;
-    let events = one_event(rt.alloc(), 8)?;
-    let parcel = delivered(rt.alloc(), &mut PlainLanes::new(rt.alloc(), 2)?, events)?;
-    assert!(rt; parcel.events.front().is_some_and(|event| event.kind == 8));
-    Ok(())
+    delivers(&rt, rt.alloc(), &mut PlainLanes::new(rt.alloc(), 2)?)
 }
 
 #[test]
 fn ring_lanes_hand_a_parcel_over(rt: HostRuntime) -> Result<(), Fail> {
     hands_over(&rt, rt.alloc(), &mut RingLanes::new(rt.alloc(), 2)?)?;
-    let events = one_event(rt.alloc(), 8)?;
-    let parcel = delivered(rt.alloc(), &mut RingLanes::new(rt.alloc(), 2)?, events)?;
-    assert!(rt; parcel.events.front().is_some_and(|event| event.kind == 8));
-    Ok(())
+    delivers(&rt, rt.alloc(), &mut RingLanes::new(rt.alloc(), 2)?)
 }
 
 /// Polls until a parcel is there. No wait: it gives up after many polls.
@@ -106,17 +119,14 @@ fn post_and_poll<R: Threads + Sync>(
 
 #[test]
 fn a_thread_finds_what_another_posts(rt: HostRuntime) -> Result<(), Fail> {
+    let events = one_event(rt.alloc(), 9)?;
+    let parcel = Parcel { from: 0, events };
     let mut lanes = RingLanes::new(rt.alloc(), 2)?;
     let mut ends = lanes.ready(rt.alloc())?;
-    let events = one_event(rt.alloc(), 9)?;
     assert!(rt; ends.len() == 2);
-    let parcel = Parcel { from: 0, events };
     let (left, right) = ends.as_mut_slice().split_at_mut(1);
-    let Some(parcel) = post_and_poll(&rt, &mut left[0], &mut right[0], parcel) else {
-        panic!(rt; "nothing came")
-    };
-    assert!(rt; parcel.from == 0);
-    assert!(rt; parcel.events.front().is_some_and(|event| event.kind == 9));
+    let came = post_and_poll(&rt, &mut left[0], &mut right[0], parcel);
+    assert!(rt; came.is_some_and(|parcel| is_one_of_kind(&parcel, 9)));
     Ok(())
 }
 

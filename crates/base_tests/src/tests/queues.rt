@@ -1,12 +1,13 @@
 ghost use Rattle.std.specs.Prelude.{◌≡◌, IfOk};
 
-use super::following;
+use super::{Sorted, following};
 use event_chain::{Cell, Chain};
 use event_key::{Key, NO_STAMP};
 use model_core::Event;
 use speedes_queue::Queue;
 use std::alloc::Global;
 use std::marker::Model;
+use std::process::Abort;
 use std::test::Fail;
 
 /// A queue whose events are counted.
@@ -62,6 +63,7 @@ impl Counted {
     /// Does what it is told, and answers whether that comes out as it is told.
     fn act(&mut self, alloc: Global, act: &Act) -> Result<bool, Fail> {
         match *act {
+            Act::Reserve(count) => self.reserve(alloc, count)?,
             Act::Push(stamp) => self.push(alloc, stamp)?,
             Act::Pop(stamp) => return Ok(self.pop() == stamp),
             Act::Fresh(stamp) => return Ok(self.queue.fresh_least() == stamp),
@@ -78,6 +80,8 @@ impl Counted {
 /// What is done with a queue.
 #[derive(Clone, Copy)]
 enum Act {
+    /// Makes room for so many events more.
+    Reserve(usize),
     Push(u64),
     /// Pops the first event, which has this stamp.
     Pop(Option<u64>),
@@ -112,7 +116,17 @@ fn cell(alloc: Global, stamp: u64, serial: u32) -> Result<Cell<Event>, Fail>
     }
 }
 
-const FRESH: [Act; 14] = [
+/// Each of these comes out as it is told.
+fn assert_acts<R: Abort>(rt: &R, alloc: Global, acts: &[Act]) -> Result<(), Fail> {
+    let mut counted = Counted::new();
+    for (place, act) in acts.iter().enumerate() {
+        assert!(rt; counted.act(alloc, act)?, "act {place}");
+    }
+    Ok(())
+}
+
+const FRESH: [Act; 16] = [
+    Act::Reserve(4),
     Act::Push(30),
     Act::Push(10),
     Act::Push(20),
@@ -127,52 +141,45 @@ const FRESH: [Act; 14] = [
     Act::Fresh(25),
     Act::Pop(Some(25)),
     Act::Pop(Some(30)),
+    Act::Pop(None),
 ];
 
 #[test]
 fn fresh_events_wait_until_the_horizon(rt: HostRuntime) -> Result<(), Fail> {
-    let mut counted = Counted::new();
-    counted.reserve(rt.alloc(), 4)?;
-    for (place, act) in FRESH.iter().enumerate() {
-        assert!(rt; counted.act(rt.alloc(), act)?, "act {place}");
-    }
-    assert!(rt; counted.pop() == None);
-    Ok(())
+    assert_acts(&rt, rt.alloc(), &FRESH)
 }
 
-#[test]
-fn events_come_in_the_order_of_a_sorted_list(rt: HostRuntime) -> Result<(), Fail> {
-    let mut counted = Counted::new();
-    let mut sorted = Vec::new(rt.alloc());
+/// Stamps at random, and the first ones popped in between: all comes in the order of a sorted list.
+fn random_acts(alloc: Global) -> Result<Vec<Act>, Fail> {
+    let mut acts = Vec::new(alloc);
+    let mut sorted = Sorted::new(alloc);
     let mut random: u64 = 1;
     for _ in 0..600 {
         random = following(random);
         let stamp = random >> 54;
-        if stamp % 3 == 0 {
-            let least = if sorted.is_empty() {
-                None
-            } else {
-                Some(sorted.remove(0))
-            };
-            assert!(rt; counted.pop() == least);
+        let pops = stamp % 3 == 0;
+        acts.push(if pops {
+            Act::Pop(sorted.take())
         } else {
-            counted.push(rt.alloc(), stamp)?;
+            Act::Push(stamp)
+        })?;
+        if !pops {
             sorted.push(stamp)?;
-            sorted.sort_unstable();
         }
-        assert!(rt; counted.queue.len() == sorted.len());
+        acts.push(Act::Holds(sorted.len()))?;
     }
-    Ok(())
+    Ok(acts)
 }
 
 #[test]
+fn events_come_in_the_order_of_a_sorted_list(rt: HostRuntime) -> Result<(), Fail> {
+    let acts = random_acts(rt.alloc())?;
+    assert_acts(&rt, rt.alloc(), acts.as_slice())
+}
+
+/// Of a queue that has merged its events the first one is popped and given back.
 #[tactic(auto, unfolding(key_order::specs::Ascending::Ascends))]
-fn what_is_given_back_comes_again(rt: HostRuntime) -> Result<(), Fail> {
-    let mut counted = Counted::new();
-    for stamp in [30, 10, 20] {
-        counted.push(rt.alloc(), stamp)?;
-    }
-    let Counted { mut queue, .. } = counted;
+fn pop_and_give_back<R: Abort>(rt: &R, queue: &mut Queue) -> Result<(), Fail> {
     queue.merge();
     assert!(rt; queue.fresh_least() == NO_STAMP);
     let first = queue.pop().ok_or("empty")?;
@@ -180,10 +187,26 @@ fn what_is_given_back_comes_again(rt: HostRuntime) -> Result<(), Fail> {
     let mut chain = Chain::new();
     chain.push_back(first);
     queue.give_back(chain);
-    assert!(rt; queue.len() == 3);
-    for stamp in [10, 20, 30] {
+    Ok(())
+}
+
+/// A queue has events at these stamps alone, which are popped in this order.
+fn assert_stamps<R: Abort>(rt: &R, queue: &mut Queue, stamps: &[u64]) -> Result<(), Fail> {
+    assert!(rt; queue.len() == stamps.len());
+    for stamp in stamps {
         let cell = queue.pop().ok_or("empty")?;
-        assert!(rt; cell.into_inner().key.stamp == stamp);
+        assert!(rt; cell.into_inner().key.stamp == *stamp);
     }
     Ok(())
+}
+
+#[test]
+fn what_is_given_back_comes_again(rt: HostRuntime) -> Result<(), Fail> {
+    let mut counted = Counted::new();
+    for stamp in [30, 10, 20] {
+        counted.push(rt.alloc(), stamp)?;
+    }
+    let Counted { mut queue, .. } = counted;
+    pop_and_give_back(&rt, &mut queue)?;
+    assert_stamps(&rt, &mut queue, &[10, 20, 30])
 }

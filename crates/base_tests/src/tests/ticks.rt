@@ -1,6 +1,6 @@
 ghost use Rattle.std.specs.Prelude.{◌≡◌, IfOk};
 
-use super::following;
+use super::{Sorted, following};
 use event_key::{Key, NO_STAMP, STEPS};
 use model_core::Event;
 use std::alloc::Global;
@@ -111,6 +111,7 @@ impl Counted {
             Act::Settle => self.settle()?,
             Act::Merge => self.merge(),
             Act::Take(stamp) => return Ok(self.take()? == stamp),
+            Act::TakeKey(key) => return Ok(self.take_key()? == Some(key)),
             Act::Fresh(stamp) => return Ok(self.queue.fresh_least() == stamp),
             Act::After(place, dest) => return Ok(self.dest_after(place) == dest),
         }
@@ -127,6 +128,8 @@ enum Act {
     Merge,
     /// Takes the first event, which has this stamp.
     Take(Option<u64>),
+    /// Takes the first event, which has this key.
+    TakeKey(Key),
     /// The least stamp of those that are fresh is this one.
     Fresh(u64),
     /// So many places behind the first event is one of this object, if it is at hand.
@@ -209,54 +212,58 @@ fn an_event_before_those_at_hand_comes_first(rt: HostRuntime) -> Result<(), Fail
     assert_acts(&rt, rt.alloc(), &BEFORE)
 }
 
-/// Takes the first of these stamps.
-fn front_of(sorted: &mut Vec<u64>) -> Option<u64> {
-    if sorted.is_empty() {
-        return None;
-    }
-    Some(sorted.remove(0))
-}
-
-#[test]
-fn events_come_in_the_order_of_a_sorted_list(rt: HostRuntime) -> Result<(), Fail> {
-    let mut counted = Counted::new(rt.alloc())?;
-    let mut sorted = Vec::new(rt.alloc());
+/// Stamps at random, and the first ones taken in between and at the end: all comes in the order of a sorted list.
+fn random_acts(alloc: Global) -> Result<Vec<Act>, Fail> {
+    let mut acts = Vec::new(alloc);
+    let mut sorted = Sorted::new(alloc);
     let mut random: u64 = 1;
     for _ in 0..1200 {
         random = following(random);
         // stamps of all lengths, so that all levels have some
         let stamp = (random | 1) >> (random % 48);
-        if random >> 62 == 0 {
-            assert!(rt; counted.take()? == front_of(&mut sorted));
+        let takes = random >> 62 == 0;
+        acts.push(if takes {
+            Act::Take(sorted.take())
         } else {
-            counted.push(stamp)?;
+            Act::Push(stamp)
+        })?;
+        if !takes {
             sorted.push(stamp)?;
-            sorted.sort_unstable();
         }
     }
-    for stamp in sorted {
-        assert!(rt; counted.take()? == Some(stamp));
+    for _ in 0..=1200 {
+        acts.push(Act::Take(sorted.take()))?;
     }
-    assert!(rt; counted.take()? == None);
-    Ok(())
+    Ok(acts)
 }
 
 #[test]
-fn sixty_events_of_a_tick_come_in_the_order_of_their_keys(rt: HostRuntime) -> Result<(), Fail> {
-    let mut counted = Counted::new(rt.alloc())?;
-    let mut sorted = Vec::new(rt.alloc());
+fn events_come_in_the_order_of_a_sorted_list(rt: HostRuntime) -> Result<(), Fail> {
+    let acts = random_acts(rt.alloc())?;
+    assert_acts(&rt, rt.alloc(), acts.as_slice())
+}
+
+/// Sixty events of a tick, and their keys in order.
+fn acts_of_a_tick(alloc: Global) -> Result<Vec<Act>, Fail> {
+    let mut acts = Vec::new(alloc);
+    let mut sorted = Vec::new(alloc);
     for serial in 0..60u32 {
         // at three steps and ten objects, so that some keys differ in their serials alone
         let stamp = 90 * STEPS + u64::from(serial % 3);
         let dest = serial * 7 % 10;
-        counted.push_to(stamp, dest)?;
-        sorted.push((stamp, dest, u64::from(serial)))?;
+        acts.push(Act::PushTo(stamp, dest))?;
+        sorted.push(event(stamp, dest, serial).key)?;
     }
     sorted.sort_unstable();
-    for (stamp, dest, serial) in sorted {
-        let key = counted.take_key()?.ok_or("an event is missing")?;
-        assert!(rt; (key.stamp, key.dest, key.serial) == (stamp, dest, serial));
+    for key in sorted {
+        acts.push(Act::TakeKey(key))?;
     }
-    assert!(rt; counted.take()? == None);
-    Ok(())
+    acts.push(Act::Take(None))?;
+    Ok(acts)
+}
+
+#[test]
+fn sixty_events_of_a_tick_come_in_the_order_of_their_keys(rt: HostRuntime) -> Result<(), Fail> {
+    let acts = acts_of_a_tick(rt.alloc())?;
+    assert_acts(&rt, rt.alloc(), acts.as_slice())
 }
