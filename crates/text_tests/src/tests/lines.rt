@@ -113,6 +113,20 @@ const RECORDS: [Told; 30] = [
     ),
 ];
 
+/// Appends the lines of a record.
+fn put_told<R: Abort, M: SimulationModel>(
+    rt: &R,
+    alloc: Global,
+    names: &M,
+    lines: &mut LineWriter,
+    record: &Told,
+    text: &mut Vec<u8>,
+) -> Result<(), OutOfMemory> {
+    let (time, step, dest, parts, _told) = record;
+    assert!(rt; *time < 140_737_488_355_328 && *step <= 65_535 && *dest < names.objects());
+    lines.put_done(alloc, names, &key(*time, *step, *dest), parts, text)
+}
+
 /// Records of these objects have their lines, one after another, and the line of the end comes behind them.
 fn assert_run<R: Abort, M: SimulationModel>(
     rt: &R,
@@ -123,11 +137,10 @@ fn assert_run<R: Abort, M: SimulationModel>(
     let mut lines = LineWriter::new(alloc)?;
     let mut text = Vec::new(alloc);
     let mut wanted = Vec::new(alloc);
-    for (time, step, dest, parts, told) in records {
-        assert!(rt; *time < 140_737_488_355_328 && *step <= 65_535 && *dest < names.objects());
-        lines.put_done(alloc, names, &key(*time, *step, *dest), parts, &mut text)?;
-        wanted.extend_from_slice(told.as_bytes())?;
-        assert!(rt; text.as_slice() == wanted.as_slice(), "{told}");
+    for record in records {
+        put_told(rt, alloc, names, &mut lines, record, &mut text)?;
+        wanted.extend_from_slice(record.4.as_bytes())?;
+        assert!(rt; text.as_slice() == wanted.as_slice(), "{}", record.4);
     }
     let terms = Terms { end: 9, limit: 100 };
     put_stop(alloc, names, &terms, 3, &Stop::End, &mut text)?;

@@ -4,7 +4,9 @@ ghost use Rattle.event_key.specs.Stamps.{time_part};
 
 use super::key;
 use model_core::model::Model as SimulationModel;
-use model_core::{Cells, Change, Entry, Event, Note, OutOfMemory, Outcome, Part, Send, Start};
+use model_core::{
+    Cells, Change, Effect, Entry, Event, Note, OutOfMemory, Outcome, Part, Send, Start,
+};
 use phold_model::Phold;
 use random_streams::Law;
 use std::alloc::Global;
@@ -41,6 +43,18 @@ fn cells_of<M: SimulationModel>(alloc: Global, model: &M, hop: &Hop) -> Result<C
     }
 }
 
+/// Whether an effect changes and sends just that, and tells what is sent.
+fn is_of(effect: &Effect, hop: &Hop) -> bool {
+    let told = Part {
+        word: 1,
+        a: hop.send.delay,
+        b: u64::from(hop.send.dest),
+    };
+    effect.changes.as_slice() == hop.changes
+        && effect.sends.as_slice() == [hop.send].as_slice()
+        && effect.note == Note::of(told)
+}
+
 /// The event changes and sends just that, and tells what is sent.
 fn assert_hop<R: Abort, M: SimulationModel>(
     rt: &R,
@@ -52,21 +66,10 @@ fn assert_hop<R: Abort, M: SimulationModel>(
     let cells = cells_of(alloc, model, hop)?;
     assert!(rt; model.is_lawful(hop.object, &cells));
     let event = first_event(hop.object);
-    let Outcome::Goes(effect) = model.react(alloc, hop.object, &cells, &event)? else {
-        return Err(Fail::from("the event fails"));
-    };
-    let told = Part {
-        word: 1,
-        a: hop.send.delay,
-        b: u64::from(hop.send.dest),
-    };
-    assert!(rt; effect.changes.as_slice() == hop.changes, "{}", hop.object);
-    assert!(rt;
-        effect.sends.as_slice() == [hop.send].as_slice(),
-        "{}",
-        hop.object
-    );
-    assert!(rt; effect.note == Note::of(told), "{}", hop.object);
+    match model.react(alloc, hop.object, &cells, &event)? {
+        Outcome::Goes(effect) => assert!(rt; is_of(&effect, hop), "{}", hop.object),
+        Outcome::Fails(_) => return Err(Fail::from("the event fails")),
+    }
     Ok(())
 }
 

@@ -5,6 +5,7 @@ use super::replaced;
 use model_core::model::Model;
 use model_text::ModelTexts;
 use run_save::{StateRefusal, put_state, read_state, state_code_name};
+use sim_spec::State;
 use std::alloc::Global;
 use std::process::Abort;
 use std::test::Fail;
@@ -35,6 +36,16 @@ fn assert_changes<R: Abort>(rt: &R, alloc: Global, changes: &[Change]) -> Result
     Ok(())
 }
 
+/// The state of the two jobs is written behind what stands there.
+fn assert_written<R: Abort>(rt: &R, alloc: Global, state: &State) -> Result<(), Fail> {
+    let mut into = Vec::from_slice(alloc, b"before ")?;
+    let written = put_state(state, TWO_JOBS.as_bytes(), &mut into);
+    assert!(rt; written == Ok(()));
+    let wanted = ["before ", SAVED_TWO_JOBS].concat(alloc)?;
+    assert!(rt; into.as_slice() == wanted.as_bytes());
+    Ok(())
+}
+
 #[test]
 fn a_saved_state_is_read_and_written_again(rt: HostRuntime) -> Result<(), Fail> {
     let alloc = rt.alloc();
@@ -44,12 +55,7 @@ fn a_saved_state_is_read_and_written_again(rt: HostRuntime) -> Result<(), Fail> 
     assert!(rt; saved.terms.end == 10);
     assert!(rt; saved.model.objects() == 2);
     assert!(rt; saved.state.count == 2);
-    let mut into = Vec::from_slice(alloc, b"before ")?;
-    let written = put_state(&saved.state, TWO_JOBS.as_bytes(), &mut into);
-    assert!(rt; written == Ok(()));
-    let wanted = ["before ", SAVED_TWO_JOBS].concat(alloc)?;
-    assert!(rt; into.as_slice() == wanted.as_bytes());
-    Ok(())
+    assert_written(&rt, alloc, &saved.state)
 }
 
 const KEY: &str = "6.0 0 0 0 0";

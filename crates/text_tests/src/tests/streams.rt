@@ -3,40 +3,58 @@ use sim_io::{
     CleanSink, CleanSource, Failed, MemSink, MemSource, ReadEnd, Sink, Source, StdSink, StdSource,
     read_all, read_some, write_all,
 };
+use std::alloc::Global;
 use std::io;
 use std::io::{Cursor, ErrorKind, Read, Write};
+use std::process::Abort;
 use std::test::Fail;
 
 /// 47 bytes: three pieces of at most 16.
 const TEXT: &[u8] = b"in arrivals 0 served 3 lost 0 busy 0 waiting 0\n";
 
+/// A source of the text that gives 16 bytes a read, and fails at these calls.
+fn source_of(alloc: Global, fails: &[u64]) -> Result<MemSource, Fail> {
+    let fails = fails.to_vec(alloc)?;
+    Ok(MemSource::new(TEXT.to_vec(alloc)?, fails, 16))
+}
+
 #[test]
 fn a_read_that_fails_in_mid_stream(rt: HostRuntime) -> Result<(), Fail> {
     let alloc = rt.alloc();
     for call in 1..=4 {
-        let mut source = MemSource::new(TEXT.to_vec(alloc)?, vec![in alloc; call]?, 16);
-        match read_all(alloc, &mut source) {
-            Ok(_) => panic!(rt; "read {call} fails"),
-            Err(end) => assert!(rt; end == ReadEnd::Failed),
-        }
+        let mut source = source_of(alloc, &[call])?;
+        let failed = read_all(alloc, &mut source).is_err_and(|end| end == ReadEnd::Failed);
+        assert!(rt; failed, "read {call} fails");
     }
-    let mut source = MemSource::new(TEXT.to_vec(alloc)?, vec![in alloc; 5]?, 16);
+    let mut source = source_of(alloc, &[5])?;
     assert!(rt; read_all(alloc, &mut source)?.as_slice() == TEXT);
+    Ok(())
+}
+
+/// Of a source that may give so many bytes these are read first, and then the others.
+fn assert_taken<R: Abort>(
+    rt: &R,
+    alloc: Global,
+    most: usize,
+    taken: &[u8],
+    left: &[u8],
+) -> Result<(), Fail> {
+    assert!(rt; most < 100);
+    let mut source = source_of(alloc, &[])?;
+    let first = read_some(alloc, &mut source, most)?;
+    assert!(rt; first.as_slice() == taken, "{most}");
+    let rest = read_all(alloc, &mut source)?;
+    assert!(rt; rest.as_slice() == left, "{most}");
     Ok(())
 }
 
 #[test]
 fn one_byte_more_tells_that_an_input_is_too_long(rt: HostRuntime) -> Result<(), Fail> {
-    let alloc = rt.alloc();
     for most in [0, 15, 16, 46] {
-        let mut source = MemSource::new(TEXT.to_vec(alloc)?, Vec::new(alloc), 16);
         let (taken, left) = TEXT.split_at(most + 1);
-        assert!(rt; read_some(alloc, &mut source, most)?.as_slice() == taken);
-        assert!(rt; read_all(alloc, &mut source)?.as_slice() == left);
+        assert_taken(&rt, rt.alloc(), most, taken, left)?;
     }
-    let mut source = MemSource::new(TEXT.to_vec(alloc)?, Vec::new(alloc), 16);
-    assert!(rt; read_some(alloc, &mut source, 47)?.as_slice() == TEXT);
-    Ok(())
+    assert_taken(&rt, rt.alloc(), 47, TEXT, b"")
 }
 
 #[test]

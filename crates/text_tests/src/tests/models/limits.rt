@@ -62,14 +62,11 @@ fn answer_at(
 /// A number of a text is read within its bounds, and refused beside them.
 fn assert_bounds<R: Abort>(rt: &R, alloc: Global, text: &str, number: &Number) -> Result<(), Fail> {
     let (old, new, item, bounds) = number;
-    let low = answer_at(alloc, text, old, new, bounds[0])?;
-    assert!(rt; low == Some((5, *item)), "{new}");
-    let least = answer_at(alloc, text, old, new, bounds[1])?;
-    assert!(rt; least == Some((0, 0)), "{new}");
-    let most = answer_at(alloc, text, old, new, bounds[2])?;
-    assert!(rt; most == Some((0, 0)), "{new}");
-    let high = answer_at(alloc, text, old, new, bounds[3])?;
-    assert!(rt; high == Some((7, *item)), "{new}");
+    let wanted = [(5, *item), (0, 0), (0, 0), (7, *item)];
+    for (bound, answer) in bounds.iter().zip(wanted) {
+        let given = answer_at(alloc, text, old, new, bound)?;
+        assert!(rt; given == Some(answer), "{new} {bound}");
+    }
     Ok(())
 }
 
