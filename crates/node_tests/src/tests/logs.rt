@@ -11,7 +11,7 @@ mod station;
 use event_chain::{Cell, Chain};
 use event_key::{Key, time_of};
 use model_core::model::Model as SimulationModel;
-use model_core::{Effect, Event, OutOfMemory};
+use model_core::{Cells, Effect, Event, Note, OutOfMemory, Part};
 use object_log::{Done, LogPool, ObjectLog, Released, Verdict};
 use std::alloc::Global;
 use std::process::Abort;
@@ -105,4 +105,113 @@ fn next_told(done: &mut Chain<Done>, shared: &mut Shared) -> Result<(Event, Verd
     let first = done.pop_front().ok_or("empty")?;
     let Released { event, verdict, .. } = shared.pool.release(first);
     Ok((event, verdict))
+}
+
+/// The first cells of the first object of a model.
+fn first_cells<R: Abort, M: SimulationModel>(
+    rt: &R,
+    alloc: Global,
+    model: &M,
+) -> Result<Cells, Fail> {
+    assert!(rt; 0 < model.objects());
+    Ok(model.first_cells(alloc, 0)?)
+}
+
+/// What is done with a log, and what comes of it.
+#[derive(Clone, Copy)]
+enum Act {
+    /// An event is processed, and this is the least stamp of what it sends.
+    Process(Event, u64),
+    /// The log goes back to a key, and the first event that is undone is this one.
+    Back(Key, Event),
+    /// What is below a horizon and a cut is committed.
+    Commit(u64, Option<Key>),
+    /// So many events are committed and not taken out.
+    Committed(usize),
+    /// The first committed event is this one, of which this part is told.
+    Told(Event, Part),
+    /// The least stamp that is held.
+    Held(u64),
+    /// So many events are processed, and so many are sent.
+    Counts(usize, u64),
+    /// The event that has faulted, and its code.
+    Faulted(Option<(Key, u32)>),
+    /// The pool has so many entries.
+    Entries(usize),
+    /// Another log takes the place of the first one.
+    Anew,
+}
+
+/// A log of the first object of a model, and what was committed and isn't yet taken out.
+#[derive(Drop)]
+struct Run<M: SimulationModel> {
+    model: M,
+    log: ObjectLog,
+    shared: Shared,
+    done: Chain<Done>,
+}
+
+impl<M: SimulationModel> Run<M> {
+    /// A log of an object that has sent so many events.
+    fn new<R: Abort>(rt: &R, alloc: Global, model: M, sent: u64) -> Result<Run<M>, Fail> {
+        let cells = first_cells(rt, alloc, &model)?;
+        Ok(Run {
+            model,
+            log: ObjectLog::with(0, cells, sent),
+            shared: make_shared(alloc)?,
+            done: Chain::new(),
+        })
+    }
+
+    /// Processes an event, and answers the least stamp of what it sends.
+    fn process<R: Abort>(&mut self, rt: &R, alloc: Global, event: Event) -> Result<u64, Fail> {
+        let (log, shared) = (&mut self.log, &mut self.shared);
+        process(rt, alloc, &self.model, log, shared, event)
+    }
+
+    /// Begins another log.
+    fn begin_anew<R: Abort>(&mut self, rt: &R, alloc: Global) -> Result<(), Fail> {
+        self.log = ObjectLog::new(0, first_cells(rt, alloc, &self.model)?);
+        Ok(())
+    }
+
+    /// Does what it is told, and answers whether that comes out as it is told.
+    fn act<R: Abort>(&mut self, rt: &R, alloc: Global, act: &Act) -> Result<bool, Fail> {
+        match *act {
+            Act::Process(event, least) => return Ok(self.process(rt, alloc, event)? == least),
+            Act::Back(key, first) => {
+                let back = back_to(&mut self.log, key, &mut self.shared);
+                return Ok(back.front() == Some(&first));
+            }
+            Act::Commit(horizon, cut) => commit(rt, &mut self.log, horizon, cut, &mut self.done),
+            Act::Committed(count) => return Ok(self.done.len() == count),
+            Act::Told(event, part) => {
+                let told = next_told(&mut self.done, &mut self.shared)?;
+                return Ok(told == (event, Verdict::Noted(Note::of(part))));
+            }
+            Act::Held(stamp) => return Ok(self.log.held_least() == stamp),
+            Act::Counts(processed, sent) => {
+                return Ok((self.log.len(), self.log.sent()) == (processed, sent));
+            }
+            Act::Faulted(fault) => return Ok(self.log.faulted() == fault),
+            Act::Entries(count) => return Ok(self.shared.pool.entries() == count),
+            Act::Anew => self.begin_anew(rt, alloc)?,
+        }
+        Ok(true)
+    }
+}
+
+/// With a log of the first object of a model, which has sent so many events, each of these comes out as it is told.
+fn assert_acts<R: Abort, M: SimulationModel>(
+    rt: &R,
+    alloc: Global,
+    model: M,
+    sent: u64,
+    acts: &[Act],
+) -> Result<(), Fail> {
+    let mut run = Run::new(rt, alloc, model, sent)?;
+    for (place, act) in acts.iter().enumerate() {
+        assert!(rt; run.act(rt, alloc, act)?, "act {place}");
+    }
+    Ok(())
 }

@@ -10,6 +10,7 @@ use event_key::Key;
 use model_core::model::Model as SimulationModel;
 use model_core::{Event, Part};
 use node_core::{Committed, Step, Tallies};
+use sim_spec::Terms;
 use std::alloc::Global;
 use std::process::Abort;
 use std::test::Fail;
@@ -64,6 +65,18 @@ fn sent_alone<R: Abort>(
     Ok(sent.into_inner())
 }
 
+/// Whether the next step is refused, or None where no event can be processed.
+fn is_refused<R: Abort, M: SimulationModel>(
+    rt: &R,
+    alloc: Global,
+    driven: &mut Driven<M>,
+) -> Option<bool> {
+    match driven.step(rt, alloc) {
+        Ok(Step::Idle) => None,
+        step => Some(step.is_err()),
+    }
+}
+
 /// Steps the node until it is idle, also after a step that was refused. Answers how many were.
 fn step_to_idle<R: Abort, M: SimulationModel>(
     rt: &R,
@@ -72,10 +85,11 @@ fn step_to_idle<R: Abort, M: SimulationModel>(
 ) -> Result<u32, Fail> {
     let mut refused: u32 = 0;
     for _ in 0..10 {
-        match driven.step(rt, alloc) {
-            Ok(Step::Did { .. }) => {}
-            Ok(Step::Idle) => return Ok(refused),
-            Err(_) => refused = refused.saturating_add(1),
+        let Some(is_refused) = is_refused(rt, alloc, driven) else {
+            return Ok(refused);
+        };
+        if is_refused {
+            refused = refused.saturating_add(1);
         }
     }
     Err(Fail::from("the node is never idle"))
@@ -138,15 +152,17 @@ fn perform_each<R: Abort, M: SimulationModel>(
     Ok(())
 }
 
-/// A node does what the one list tells, and then the other.
+/// The node with this number, of so many, does what the one list tells, and then the other.
 fn perform_both<R: Abort, M: SimulationModel>(
     rt: &R,
     alloc: Global,
-    driven: Driven<M>,
+    model: M,
+    terms: Terms,
+    of: (u32, u32),
     first: &[Act],
     then: &[Act],
 ) -> Result<(), Fail> {
-    let mut driven = driven;
+    let mut driven = Driven::new(rt, alloc, model, terms, of.0, of.1)?;
     perform_each(rt, alloc, &mut driven, first)?;
     perform_each(rt, alloc, &mut driven, then)
 }

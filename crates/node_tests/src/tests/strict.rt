@@ -1,14 +1,11 @@
 //! A station whose line is strict, with the events that come to it.
-use event_key::{INITIAL, Key};
-use model_core::{Event, Name, Part};
+use event_key::{INITIAL, Key, STEPS};
+use model_core::{Event, Name};
 use queue_models::{Item, Kind, Network, Station};
 use random_streams::Law;
 use sim_spec::Terms;
 use std::alloc::Global;
 use std::test::Fail;
-
-/// Step 0 of a time has the stamp that is so many times the time.
-const TICK: u64 = 65_536;
 
 /// How far it goes.
 pub const TERMS: Terms = Terms {
@@ -40,7 +37,7 @@ pub fn station(alloc: Global) -> Result<Network, Fail> {
 /// Job 1 arrives at 5.
 pub const JOB_1: Event = Event {
     key: Key {
-        stamp: 5 * TICK,
+        stamp: 5 * STEPS,
         rank: 0,
         dest: 0,
         src: INITIAL,
@@ -54,7 +51,7 @@ pub const JOB_1: Event = Event {
 /// Job 2 arrives at 10.
 pub const JOB_2: Event = Event {
     key: Key {
-        stamp: 10 * TICK,
+        stamp: 10 * STEPS,
         rank: 0,
         dest: 0,
         src: INITIAL,
@@ -66,7 +63,7 @@ pub const JOB_2: Event = Event {
 };
 
 pub const KEY_3: Key = Key {
-    stamp: 11 * TICK,
+    stamp: 11 * STEPS,
     rank: 0,
     dest: 0,
     src: INITIAL,
@@ -81,25 +78,18 @@ pub const JOB_3: Event = Event {
     b: 11,
 };
 
+pub const FIRST_DONE_KEY: Key = Key {
+    stamp: 9 * STEPS,
+    rank: 0,
+    dest: 0,
+    src: 0,
+    serial: 0,
+};
+
 /// The service of job 1 is over: the first event that the station sends.
 pub const FIRST_DONE: Event = Event {
-    key: Key {
-        stamp: 9 * TICK,
-        rank: 0,
-        dest: 0,
-        src: 0,
-        serial: 0,
-    },
+    key: FIRST_DONE_KEY,
     kind: 2,
     a: 1,
     b: 5,
 };
-
-/// What the station tells of a job.
-pub fn told(word: u32, job: u64, waiting: u64) -> Part {
-    Part {
-        word,
-        a: job,
-        b: waiting,
-    }
-}

@@ -1,5 +1,4 @@
 //! A node without objects: of two nodes, the second, where the model has one object.
-use super::driven::Driven;
 use super::{Act, perform_both};
 use event_key::NO_STAMP;
 use phold_model::Phold;
@@ -24,6 +23,5 @@ fn a_node_without_objects_is_idle(rt: HostRuntime) -> Result<(), Fail> {
     assert!(rt; delay.is_delay());
     let model = Phold::make(0, 1, delay, false, 0, Vec::new(alloc), 0)?;
     let terms = Terms { end: 9, limit: 100 };
-    let driven = Driven::new(&rt, alloc, model, terms, 1, 2)?;
-    perform_both(&rt, alloc, driven, &NOTHING, &[])
+    perform_both(&rt, alloc, model, terms, (1, 2), &NOTHING, &[])
 }

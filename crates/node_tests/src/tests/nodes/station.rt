@@ -1,5 +1,4 @@
 //! A node with a station whose line is strict.
-use super::driven::Driven;
 use super::{Act, perform_both};
 use crate::tests::strict::{self, FIRST_DONE, JOB_1, JOB_2, JOB_3, KEY_3, TERMS};
 use event_key::NO_STAMP;
@@ -49,8 +48,8 @@ const TAKES_BACK: [Act; 5] = [
 #[test]
 fn a_straggler_takes_back_a_fault(rt: HostRuntime) -> Result<(), Fail> {
     let alloc = rt.alloc();
-    let driven = Driven::new(&rt, alloc, strict::station(alloc)?, TERMS, 0, 1)?;
-    perform_both(&rt, alloc, driven, &AHEAD, &TAKES_BACK)
+    let model = strict::station(alloc)?;
+    perform_both(&rt, alloc, model, TERMS, (0, 1), &AHEAD, &TAKES_BACK)
 }
 
 // From there on all is as where no step was refused.
@@ -59,8 +58,7 @@ fn a_refused_step_may_be_made_again(rt: HostRuntime) -> Result<(), Fail> {
     let alloc = rt.alloc();
     for before in 0..3 {
         let model = Stingy::new(strict::station(alloc)?, before);
-        let driven = Driven::new(&rt, alloc, model, TERMS, 0, 1)?;
-        perform_both(&rt, alloc, driven, &REFUSED, &TAKES_BACK)?;
+        perform_both(&rt, alloc, model, TERMS, (0, 1), &REFUSED, &TAKES_BACK)?;
     }
     Ok(())
 }
