@@ -3,7 +3,7 @@
 mod watched;
 
 use super::hops;
-use super::team_run::TeamRun;
+use super::team_run::{TeamRun, by_rings};
 use event_key::Key;
 use model_core::model::Model as SimulationModel;
 use node_team::{Gate, Open};
@@ -34,7 +34,7 @@ fn assert_taken<R: Abort + Threads + Sync, M: SimulationModel>(
     let mut run = TeamRun::new(alloc, model, terms, 4, 0, lanes)?;
     for ends in wanted {
         let before = watch.polls();
-        assert!(rt; run.next(rt, alloc, &Open)?.is_some());
+        run.cycles(rt, alloc, &Open, 1)?;
         assert!(rt; watch.met() == ends);
         assert!(rt; watch.taken() == ends);
         let polled = watch.polls() > before;
@@ -116,11 +116,8 @@ fn assert_stolen<R: Abort + Threads + Sync, M: SimulationModel>(
     terms: Terms,
 ) -> Result<(), Fail> {
     let gate = Stick::new(7);
-    let lanes = RingLanes::new(alloc, 8)?;
-    let mut run = TeamRun::new(alloc, model, terms, 8, 0, lanes)?;
-    for _ in 0..3 {
-        assert!(rt; run.next_by_two(rt, alloc, &gate)?.is_some());
-    }
+    let mut run = by_rings(alloc, model, terms, 8, 0)?;
+    run.cycles_by_two(rt, alloc, &gate, 3)?;
     assert!(rt; gate.seen.load(Ordering::SeqCst) == 3);
     Ok(())
 }

@@ -45,20 +45,31 @@ fn homes_of<M: SimulationModel>(alloc: Global, world: &World<M>) -> Result<Vec<u
     Ok(homes)
 }
 
+/// The objects have these homes.
+fn assert_homes<R: Abort, M: SimulationModel>(
+    rt: &R,
+    alloc: Global,
+    world: &World<M>,
+    homes: &[u32],
+) -> Result<(), Fail> {
+    let found = homes_of(alloc, world)?;
+    assert!(rt; found.as_slice() == homes);
+    Ok(())
+}
+
 /// The least object goes from the first node to the second, and then no other.
 fn balance_twice<R: Abort, M: SimulationModel>(
     rt: &R,
     alloc: Global,
-    world: World<M>,
+    world: &mut World<M>,
 ) -> Result<(), Fail>
-    requires { (s : State) × StandsAt (M.meaning world.model) world s }
+    requires { (s : State) × StandsAt (M.meaning world.old.model) world.old s }
 {
-    let mut world = world;
-    assert!(rt; homes_of(alloc, &world)?.as_slice() == [0, 0, 1].as_slice());
-    let first = balance(alloc, &mut world)?;
+    assert_homes(rt, alloc, world, &[0, 0, 1])?;
+    let first = balance(alloc, world)?;
     assert!(rt; first.as_slice() == [Move { object: 0, node: 1 }].as_slice());
-    assert!(rt; homes_of(alloc, &world)?.as_slice() == [1, 0, 1].as_slice());
-    let second = balance(alloc, &mut world)?;
+    assert_homes(rt, alloc, world, &[1, 0, 1])?;
+    let second = balance(alloc, world)?;
     assert!(rt; second.len() == 0);
     Ok(())
 }
@@ -67,6 +78,6 @@ fn balance_twice<R: Abort, M: SimulationModel>(
 fn the_least_object_goes_from_the_fullest_node_to_the_emptiest(
     rt: HostRuntime,
 ) -> Result<(), Fail> {
-    let world = uneven(rt.alloc())?;
-    balance_twice(&rt, rt.alloc(), world)
+    let mut world = uneven(rt.alloc())?;
+    balance_twice(&rt, rt.alloc(), &mut world)
 }

@@ -35,14 +35,13 @@ fn assert_committed<R: Abort, M: SimulationModel>(
 fn assert_counts<R: Abort, M: SimulationModel>(
     rt: &R,
     alloc: Global,
-    world: WorldRun<M>,
+    world: &mut WorldRun<M>,
     nodes: usize,
     cycles: &[[u64; 2]],
 ) -> Result<(), Fail> {
-    let mut world = world;
     for committed in cycles {
-        assert!(rt; world.next(alloc)?.is_some());
-        assert_committed(rt, alloc, &mut world, nodes, committed)?;
+        world.cycles(alloc, 1)?;
+        assert_committed(rt, alloc, world, nodes, committed)?;
     }
     assert!(rt; world.next(alloc)?.is_none());
     Ok(())
@@ -57,12 +56,12 @@ const OF_TWO: [[u64; 2]; 6] = [[1, 0], [2, 0], [4, 1], [5, 1], [6, 2], [6, 3]];
 // A node alone takes its events in order, so it undoes nothing, and the fault is never met.
 #[test]
 fn a_node_alone_undoes_nothing(rt: HostRuntime) -> Result<(), Fail> {
-    let world = world_of(&rt, rt.alloc(), FALSE_FAULT, 1, Placement::Round)?;
-    assert_counts(&rt, rt.alloc(), world, 1, &ALONE)
+    let mut world = world_of(&rt, rt.alloc(), FALSE_FAULT, 1, Placement::Round)?;
+    assert_counts(&rt, rt.alloc(), &mut world, 1, &ALONE)
 }
 
 #[test]
 fn each_node_counts_what_happens_at_its_objects(rt: HostRuntime) -> Result<(), Fail> {
-    let world = world_of(&rt, rt.alloc(), FALSE_FAULT, 2, Placement::Round)?;
-    assert_counts(&rt, rt.alloc(), world, 2, &OF_TWO)
+    let mut world = world_of(&rt, rt.alloc(), FALSE_FAULT, 2, Placement::Round)?;
+    assert_counts(&rt, rt.alloc(), &mut world, 2, &OF_TWO)
 }

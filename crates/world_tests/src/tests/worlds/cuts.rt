@@ -20,16 +20,12 @@ const BELOW: Key = Key {
 };
 
 /// Where a cycle is cut that comes after so many.
-fn cut_after<R: Abort, M: SimulationModel>(
-    rt: &R,
+fn cut_after<M: SimulationModel>(
     alloc: Global,
-    world: WorldRun<M>,
+    world: &mut WorldRun<M>,
     cycles: u32,
 ) -> Result<Cut, Fail> {
-    let mut world = world;
-    for _ in 0..cycles {
-        assert!(rt; world.next(alloc)?.is_some());
-    }
+    world.cycles(alloc, cycles)?;
     Ok(world.cut(alloc)?)
 }
 
@@ -44,8 +40,9 @@ fn a_limit_cuts_a_bucket_at_the_first_event_past_it(rt: HostRuntime) -> Result<(
     };
     for nodes in [1, 2, 3] {
         for placement in PLACEMENTS {
-            let world = world_of(&rt, alloc, SHOP_OF_TEN, nodes, placement)?;
-            assert!(rt; cut_after(&rt, alloc, world, 5)? == wanted);
+            let mut world = world_of(&rt, alloc, SHOP_OF_TEN, nodes, placement)?;
+            let cut = cut_after(alloc, &mut world, 5)?;
+            assert!(rt; cut == wanted, "on {nodes} nodes");
         }
     }
     Ok(())
@@ -55,21 +52,21 @@ fn a_limit_cuts_a_bucket_at_the_first_event_past_it(rt: HostRuntime) -> Result<(
 fn spend<R: Abort, M: SimulationModel>(
     rt: &R,
     alloc: Global,
-    world: WorldRun<M>,
+    world: &mut WorldRun<M>,
 ) -> Result<(), Fail> {
-    let mut world = world;
-    assert!(rt; world.next(alloc)?.is_some());
+    world.cycles(alloc, 1)?;
     assert!(rt; !world.is_spent());
     world.spend();
-    assert!(rt; world.is_spent());
-    assert!(rt; world.next(alloc).is_err());
-    assert!(rt; world.next(alloc).is_err());
+    for _ in 0..2 {
+        assert!(rt; world.is_spent());
+        assert!(rt; world.refuses(alloc));
+    }
     assert!(rt; world.is_spent());
     Ok(())
 }
 
 #[test]
 fn a_spent_world_answers_that_memory_has_run_out(rt: HostRuntime) -> Result<(), Fail> {
-    let world = world_of(&rt, rt.alloc(), SHOP, 2, Placement::Round)?;
-    spend(&rt, rt.alloc(), world)
+    let mut world = world_of(&rt, rt.alloc(), SHOP, 2, Placement::Round)?;
+    spend(&rt, rt.alloc(), &mut world)
 }

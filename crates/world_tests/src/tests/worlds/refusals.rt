@@ -1,11 +1,11 @@
 //! What stands of a team after its model has refused an effect for want of memory.
 use crate::tests::model_of;
-use crate::tests::team_run::TeamRun;
+use crate::tests::team_run::{TeamRun, by_rings};
 use model_core::model::Model as SimulationModel;
 use node_team::Open;
-use release_lanes::RingLanes;
+use release_lanes::Lanes;
 use sim_io::LineWriter;
-use sim_spec::{Bucket, Terms};
+use sim_spec::Bucket;
 use std::alloc::Global;
 use std::process::Abort;
 use std::sync::Arc;
@@ -34,11 +34,11 @@ fn put_bucket<R: Abort, N: SimulationModel>(
 }
 
 /// What the cycles tell until the simulation has ended or a cycle is refused, and whether it ended.
-fn told_by<R: Abort + Threads + Sync, N: SimulationModel, M: SimulationModel>(
+fn told_by<R: Abort + Threads + Sync, N: SimulationModel, M: SimulationModel, L: Lanes + Drop>(
     rt: &R,
     alloc: Global,
     names: &N,
-    run: &mut TeamRun<M, RingLanes>,
+    run: &mut TeamRun<M, L>,
 ) -> Result<(Vec<u8>, bool), Fail> {
     let mut text = Vec::new(alloc);
     for _ in 0..13 {
@@ -51,39 +51,32 @@ fn told_by<R: Abort + Threads + Sync, N: SimulationModel, M: SimulationModel>(
     Err(Fail::from("more cycles than events"))
 }
 
-/// Runs a model on two nodes, of which this is told if nothing is refused. What is told is that, or a prefix of it, after which
-/// each cycle is refused. Answers whether it ended.
-fn ends_so<R: Abort + Threads + Sync, N: SimulationModel, M: SimulationModel>(
+/// Runs a model of which this is told if nothing is refused. What is told is that, or a prefix of it, after which each cycle is
+/// refused. Answers whether it ended.
+fn ends_so<R: Abort + Threads + Sync, N: SimulationModel, M: SimulationModel, L: Lanes + Drop>(
     rt: &R,
     alloc: Global,
     names: &N,
-    model: M,
-    terms: Terms,
+    run: &mut TeamRun<M, L>,
     records: &[u8],
 ) -> Result<bool, Fail> {
-    let model = Arc::new(alloc, model)?;
-    let lanes = RingLanes::new(alloc, 2)?;
-    let mut run = TeamRun::new(alloc, model, terms, 2, 8, lanes)?;
-    let (text, ended) = told_by(rt, alloc, names, &mut run)?;
-    if ended {
-        assert!(rt; text.as_slice() == records);
-    } else {
-        assert!(rt; records.starts_with(text.as_slice()));
-        assert!(rt; run.next(rt, alloc, &Open).is_err());
-        assert!(rt; run.next(rt, alloc, &Open).is_err());
-    }
+    let (text, ended) = told_by(rt, alloc, names, run)?;
+    assert!(rt; records.starts_with(text.as_slice()));
+    assert!(rt; !ended || text.len() == records.len());
+    assert!(rt; ended || (run.refuses(rt, alloc, &Open) && run.refuses(rt, alloc, &Open)));
     Ok(ended)
 }
 
-/// Runs a shop whose model answers so many effects and refuses the next one. Answers whether it ended.
+/// Runs a shop on two nodes, whose model answers so many effects and refuses the next one. Answers whether it ended.
 fn ends_after<R: Abort + Threads + Sync>(rt: &R, alloc: Global, before: u64) -> Result<bool, Fail> {
     let records = SHOP_TEXT
         .strip_suffix("end 20 events 12\n")
         .ok_or("no end")?;
     let (names, _) = model_of(alloc, SHOP)?;
     let (shop, terms) = model_of(alloc, SHOP)?;
-    let model = Stingy::new(shop, before);
-    ends_so(rt, alloc, &names, model, terms, records.as_bytes())
+    let model = Arc::new(alloc, Stingy::new(shop, before))?;
+    let mut run = by_rings(alloc, model, terms, 2, 8)?;
+    ends_so(rt, alloc, &names, &mut run, records.as_bytes())
 }
 
 // Each of the twelve events has an effect, and those that were undone have more than one.

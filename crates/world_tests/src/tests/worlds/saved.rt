@@ -1,7 +1,8 @@
 //! Worlds whose state is taken out, and put in on other nodes.
-ghost use Rattle.std.specs.Prelude.{◌≤◌, OnOk};
+ghost use Rattle.std.specs.Prelude.{◌≤◌, IfOk, OnOk};
+ghost use Rattle.std.specs.Arc.{arc_value};
 ghost use Rattle.model_core.specs.declared.limits.TheConstants.{MOST_NODES};
-ghost use Rattle.sim_spec.specs.State.{State};
+ghost use Rattle.sim_spec.specs.State.{State, Lawful};
 ghost use Rattle.cycle_core.specs.Worlds.{IsSameWorld, StandsAt};
 
 use super::PLACEMENTS;
@@ -64,6 +65,51 @@ fn run_on<M: SimulationModel>(
     Ok(())
 }
 
+/// The state after so many cycles, which tell what is appended.
+fn saved_after<M: SimulationModel>(
+    alloc: Global,
+    model: &Arc<M>,
+    terms: Terms,
+    nodes: Nodes,
+    cycles: usize,
+    done: &mut Vec<(Key, Vec<Part>)>,
+) -> Result<State, OutOfMemory>
+    ensures { IfOk result (λ state. Lawful (M.meaning (arc_value model.now)) terms state) }
+{
+    let mut world = World::begin(
+        alloc,
+        Arc::clone(model)?,
+        terms,
+        nodes.count,
+        nodes.placement,
+    )?;
+    run_on(alloc, &mut world, cycles, done)?;
+    let state = world.snapshot(alloc)?;
+    Ok(state)
+}
+
+/// Goes on from a state to the end, and appends what that tells.
+fn go_on_from<M: SimulationModel>(
+    alloc: Global,
+    model: &Arc<M>,
+    terms: Terms,
+    nodes: Nodes,
+    state: State,
+    done: &mut Vec<(Key, Vec<Part>)>,
+) -> Result<(), OutOfMemory>
+    requires { Lawful (M.meaning (arc_value model.now)) terms state }
+{
+    let mut world = World::from_state(
+        alloc,
+        Arc::clone(model)?,
+        terms,
+        nodes.count,
+        nodes.placement,
+        state,
+    )?;
+    run_on(alloc, &mut world, MANY, done)
+}
+
 /// What a world does that is saved after so many cycles, and goes on from its state on other nodes.
 fn done_saved<M: SimulationModel>(
     alloc: Global,
@@ -74,24 +120,8 @@ fn done_saved<M: SimulationModel>(
     cycles: usize,
 ) -> Result<Vec<(Key, Vec<Part>)>, OutOfMemory> {
     let mut done = Vec::new(alloc);
-    let mut world = World::begin(
-        alloc,
-        Arc::clone(model)?,
-        terms,
-        nodes.count,
-        nodes.placement,
-    )?;
-    run_on(alloc, &mut world, cycles, &mut done)?;
-    let state = world.snapshot(alloc)?;
-    let mut world = World::from_state(
-        alloc,
-        Arc::clone(model)?,
-        terms,
-        others.count,
-        others.placement,
-        state,
-    )?;
-    run_on(alloc, &mut world, MANY, &mut done)?;
+    let state = saved_after(alloc, model, terms, nodes, cycles, &mut done)?;
+    go_on_from(alloc, model, terms, others, state, &mut done)?;
     Ok(done)
 }
 
@@ -109,46 +139,44 @@ fn done_whole<M: SimulationModel>(
     Ok(done)
 }
 
-/// The state after so many cycles.
-fn state_after<M: SimulationModel>(
-    alloc: Global,
-    model: &Arc<M>,
-    terms: Terms,
-    nodes: Nodes,
-    cycles: usize,
-) -> Result<State, OutOfMemory> {
-    let mut done = Vec::new(alloc);
-    let model = Arc::clone(model)?;
-    let mut world = World::begin(alloc, model, terms, nodes.count, nodes.placement)?;
-    run_on(alloc, &mut world, cycles, &mut done)?;
-    world.snapshot(alloc)
-}
-
 /// So many nodes.
 fn nodes_of<R: Abort>(rt: &R, count: u32, placement: Placement) -> Nodes {
     assert!(rt; count >= 1 && count <= 64);
     Nodes { count, placement }
 }
 
+/// A model that is saved after so many cycles on the first of these nodes does this on both.
+fn assert_saved<R: Abort, M: SimulationModel>(
+    rt: &R,
+    alloc: Global,
+    model: &Arc<M>,
+    terms: Terms,
+    on: (Nodes, Nodes),
+    cycles: usize,
+    whole: &[(Key, Vec<Part>)],
+) -> Result<(), Fail> {
+    let done = done_saved(alloc, model, terms, on.0, on.1, cycles)?;
+    assert!(rt; done.as_slice() == whole, "after {cycles} cycles");
+    Ok(())
+}
+
 /// A model does the same where it is saved after any of these numbers of cycles.
 fn assert_same<R: Abort, M: SimulationModel>(
     rt: &R,
     alloc: Global,
-    model: M,
+    model: &Arc<M>,
     terms: Terms,
     saved_after: &[usize],
 ) -> Result<(), Fail> {
-    let model = Arc::new(alloc, model)?;
     let one = nodes_of(rt, 1, Placement::Round);
-    let whole = done_whole(alloc, &model, terms, one)?;
+    let whole = done_whole(alloc, model, terms, one)?;
     assert!(rt; !whole.is_empty());
     for (count, others) in [(1, 3), (3, 2), (2, 64)] {
         for placement in PLACEMENTS {
             let nodes = nodes_of(rt, count, placement);
-            let others = nodes_of(rt, others, Placement::Round);
+            let on = (nodes, nodes_of(rt, others, Placement::Round));
             for cycles in saved_after {
-                let done = done_saved(alloc, &model, terms, nodes, others, *cycles)?;
-                assert!(rt; done.as_slice() == whole.as_slice());
+                assert_saved(rt, alloc, model, terms, on, *cycles, whole.as_slice())?;
             }
         }
     }
@@ -162,7 +190,7 @@ fn a_run_goes_on_from_its_state_on_other_nodes(rt: HostRuntime) -> Result<(), Fa
     let all = [0, 1, 2, 3, 4, 5, 6, 7, 8];
     for text in [SHOP, SHOP_OF_TEN, STRICT_LINE, FALSE_FAULT] {
         let (model, terms) = model_of(alloc, text)?;
-        assert_same(&rt, alloc, model, terms, &all)?;
+        assert_same(&rt, alloc, &Arc::new(alloc, model)?, terms, &all)?;
     }
     Ok(())
 }
@@ -171,7 +199,8 @@ fn a_run_goes_on_from_its_state_on_other_nodes(rt: HostRuntime) -> Result<(), Fa
 #[test]
 fn a_bank_goes_on_from_its_state_on_other_nodes(rt: HostRuntime) -> Result<(), Fail> {
     let (model, terms) = model_of(rt.alloc(), SHORT_BANK)?;
-    assert_same(&rt, rt.alloc(), model, terms, &[1, 10, 100, 1000])
+    let model = Arc::new(rt.alloc(), model)?;
+    assert_same(&rt, rt.alloc(), &model, terms, &[1, 10, 100, 1000])
 }
 
 // Both jobs come at 4: one is served till 6, and the other one waits in line.
@@ -182,7 +211,8 @@ fn a_snapshot_tells_the_state_between_two_cycles(rt: HostRuntime) -> Result<(), 
     let model = Arc::new(alloc, model)?;
     for count in [1, 2] {
         let nodes = nodes_of(&rt, count, Placement::Round);
-        let state = state_after(alloc, &model, terms, nodes, 1)?;
+        let mut done = Vec::new(alloc);
+        let state = saved_after(alloc, &model, terms, nodes, 1, &mut done)?;
         assert!(rt; state.count == 2);
         let leaves = Event {
             key: Key {

@@ -2,12 +2,13 @@
 use super::PLACEMENTS;
 use super::world_run::run_world;
 use crate::tests::model_of;
+use model_core::model::Model as SimulationModel;
 use model_runs::{Job, Machine, Stage, run_model};
 use model_text::AnyModel;
 use node_team::Open;
-use run_tally::NoTally;
+use run_tally::{NoTally, Tally};
 use sim_io::MemSink;
-use sim_spec::Placement;
+use sim_spec::{Placement, Terms};
 use sim_text::Telling;
 use std::alloc::Global;
 use std::process::Abort;
@@ -76,8 +77,12 @@ fn the_text_is_the_same_on_any_number_of_nodes(rt: HostRuntime) -> Result<(), Fa
 }
 
 /// What the engine for one thread writes of a model, with lines of cycles.
-fn one_text_of<R: Threads + Sync>(rt: &R, alloc: Global, model: &str) -> Result<MemSink, Fail> {
-    let (model, terms) = model_of(alloc, model)?;
+fn one_text_of<R: Threads + Sync, M: SimulationModel, L: Tally<M>>(
+    rt: &R,
+    alloc: Global,
+    model: M,
+    terms: Terms,
+) -> Result<MemSink, Fail> {
     let mut out = sink(alloc)?;
     let stage = Stage {
         rt,
@@ -90,8 +95,7 @@ fn one_text_of<R: Threads + Sync>(rt: &R, alloc: Global, model: &str) -> Result<
         machine: Machine::OneThread,
         telling: Telling::Lines { cycles: true },
     };
-    let ran = run_model::<R, Open, AnyModel, NoTally, MemSink>(stage, job, &mut out);
-    let Ok(_) = ran else {
+    let Ok(_) = run_model::<R, Open, M, L, MemSink>(stage, job, &mut out) else {
         return Err(Fail::from("the text isn't whole"));
     };
     Ok(out)
@@ -101,7 +105,8 @@ fn one_text_of<R: Threads + Sync>(rt: &R, alloc: Global, model: &str) -> Result<
 #[test]
 fn a_bank_has_the_text_of_the_engine_for_one_thread(rt: HostRuntime) -> Result<(), Fail> {
     let alloc = rt.alloc();
-    let one = one_text_of(&rt, alloc, BANK)?;
+    let (model, terms) = model_of(alloc, BANK)?;
+    let one = one_text_of::<HostRuntime, AnyModel, NoTally>(&rt, alloc, model, terms)?;
     for (nodes, placement) in [
         (1, Placement::Round),
         (4, Placement::Round),

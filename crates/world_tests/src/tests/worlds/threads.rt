@@ -1,6 +1,6 @@
 //! In how many threads the cycles of a team run.
 use crate::tests::hops;
-use crate::tests::team_run::TeamRun;
+use crate::tests::team_run::{TeamRun, by_rings};
 use event_key::Key;
 use model_core::model::Model as SimulationModel;
 use model_text::AnyModel;
@@ -21,8 +21,7 @@ const ENOUGH: u32 = 1_536;
 /// Four nodes with so many objects, each of which sends its event to the next one in five ticks.
 fn team_of(alloc: Global, objects: u32) -> Result<TeamRun<AnyModel, RingLanes>, Fail> {
     let (model, terms) = hops(alloc, objects)?;
-    let lanes = RingLanes::new(alloc, NODES as u32)?;
-    Ok(TeamRun::new(alloc, model, terms, NODES as u32, 0, lanes)?)
+    Ok(by_rings(alloc, model, terms, NODES as u32, 0)?)
 }
 
 /// Holds each entry until all nodes have entered in the same cycle, for so many turns at most, and counts the entries that
@@ -69,15 +68,12 @@ impl Gate for Gathering {
 fn assert_met<R: Abort + Threads + Sync, M: SimulationModel>(
     rt: &R,
     alloc: Global,
-    run: TeamRun<M, RingLanes>,
+    run: &mut TeamRun<M, RingLanes>,
     gate: &Gathering,
     events: u64,
     met: u64,
 ) -> Result<(), Fail> {
-    let mut run = run;
-    for _ in 0..3 {
-        assert!(rt; run.next(rt, alloc, gate)?.is_some());
-    }
+    run.cycles(rt, alloc, gate, 3)?;
     assert!(rt; run.count() == events.saturating_mul(3));
     assert!(rt; gate.met() == met);
     Ok(())
@@ -86,19 +82,26 @@ fn assert_met<R: Abort + Threads + Sync, M: SimulationModel>(
 #[test]
 fn a_wide_cycle_runs_in_as_many_threads_as_there_are_nodes(rt: HostRuntime) -> Result<(), Fail> {
     let gate = Gathering::new(200_000_000);
-    let run = team_of(rt.alloc(), ENOUGH)?;
-    assert_met(&rt, rt.alloc(), run, &gate, u64::from(ENOUGH), 3 * NODES)
+    let mut run = team_of(rt.alloc(), ENOUGH)?;
+    assert_met(
+        &rt,
+        rt.alloc(),
+        &mut run,
+        &gate,
+        u64::from(ENOUGH),
+        3 * NODES,
+    )
 }
 
 // Where nodes enter one after another the last one alone sees all others.
 #[test]
 fn a_narrow_cycle_runs_in_one_thread_but_for_the_first(rt: HostRuntime) -> Result<(), Fail> {
     let gate = Gathering::new(1_000);
-    let run = team_of(rt.alloc(), ENOUGH - 1)?;
+    let mut run = team_of(rt.alloc(), ENOUGH - 1)?;
     assert_met(
         &rt,
         rt.alloc(),
-        run,
+        &mut run,
         &gate,
         u64::from(ENOUGH - 1),
         NODES + 2,

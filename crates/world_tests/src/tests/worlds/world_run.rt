@@ -20,6 +20,7 @@ use sim_text::{Telling, Unfinished, simulate};
 use std::alloc::Global;
 use std::marker::Model;
 use std::sync::Arc;
+use std::test::Fail;
 
 /// A simulation on the nodes of a world, by one thread.
 #[derive(Drop)]
@@ -98,6 +99,21 @@ impl<M: SimulationModel> WorldRun<M> {
             Some(_) => Ok(None),
             None => Ok(Some(self.cycle(alloc)?)),
         }
+    }
+
+    /// So many cycles, before whose end the simulation doesn't end.
+    pub fn cycles(&mut self, alloc: Global, count: u32) -> Result<(), Fail> {
+        for _ in 0..count {
+            if self.next(alloc)?.is_none() {
+                return Err(Fail::from("the simulation has ended"));
+            }
+        }
+        Ok(())
+    }
+
+    /// Whether the next cycle is refused.
+    pub fn refuses(&mut self, alloc: Global) -> bool {
+        self.next(alloc).is_err()
     }
 
     /// What each node counts, or nothing of a world that is spent.
