@@ -1,6 +1,7 @@
 pub mod Bounds
 pub mod DelayBounds
 pub mod Firsts
+pub mod MaskLemmas
 pub mod Places
 pub mod Reciprocals
 pub mod Rising

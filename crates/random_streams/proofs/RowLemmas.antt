@@ -14,26 +14,26 @@ below_sixteen P a0 a1 a2 a3 b0 b1 b2 b3 c0 c1 c2 c3 d0 d1 d2 d3 k h =
     (below_four _ a0 a1 a2 a3) (below_four _ b0 b1 b2 b3) (below_four _ c0 c1 c2 c3) (below_four _ d0 d1 d2 d3)
     (k / 4) (omega arith) (k % 4) (omega arith))
 
--- the words of the block that begins at a place are those from that place on
-pub AreWords-block : (seed object first : ℕ) (words : List ℕ) → first < 2 ^ 64
-    → ((k : ℕ) → k < 16 → slice_index words k ≡ block_word 10 (key_of (seed_bytes seed)) (first / 16) object k)
-    → first % 16 ≡ 0 → AreWords seed object first words
+-- the words of the block about a place are the sixteen from its first place on
+pub AreWords-block : (seed object place : ℕ) (words : List ℕ) → place < 2 ^ 64
+    → ((k : ℕ) → k < 16 → slice_index words k ≡ block_word 10 (key_of (seed_bytes seed)) (place / 16) object k)
+    → AreWords seed object (place - place % 16) words
 unfolding word_of
-AreWords-block seed object first words below made begins k within =
-    let block : (first + k) % 2 ^ 64 / 16 ≡ first / 16 = omega arith in
-    let word : (first + k) % 2 ^ 64 % 16 ≡ k = omega arith in
+AreWords-block seed object place words below made k within =
+    let block : (place - place % 16 + k) % 2 ^ 64 / 16 ≡ place / 16 = omega arith in
+    let word : (place - place % 16 + k) % 2 ^ 64 % 16 ≡ k = omega arith in
     rw (block, word) (made k within)
 
--- the word at a place of the block about it
-pub AreWords-at : (seed object place : ℕ) (words : List ℕ) → AreWords seed object (place - place % 16) words
-    → slice_index words (place % 16) ≡ word_of seed object place
-AreWords-at seed object place words are =
-    let at : place - place % 16 + place % 16 ≡ place = omega arith in
-    are (place % 16) (omega arith) ∙ ap (word_of seed object) at
+-- the words of the block about a place are those of the block about another place of it
+pub AreWords-about : (seed object place later : ℕ) (words : List ℕ) → place / 16 ≡ later / 16
+    → AreWords seed object (place - place % 16) words → AreWords seed object (later - later % 16) words
+AreWords-about seed object place later words same are =
+    let first : place - place % 16 ≡ later - later % 16 = omega arith in
+    rw first at are
 
 -- the words of the block about a place, from that place on
-pub AreWords-from : (seed object place first : ℕ) (words : List ℕ) → first ≡ place - place % 16 → AreWords seed object first words
+pub AreWords-from : (seed object place : ℕ) (words : List ℕ) → AreWords seed object (place - place % 16) words
     → (k : ℕ) → place % 16 + k < 16 → slice_index words (place % 16 + k) ≡ words_from seed object place k
-AreWords-from seed object place first words begins are k within =
-    let at : first + (place % 16 + k) ≡ place + k = omega arith in
+AreWords-from seed object place words are k within =
+    let at : place - place % 16 + (place % 16 + k) ≡ place + k = omega arith in
     are (place % 16 + k) within ∙ ap (word_of seed object) at

@@ -79,22 +79,23 @@ fn column_round(rows: Rows) -> Rows
     Rows { a, b, c, d }
 }
 
-/// The quarter round on each diagonal, which is a column once each row is turned by its number.
+/// The quarter round on each diagonal, which is a column once three rows are turned. The second row stays, since a quarter
+/// round ends with it and the next one begins with it.
 #[inline(always)]
 fn diagonal_round(rows: Rows) -> Rows
     ensures { state_of result ≡ diagonal_round (state_of rows) }
 {
     let (a, b, c, d) = quarter_round(
-        rows.a,
-        left_by_one(rows.b),
-        left_by_two(rows.c),
-        left_by_three(rows.d),
+        left_by_three(rows.a),
+        rows.b,
+        left_by_one(rows.c),
+        left_by_two(rows.d),
     );
     Rows {
-        a,
-        b: left_by_three(b),
-        c: left_by_two(c),
-        d: left_by_one(d),
+        a: left_by_one(a),
+        b,
+        c: left_by_three(c),
+        d: left_by_two(d),
     }
 }
 

@@ -5,18 +5,16 @@ ghost use Rattle.random_streams.specs.Words.{word_of, words_from, AreWords};
 
 use crate::block::block;
 use std::marker::Model;
+use std::simd::prelude::*;
 
 /// How many words a block has.
 const BLOCK_WORDS: u64 = 16;
 
-/// Where no block is kept: no block begins at this place.
-const NO_BLOCK: u64 = 1;
-
 /// A reader of an object's random words under a seed, which stands at a place of them.
 ///
-/// It keeps the block of sixteen words that it read last, wherever it moves among an object's words, and makes a
-/// block of the cipher when a word of another is asked for. So a run of words costs a block for every sixteen, and
-/// one that reads no word costs none. Places count modulo 2^64.
+/// It keeps the block of sixteen words that it reads, as long as it stands in it, and makes a block of the cipher when a
+/// word of another is asked for. So a run of words costs a block for every sixteen, and one that reads no word costs
+/// none. Places count modulo 2^64.
 #[derive(Drop)]
 pub struct Stream {
     seed: u64,
@@ -25,36 +23,35 @@ pub struct Stream {
     kept: Kept,
 }
 
-/// A block of an object's words, and the place of the first of them.
+/// The words of the block about a place, if they are made.
 #[derive(Drop)]
 struct Kept {
-    first: u64,
+    are_made: bool,
     words: [u32; 16],
 }
 
 impl Model for Stream {
-    ghost use Rattle.std.specs.Prelude.{◌≡◌, ◌%◌};
+    ghost use Rattle.std.specs.Prelude.{◌-◌, ◌%◌};
+    ghost use Rattle.std.specs.Bool.{OnTrue};
     ghost use Rattle.random_streams.specs.Words.{StreamView, AreWords};
 
     ghost Value = { StreamView };
 
     ghost view = { λ s. record { seed = s.seed; object = s.object; place = s.place } };
 
-    ghost invariant = { λ s. s.kept.first % 16 ≡ 0 → AreWords s.seed s.object s.kept.first s.kept.words };
+    ghost invariant = { λ s. OnTrue s.kept.are_made (AreWords s.seed s.object (s.place - s.place % 16) s.kept.words) };
 }
 
 impl Kept {
-    /// Keeps the block about a place, if it doesn't yet.
+    /// Makes the words of the block about a place, if they aren't made yet.
     #[inline(always)]
     fn load(&mut self, seed: u64, object: u32, place: u64)
-        requires { self.old.first % 16 ≡ 0 → AreWords seed object self.old.first self.old.words }
-        ensures first { self.new.first ≡ place - place % 16 }
-        ensures words { AreWords seed object self.new.first self.new.words }
+        requires { OnTrue self.old.are_made (AreWords seed object (place - place % 16) self.old.words) }
+        ensures { AreWords seed object (place - place % 16) self.new.words }
     {
-        let first = place - place % BLOCK_WORDS;
-        if self.first != first {
-            self.words = block(seed, object, first / BLOCK_WORDS);
-            self.first = first;
+        if !self.are_made {
+            self.words = block(seed, object, place / BLOCK_WORDS);
+            self.are_made = true;
         }
     }
 }
@@ -69,7 +66,7 @@ impl Stream {
             object,
             place,
             kept: Kept {
-                first: NO_BLOCK,
+                are_made: false,
                 words: [0; 16],
             },
         }
@@ -82,7 +79,18 @@ impl Stream {
         if self.seed != seed || self.object != object {
             self.seed = seed;
             self.object = object;
-            self.kept.first = NO_BLOCK;
+            self.kept.are_made = false;
+        }
+        self.go_to(place);
+    }
+
+    /// Moves to a place of the same words.
+    #[inline(always)]
+    fn go_to(&mut self, place: u64)
+        ensures { self.new ≡ record self.old { place = place } }
+    {
+        if self.place / BLOCK_WORDS != place / BLOCK_WORDS {
+            self.kept.are_made = false;
         }
         self.place = place;
     }
@@ -100,9 +108,9 @@ impl Stream {
         ensures place { self.new ≡ record self.old { place = (self.old.place + 1) % 2 ^ 64 } }
     {
         self.kept.load(self.seed, self.object, self.place);
-        let within = self.place % BLOCK_WORDS;
-        self.place = self.place.wrapping_add(1);
-        self.kept.words[within as usize]
+        let word = self.kept.words[(self.place % BLOCK_WORDS) as usize];
+        self.go_to(self.place.wrapping_add(1));
+        word
     }
 
     /// Reads words of one block until one is below a bound, at most so many: how many it reads, and whether the last of
@@ -122,15 +130,16 @@ impl Stream {
         let count = (most as usize).min(16 - within);
         let misses = misses(&self.kept.words, within, count, bound);
         if misses < count {
-            self.place = self.place.wrapping_add(misses as u64 + 1);
+            self.go_to(self.place.wrapping_add(misses as u64 + 1));
             return (misses as u32 + 1, true);
         }
-        self.place = self.place.wrapping_add(count as u64);
+        self.go_to(self.place.wrapping_add(count as u64));
         (count as u32, false)
     }
 }
 
-/// How many of so many words from a place on come before the first that is below a bound.
+/// How many of so many words from a place on come before the first that is below a bound. All words of the block are compared
+/// at once, with no branch.
 #[inline(always)]
 fn misses(words: &[u32; 16], from: usize, count: usize, bound: u32) -> usize
     requires { from + count ≤ 16 }
@@ -138,10 +147,8 @@ fn misses(words: &[u32; 16], from: usize, count: usize, bound: u32) -> usize
     ensures before { (k : ℕ) → k < result → bound ≤ slice_index words.now (from + k) }
     ensures at { result < count → slice_index words.now (from + result) < bound }
 {
-    for i in 0..count {
-        if words[from + i] < bound {
-            return i;
-        }
-    }
-    count
+    let below = u32x16::from_array(*words)
+        .simd_lt(u32x16::splat(bound))
+        .to_bitmask();
+    ((below >> from).trailing_zeros() as usize).min(count)
 }

@@ -1,8 +1,7 @@
-use Rattle.std.proofs.Common.{◌-◌, ◌%◌, arith}
+use Rattle.std.proofs.Common.{arith}
 use Rattle.random_streams.proofs.RowLemmas.{AreWords-block}
 use Rattle.random_streams.proofs.stream.Kept.load.Goals as goal
 
-pub returns-then-self-first-clause-words : goal.returns-then-self-first-clause-words
-returns-then-self-first-clause-words c =
-    let place = c.args.place in
-    AreWords-block c.args.seed c.args.object (place - place % 16) c.block-self.result (omega arith) c.block-self.ensures (omega arith)
+pub returns-then-not-self : goal.returns-then-not-self
+returns-then-not-self c =
+    AreWords-block c.args.seed c.args.object c.args.place c.block-self.result (omega arith) c.block-self.ensures
