@@ -72,26 +72,28 @@ impl Stream {
         }
     }
 
-    /// Moves to a place of an object's words under a seed. The words that it has made of this object stay at hand.
+    /// Moves to a place of an object's words under a seed. The words that it has made stay at hand if that lies in their block.
     pub fn move_to(&mut self, seed: u64, object: u32, place: u64)
         ensures { self.new ≡ record { seed = seed; object = object; place = place } }
     {
-        if self.seed != seed || self.object != object {
-            self.seed = seed;
-            self.object = object;
-            self.kept.are_made = false;
+        if self.place != place || self.object != object || self.seed != seed {
+            self.jump_to(seed, object, place);
         }
-        self.go_to(place);
     }
 
-    /// Moves to a place of the same words.
-    #[inline(always)]
-    fn go_to(&mut self, place: u64)
-        ensures { self.new ≡ record self.old { place = place } }
+    /// Moves to a place where it doesn't stand yet.
+    #[inline(never)]
+    fn jump_to(&mut self, seed: u64, object: u32, place: u64)
+        ensures { self.new ≡ record { seed = seed; object = object; place = place } }
     {
-        if self.place / BLOCK_WORDS != place / BLOCK_WORDS {
+        if self.seed != seed
+            || self.object != object
+            || self.place / BLOCK_WORDS != place / BLOCK_WORDS
+        {
             self.kept.are_made = false;
         }
+        self.seed = seed;
+        self.object = object;
         self.place = place;
     }
 
@@ -108,9 +110,10 @@ impl Stream {
         ensures place { self.new ≡ record self.old { place = (self.old.place + 1) % 2 ^ 64 } }
     {
         self.kept.load(self.seed, self.object, self.place);
-        let word = self.kept.words[(self.place % BLOCK_WORDS) as usize];
-        self.go_to(self.place.wrapping_add(1));
-        word
+        let within = self.place % BLOCK_WORDS;
+        self.kept.are_made = within + 1 < BLOCK_WORDS;
+        self.place = self.place.wrapping_add(1);
+        self.kept.words[within as usize]
     }
 
     /// Reads words of one block until one is below a bound, at most so many: how many it reads, and whether the last of
@@ -130,10 +133,12 @@ impl Stream {
         let count = (most as usize).min(16 - within);
         let misses = misses(&self.kept.words, within, count, bound);
         if misses < count {
-            self.go_to(self.place.wrapping_add(misses as u64 + 1));
+            self.kept.are_made = within + misses + 1 < 16;
+            self.place = self.place.wrapping_add(misses as u64 + 1);
             return (misses as u32 + 1, true);
         }
-        self.go_to(self.place.wrapping_add(count as u64));
+        self.kept.are_made = within + count < 16;
+        self.place = self.place.wrapping_add(count as u64);
         (count as u32, false)
     }
 }
