@@ -18,8 +18,9 @@ const BLOCK_WORDS: u64 = 16;
 #[derive(Drop)]
 pub struct Stream {
     seed: u64,
-    object: u32,
     pub(crate) place: u64,
+    // the last two, since what has 32 bits and less fits together there
+    object: u32,
     kept: Kept,
 }
 
@@ -63,8 +64,8 @@ impl Stream {
     {
         Stream {
             seed,
-            object,
             place,
+            object,
             kept: Kept {
                 are_made: false,
                 words: [0; 16],
@@ -76,24 +77,24 @@ impl Stream {
     pub fn move_to(&mut self, seed: u64, object: u32, place: u64)
         ensures { self.new ≡ record { seed = seed; object = object; place = place } }
     {
-        if self.place != place || self.object != object || self.seed != seed {
-            self.jump_to(seed, object, place);
+        if self.seed != seed || self.object != object {
+            self.seed = seed;
+            self.object = object;
+            self.kept.are_made = false;
+        }
+        if self.place != place {
+            self.jump_to(place);
         }
     }
 
-    /// Moves to a place where it doesn't stand yet.
-    #[inline(never)]
-    fn jump_to(&mut self, seed: u64, object: u32, place: u64)
-        ensures { self.new ≡ record { seed = seed; object = object; place = place } }
+    /// Moves to another place of the same words.
+    #[inline(always)]
+    fn jump_to(&mut self, place: u64)
+        ensures { self.new ≡ record self.old { place = place } }
     {
-        if self.seed != seed
-            || self.object != object
-            || self.place / BLOCK_WORDS != place / BLOCK_WORDS
-        {
+        if self.place / BLOCK_WORDS != place / BLOCK_WORDS {
             self.kept.are_made = false;
         }
-        self.seed = seed;
-        self.object = object;
         self.place = place;
     }
 
@@ -110,10 +111,10 @@ impl Stream {
         ensures place { self.new ≡ record self.old { place = (self.old.place + 1) % 2 ^ 64 } }
     {
         self.kept.load(self.seed, self.object, self.place);
-        let within = self.place % BLOCK_WORDS;
-        self.kept.are_made = within + 1 < BLOCK_WORDS;
+        let word = self.kept.words[(self.place % BLOCK_WORDS) as usize];
         self.place = self.place.wrapping_add(1);
-        self.kept.words[within as usize]
+        self.kept.are_made = self.place % BLOCK_WORDS != 0;
+        word
     }
 
     /// Reads words of one block until one is below a bound, at most so many: how many it reads, and whether the last of
@@ -133,12 +134,12 @@ impl Stream {
         let count = (most as usize).min(16 - within);
         let misses = misses(&self.kept.words, within, count, bound);
         if misses < count {
-            self.kept.are_made = within + misses + 1 < 16;
             self.place = self.place.wrapping_add(misses as u64 + 1);
+            self.kept.are_made = self.place % BLOCK_WORDS != 0;
             return (misses as u32 + 1, true);
         }
-        self.kept.are_made = within + count < 16;
         self.place = self.place.wrapping_add(count as u64);
+        self.kept.are_made = self.place % BLOCK_WORDS != 0;
         (count as u32, false)
     }
 }
