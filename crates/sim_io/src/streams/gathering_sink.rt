@@ -83,6 +83,7 @@ fn hand_on<K: Sink>(gathered: &mut Vec<u8>, inner: &mut K) -> Result<(), Failed>
 }
 
 /// Takes bytes for which there is no room beside what was gathered.
+#[inline(never)]
 fn take_more<K: Sink>(gathered: &mut Vec<u8>, inner: &mut K, bytes: &[u8]) -> Result<usize, Failed>
     ensures bound { WritesAtMost result bytes.now }
     ensures taken { WriteAppends (append_taken (K.told inner.old) gathered.old.items) (append_taken (K.told inner.new) gathered.new.items) result bytes.now }
