@@ -141,4 +141,3 @@ returns c =
       least = l.least_is ∙ ap (least_stamp NO_STAMP) all;
       cells = cells-used _ _ _ _ c.loop-send.invariant.cells c.loop-send.auto.send-index-end c.loop-send-test.false;
     }
-

@@ -24,9 +24,8 @@ returns c =
     let o = c.new.result in
     record {
       ok = ap (map object_view) (c.push_reserved.ensures.items ∙ ap (λ os. os ++ o ∷ []) c.make_place.ensures.objects)
-    ∙ map-append object_view objects (o ∷ [])
-    ∙ (λ i. (ap (λ (v : EventLogView). v.objects) (ap (λ (v : NodeLogView). v.log) c.self.view_is)) i ++ object_view (c.new.ensures i) ∷ []);
+          ∙ map-append object_view objects (o ∷ [])
+          ∙ (λ i. (ap (λ (v : EventLogView). v.objects) (ap (λ (v : NodeLogView). v.log) c.self.view_is)) i ++ object_view (c.new.ensures i) ∷ []);
       same = (λ i. record (c.self.view_is i) { log = record ((c.self.view_is i).log) { objects = map object_view c.push_reserved.new.self.items } });
       err = tt;
     }
-

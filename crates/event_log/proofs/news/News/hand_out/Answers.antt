@@ -38,7 +38,7 @@ returns c =
       parcels = λ node. c.hand_out.ensures.parcels node ∙ ap (λ (v : NewsView). parcel node v.sent) c.self.view_is;
       long = c.hand_out.ensures.long ∙ ap (λ (v : NewsView). v.nodes) c.self.view_is;
       done = view-done [] [] c.swap.new.x.items c.clear.new.self.items c.clear-2.new.self.items c.hand_out.new.self.sent n.fault
-    (holds-none c.swap.new.x.items c.clear.new.self.items c.clear-2.new.self.items c.hand_out.new.self.sent n.fault (blank ∙ c.requires.told) c.clear.ensures.items c.clear-2.ensures.items c.hand_out.ensures.sent none);
+          (holds-none c.swap.new.x.items c.clear.new.self.items c.clear-2.new.self.items c.hand_out.new.self.sent n.fault (blank ∙ c.requires.told) c.clear.ensures.items c.clear-2.ensures.items c.hand_out.ensures.sent none);
       sent = c.hand_out.ensures.sent;
       gone = (λ i. drop (length (c.clear.ensures.items i)) ((ap (λ (r : RecordsView). r.items) c.swap.ensures.x_after ∙ c.requires.told) i));
       nodes = c.hand_out.ensures.nodes ∙ ap (λ (v : NewsView). v.nodes) c.self.view_is;

@@ -1,7 +1,7 @@
 -- The object fires the event, which joins the news.
 use Rattle.std.proofs.Common.{◌≡◌, ℕ, ◌+◌, ◌-◌, ◌<◌, ◌≤◌, ◌^◌, min, List, [], ◌∷◌, ◌++◌, length, map, refl, sym, ap, ◌∙◌, subst, arith, length-append, Fits, w32}
-use Rattle.std.proofs.lemmas.List.{append-nil, length-map}
-use Rattle.std.specs.Prelude.{Option, Some}
+use Rattle.std.proofs.lemmas.List.{length-map}
+use Rattle.std.specs.Prelude.{Option}
 use Rattle.std.specs.List.{AllByRecursion as Each}
 use Rattle.event_key.specs.declared.key.Key.{Key}
 use Rattle.event_key.specs.Stamps.{time_part}
@@ -19,7 +19,7 @@ use Rattle.sim_spec.specs.Firing.{emissions, has_endless_chain}
 use Rattle.sim_spec.proofs.SerialLemmas.{length-emissions}
 use Rattle.object_log.specs.Dones.{Done}
 use Rattle.object_log.specs.Objects.{HasFired, KeptObject}
-use Rattle.object_log.specs.Fired.{HasFiredInto, HasGone, failed_of, went_of}
+use Rattle.object_log.specs.Fired.{HasFiredInto, HasGone, failed_of}
 use Rattle.event_log.specs.declared.row.Row.{Row}
 use Rattle.event_log.specs.News.{HoldsNews, NewsView, homed, least_after, news_view}
 use Rattle.event_log.specs.Outboxes.{message}

@@ -30,12 +30,12 @@ returns c =
       parcels = λ node. c.hand_out.ensures.parcels node ∙ ap (λ (v : NewsView). parcel node v.sent) c.self.view_is;
       long = c.hand_out.ensures.long ∙ ap (λ (v : NewsView). v.nodes) c.self.view_is;
       done = view-done [] n.told.items n.told.items c.clear.new.self.items c.clear-2.new.self.items c.hand_out.new.self.sent n.fault
-    (holds-gone n.told.items c.clear.new.self.items c.clear-2.new.self.items c.hand_out.new.self.sent n.fault c.clear.ensures.items c.clear-2.ensures.items c.hand_out.ensures.sent none);
+          (holds-gone n.told.items c.clear.new.self.items c.clear-2.new.self.items c.hand_out.new.self.sent n.fault c.clear.ensures.items c.clear-2.ensures.items c.hand_out.ensures.sent none);
       sent = c.hand_out.ensures.sent;
       gone = view-gone [] n.told.items n.told.items c.clear.new.self.items c.clear-2.new.self.items c.hand_out.new.self.sent n.fault
-    (holds-gone n.told.items c.clear.new.self.items c.clear-2.new.self.items c.hand_out.new.self.sent n.fault c.clear.ensures.items c.clear-2.ensures.items c.hand_out.ensures.sent none)
-    ∙ h.2.told_are
-    ∙ (λ i. told_all (same i) ++ gone i);
+          (holds-gone n.told.items c.clear.new.self.items c.clear-2.new.self.items c.hand_out.new.self.sent n.fault c.clear.ensures.items c.clear-2.ensures.items c.hand_out.ensures.sent none)
+          ∙ h.2.told_are
+          ∙ (λ i. told_all (same i) ++ gone i);
       nodes = c.hand_out.ensures.nodes ∙ ap (λ (v : NewsView). v.nodes) c.self.view_is;
     }
 

@@ -121,10 +121,10 @@ commit_first-requires c =
       known = first-held h cut whole ds items k x K (subst V (sym c.self.view_is) c.requires.known);
       homes = subst H (sym (c.send_out.ensures.long ∙ c.carry.ensures.nodes ∙ ap (λ (v : ProcessedView). v.nodes) c.self.view_is)) c.requires.homes;
       few = λ to.
-    let few = few-held h cut whole ds items k x (omega (arith, ap (λ (v : ProcessedView). length (held_of (dones_in v.items))) c.self.view_is, c.requires.few_held)) in
-    let own = ap length (c.send_out.ensures.parcels to) in
-    let most = parcel-most to new.news.sent ds c.tells-2.ensures.sent in
-    omega arith;
+          let few = few-held h cut whole ds items k x (omega (arith, ap (λ (v : ProcessedView). length (held_of (dones_in v.items))) c.self.view_is, c.requires.few_held)) in
+          let own = ap length (c.send_out.ensures.parcels to) in
+          let most = parcel-most to new.news.sent ds c.tells-2.ensures.sent in
+          omega arith;
     }
 
 pub invariant_of-self : goal.invariant_of-self
@@ -164,9 +164,9 @@ returns-then-news-len c =
     let none : k ≡ 0 = omega arith in
     record {
       ok = subst V c.self.view_is
-    (commits-news c.args.homes.now h cut (processed_view n.places.items n.news n.carried) now n.news.done n.carried.items k n.news.sent [] x went (sym (append-nil n.news.sent)) (subst H (sym c.self.view_is) c.requires.homed) c.tells.ensures.sent
-    (merged-none c.hand_out.new.self.done c.clear.new.self.items n.carried.items c.hand_out.ensures.done ∙ ap (λ m. drop m n.carried.items) (sym none)) c.hand_out.ensures.done c.hand_out.ensures.sent
-    c.hand_out.new.done.items c.hand_out.new.chains.items none c.hand_out.ensures.told c.hand_out.ensures.parcels);
+          (commits-news c.args.homes.now h cut (processed_view n.places.items n.news n.carried) now n.news.done n.carried.items k n.news.sent [] x went (sym (append-nil n.news.sent)) (subst H (sym c.self.view_is) c.requires.homed) c.tells.ensures.sent
+          (merged-none c.hand_out.new.self.done c.clear.new.self.items n.carried.items c.hand_out.ensures.done ∙ ap (λ m. drop m n.carried.items) (sym none)) c.hand_out.ensures.done c.hand_out.ensures.sent
+          c.hand_out.new.done.items c.hand_out.new.chains.items none c.hand_out.ensures.told c.hand_out.ensures.parcels);
       err = tt;
       told = tt;
       blank = tt;
@@ -228,11 +228,11 @@ returns c =
     let no_news = ap (λ (v : NewsView). v.done) news ∙ c.send_out.ensures.done in
     record {
       ok = subst V c.self.view_is
-    (commits-due c.args.homes.now h cut (processed_view n.places.items n.news n.carried) now ds items k new.news.sent carry.sent.0 x went carry.sent.1 (subst H (sym c.self.view_is) c.requires.homed) c.tells-2.ensures.sent
-    (merged-none c.forget.new.self.done c.clear-2.new.self.items c.commit_first.new.carried.items no_news ∙ c.commit_first.ensures.left) no_news (ap (λ (v : NewsView). v.sent) news ∙ c.send_out.ensures.sent)
-    c.commit_first.new.told.items c.commit_first.new.out.items
-    (c.commit_first.ensures.told ∙ (λ i. (same_told i) ++ weave told_key ((ap (take c.due-news.result) c.told.ensures ∙ told_is) i) (told_all (dones_in (take k items)))))
-    (λ to. c.commit_first.ensures.sent to ∙ ap (λ es. es ++ filter (goes_to (slice_index c.args.homes.now) to) (held_of (dones_in (take k items)))) (c.send_out.ensures.parcels to)));
+          (commits-due c.args.homes.now h cut (processed_view n.places.items n.news n.carried) now ds items k new.news.sent carry.sent.0 x went carry.sent.1 (subst H (sym c.self.view_is) c.requires.homed) c.tells-2.ensures.sent
+          (merged-none c.forget.new.self.done c.clear-2.new.self.items c.commit_first.new.carried.items no_news ∙ c.commit_first.ensures.left) no_news (ap (λ (v : NewsView). v.sent) news ∙ c.send_out.ensures.sent)
+          c.commit_first.new.told.items c.commit_first.new.out.items
+          (c.commit_first.ensures.told ∙ (λ i. (same_told i) ++ weave told_key ((ap (take c.due-news.result) c.told.ensures ∙ told_is) i) (told_all (dones_in (take k items)))))
+          (λ to. c.commit_first.ensures.sent to ∙ ap (λ es. es ++ filter (goes_to (slice_index c.args.homes.now) to) (held_of (dones_in (take k items)))) (c.send_out.ensures.parcels to)));
       err = tt;
       told = tt;
       blank = tt;

@@ -142,9 +142,9 @@ returns-in-Ok-process g c =
     let H : ProcessedView → Type 0 = λ v. AreHomed c.args.homes.now v.chained in
     record {
       ok = subst V c.self.view_is ((came m n.places.items c.push_reserved.new.self.items c.args.place n.idle c.idle_after-self-inside.result n.cells c.make_room-room.new.cells c.process.new.pool n.news c.process.new.self n.carried c.make_room-room.new.carried c.args.event c.args.object.now c.process.new.object
-    c.in-Ok-process.least c.args.homes.now c.self.invariant c.in-Ok-process.ensures.ok (c.push_reserved.ensures.items ∙ ap (λ (ps : List ℕ). ps ++ c.args.place ∷ []) made.places) made.items enough few
-    c.in-Ok.ensures.cells c.in-Ok-process.ensures.cells (λ some. c.idle_after-self-inside.ensures.some (subst S (sym sends) some)) (λ none. c.idle_after-self-inside.ensures.none (sends ∙ none))
-    (subst T (sym c.self.view_is) c.requires.new)).1);
+          c.in-Ok-process.least c.args.homes.now c.self.invariant c.in-Ok-process.ensures.ok (c.push_reserved.ensures.items ∙ ap (λ (ps : List ℕ). ps ++ c.args.place ∷ []) made.places) made.items enough few
+          c.in-Ok.ensures.cells c.in-Ok-process.ensures.cells (λ some. c.idle_after-self-inside.ensures.some (subst S (sym sends) some)) (λ none. c.idle_after-self-inside.ensures.none (sends ∙ none))
+          (subst T (sym c.self.view_is) c.requires.new)).1);
       err = tt;
       same = tt;
       back = tt;
@@ -198,4 +198,3 @@ overflow_sub-sent g c =
 pub idle_after-self-inside-requires : goal.idle_after-self-inside-requires
 idle_after-self-inside-requires g c =
     idle-few _ _ _ c.self.invariant.idle_most (ap (λ (v : ProcessedView). length v.news) c.self.view_is) c.requires.can.few
-
