@@ -89,11 +89,11 @@ returns-in_default-room g c =
       ok = tt;
       lawful = tt;
       err = record {
-      object = ap (λ (o : KeptObject). o.object) c.self.view_is;
-      contents = made.contents ∙ ap (λ (o : KeptObject). o.cells.contents) c.self.view_is;
-      sent = ap (λ (o : KeptObject). o.sent) c.self.view_is;
-      none_fell = subst N c.self.view_is made.none_fell;
-    };
+        object = ap (λ (o : KeptObject). o.object) c.self.view_is;
+        contents = made.contents ∙ ap (λ (o : KeptObject). o.cells.contents) c.self.view_is;
+        sent = ap (λ (o : KeptObject). o.sent) c.self.view_is;
+        none_fell = subst N c.self.view_is made.none_fell;
+      };
       back = refl;
       spare = spare-kept _ _ _ _ _ c.make_room-room.ensures.events_kept refl (ap (λ (o : KeptObject). o.sent) c.self.view_is);
       entries = entry-kept _ _ c.make_room-room.ensures.entries_kept;
@@ -146,15 +146,15 @@ returns-in-Goes g c =
     let P : Done → Type 0 = λ y. HasFired m old new e y in
     record {
       ok = subst P (sym c.enter-in-Goes.ensures.value)
-    (fires-goes m old new e x d mid goes kept.event (ap (λ (o : KeptObject). o.object) view)
-    (record {
-      cells = kept.cells ∙ ap (cells_after_all x.changes) contents;
-      sent = (λ i. sent i + counts i) ∙ ap (λ n. old.sent + n) long_sends;
-      sends = kept.sends ∙ (λ i. emissions e.key.stamp (c.requires.dest i) (sent i) x.sends);
-      undo = kept.undo ∙ ap (inverses_of x.changes) contents;
-      verdict = kept.verdict;
-    })
-    contents (subst N view made.none_fell) kept.restores);
+          (fires-goes m old new e x d mid goes kept.event (ap (λ (o : KeptObject). o.object) view)
+          (record {
+            cells = kept.cells ∙ ap (cells_after_all x.changes) contents;
+            sent = (λ i. sent i + counts i) ∙ ap (λ n. old.sent + n) long_sends;
+            sends = kept.sends ∙ (λ i. emissions e.key.stamp (c.requires.dest i) (sent i) x.sends);
+            undo = kept.undo ∙ ap (inverses_of x.changes) contents;
+            verdict = kept.verdict;
+          })
+          contents (subst N view made.none_fell) kept.restores);
       lawful = lawful-at m _ _ _ _ (ap (λ (o : KeptObject). o.object) c.self.view_is) (c.keep_effect-done.ensures.cells ∙ ap (cells_after_all x.changes) (c.make_room-room.ensures.contents ∙ cells)) laws.lawful;
       err = tt;
       back = tt;

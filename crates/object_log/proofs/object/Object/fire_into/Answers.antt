@@ -121,22 +121,22 @@ returns-in-Ok-extend_from_slice g c =
     let R : List Change → Type 0 = λ cs. UndoRestores undo c.apply.new.self cs mid in
     record {
       ok = record {
-      undo = undo;
-      added = put-behind was x.changes undo front all n c.extend_from_slice.new.self.len full from (c.split_at_mut-added.ensures.front ∙ ap (take n) c.as_mut_slice.ensures.value) long c.extend_from_slice.new.self.ok.0;
-      fired = fires-goes m old new e x (went_of e old.sent x undo) mid goes refl (ap (λ (o : KeptObject). o.object) view)
-          (record {
-            cells = c.apply.ensures.cells ∙ (λ i. cells_after_all (added i) (same i));
-            sent = (λ i. sent i + length (c.as_slice.ensures i));
-            sends = (λ i. emissions e.key.stamp (c.requires.dest i) old.sent x.sends);
-            undo = inverses;
-            verdict = refl;
-          })
-          same (subst N view c.room.ensures.none_fell) (subst R added c.apply.ensures.undo);
-      few_changes = no-more _ _ long laws.few_changes;
-      few_sends = laws.few_sends;
-      stepping = (settled-goes e.key.stamp (m.effect old.object old.cells.contents e) x goes).1;
-      ranged = laws.sends;
-    };
+        undo = undo;
+        added = put-behind was x.changes undo front all n c.extend_from_slice.new.self.len full from (c.split_at_mut-added.ensures.front ∙ ap (take n) c.as_mut_slice.ensures.value) long c.extend_from_slice.new.self.ok.0;
+        fired = fires-goes m old new e x (went_of e old.sent x undo) mid goes refl (ap (λ (o : KeptObject). o.object) view)
+            (record {
+              cells = c.apply.ensures.cells ∙ (λ i. cells_after_all (added i) (same i));
+              sent = (λ i. sent i + length (c.as_slice.ensures i));
+              sends = (λ i. emissions e.key.stamp (c.requires.dest i) old.sent x.sends);
+              undo = inverses;
+              verdict = refl;
+            })
+            same (subst N view c.room.ensures.none_fell) (subst R added c.apply.ensures.undo);
+        few_changes = no-more _ _ long laws.few_changes;
+        few_sends = laws.few_sends;
+        stepping = (settled-goes e.key.stamp (m.effect old.object old.cells.contents e) x goes).1;
+        ranged = laws.sends;
+      };
       lawful = lawful-at m _ _ _ _ (ap (λ (o : KeptObject). o.object) c.self.view_is) (c.apply.ensures.cells ∙ (λ i. cells_after_all (added i) (same i))) laws.lawful;
       err = tt;
       kept = tt;
