@@ -52,3 +52,13 @@ no_less_spare lines at old new within is le =
 pub new_spare : (lines : List LineView) (at : ℕ) (new : LineView) → at < length lines → get_or (map (λ (line : LineView). line.spare) (set lines at new)) at 0 ≡ new.spare
 new_spare lines at new within =
     rw (map-set (λ (line : LineView). line.spare) lines at new) (get_or-set_same _ at new.spare 0 (rw length-map within))
+
+-- what is read of a line through its part
+pub read_values : (lines : List LineView) (at : ℕ) (old : LineView) → at < length (map (λ (line : LineView). line.values) lines) → old ≡ get_or lines at old → get_or (map (λ (line : LineView). line.values) lines) at [] ≡ old.values
+read_values lines at old there is = get_or-map (λ (line : LineView). line.values) lines at old [] (within _ lines at there) ∙ ap (λ (line : LineView). line.values) (sym is)
+
+pub read_spare : (lines : List LineView) (at : ℕ) (old : LineView) → at < length (map (λ (line : LineView). line.values) lines) → old ≡ get_or lines at old → get_or (map (λ (line : LineView). line.spare) lines) at 0 ≡ old.spare
+read_spare lines at old there is = get_or-map (λ (line : LineView). line.spare) lines at old 0 (within _ lines at there) ∙ ap (λ (line : LineView). line.spare) (sym is)
+
+pub has_spares : (lines : List LineView) → length (map (λ (line : LineView). line.spare) lines) ≡ length (map (λ (line : LineView). line.values) lines)
+has_spares lines = length-map lines (λ (line : LineView). line.spare) ∙ sym (length-map lines (λ (line : LineView). line.values))

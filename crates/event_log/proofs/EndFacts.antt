@@ -6,7 +6,7 @@ use Rattle.event_key.specs.Keys.{key_lt}
 use Rattle.event_key.proofs.Order.{key_lt-stamp, key_lt-trans}
 use Rattle.key_order.specs.Ascending.{Ascends}
 use Rattle.key_order.proofs.AscendingLemmas.{Ascends-before}
-use Rattle.key_order.proofs.EachLemmas.{Each-append, Each-filter, Each-map}
+use Rattle.key_order.proofs.EachLemmas.{Each-append, Each-map}
 use Rattle.key_order.proofs.FilterLemmas.{filter-all, filter-none}
 use Rattle.model_core.specs.declared.event.Event.{Event}
 use Rattle.sim_spec.specs.Firing.{ObjectState}

@@ -1,7 +1,7 @@
 -- How far objects have gone, as events come and go.
-use Rattle.std.proofs.Common.{◌≡◌, ℕ, zero, suc, ◌+◌, ◌<◌, ◌≤◌, Bool, true, false, List, [], ◌∷◌, ◌++◌, length, take, get_or, map, not, sym, ap, ◌∙◌, subst, arith}
+use Rattle.std.proofs.Common.{◌≡◌, ℕ, zero, suc, ◌+◌, ◌<◌, ◌≤◌, Bool, List, [], ◌∷◌, ◌++◌, length, take, get_or, map, not, sym, ap, ◌∙◌, subst, arith}
 use Rattle.std.proofs.lemmas.List.{map-append, take_all, take_more}
-use Rattle.std.specs.List.{AllByRecursion as Each, remove}
+use Rattle.std.specs.List.{remove}
 use Rattle.std.specs.Prelude.{filter}
 use Rattle.key_order.proofs.EachLemmas.{Each-append, Each-filter, Each-map}
 use Rattle.object_log.specs.Carrying.{Placed, placed_key}

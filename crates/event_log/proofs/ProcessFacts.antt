@@ -1,5 +1,5 @@
 -- An event that an object fired joins the news.
-use Rattle.std.proofs.Common.{◌≡◌, ℕ, ◌+◌, ◌≤◌, min, true, List, [], ◌∷◌, ◌++◌, length, map, refl, sym, ap, ◌∙◌, subst, arith, length-append}
+use Rattle.std.proofs.Common.{◌≡◌, ℕ, ◌+◌, ◌-◌, ◌≤◌, min, true, List, [], ◌∷◌, ◌++◌, length, map, refl, sym, ap, ◌∙◌, subst, arith, length-append}
 use Rattle.std.proofs.lemmas.List.{append-nil, map-append}
 use Rattle.std.specs.Prelude.{Option, Some, None}
 use Rattle.std.specs.List.{AllByRecursion as Each}
@@ -18,7 +18,7 @@ use Rattle.sim_spec.proofs.SerialLemmas.{length-emissions}
 use Rattle.object_log.specs.Dones.{Done}
 use Rattle.object_log.specs.Logs.{fault_of, held_of}
 use Rattle.object_log.specs.Objects.{HasFired, KeptObject}
-use Rattle.object_log.proofs.HeldLemmas.{least-join}
+use Rattle.object_log.proofs.HeldLemmas.{least-join, least-start}
 use Rattle.event_log.specs.declared.row.Row.{Row}
 use Rattle.object_log.specs.Fired.{HasGone, failed_of, went_of}
 use Rattle.event_log.specs.News.{HasJoined, HoldsNews, IsNews, NewsView, homed, least_after, news_view}
@@ -28,6 +28,10 @@ use Rattle.event_log.proofs.NewsFacts.{seen, view-gone, view-is}
 
 abbrev Told : Type 0
 Told = List (Key × Note)
+
+-- so many changes came
+changes-counted : (to from now was added : ℕ) → to ≡ now → from ≡ was → now ≡ was + added → to - from + was ≡ now
+changes-counted to from now was added to_is from_is more = omega arith
 
 pub same-messages : (homes : List ℕ) (es : List Event) → map message (map (homed homes) es) ≡ es
 same-messages homes [] = refl
@@ -118,3 +122,32 @@ module _ (v : NewsView) (told : Told) (rows : List Row) (undo : List Change) (se
           few_changes = few_changes;
           few_sends = few_sends;
         }
+
+  -- one that went, by the lists as they came about
+  pub went-in : (homes : List ℕ) (m : Meaning) (old new : KeptObject) (e : Event) (sheet : Effect) (undo' : List Change) (told' : Told) (rows' : List Row) (sent' : List (ℕ × Event)) (least to from nodes' : ℕ)
+      → HasGone m old new e sheet undo undo' → to ≡ length undo' → from ≡ length undo → least ≡ least_stamp NO_STAMP (emissions e.key.stamp e.key.dest old.sent sheet.sends)
+      → rows' ≡ rows ++ (record { event = e; least = min (least_after NO_STAMP rows) least; changes = to - from; sends = length sheet.sends }) ∷ []
+      → told' ≡ told ++ (e.key, sheet.note) ∷ [] → sent' ≡ sent ++ map (homed homes) (emissions e.key.stamp e.key.dest old.sent sheet.sends) → nodes' ≡ nodes
+      → v.gone ≡ [] → fault_of v.done ≡ None → Each (λ (x : Done). key_lt x.event.key e.key ≡ true) v.done
+      → IsNews rows' told' undo' sent' code × HasJoined m homes e old new v (news_view rows' told' undo' sent' code nodes') least
+  went-in homes m old new e sheet undo' told' rows' sent' least to from nodes' fired to_is from_is least_is rows_is told_is sent_is nodes_is whole went above =
+      let d = went_of e old.sent sheet fired.undo in
+      let count = changes-counted to from (length undo') (length undo) (length fired.undo) to_is from_is (ap length fired.added ∙ length-append undo fired.undo) in
+      let p = pushed-went homes m old new e sheet undo' told' rows' sent' least (to - from) fired count least_is rows_is told_is sent_is (code-none went) in
+      let long : length (emissions e.key.stamp e.key.dest old.sent sheet.sends) ≡ length sheet.sends = length-emissions e.key.stamp e.key.dest old.sent sheet.sends in
+      let M : ℕ → Type 0 = λ k. k ≤ 8 in (
+        (news ++ d ∷ [], inside.1, joins-news told' rows' undo' sent' code d whole went above p),
+        joined told' rows' undo' sent' code d whole went above p m homes e old new least nodes' fired.fired sent_is nodes_is least_is fired.few_changes (subst M (sym long) fired.few_sends),
+      )
+
+  -- one that failed, likewise
+  pub failed-in : (homes : List ℕ) (m : Meaning) (old new : KeptObject) (e : Event) (fault : ℕ) (undo' : List Change) (told' : Told) (rows' : List Row) (sent' : List (ℕ × Event)) (nodes' : ℕ)
+      → HasFired m old new e (failed_of e fault) → undo' ≡ undo → told' ≡ told → sent' ≡ sent → nodes' ≡ nodes → rows' ≡ rows ++ (record { event = e; least = least_after NO_STAMP rows; changes = 0; sends = 0 }) ∷ []
+      → v.gone ≡ [] → fault_of v.done ≡ None → Each (λ (x : Done). key_lt x.event.key e.key ≡ true) v.done
+      → IsNews rows' told' undo' sent' (Some fault) × HasJoined m homes e old new v (news_view rows' told' undo' sent' (Some fault) nodes') NO_STAMP
+  failed-in homes m old new e fault undo' told' rows' sent' nodes' fired undo_is told_is sent_is nodes_is rows_is whole went above =
+      let d = failed_of e fault in
+      let p = pushed-failed e fault undo' told' rows' sent' undo_is told_is sent_is rows_is in (
+        (news ++ d ∷ [], inside.1, joins-news told' rows' undo' sent' (Some fault) d whole went above p),
+        joined told' rows' undo' sent' (Some fault) d whole went above p m homes e old new NO_STAMP nodes' fired (sent_is ∙ sym (append-nil sent)) nodes_is (least-start [] refl) (omega arith) (omega arith),
+      )

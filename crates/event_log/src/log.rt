@@ -1,5 +1,5 @@
 //! The log of a node.
-ghost use Rattle.std.specs.Prelude.{◌≡◌, ◌≢◌, ℕ, List, ◌<◌, ◌≤◌, ◌+◌, ◌^◌, [], ◌∷◌, ◌++◌, filter, length, map, not, slice_get, IfOk, IfErr, IfSome, IfNone, OnOk, OnErr, IsTrue, Some, None, is_some, false, true, nat_lt};
+ghost use Rattle.std.specs.Prelude.{◌≡◌, ◌≢◌, ℕ, List, ◌<◌, ◌≤◌, ◌+◌, ◌^◌, [], ◌∷◌, ◌++◌, filter, length, map, not, slice_get, IfOk, IfErr, IfSome, IfNone, OnOk, OnErr, IsTrue, Some, None, is_some, false, true, nat_lt, vec_len, vec_capacity};
 ghost use Rattle.std.specs.List.{AllByRecursion};
 ghost use Rattle.event_key.specs.Keys.{key_lt};
 ghost use Rattle.event_key.specs.Stamps.{time_part};
@@ -76,8 +76,7 @@ impl NodeLog {
         ensures same { self.new ≡ record self.old { log = record self.old.log { objects = self.new.log.objects } } }
         ensures err { OnErr result (self.new ≡ self.old) }
     {
-        begin(&mut self.latest, &self.events)?;
-        self.objects.reserve(1)?;
+        make_place(&mut self.latest, &self.events, &mut self.objects)?;
         self.objects.push_reserved(Object::new(number, cells, sent));
         Ok(())
     }
@@ -421,13 +420,20 @@ impl NodeLog {
     }
 }
 
-/// Makes a table of bounds if there is none, where nothing is processed.
-fn begin(latest: &mut Latest, events: &Processed) -> Result<(), OutOfMemory>
+/// Makes room for one object more, and a table of bounds if there is none, where nothing is processed.
+fn make_place(
+    latest: &mut Latest,
+    events: &Processed,
+    objects: &mut Vec<Object>,
+) -> Result<(), OutOfMemory>
     requires bounded { AreBounded latest.old events.now.items }
     ensures bounded { AreBounded latest.new events.now.items }
+    ensures objects { objects.new.items ≡ objects.old.items }
+    ensures room { OnOk result (vec_len objects.new + 1 ≤ vec_capacity objects.new) }
 {
     if events.first().is_none() {
         latest.begin()?;
     }
+    objects.reserve(1)?;
     Ok(())
 }

@@ -342,10 +342,18 @@ fn make_room(
     ensures cells { OnOk result (8 ≤ pool.new) }
     ensures cells_kept { pool.old ≤ pool.new }
 {
-    rows.reserve(1)?;
-    told.reserve(1)?;
-    undo.reserve(16)?;
-    outbox.reserve(8)?;
+    let Ok(()) = rows.reserve(1) else {
+        return Err(OutOfMemory);
+    };
+    let Ok(()) = told.reserve(1) else {
+        return Err(OutOfMemory);
+    };
+    let Ok(()) = undo.reserve(16) else {
+        return Err(OutOfMemory);
+    };
+    let Ok(()) = outbox.reserve(8) else {
+        return Err(OutOfMemory);
+    };
     pool.reserve(alloc, 8)
 }
 

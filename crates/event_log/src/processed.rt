@@ -316,7 +316,9 @@ impl Processed {
             self.idle = 0;
             return Ok(());
         }
-        told.reserve(carried + news)?;
+        let Ok(()) = told.reserve(carried + news) else {
+            return Err(OutOfMemory);
+        };
         self.carried
             .carry(&mut self.news, &mut self.places, &mut self.cells, news);
         self.news.tells();
@@ -430,8 +432,12 @@ fn make_room(
     ensures places_room { OnOk result (vec_len places.new + 1 ≤ vec_capacity places.new) }
     ensures cells { OnOk result (idle + 8 ≤ cells.new) }
 {
-    carried.reserve(news + 1)?;
-    places.reserve(1)?;
+    let Ok(()) = carried.reserve(news + 1) else {
+        return Err(OutOfMemory);
+    };
+    let Ok(()) = places.reserve(1) else {
+        return Err(OutOfMemory);
+    };
     cells.reserve(alloc, idle + 8)
 }
 

@@ -1,8 +1,8 @@
 -- The digits of numbers, and tables of them.
-use Rattle.std.proofs.Common.{◌≡◌, ℕ, ◌+◌, ◌-◌, ◌/◌, ◌%◌, ◌<◌, ◌≤◌, ◌^◌, List, [], ◌∷◌, ◌++◌, length, get_or, take, drop, ap, ◌∙◌, refl, arith, append_assoc, take-take, take_at}
+use Rattle.std.proofs.Common.{◌≡◌, ℕ, ◌+◌, ◌-◌, ◌/◌, ◌%◌, ◌<◌, ◌≤◌, ◌^◌, List, [], ◌∷◌, ◌++◌, length, get_or, take, drop, ap, ◌∙◌, refl, sym, subst, arith, append_assoc, take-take, take_at}
 use Rattle.std.proofs.Math.ListN.{set}
 use Rattle.std.specs.Prelude.{decimal}
-use Rattle.std.proofs.lemmas.List.{length-set, get_or-set_same, take-set-le, get_or_append_left, get_or_push}
+use Rattle.std.proofs.lemmas.List.{length-set, get_or-set_same, take-set-le, get_or_append_left, get_or_push, get_or_read}
 use Rattle.std.proofs.lemmas.Fmt.{length-decimal-le, decimal_step}
 use borrow.Author.Count.{below_more}
 use Rattle.model_core.specs.DigitTables.{HoldsDigits, three_digits}
@@ -37,3 +37,7 @@ decimal_three n lo hi =
     let c : n / 10 % 10 ≡ n % 1000 / 10 % 10 = omega arith in
     let d : n % 10 ≡ n % 1000 % 10 = omega arith in
     rw (decimal_step n (omega arith) hi, decimal_step (n / 10) (omega arith) (omega arith), decimal_step (n / 10 / 10) (omega arith) (omega arith), append_assoc, append_assoc, a, b, c, ← d) refl
+
+-- what is true of a chunk of a table is true of it where it is read
+pub chunk-of : (H : ℕ → List ℕ → Type 0) (table : List (List ℕ)) (number : ℕ) (chunk : List ℕ) → length table ≡ 1000 → number < 1000 → H number (get_or table number []) → chunk ≡ get_or table number chunk → H number chunk
+chunk-of H table number chunk size few holds at = subst (H number) (sym (get_or_read table number chunk (omega (arith, size)) at [])) holds

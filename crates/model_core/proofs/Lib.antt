@@ -1,4 +1,5 @@
 pub mod Numbers
+pub mod PutLemmas
 pub mod RecordLemmas
 pub mod Results
 pub mod SortedLemmas

@@ -92,3 +92,13 @@ pub no-parts : (heads : List RecordHead) (parts : List Part) → records_of head
 no-parts heads parts none few =
     let long = sym (length-map heads (record_of parts)) ∙ ap length none in
     nil_from_length parts (omega (arith, long, few))
+
+-- where there is room for a record, there is room for its head and its parts
+pub room-for-head : (len long room capacity seen : ℕ) → len ≡ long → long + room ≤ capacity → room ≡ seen → 1 ≤ seen → len < capacity
+room-for-head len long room capacity seen len_is enough room_is some = omega arith
+
+pub room-for-parts : (len long room capacity seen own : ℕ) → len ≡ long → long + 4 * room ≤ capacity → room ≡ seen → 1 ≤ seen → own ≤ 4 → len + own ≤ capacity
+room-for-parts len long room capacity seen own len_is enough room_is some few = omega arith
+
+pub no-more-parts : (count long : ℕ) → count ≡ long → count ≤ 4 → long ≤ 4
+no-more-parts count long count_is few = omega arith

@@ -67,8 +67,8 @@ impl Digits {
         let mut short = Vec::with_capacity(alloc, 1000)?;
         let mut three = Vec::with_capacity(alloc, 1000)?;
         for number in 0..1000 {
-            short.push(short_chunk(number))?;
-            three.push(three_chunk(number))?;
+            short.push_reserved(short_chunk(number));
+            three.push_reserved(three_chunk(number));
         }
         Ok(Digits { short, three })
     }

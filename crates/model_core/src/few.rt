@@ -27,7 +27,9 @@ impl<T, const CAP: usize> Few<T, CAP> {
     pub fn new(alloc: Global) -> Result<Few<T, CAP>, OutOfMemory>
         ensures { IfOk result (λ few. few ≡ []) }
     {
-        let items = Vec::with_capacity(alloc, CAP)?;
+        let Ok(items) = Vec::with_capacity(alloc, CAP) else {
+            return Err(OutOfMemory);
+        };
         Ok(Few { items })
     }
 

@@ -2,7 +2,7 @@
 use event_key::Key;
 
 /// The key of an event, and which parts of a list are told of it.
-#[derive(Clone, Copy, Debug, PartialEq, Eq)]
+#[derive(Clone, Copy, Debug)]
 pub struct RecordHead {
     pub key: Key,
     /// The place of its first part.

@@ -102,9 +102,13 @@ impl RecordBuffer {
         ensures room { OnOk result (records ≤ self.new.room) }
         ensures same { self.new.items ≡ self.old.items }
     {
-        self.heads.reserve(records)?;
+        let Ok(()) = self.heads.reserve(records) else {
+            return Err(OutOfMemory);
+        };
         // so many that their number is too large can't be had
-        self.parts.reserve(records.saturating_mul(NOTE_PARTS))?;
+        let Ok(()) = self.parts.reserve(records.saturating_mul(NOTE_PARTS)) else {
+            return Err(OutOfMemory);
+        };
         self.room = room_of(&self.heads, &self.parts);
         Ok(())
     }

@@ -121,7 +121,7 @@ pub fn fault_word(code: u32) -> Option<&'static str>
 }
 
 /// The first ones of these bytes: a word between spaces.
-#[derive(Clone, Copy, Debug)]
+#[derive(Clone, Copy)]
 struct Spaced {
     bytes: [u8; 8],
     count: usize,

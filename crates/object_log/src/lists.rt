@@ -60,16 +60,16 @@ impl UndoLists {
         ensures kept { self.old.kept ≤ self.new.kept + 1 }
     {
         let room = self.lent + 1;
-        match &mut self.lists {
-            Some(lists) => {
-                if let Some(list) = lists.pop() {
-                    self.lent = room;
-                    return Ok(list);
-                }
-                lists.reserve(room)?;
-            }
-            None => self.lists = Some(Vec::with_capacity(alloc, room)?),
+        let Some(lists) = &mut self.lists else {
+            self.lists = Some(Vec::with_capacity(alloc, room)?);
+            self.lent = room;
+            return Ok(Vec::new(alloc));
+        };
+        if let Some(list) = lists.pop() {
+            self.lent = room;
+            return Ok(list);
         }
+        lists.reserve(room)?;
         self.lent = room;
         Ok(Vec::new(alloc))
     }

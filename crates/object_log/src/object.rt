@@ -165,12 +165,16 @@ impl Object {
         ensures kept { OnErr result (undo.new.items ≡ undo.old.items) }
     {
         keeps_laws(model);
-        let ending = settle(model, &mut self.words, &self.cells, event, sheet)?;
+        let Ok(ending) = settle(model, &mut self.words, &self.cells, event, sheet) else {
+            return Err(OutOfMemory);
+        };
         match ending {
             Ending::Fails(code) => Ok(Ending::Fails(code)),
             Ending::Goes => {
                 let changes = sheet.changes.as_slice();
-                self.cells.room(changes)?;
+                let Ok(()) = self.cells.room(changes) else {
+                    return Err(OutOfMemory);
+                };
                 let from = undo.len();
                 let Ok(()) = undo.extend_from_slice(changes) else {
                     unreachable!()

@@ -104,8 +104,7 @@ impl LogPool {
         ensures lent { self.new.lent ≡ self.old.lent }
     {
         self.entries.reserve(alloc, 1)?;
-        self.events.reserve(alloc, 8)?;
-        Ok(())
+        self.events.reserve(alloc, 8)
     }
 
     /// A list of these changes.

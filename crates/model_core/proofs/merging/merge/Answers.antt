@@ -1,7 +1,7 @@
-use Rattle.std.proofs.Common.{◌≡◌, ◌+◌, ◌++◌, ◌∷◌, [], List, ℕ, map, take, drop, length, ◌<◌, ◌-◌, if◌then◌else◌, get_or, append_assoc, sym, ap, ◌∙◌, subst, arith, rules}
-use Rattle.std.proofs.lemmas.List.{take_all, length-drop}
+use Rattle.std.proofs.Common.{◌≡◌, ◌+◌, ◌++◌, ◌∷◌, [], List, ℕ, map, take, drop, length, ◌<◌, ◌≤◌, ◌-◌, if◌then◌else◌, get_or, append_assoc, length-take, sym, ap, ◌∙◌, subst, arith}
+use Rattle.std.proofs.lemmas.List.{take_all, length-drop, length-map}
 use Rattle.std.proofs.lemmas.List.Elements.{All-drop, All-take, All-weaker}
-use Rattle.std.specs.Prelude.{All, IsPermutation}
+use Rattle.std.specs.Prelude.{IsPermutation}
 use Rattle.model_core.specs.declared.record_head.RecordHead.{RecordHead}
 use Rattle.model_core.specs.Records.{head_key, shifted}
 use Rattle.model_core.specs.Sorted.{AreSorted, IsMerging}
@@ -42,6 +42,27 @@ loop-i-preserved c =
       count = omega (arith, count, len);
       capacity = c.push_reserved.ensures.capacity ∙ c.loop-i.invariant.capacity;
     }
+
+pub choose-requires : goal.choose-requires
+choose-requires c = c.requires.further c.loop-i.j blank c.if-j-right.true
+
+-- there is room for those that are left of both
+room-left : (len long i j room mid most left right : ℕ) → len ≡ long → long ≡ i + j → room ≡ mid → mid ≡ most → left + right ≤ most → i < left → j < right → len < room
+room-left len long i j room mid most left right len_is long_is room_is mid_is enough some more = omega arith
+
+pub push_reserved-requires : goal.push_reserved-requires
+push_reserved-requires c = room-left _ _ _ _ _ _ _ _ _ c.loop-i.merged.ok.0 c.loop-i.invariant.count c.loop-i.invariant.capacity c.merge_apart-i.ensures.capacity c.requires.room c.loop-i-test.true c.if-j-right.true
+
+-- and for what is left of the first
+room-for-rest : (left : List RecordHead) (len long i j room mid most right : ℕ) → len ≡ long → long ≡ i + j → room ≡ mid → mid ≡ most → length left + right ≤ most → i ≤ length left → j ≤ right → len + length (take (length left - i) (drop i left)) ≤ room
+room-for-rest left len long i j room mid most right len_is long_is room_is mid_is enough here there = let part = length-take (length left - i) (drop i left) in omega arith
+
+pub put_heads-requires-clause-room : goal.put_heads-requires-clause-room
+put_heads-requires-clause-room c =
+    let l = c.loop-i in
+    let J : ℕ → Type 0 = λ n. l.j ≤ n in
+    room-for-rest c.args.left.now _ _ l.i l.j _ _ _ _ l.merged.ok.0 l.invariant.count l.invariant.capacity c.merge_apart-i.ensures.capacity c.requires.room l.invariant.merging.left_in
+    (subst J (length-map c.args.right.now (shifted c.args.by)) l.invariant.merging.right_in)
 
 pub put_heads-requires-clause-further : goal.put_heads-requires-clause-further
 put_heads-requires-clause-further c =

@@ -1,9 +1,9 @@
-use Rattle.std.proofs.Common.{◌≡◌, ◌+◌, ◌++◌, ◌∷◌, [], List, ℕ, map, length, nat_lt, not, get_or, if◌then◌else◌, ◌≢◌, sym, ap, ◌∙◌, subst, refl, arith, rules}
+use Rattle.std.proofs.Common.{◌≡◌, ◌+◌, ◌++◌, ◌∷◌, [], List, ℕ, map, length, nat_lt, not, get_or, if◌then◌else◌, ◌≢◌, sym, ap, ◌∙◌, subst, refl, arith}
 use Rattle.std.specs.Int.{from_bool}
 use Rattle.event_key.specs.Keys.{key_lt}
 use Rattle.model_core.specs.declared.record_head.RecordHead.{RecordHead}
 use Rattle.model_core.specs.Records.{head_key, place, shifted}
-use Rattle.model_core.specs.Sorted.{AreSorted, IsMerging}
+use Rattle.model_core.specs.Sorted.{IsMerging}
 use Rattle.model_core.proofs.SortedLemmas.{blank, chosen-once, heads-chosen, key_lt-by-place, merging-none, sorted-map}
 use Rattle.model_core.proofs.merging.merge_apart.Goals as goal
 
@@ -43,3 +43,6 @@ loop-i-preserved c =
       count = omega (arith, count, len, one, fi, fj);
       capacity = c.push_reserved.ensures.capacity ∙ c.loop-i.invariant.capacity;
     }
+
+pub choose-requires : goal.choose-requires
+choose-requires c = c.requires.further c.loop-i.j blank c.if-j-right.true

@@ -1,9 +1,11 @@
 -- It lies in a slot that was free.
-use Rattle.std.proofs.Common.{◌≡◌, ◌∷◌, [], ◌++◌, sym, ap, ◌∙◌, subst}
-use Rattle.std.proofs.lemmas.List.{map-append}
+use Rattle.std.proofs.Common.{◌≡◌, ◌∷◌, [], ◌++◌, sym, ap, ◌∙◌, subst, ℕ, ◌<◌, List, length, min, arith}
+use Rattle.std.proofs.lemmas.List.{map-append, length-map}
 use Rattle.event_log.specs.declared.entry.Entry.{Entry}
 use Rattle.event_log.specs.Items.{ItemsView}
 use Rattle.event_log.specs.Slots.{AreInSlots, item_in, items_in}
+use Rattle.object_log.specs.Dones.{Done}
+use Rattle.slab.specs.Slab.{Slab}
 use Rattle.event_log.proofs.SlotLemmas.{put-item, put-slots, put-stay, turned-slots}
 use Rattle.event_log.proofs.items.Items.push_back.Goals as goal
 
@@ -26,3 +28,14 @@ returns-clause-items c =
     let stay : items_in new es ≡ items_in slots es = put-stay slots new e c.args.done es c.self.invariant put.was_vacant put.updates put.len in
     let own : item_in new e ≡ record { done = c.args.done; place = c.args.place; held = c.args.held } = put-item slots new e c.args.done es c.self.invariant put.was_vacant put.updates put.len in
     ap (items_in new) c.push_back_reserved.ensures.items ∙ map-append (item_in new) es (e ∷ []) ∙ (λ i. stay i ++ own i ∷ []) ∙ ap (λ (v : ItemsView). v.items ++ (record { done = c.args.done; place = c.args.place; held = c.args.held }) ∷ []) c.self.view_is
+
+-- there is room for one entry more
+one-fits : (entries : List Entry) (slots : Slab Done) (v : ItemsView) (len room : ℕ) → (record { items = items_in slots entries; capacity = min room slots.capacity }) ≡ v → len ≡ length entries → length v.items < v.capacity → len < room
+one-fits entries slots v len room is len_is enough =
+    let one = ap (λ (w : ItemsView). length w.items) is in
+    let two = ap (λ (w : ItemsView). w.capacity) is in
+    let three = length-map entries (item_in slots) in
+    omega arith
+
+pub push_back_reserved-requires : goal.push_back_reserved-requires
+push_back_reserved-requires c = one-fits c.self.inside.entries.items c.self.inside.slots c.args.self.now _ _ c.self.view_is c.self.inside.entries.ok.0 c.requires

@@ -1,9 +1,11 @@
 -- It lies in a slot that was free.
-use Rattle.std.proofs.Common.{◌≡◌, ◌∷◌, sym, ap, ◌∙◌, subst, arith}
+use Rattle.std.proofs.Common.{◌≡◌, ◌∷◌, sym, ap, ◌∙◌, subst, arith, ℕ, ◌<◌, List, length, min}
 use Rattle.std.proofs.lemmas.List.{length-map}
 use Rattle.event_log.specs.declared.entry.Entry.{Entry}
 use Rattle.event_log.specs.Items.{ItemsView}
 use Rattle.event_log.specs.Slots.{AreInSlots, item_in, items_in}
+use Rattle.object_log.specs.Dones.{Done}
+use Rattle.slab.specs.Slab.{Slab}
 use Rattle.event_log.proofs.SlotLemmas.{put-item, put-slots, put-stay}
 use Rattle.event_log.proofs.items.Items.push_front.Goals as goal
 
@@ -32,3 +34,14 @@ returns-clause-few c =
     let now = c.push_front_reserved.new.self in
     let long = length-map now.items (item_in c.insert_reserved-slot.new.self) in
     omega (arith, now.ok.0, now.small)
+
+-- there is room for one entry more
+one-fits : (entries : List Entry) (slots : Slab Done) (v : ItemsView) (len room : ℕ) → (record { items = items_in slots entries; capacity = min room slots.capacity }) ≡ v → len ≡ length entries → length v.items < v.capacity → len < room
+one-fits entries slots v len room is len_is enough =
+    let one = ap (λ (w : ItemsView). length w.items) is in
+    let two = ap (λ (w : ItemsView). w.capacity) is in
+    let three = length-map entries (item_in slots) in
+    omega arith
+
+pub push_front_reserved-requires : goal.push_front_reserved-requires
+push_front_reserved-requires c = one-fits c.self.inside.entries.items c.self.inside.slots c.args.self.now _ _ c.self.view_is c.self.inside.entries.ok.0 c.requires

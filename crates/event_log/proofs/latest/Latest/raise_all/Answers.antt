@@ -1,9 +1,9 @@
 -- One more is looked at.
-use Rattle.std.proofs.Common.{◌≤◌, sym, ap, subst, arith}
+use Rattle.std.proofs.Common.{◌≤◌, subst, arith}
 use Rattle.event_key.specs.declared.key.Key.{Key}
 use Rattle.event_log.specs.Items.{Item}
 use Rattle.event_log.specs.Latest.{bound_of}
-use Rattle.event_log.proofs.LatestFacts.{bounded-all, bounded-next}
+use Rattle.event_log.proofs.LatestFacts.{bounded-next}
 use Rattle.event_log.proofs.latest.Latest.raise_all.Goals as goal
 
 pub loop-place-preserved : goal.loop-place-preserved

@@ -5,6 +5,7 @@ use Rattle.std.specs.Vec.{vec_capacity}
 use Rattle.event_log.specs.Items.{placed, placed_of}
 use Rattle.event_log.specs.Moves.{MovedLogView}
 use Rattle.event_log.specs.NodeLogs.{NodeLogView}
+use Rattle.event_log.specs.Processing.{ProcessedView}
 use Rattle.event_log.proofs.PutFacts.{old-long, own-long, put-all, put-ordered}
 use Rattle.event_log.specs.Latest.{AreBounded}
 use Rattle.event_log.proofs.LatestFacts.{bounded-joined}
@@ -73,3 +74,15 @@ returns-clause-count c =
     (put-all s.objects.items s.events.items c.carry_all.new.self.items (placed p.1.items) c.args.self.now.log p.0 c.len-place.result p.1.capacity (vec_capacity p.2) c.args.moved
     (ap (λ (v : NodeLogView). v.log) c.self.view_is) c.self.invariant.0 c.into_parts-object.ensures.log c.into_parts-object.ensures.view c.requires.away c.carry_all.ensures.same.items (c.len-place.ensures ∙ s.objects.ok.0)
     c.push_object.new.objects.items c.absorb.new.self.items c.requires.few c.push_object.ensures c.absorb.ensures.items).count
+
+pub absorb-requires-clause-news : goal.absorb-requires-clause-news
+absorb-requires-clause-news c = c.carry_all.ensures.news
+
+pub returns-clause-carried : goal.returns-clause-carried
+returns-clause-carried c = record {
+  news = ap (λ (v : ProcessedView). v.news) c.absorb.ensures.same ∙ c.carry_all.ensures.news;
+  chained = ap (λ (v : ProcessedView). v.chained) c.absorb.ensures.same ∙ c.carry_all.ensures.chained;
+}
+
+pub returns-clause-nodes : goal.returns-clause-nodes
+returns-clause-nodes c = ap (λ (v : ProcessedView). v.nodes) c.absorb.ensures.same ∙ c.carry_all.ensures.same.nodes ∙ ap (λ (v : NodeLogView). v.nodes) c.self.view_is

@@ -5,6 +5,7 @@ use Rattle.object_log.proofs.EventLogLemmas.{placed-within}
 use Rattle.event_log.specs.Items.{placed}
 use Rattle.event_log.specs.Moves.{MovedLogView, own_items}
 use Rattle.event_log.specs.NodeLogs.{NodeLogView}
+use Rattle.event_log.specs.Processing.{ProcessedView}
 use Rattle.event_log.proofs.MoveFacts.{own-room, taken}
 use Rattle.event_log.specs.Latest.{AreBounded}
 use Rattle.event_log.proofs.LatestFacts.{bounded-parted}
@@ -85,3 +86,21 @@ returns-clause-log c =
     let x = c.swap_remove-object in
     (taken s.objects.items s.events.items c.carry_all.new.self.items c.args.self.now.log c.args.place c.args.object (c.len-last.result - 1) x.result x.new.self.items c.part.new.self.items (placed c.part.new.own.items)
     (ap (λ (v : NodeLogView). v.log) c.self.view_is) c.self.invariant.0 c.requires.place x.ensures.value x.ensures.items c.carry_all.ensures.same.items (omega arith) c.part.ensures.items c.part.ensures.own).slot ∙ ap (λ (m : MovedLogView). Some m.log) (sym c.new.ensures)
+
+pub new-requires-clause-empty : goal.new-requires-clause-empty
+new-requires-clause-empty c = c.into_lists-objects.ensures.objects
+
+pub returns-clause-carried : goal.returns-clause-carried
+returns-clause-carried c = record {
+  news = ap (λ (v : ProcessedView). v.news) c.part.ensures.same ∙ c.carry_all.ensures.news;
+  chained = ap (λ (v : ProcessedView). v.chained) c.part.ensures.same ∙ c.carry_all.ensures.chained;
+}
+
+pub returns-clause-nodes : goal.returns-clause-nodes
+returns-clause-nodes c = ap (λ (v : ProcessedView). v.nodes) c.part.ensures.same ∙ c.carry_all.ensures.same.nodes ∙ ap (λ (v : NodeLogView). v.nodes) c.self.view_is
+
+pub returns-clause-room : goal.returns-clause-room
+returns-clause-room c = ap (λ (v : MovedLogView). v.room) c.new.ensures ∙ c.part.ensures.capacity ∙ c.into_lists-objects.ensures.events
+
+pub returns-clause-places_room : goal.returns-clause-places_room
+returns-clause-places_room c = ap (λ (v : MovedLogView). v.places) c.new.ensures ∙ c.into_lists-objects.ensures.places

@@ -1,14 +1,15 @@
 -- The event leaves the list, and its object takes it back.
-use Rattle.std.proofs.Common.{◌≡◌, ℕ, ◌<◌, [], List, length, sym, ap, ◌∙◌, subst, arith}
+use Rattle.std.proofs.Common.{◌≡◌, ℕ, ◌<◌, [], List, length, sym, ap, ◌∙◌, subst, arith, Some}
 use Rattle.std.proofs.lemmas.List.{length-map}
-use Rattle.std.proofs.lemmas.Option.{slice_get_within}
-use Rattle.std.specs.Prelude.{slice_set}
+use Rattle.std.proofs.lemmas.List.Elements.{All-from_recursion}
+use Rattle.std.proofs.lemmas.Option.{get_or_from_slice_get, slice_get_within}
+use Rattle.std.specs.Prelude.{slice_set, slice_get}
 use Rattle.object_log.specs.Carrying.{Placed}
 use Rattle.object_log.specs.Dones.{Done}
 use Rattle.object_log.specs.EventLogs.{EventLogView}
-use Rattle.object_log.specs.Objects.{HasUndone, IsNewest}
+use Rattle.object_log.specs.Objects.{HasUndone, IsNewest, KeptObject}
 use Rattle.object_log.specs.Undoings.{HasUndoneAt}
-use Rattle.object_log.specs.Whole.{IsEventLog, log_view}
+use Rattle.object_log.specs.Whole.{IsEventLog, log_view, StandsAt}
 use Rattle.object_log.proofs.UndoLemmas.{going, going-newest, left-log, same-found, undone-at}
 use Rattle.event_log.specs.NodeLogs.{NodeLogView}
 use Rattle.event_log.specs.Processing.{ProcessedView}
@@ -97,3 +98,16 @@ returns-clause-carried c =
       chained = ap (λ (v : ProcessedView). v.chained) undone ∙ ap (λ (v : ProcessedView). v.chained) taken ∙ ap (λ (v : NodeLogView). v.chained) c.self.view_is ∙ c.requires.carried.chained;
       nodes = ap (λ (v : ProcessedView). v.nodes) undone ∙ ap (λ (v : ProcessedView). v.nodes) taken ∙ ap (λ (v : NodeLogView). v.nodes) c.self.view_is;
     }
+
+-- the object stands there
+standing : (objects : List KeptObject) (items : List Placed) (index place len : ℕ) (p : Placed) → IsEventLog objects items → slice_get items index ≡ Some p → place ≡ p.place → len ≡ length objects → place < len
+standing objects items index place len p log found same len_is =
+    let S : Placed → Type 0 = λ q. StandsAt objects q.place q.done.event.key.dest in
+    let stands = subst S (get_or_from_slice_get items index p p found) (All-from_recursion S items log.places index p (slice_get_within items index p found)) in
+    let within = slice_get_within objects p.place stands.0 stands.1 in
+    omega arith
+
+pub index_mut-object-requires : goal.index_mut-object-requires
+index_mut-object-requires c =
+    let at = c.at-place.ensures in
+    standing c.self.inside.objects.items c.self.inside.events.items c.args.index c.at-place.result.1 _ at.0 c.self.invariant.0 at.1 at.3 c.self.inside.objects.ok.0

@@ -82,8 +82,8 @@ pub send_out-requires-clause-long : goal.send_out-requires-clause-long
 send_out-requires-clause-long c =
     c.requires.long ∙ sym (ap (λ (v : ProcessedView). v.nodes) c.self.view_is) ∙ sym c.carry.ensures.nodes
 
-pub commit_first-requires-clause-count : goal.commit_first-requires-clause-count
-commit_first-requires-clause-count c =
+pub commit_first-requires : goal.commit_first-requires
+commit_first-requires c =
     let n = c.self.inside in
     let h = c.args.horizon in
     let cut = c.args.cut.now in
@@ -106,148 +106,26 @@ commit_first-requires-clause-count c =
     let told_is : take c.due-news.result c.send_out.new.self.gone ≡ told_all ds = ap (take c.due-news.result) gone ∙ take_at (told_all ds) new.news.gone c.due-news.result (omega (arith, c.due-news.ensures.within)) in
     let all = ap length (c.told.ensures ∙ gone) in
     let parts = length-append (told_all ds) new.news.gone in
-    omega (arith, c.due-news.ensures.within)
-
-pub commit_first-requires-clause-ordered : goal.commit_first-requires-clause-ordered
-commit_first-requires-clause-ordered c =
-    let n = c.self.inside in
-    let h = c.args.horizon in
-    let cut = c.args.cut.now in
-    let p = c.self.invariant in
-    let k = c.due_in-carried.result in
-    let whole = merged n.news.done n.places.items n.carried.items in
-    let count = count-due h cut n.carried.items k c.due_in-carried.ensures.within c.due_in-carried.ensures.taken in
-    let F : ProcessedView → Type 0 = λ v. fault_of (due_of h cut (dones_in v.items)) ≡ None in
-    let went : fault_of (due_of h cut (dones_in whole)) ≡ None = subst F (sym c.self.view_is) c.requires.went in
-    let new = c.carry.new in
-    let carry = c.carry.ensures in
-    let ds = new.news.done in
-    let items = new.self.items in
-    let x : IsParted h cut whole ds items k =
-    parted h cut n.news.done n.places.items n.carried.items ds new.places.items items k p.long carry.can.long p.ordered carry.same (carry.done ∙ c.due-news.ensures.taken) c.tells.ensures.ordered count in
-    let gone = c.send_out.ensures.gone in
-    let long_told = told-long h cut whole ds items k x went in
-    let taken_long = ap length carry.done in
-    let some = length-take c.due-news.result n.news.done in
-    let told_is : take c.due-news.result c.send_out.new.self.gone ≡ told_all ds = ap (take c.due-news.result) gone ∙ take_at (told_all ds) new.news.gone c.due-news.result (omega (arith, c.due-news.ensures.within)) in
     let O : List (Key × Note) → Type 0 = Ascends told_key in
-    subst O (sym (ap (take c.due-news.result) c.told.ensures ∙ told_is)) (told-low h cut whole ds items k x went)
-
-pub commit_first-requires-clause-due : goal.commit_first-requires-clause-due
-commit_first-requires-clause-due c =
-    let n = c.self.inside in
-    let h = c.args.horizon in
-    let cut = c.args.cut.now in
-    let p = c.self.invariant in
-    let k = c.due_in-carried.result in
-    let whole = merged n.news.done n.places.items n.carried.items in
-    let count = count-due h cut n.carried.items k c.due_in-carried.ensures.within c.due_in-carried.ensures.taken in
-    let F : ProcessedView → Type 0 = λ v. fault_of (due_of h cut (dones_in v.items)) ≡ None in
-    let went : fault_of (due_of h cut (dones_in whole)) ≡ None = subst F (sym c.self.view_is) c.requires.went in
-    let new = c.carry.new in
-    let carry = c.carry.ensures in
-    let ds = new.news.done in
-    let items = new.self.items in
-    let x : IsParted h cut whole ds items k =
-    parted h cut n.news.done n.places.items n.carried.items ds new.places.items items k p.long carry.can.long p.ordered carry.same (carry.done ∙ c.due-news.ensures.taken) c.tells.ensures.ordered count in
-    x.within
-
-pub commit_first-requires-clause-apart : goal.commit_first-requires-clause-apart
-commit_first-requires-clause-apart c =
-    let n = c.self.inside in
-    let h = c.args.horizon in
-    let cut = c.args.cut.now in
-    let p = c.self.invariant in
-    let k = c.due_in-carried.result in
-    let whole = merged n.news.done n.places.items n.carried.items in
-    let count = count-due h cut n.carried.items k c.due_in-carried.ensures.within c.due_in-carried.ensures.taken in
-    let F : ProcessedView → Type 0 = λ v. fault_of (due_of h cut (dones_in v.items)) ≡ None in
-    let went : fault_of (due_of h cut (dones_in whole)) ≡ None = subst F (sym c.self.view_is) c.requires.went in
-    let new = c.carry.new in
-    let carry = c.carry.ensures in
-    let ds = new.news.done in
-    let items = new.self.items in
-    let x : IsParted h cut whole ds items k =
-    parted h cut n.news.done n.places.items n.carried.items ds new.places.items items k p.long carry.can.long p.ordered carry.same (carry.done ∙ c.due-news.ensures.taken) c.tells.ensures.ordered count in
-    let gone = c.send_out.ensures.gone in
-    let long_told = told-long h cut whole ds items k x went in
-    let taken_long = ap length carry.done in
-    let some = length-take c.due-news.result n.news.done in
-    let told_is : take c.due-news.result c.send_out.new.self.gone ≡ told_all ds = ap (take c.due-news.result) gone ∙ take_at (told_all ds) new.news.gone c.due-news.result (omega (arith, c.due-news.ensures.within)) in
     let A : List (Key × Note) → Type 0 = λ ts. Each (λ (q : Placed). times told_key (placed_key q) ts ≡ 0) (take k items) in
-    subst A (sym (ap (take c.due-news.result) c.told.ensures ∙ told_is)) (told-apart h cut whole ds items k x went)
-
-pub commit_first-requires-clause-went : goal.commit_first-requires-clause-went
-commit_first-requires-clause-went c =
-    let n = c.self.inside in
-    let h = c.args.horizon in
-    let cut = c.args.cut.now in
-    let p = c.self.invariant in
-    let k = c.due_in-carried.result in
-    let whole = merged n.news.done n.places.items n.carried.items in
-    let count = count-due h cut n.carried.items k c.due_in-carried.ensures.within c.due_in-carried.ensures.taken in
-    let F : ProcessedView → Type 0 = λ v. fault_of (due_of h cut (dones_in v.items)) ≡ None in
-    let went : fault_of (due_of h cut (dones_in whole)) ≡ None = subst F (sym c.self.view_is) c.requires.went in
-    let new = c.carry.new in
-    let carry = c.carry.ensures in
-    let ds = new.news.done in
-    let items = new.self.items in
-    let x : IsParted h cut whole ds items k =
-    parted h cut n.news.done n.places.items n.carried.items ds new.places.items items k p.long carry.can.long p.ordered carry.same (carry.done ∙ c.due-news.ensures.taken) c.tells.ensures.ordered count in
-    first-went h cut whole ds items k x went
-
-pub commit_first-requires-clause-room : goal.commit_first-requires-clause-room
-commit_first-requires-clause-room c =
-    omega (arith, c.in_ok-reserve.ensures.room)
-
-pub commit_first-requires-clause-known : goal.commit_first-requires-clause-known
-commit_first-requires-clause-known c =
-    let n = c.self.inside in
-    let h = c.args.horizon in
-    let cut = c.args.cut.now in
-    let p = c.self.invariant in
-    let k = c.due_in-carried.result in
-    let whole = merged n.news.done n.places.items n.carried.items in
-    let count = count-due h cut n.carried.items k c.due_in-carried.ensures.within c.due_in-carried.ensures.taken in
-    let F : ProcessedView → Type 0 = λ v. fault_of (due_of h cut (dones_in v.items)) ≡ None in
-    let went : fault_of (due_of h cut (dones_in whole)) ≡ None = subst F (sym c.self.view_is) c.requires.went in
-    let new = c.carry.new in
-    let carry = c.carry.ensures in
-    let ds = new.news.done in
-    let items = new.self.items in
-    let x : IsParted h cut whole ds items k =
-    parted h cut n.news.done n.places.items n.carried.items ds new.places.items items k p.long carry.can.long p.ordered carry.same (carry.done ∙ c.due-news.ensures.taken) c.tells.ensures.ordered count in
     let K : Event → Type 0 = λ e. e.key.dest < length c.args.homes.now in
     let V : ProcessedView → Type 0 = λ v. Each K (held_of (due_of h cut (dones_in v.items))) in
-    first-held h cut whole ds items k x K (subst V (sym c.self.view_is) c.requires.known)
-
-pub commit_first-requires-clause-homes : goal.commit_first-requires-clause-homes
-commit_first-requires-clause-homes c =
     let H : ℕ → Type 0 = λ m. Each (λ home. home < m) c.args.homes.now in
-    subst H (sym (c.send_out.ensures.long ∙ c.carry.ensures.nodes ∙ ap (λ (v : ProcessedView). v.nodes) c.self.view_is)) c.requires.homes
-
-pub commit_first-requires-clause-few : goal.commit_first-requires-clause-few
-commit_first-requires-clause-few c =
-    let n = c.self.inside in
-    let h = c.args.horizon in
-    let cut = c.args.cut.now in
-    let p = c.self.invariant in
-    let k = c.due_in-carried.result in
-    let whole = merged n.news.done n.places.items n.carried.items in
-    let count = count-due h cut n.carried.items k c.due_in-carried.ensures.within c.due_in-carried.ensures.taken in
-    let F : ProcessedView → Type 0 = λ v. fault_of (due_of h cut (dones_in v.items)) ≡ None in
-    let went : fault_of (due_of h cut (dones_in whole)) ≡ None = subst F (sym c.self.view_is) c.requires.went in
-    let new = c.carry.new in
-    let carry = c.carry.ensures in
-    let ds = new.news.done in
-    let items = new.self.items in
-    let x : IsParted h cut whole ds items k =
-    parted h cut n.news.done n.places.items n.carried.items ds new.places.items items k p.long carry.can.long p.ordered carry.same (carry.done ∙ c.due-news.ensures.taken) c.tells.ensures.ordered count in
-    λ to.
-    let few = few-held h cut whole ds items k x (omega (arith, ap (λ (v : ProcessedView). length (held_of (dones_in v.items))) c.self.view_is, c.requires.few_held)) in
-    let own = ap length (c.send_out.ensures.parcels to) in
-    let most = parcel-most to new.news.sent ds c.tells-2.ensures.sent in
-    omega arith
+    record {
+      count = omega (arith, c.due-news.ensures.within);
+      ordered = subst O (sym (ap (take c.due-news.result) c.told.ensures ∙ told_is)) (told-low h cut whole ds items k x went);
+      due = x.within;
+      apart = subst A (sym (ap (take c.due-news.result) c.told.ensures ∙ told_is)) (told-apart h cut whole ds items k x went);
+      went = first-went h cut whole ds items k x went;
+      room = omega (arith, c.in-Ok.ensures.room);
+      known = first-held h cut whole ds items k x K (subst V (sym c.self.view_is) c.requires.known);
+      homes = subst H (sym (c.send_out.ensures.long ∙ c.carry.ensures.nodes ∙ ap (λ (v : ProcessedView). v.nodes) c.self.view_is)) c.requires.homes;
+      few = λ to.
+          let few = few-held h cut whole ds items k x (omega (arith, ap (λ (v : ProcessedView). length (held_of (dones_in v.items))) c.self.view_is, c.requires.few_held)) in
+          let own = ap length (c.send_out.ensures.parcels to) in
+          let most = parcel-most to new.news.sent ds c.tells-2.ensures.sent in
+          omega arith;
+    }
 
 pub invariant_of-self : goal.invariant_of-self
 invariant_of-self c =
@@ -266,8 +144,8 @@ invariant_of-self c =
     handed-processed c.clear.new.self.items c.hand_out.new.self n.carried n.cells c.clear.ensures.items c.hand_out.ensures.done c.hand_out.ensures.gone
     (weave-below placed_key (placed_all n.news.done n.places.items) n.carried.items p.ordered)
 
-pub returns-then-news-len-clause-ok : goal.returns-then-news-len-clause-ok
-returns-then-news-len-clause-ok c =
+pub returns-then-news-len : goal.returns-then-news-len
+returns-then-news-len c =
     let n = c.self.inside in
     let h = c.args.horizon in
     let cut = c.args.cut.now in
@@ -284,10 +162,17 @@ returns-then-news-len-clause-ok c =
     let V : ProcessedView → Type 0 = λ v. HasCommittedDue c.args.homes.now h cut v now c.hand_out.new.done.items c.hand_out.new.chains.items in
     let H : ProcessedView → Type 0 = λ v. AreHomed c.args.homes.now v.chained in
     let none : k ≡ 0 = omega arith in
-    subst V c.self.view_is
-    (commits-news c.args.homes.now h cut (processed_view n.places.items n.news n.carried) now n.news.done n.carried.items k n.news.sent [] x went (sym (append-nil n.news.sent)) (subst H (sym c.self.view_is) c.requires.homed) c.tells.ensures.sent
-    (merged-none c.hand_out.new.self.done c.clear.new.self.items n.carried.items c.hand_out.ensures.done ∙ ap (λ m. drop m n.carried.items) (sym none)) c.hand_out.ensures.done c.hand_out.ensures.sent
-    c.hand_out.new.done.items c.hand_out.new.chains.items none c.hand_out.ensures.told c.hand_out.ensures.parcels)
+    record {
+      ok = subst V c.self.view_is
+          (commits-news c.args.homes.now h cut (processed_view n.places.items n.news n.carried) now n.news.done n.carried.items k n.news.sent [] x went (sym (append-nil n.news.sent)) (subst H (sym c.self.view_is) c.requires.homed) c.tells.ensures.sent
+          (merged-none c.hand_out.new.self.done c.clear.new.self.items n.carried.items c.hand_out.ensures.done ∙ ap (λ m. drop m n.carried.items) (sym none)) c.hand_out.ensures.done c.hand_out.ensures.sent
+          c.hand_out.new.done.items c.hand_out.new.chains.items none c.hand_out.ensures.told c.hand_out.ensures.parcels);
+      err = tt;
+      told = tt;
+      blank = tt;
+      long = c.hand_out.ensures.long ∙ ap (λ (v : ProcessedView). v.nodes) c.self.view_is;
+      nodes = c.hand_out.ensures.nodes ∙ ap (λ (v : ProcessedView). v.nodes) c.self.view_is;
+    }
 
 pub invariant_of-self-2 : goal.invariant_of-self-2
 invariant_of-self-2 c =
@@ -313,8 +198,8 @@ invariant_of-self-2 c =
     (ap (λ (v : NewsView). v.done) news ∙ c.send_out.ensures.done) (ap (λ (v : NewsView). v.gone) news)
     (subst (Ascends placed_key) (sym left) (Ascends-filter placed_key stays whole p.ordered))
 
-pub returns-clause-ok : goal.returns-clause-ok
-returns-clause-ok c =
+pub returns : goal.returns
+returns c =
     let n = c.self.inside in
     let h = c.args.horizon in
     let cut = c.args.cut.now in
@@ -341,9 +226,26 @@ returns-clause-ok c =
     let H : ProcessedView → Type 0 = λ v. AreHomed c.args.homes.now v.chained in
     let same_told : c.reserve.new.self.items ≡ [] = c.reserve.ensures.same ∙ c.requires.told in
     let no_news = ap (λ (v : NewsView). v.done) news ∙ c.send_out.ensures.done in
-    subst V c.self.view_is
-    (commits-due c.args.homes.now h cut (processed_view n.places.items n.news n.carried) now ds items k new.news.sent carry.sent.0 x went carry.sent.1 (subst H (sym c.self.view_is) c.requires.homed) c.tells-2.ensures.sent
-    (merged-none c.forget.new.self.done c.clear-2.new.self.items c.commit_first.new.carried.items no_news ∙ c.commit_first.ensures.left) no_news (ap (λ (v : NewsView). v.sent) news ∙ c.send_out.ensures.sent)
-    c.commit_first.new.told.items c.commit_first.new.out.items
-    (c.commit_first.ensures.told ∙ (λ i. (same_told i) ++ weave told_key ((ap (take c.due-news.result) c.told.ensures ∙ told_is) i) (told_all (dones_in (take k items)))))
-    (λ to. c.commit_first.ensures.sent to ∙ ap (λ es. es ++ filter (goes_to (slice_index c.args.homes.now) to) (held_of (dones_in (take k items)))) (c.send_out.ensures.parcels to)))
+    record {
+      ok = subst V c.self.view_is
+          (commits-due c.args.homes.now h cut (processed_view n.places.items n.news n.carried) now ds items k new.news.sent carry.sent.0 x went carry.sent.1 (subst H (sym c.self.view_is) c.requires.homed) c.tells-2.ensures.sent
+          (merged-none c.forget.new.self.done c.clear-2.new.self.items c.commit_first.new.carried.items no_news ∙ c.commit_first.ensures.left) no_news (ap (λ (v : NewsView). v.sent) news ∙ c.send_out.ensures.sent)
+          c.commit_first.new.told.items c.commit_first.new.out.items
+          (c.commit_first.ensures.told ∙ (λ i. (same_told i) ++ weave told_key ((ap (take c.due-news.result) c.told.ensures ∙ told_is) i) (told_all (dones_in (take k items)))))
+          (λ to. c.commit_first.ensures.sent to ∙ ap (λ es. es ++ filter (goes_to (slice_index c.args.homes.now) to) (held_of (dones_in (take k items)))) (c.send_out.ensures.parcels to)));
+      err = tt;
+      told = tt;
+      blank = tt;
+      long = c.commit_first.ensures.long ∙ c.send_out.ensures.long ∙ c.carry.ensures.nodes ∙ ap (λ (v : ProcessedView). v.nodes) c.self.view_is;
+      nodes = ap (λ (v : NewsView). v.nodes) c.forget.ensures ∙ c.send_out.ensures.nodes ∙ c.carry.ensures.nodes ∙ ap (λ (v : ProcessedView). v.nodes) c.self.view_is;
+    }
+
+pub returns-in_default : goal.returns-in_default
+returns-in_default c = record {
+  ok = tt;
+  err = refl;
+  told = c.reserve.ensures.same ∙ c.requires.told;
+  blank = c.requires.blank;
+  long = c.requires.long;
+  nodes = refl;
+}

@@ -1,5 +1,5 @@
 -- The event comes behind the news, for which there is room.
-use Rattle.std.proofs.Common.{◌≡◌, ℕ, ◌+◌, ◌-◌, ◌<◌, ◌≤◌, ◌^◌, min, List, [], ◌∷◌, ◌++◌, length, map, sym, ap, ◌∙◌, subst, arith, length-append}
+use Rattle.std.proofs.Common.{◌≡◌, ℕ, ◌+◌, ◌-◌, ◌<◌, ◌≤◌, ◌^◌, min, List, [], ◌∷◌, ◌++◌, length, map, refl, sym, ap, ◌∙◌, subst, arith, length-append}
 use Rattle.std.proofs.lemmas.List.{length-map}
 use Rattle.std.specs.List.{AllByRecursion as Each}
 use Rattle.key_order.specs.Keys.{times}
@@ -8,6 +8,7 @@ use Rattle.model_core.specs.Meaning.{Meaning}
 use Rattle.object_log.specs.Carrying.{placed_key}
 use Rattle.object_log.specs.Objects.{KeptObject}
 use Rattle.object_log.specs.Weave.{insert}
+use Rattle.object_log.proofs.FireFacts.{still}
 use Rattle.event_log.specs.Items.{CarriedView}
 use Rattle.event_log.specs.News.{HasJoined, NewsView, homed}
 use Rattle.event_log.specs.Processing.{AreHomed, CanJoin, HasCome, IsProcessed, ProcessedView, merged, processed_view}
@@ -39,6 +40,27 @@ invariant_of-self g c =
     let n = c.self.inside in
     let made = c.make_room-room.ensures in
     roomier n.places.items c.make_room-room.new.places.items n.news n.carried c.make_room-room.new.carried n.idle n.cells c.make_room-room.new.cells c.self.invariant made.places made.items made.room_kept made.cells_kept
+
+pub process-requires-clause-object : goal.process-requires-clause-object
+process-requires-clause-object g c = λ k l. c.requires.object
+
+pub process-requires-clause-lawful : goal.process-requires-clause-lawful
+process-requires-clause-lawful g c = λ k l. c.requires.lawful
+
+pub process-requires-clause-dest : goal.process-requires-clause-dest
+process-requires-clause-dest g c = λ k l. c.requires.dest
+
+pub process-requires-clause-time : goal.process-requires-clause-time
+process-requires-clause-time g c = λ k l. c.requires.time
+
+pub process-requires-clause-sent : goal.process-requires-clause-sent
+process-requires-clause-sent g c = λ k l. c.requires.sent
+
+pub process-requires-clause-whole : goal.process-requires-clause-whole
+process-requires-clause-whole g c = λ k l. c.self.invariant.whole
+
+pub process-requires-clause-known : goal.process-requires-clause-known
+process-requires-clause-known g c = λ k l. c.requires.known
 
 pub process-requires-clause-above : goal.process-requires-clause-above
 process-requires-clause-above g c = λ k l.
@@ -102,8 +124,8 @@ invariant_of-self-in-Ok-process g c =
     c.in-Ok.ensures.cells c.in-Ok-process.ensures.cells (λ some. c.idle_after-self-inside.ensures.some (subst S (sym sends) some)) (λ none. c.idle_after-self-inside.ensures.none (sends ∙ none))
     (subst T (sym c.self.view_is) c.requires.new)).0
 
-pub returns-in-Ok-process-clause-ok : goal.returns-in-Ok-process-clause-ok
-returns-in-Ok-process-clause-ok g c =
+pub returns-in-Ok-process : goal.returns-in-Ok-process
+returns-in-Ok-process g c =
     let m : Meaning = g.M.Model.meaning c.args.model.now in
     let n = c.self.inside in
     let made = c.make_room-room.ensures in
@@ -116,10 +138,19 @@ returns-in-Ok-process-clause-ok g c =
     let S : ℕ → Type 0 = λ k. 0 < k in
     let T : ProcessedView → Type 0 = λ v. times placed_key c.args.event.key v.items ≡ 0 in
     let V : ProcessedView → Type 0 = λ v. HasCome m c.args.event c.args.place c.args.object.now c.process.new.object v (processed_view c.push_reserved.new.self.items c.process.new.self c.make_room-room.new.carried) c.in-Ok-process.least in
-    subst V c.self.view_is ((came m n.places.items c.push_reserved.new.self.items c.args.place n.idle c.idle_after-self-inside.result n.cells c.make_room-room.new.cells c.process.new.pool n.news c.process.new.self n.carried c.make_room-room.new.carried c.args.event c.args.object.now c.process.new.object
-    c.in-Ok-process.least c.args.homes.now c.self.invariant c.in-Ok-process.ensures.ok (c.push_reserved.ensures.items ∙ ap (λ (ps : List ℕ). ps ++ c.args.place ∷ []) made.places) made.items enough few
-    c.in-Ok.ensures.cells c.in-Ok-process.ensures.cells (λ some. c.idle_after-self-inside.ensures.some (subst S (sym sends) some)) (λ none. c.idle_after-self-inside.ensures.none (sends ∙ none))
-    (subst T (sym c.self.view_is) c.requires.new)).1)
+    let h = c.in-Ok-process.ensures.ok in
+    let H : ProcessedView → Type 0 = λ v. AreHomed c.args.homes.now v.chained in
+    record {
+      ok = subst V c.self.view_is ((came m n.places.items c.push_reserved.new.self.items c.args.place n.idle c.idle_after-self-inside.result n.cells c.make_room-room.new.cells c.process.new.pool n.news c.process.new.self n.carried c.make_room-room.new.carried c.args.event c.args.object.now c.process.new.object
+          c.in-Ok-process.least c.args.homes.now c.self.invariant c.in-Ok-process.ensures.ok (c.push_reserved.ensures.items ∙ ap (λ (ps : List ℕ). ps ++ c.args.place ∷ []) made.places) made.items enough few
+          c.in-Ok.ensures.cells c.in-Ok-process.ensures.cells (λ some. c.idle_after-self-inside.ensures.some (subst S (sym sends) some)) (λ none. c.idle_after-self-inside.ensures.none (sends ∙ none))
+          (subst T (sym c.self.view_is) c.requires.new)).1);
+      err = tt;
+      same = tt;
+      back = tt;
+      nodes = c.in-Ok-process.ensures.ok.nodes ∙ ap (λ (v : ProcessedView). v.nodes) c.self.view_is;
+      homed = λ homed_are. homed-more c.args.homes.now c.self.inside.news.sent c.process.new.self.sent h.entry.sends h.sent (subst H (sym c.self.view_is) homed_are);
+    }
 
 pub invariant_of-self-in-Err : goal.invariant_of-self-in-Err
 invariant_of-self-in-Err g c =
@@ -129,34 +160,34 @@ invariant_of-self-in-Err g c =
     subst R (sym c.in-Err.ensures.err)
     (roomier n.places.items c.make_room-room.new.places.items n.news n.carried c.make_room-room.new.carried n.idle n.cells c.process.new.pool c.self.invariant made.places made.items made.room_kept (no-fewer _ _ _ made.cells_kept c.in-Err.ensures.cells_kept))
 
-pub returns-in-Ok-process-clause-homed : goal.returns-in-Ok-process-clause-homed
-returns-in-Ok-process-clause-homed g c = λ homed_are.
-    let h = c.in-Ok-process.ensures.ok in
-    let H : ProcessedView → Type 0 = λ v. AreHomed c.args.homes.now v.chained in
-    homed-more c.args.homes.now c.self.inside.news.sent c.process.new.self.sent h.entry.sends h.sent (subst H (sym c.self.view_is) homed_are)
-
-pub returns-in_default-clause-err : goal.returns-in_default-clause-err
-returns-in_default-clause-err g c =
+pub returns-in_default : goal.returns-in_default
+returns-in_default g c =
     let n = c.self.inside.news in
     let made = c.make_room-room.ensures in
-    (λ i. record { items = merged n.done (made.places i) (made.items i); news = n.done; chained = n.sent; nodes = n.nodes }) ∙ c.self.view_is
-
-pub returns-in_default-clause-homed : goal.returns-in_default-clause-homed
-returns-in_default-clause-homed g c = λ homed_are.
     let H : ProcessedView → Type 0 = λ v. AreHomed c.args.homes.now v.chained in
-    subst H (sym c.self.view_is) homed_are
+    record {
+      ok = tt;
+      err = (λ i. record { items = merged n.done (made.places i) (made.items i); news = n.done; chained = n.sent; nodes = n.nodes }) ∙ c.self.view_is;
+      same = still c.args.object.now;
+      back = refl;
+      nodes = ap (λ (v : ProcessedView). v.nodes) c.self.view_is;
+      homed = λ homed_are. subst H (sym c.self.view_is) homed_are;
+    }
 
-pub returns-in-Err-clause-err : goal.returns-in-Err-clause-err
-returns-in-Err-clause-err g c =
+pub returns-in-Err : goal.returns-in-Err
+returns-in-Err g c =
     let made = c.make_room-room.ensures in
     let same = c.in-Err.ensures.err in
-    (λ i. record { items = merged (same i).done (made.places i) (made.items i); news = (same i).done; chained = (same i).sent; nodes = (same i).nodes }) ∙ c.self.view_is
-
-pub returns-in-Err-clause-homed : goal.returns-in-Err-clause-homed
-returns-in-Err-clause-homed g c = λ homed_are.
     let H : ProcessedView → Type 0 = λ v. AreHomed c.args.homes.now v.chained in
     let N : NewsView → Type 0 = λ v. AreHomed c.args.homes.now v.sent in
-    subst N (sym c.in-Err.ensures.err) (subst H (sym c.self.view_is) homed_are)
+    record {
+      ok = tt;
+      err = (λ i. record { items = merged (same i).done (made.places i) (made.items i); news = (same i).done; chained = (same i).sent; nodes = (same i).nodes }) ∙ c.self.view_is;
+      same = c.in-Err.ensures.same;
+      back = c.in-Err.ensures.back;
+      nodes = ap (λ (v : NewsView). v.nodes) c.in-Err.ensures.err ∙ ap (λ (v : ProcessedView). v.nodes) c.self.view_is;
+      homed = λ homed_are. subst N (sym c.in-Err.ensures.err) (subst H (sym c.self.view_is) homed_are);
+    }
 
 pub overflow_sub-sent : goal.overflow_sub-sent
 overflow_sub-sent g c =
@@ -167,12 +198,3 @@ overflow_sub-sent g c =
 pub idle_after-self-inside-requires : goal.idle_after-self-inside-requires
 idle_after-self-inside-requires g c =
     idle-few _ _ _ c.self.invariant.idle_most (ap (λ (v : ProcessedView). length v.news) c.self.view_is) c.requires.can.few
-
-pub returns-in_default-clause-nodes : goal.returns-in_default-clause-nodes
-returns-in_default-clause-nodes g c = ap (λ (v : ProcessedView). v.nodes) c.self.view_is
-
-pub returns-in-Ok-process-clause-nodes : goal.returns-in-Ok-process-clause-nodes
-returns-in-Ok-process-clause-nodes g c = c.in-Ok-process.ensures.ok.nodes ∙ ap (λ (v : ProcessedView). v.nodes) c.self.view_is
-
-pub returns-in-Err-clause-nodes : goal.returns-in-Err-clause-nodes
-returns-in-Err-clause-nodes g c = ap (λ (v : NewsView). v.nodes) c.in-Err.ensures.err ∙ ap (λ (v : ProcessedView). v.nodes) c.self.view_is

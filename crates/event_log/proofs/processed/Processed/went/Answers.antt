@@ -1,5 +1,5 @@
 -- Neither part has a fault.
-use Rattle.std.proofs.Common.{◌≡◌, None, map, ap, ◌∙◌, subst}
+use Rattle.std.proofs.Common.{◌≡◌, None, map, ◌∙◌, subst}
 use Rattle.object_log.specs.Carrying.{Placed}
 use Rattle.object_log.specs.Logs.{fault_of}
 use Rattle.event_log.specs.Faults.{lesser_fault}

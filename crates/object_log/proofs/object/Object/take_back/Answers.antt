@@ -1,5 +1,5 @@
 -- The newest event is undone, on the cells that it left.
-use Rattle.std.proofs.Common.{◌≡◌, ◌-◌, ◌∷◌, ◌++◌, [], length, List, reverse, sym, refl, ap, ◌∙◌, subst, arith}
+use Rattle.std.proofs.Common.{◌≡◌, ◌-◌, ◌∷◌, ◌++◌, [], List, reverse, sym, refl, ap, ◌∙◌, subst, arith}
 use Rattle.delta_exchange.specs.declared.change.Change.{Change}
 use Rattle.delta_exchange.specs.Changes.{AllFit, cells_after_all}
 use Rattle.delta_exchange.specs.Spares.{AllFindRoom, spare_after_all}
