@@ -1,5 +1,5 @@
 -- What a world begins with.
-use Rattle.std.proofs.Common.{length, subst, sym}
+use Rattle.std.proofs.Common.{subst}
 use Rattle.model_core.specs.Meaning.{MeaningLaws}
 use Rattle.cycle_core.specs.Starts.{ArePartsOf, first_events}
 use Rattle.cycle_core.proofs.SettingLemmas.{begins-first}

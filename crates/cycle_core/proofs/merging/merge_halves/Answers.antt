@@ -1,10 +1,12 @@
 use Rattle.std.proofs.Common.{◌++◌, List, slice_set, refl, sym, subst, rules, get_or}
+use Rattle.std.specs.List.{AllByRecursion}
 use Rattle.std.proofs.lemmas.List.Sorted.{IsPermutation-trans}
 use Rattle.std.proofs.lemmas.Option.{slice_get-get_or}
 use Rattle.std.proofs.lemmas.Result.{on_ok_weaker}
+use Rattle.key_order.proofs.EachLemmas.{Each-front, Each-back}
 use Rattle.node_core.specs.declared.committed.Committed.{Committed}
 use Rattle.cycle_core.specs.Ends.{told_by}
-use Rattle.cycle_core.specs.Records.{HaveGiven}
+use Rattle.cycle_core.specs.Records.{AreInOrder, HaveGiven}
 use Rattle.cycle_core.proofs.GivenLemmas.{given-both, merged-differ, merged-moves, told-front, told-back}
 use Rattle.cycle_core.proofs.ValueLemmas.{both-done}
 use Rattle.cycle_core.proofs.merging.merge_halves.Goals as goal
@@ -57,3 +59,28 @@ returns-clause-given c =
     (λ left right. subst P (sym split.ensures.value)
     (given-both split.result.0.now split.result.1.now x y u v refl refl front back c.in_ok-merge_all.ensures.merged c.in_ok-merge_all-2.ensures.merged
     (slice_get-get_or front 0 c.index-front-0.result (search rules)) (slice_get-get_or back 0 c.index-back-0.result (search rules)) left right))
+
+pub merge_all-requires-clause-ordered : goal.merge_all-requires-clause-ordered
+merge_all-requires-clause-ordered c = 
+    let split = c.split_at_mut-front in Each-front _ split.result.0.now split.result.1.now (subst (AllByRecursion (λ commit. AreInOrder commit.done.items)) split.ensures.value c.requires.ordered)
+
+pub merge_all-requires-clause-spare : goal.merge_all-requires-clause-spare
+merge_all-requires-clause-spare c = c.requires.spare
+
+pub merge_all-requires-2-clause-ordered : goal.merge_all-requires-2-clause-ordered
+merge_all-requires-2-clause-ordered c = 
+    let split = c.split_at_mut-front in Each-back _ split.result.0.now split.result.1.now (subst (AllByRecursion (λ commit. AreInOrder commit.done.items)) split.ensures.value c.requires.ordered)
+
+pub merge_all-requires-2-clause-spare : goal.merge_all-requires-2-clause-spare
+merge_all-requires-2-clause-spare c = c.in_ok-merge_all.ensures.spare
+
+pub merge_two-requires-clause-left : goal.merge_two-requires-clause-left
+merge_two-requires-clause-left c = 
+    let front = c.merge_all.new.parts in (c.in_ok-merge_all.ensures.merged.first (get_or front 0 c.index-front-0.result) (slice_get-get_or front 0 c.index-front-0.result (search rules))).1
+
+pub merge_two-requires-clause-right : goal.merge_two-requires-clause-right
+merge_two-requires-clause-right c = 
+    let back = c.merge_all-2.new.parts in (c.in_ok-merge_all-2.ensures.merged.first (get_or back 0 c.index-back-0.result) (slice_get-get_or back 0 c.index-back-0.result (search rules))).1
+
+pub merge_two-requires-clause-empty : goal.merge_two-requires-clause-empty
+merge_two-requires-clause-empty c = c.requires.empty

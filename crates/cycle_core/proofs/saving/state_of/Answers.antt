@@ -1,6 +1,5 @@
 -- What the nodes show once all is undone.
 use Rattle.std.proofs.Common.{refl}
-use Rattle.cycle_core.proofs.SnapshotLemmas.{each-as-before}
 use Rattle.cycle_core.proofs.saving.state_of.Goals as goal
 
 pub pending_of-requires-after_bounds : goal.pending_of-requires-after_bounds

@@ -1,4 +1,4 @@
-use Rattle.std.proofs.Common.{◌≡◌, ◌+◌, ◌≤◌, length, sym, ◌∙◌, subst, ap}
+use Rattle.std.proofs.Common.{◌≡◌, ◌+◌, ◌≤◌, length, refl, sym, ◌∙◌, subst, ap}
 use Rattle.sim_spec.specs.Cut.{after}
 use Rattle.cycle_core.specs.Worlds.{StandsAt}
 use Rattle.cycle_core.proofs.ChangedNodes.{same-made, same-then}
@@ -56,3 +56,18 @@ returns-clause-made g c =
 
 pub returns-clause-fault : goal.returns-clause-fault
 returns-clause-fault g c = ap (λ w. w.fault) c.finish.ensures ∙ sym (ap (λ b. b.fault) c.bucket_of.ensures)
+
+pub commit_cut_among-requires-clause-busy : goal.commit_cut_among-requires-clause-busy
+commit_cut_among-requires-clause-busy g c lifetimes outlives = c.requires.busy
+
+pub end_cycle-requires-clause-busy : goal.end_cycle-requires-clause-busy
+end_cycle-requires-clause-busy g c lifetimes outlives = c.requires.busy
+
+pub end_cycle-requires-clause-closed : goal.end_cycle-requires-clause-closed
+end_cycle-requires-clause-closed g c lifetimes outlives = c.requires.closed
+
+pub end_cycle-requires-clause-stands : goal.end_cycle-requires-clause-stands
+end_cycle-requires-clause-stands g c lifetimes outlives = c.requires.stands
+
+pub returns-in_err-cut-clause-made : goal.returns-in_err-cut-clause-made
+returns-in_err-cut-clause-made g c = record { model = refl; terms = refl; homes = refl }

@@ -69,3 +69,9 @@ returns-clause-lists g c =
 
 pub returns-clause-world : goal.returns-clause-world
 returns-clause-world g c = nodes-alone c.args.self.now _ _ _ c.self.view_is refl
+
+pub invariant_of-self : goal.invariant_of-self
+invariant_of-self g c = c.self.invariant
+
+pub invariant_of-self-2 : goal.invariant_of-self-2
+invariant_of-self-2 g c = c.self.invariant
