@@ -61,25 +61,25 @@ returns-clause-given c =
     (slice_get-get_or front 0 c.index-front-0.result (search rules)) (slice_get-get_or back 0 c.index-back-0.result (search rules)) left right))
 
 pub merge_all-requires-clause-ordered : goal.merge_all-requires-clause-ordered
-merge_all-requires-clause-ordered c = 
+merge_all-requires-clause-ordered c =
     let split = c.split_at_mut-front in Each-front _ split.result.0.now split.result.1.now (subst (AllByRecursion (λ commit. AreInOrder commit.done.items)) split.ensures.value c.requires.ordered)
 
 pub merge_all-requires-clause-spare : goal.merge_all-requires-clause-spare
 merge_all-requires-clause-spare c = c.requires.spare
 
 pub merge_all-requires-2-clause-ordered : goal.merge_all-requires-2-clause-ordered
-merge_all-requires-2-clause-ordered c = 
+merge_all-requires-2-clause-ordered c =
     let split = c.split_at_mut-front in Each-back _ split.result.0.now split.result.1.now (subst (AllByRecursion (λ commit. AreInOrder commit.done.items)) split.ensures.value c.requires.ordered)
 
 pub merge_all-requires-2-clause-spare : goal.merge_all-requires-2-clause-spare
 merge_all-requires-2-clause-spare c = c.in_ok-merge_all.ensures.spare
 
 pub merge_two-requires-clause-left : goal.merge_two-requires-clause-left
-merge_two-requires-clause-left c = 
+merge_two-requires-clause-left c =
     let front = c.merge_all.new.parts in (c.in_ok-merge_all.ensures.merged.first (get_or front 0 c.index-front-0.result) (slice_get-get_or front 0 c.index-front-0.result (search rules))).1
 
 pub merge_two-requires-clause-right : goal.merge_two-requires-clause-right
-merge_two-requires-clause-right c = 
+merge_two-requires-clause-right c =
     let back = c.merge_all-2.new.parts in (c.in_ok-merge_all-2.ensures.merged.first (get_or back 0 c.index-back-0.result) (slice_get-get_or back 0 c.index-back-0.result (search rules))).1
 
 pub merge_two-requires-clause-empty : goal.merge_two-requires-clause-empty
