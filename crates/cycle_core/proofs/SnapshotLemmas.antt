@@ -27,7 +27,7 @@ use Rattle.node_core.specs.Calls.{HasUndoneFrom}
 use Rattle.node_core.specs.Homes.{HomesView, home_of}
 use Rattle.node_core.specs.Nodes.{NodeView, IsAsBefore, IsSameNode, Stands, ahead_of, base_at, data_of, home, log_at}
 use Rattle.cycle_core.specs.Places.{EachPair}
-use Rattle.cycle_core.specs.Snapshots.{AllUndone, AreStatesOf, IsUndone, waiting_in}
+use Rattle.cycle_core.specs.Snapshots.{AllUndone, AreRead, AreStatesOf, CanBeRead, IsReadOf, IsUndone, waiting_in}
 use Rattle.cycle_core.specs.Worlds.{StandsAt, WorldView}
 use Rattle.cycle_core.proofs.EndLemmas.{node-same, stands-as, to-world}
 use Rattle.cycle_core.proofs.PlaceLemmas.{at-some, drop-at, same-some}
@@ -297,3 +297,21 @@ module _ {M : Type 0} (meaning_of : M → Meaning) (w : WorldView M) (s : State)
       let events = pending_is ∙ read-pending m (record w { nodes = undone }) s then none_then in
       let count = st.stands.count in
       (λ i. record { objects = objects i; pending = events i; count = count i })
+
+-- a world whose nodes are read
+module _ {M : Type 0} (meaning_of : M → Meaning) (w : WorldView M) (s : State) (st : StandsAt (meaning_of w.model) w s) where
+  pub read-stands : (now : List (NodeView M)) → AreRead meaning_of w.nodes now → StandsAt (meaning_of w.model) (record w { nodes = now }) s
+  read-stands now read = snap-stands meaning_of w s st read.mids now read.undone read.same
+
+  pub can-be-read : CanBeRead meaning_of w.model w.homes w.nodes
+  can-be-read = record {
+    differ = λ mids undone. snap-differ meaning_of w s st mids mids undone (each-as-before mids);
+    nodes = λ new read. (w.terms, (read-stands new read).has.nodes);
+    placed = st.stands.homes;
+  }
+
+  pub read-state : (now : List (NodeView M)) (state : State) → IsReadOf meaning_of w.model w.homes w.count w.nodes now state → state ≡ s
+  read-state now state is =
+      let count = is.count_is in
+      (λ i. record { objects = state.objects; pending = state.pending; count = count i })
+      ∙ snap-state meaning_of w s st is.read.mids now is.read.undone is.read.same state.objects state.pending is.states is.pending

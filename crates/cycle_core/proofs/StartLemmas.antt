@@ -24,6 +24,7 @@ use Rattle.sim_spec.specs.Standing.{stands}
 use Rattle.world_spec.specs.Early.{leading}
 use Rattle.world_spec.specs.Moves.{received_ahead}
 use Rattle.world_spec.specs.Share.{IsAtHome, IsHome, NodeData, Share, StandsFor, is_at}
+use Rattle.node_core.specs.Blank.{AreEmpty}
 use Rattle.node_core.specs.Calls.{HasReceived, IsNewNode}
 use Rattle.node_core.specs.Homes.{HomesView, home_of}
 use Rattle.node_core.specs.Nodes.{NodeView, Stands, data_of, home, pending_at}
@@ -63,6 +64,10 @@ nodes-more m model terms homes n nodes new x are is fresh new_is = record {
             subst (N number) last.1 (subst (λ k. N k x) place (is, fresh)))
       ];
 }
+
+-- no event is anywhere yet
+pub no-parts : (homes : HomesView) (nodes : ℕ) (parcels : List (List Event)) → AreEmpty nodes parcels → nodes ≡ homes.nodes → ArePartsOf homes [] parcels
+no-parts homes nodes parcels empty same = record { many = empty.many ∙ same; parts = λ to below. empty.empty to }
 
 module _ (homes : HomesView) (es : List Event) (parcels : List (List Event)) (e : Event) (so_far : ArePartsOf homes es parcels) where
   abbrev place : ℕ

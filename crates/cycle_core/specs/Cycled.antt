@@ -8,6 +8,7 @@ use Rattle.world_spec.specs.World.{WorldIsClosed}
 use Rattle.node_core.specs.Homes.{home_of}
 use Rattle.node_core.specs.Nodes.{NodeView}
 use Rattle.cycle_core.specs.Carries.{AllCarry}
+use Rattle.cycle_core.specs.Works.{AllWorkOn}
 use Rattle.cycle_core.specs.Worlds.{WorldView, StandsAt, data_at}
 
 module _ {M : Type 0} (meaning_of : M → Meaning) where
@@ -30,3 +31,9 @@ module _ {M : Type 0} (meaning_of : M → Meaning) where
   CarriesOn old new =
       (s : State) → StandsAt (meaning_of old.model) old s
       → AllCarry meaning_of s (committed_events (meaning_of old.model) old.terms s) old.nodes new.nodes
+
+  -- so it is of nodes that worked before it was closed
+  abbrev pub CarriesOnFrom : WorldView M → WorldView M → Type 0
+  CarriesOnFrom old new =
+      (firsts : List (NodeView M)) → AllWorkOn meaning_of firsts old.nodes → (s : State) → StandsAt (meaning_of old.model) old s
+      → AllCarry meaning_of s (committed_events (meaning_of old.model) old.terms s) firsts new.nodes

@@ -5,15 +5,18 @@ ghost use Rattle.std.specs.Arc.{arc_value};
 ghost use Rattle.model_core.specs.declared.limits.TheConstants.{MOST_NODES};
 ghost use Rattle.model_core.specs.Meaning.{MeaningLaws};
 ghost use Rattle.model_core.specs.declared.event.Event.{Event};
+ghost use Rattle.sim_spec.specs.State.{Lawful, initial_state};
 ghost use Rattle.sim_spec.specs.declared.terms.Terms.{Terms};
-ghost use Rattle.cycle_core.specs.Starts.{AreAllNew, ArePartsOf, ArePlaced, ArePlacedBy, CanSet, HaveStatesFrom, first_events};
+ghost use Rattle.node_core.specs.Calls.{IsNewNode};
+ghost use Rattle.cycle_core.specs.Worlds.{IsNodeOf};
+ghost use Rattle.cycle_core.specs.Starts.{AreAllNew, ArePartsOf, ArePlaced, ArePlacedBy, CanBegin, CanSet, HaveStatesFrom, first_events, world_with};
 
 use event_chain::{Cell, Chain};
 use event_firing::first_event;
-use model_core::model::Model as SimulationModel;
+use model_core::model::{Model as SimulationModel, keeps_laws};
 use model_core::{Event, OutOfMemory};
 use node_core::{Homes, Node, empty_parcels};
-use sim_spec::{ObjectState, Placement, Terms};
+use sim_spec::{ObjectState, Placement, State, Terms};
 use std::alloc::Global;
 use std::sync::Arc;
 
@@ -63,7 +66,7 @@ fn put_home(
 }
 
 /// The initial events, each in the chain of its home.
-pub fn first_parcels<M: SimulationModel>(
+fn first_parcels<M: SimulationModel>(
     alloc: Global,
     model: &M,
     homes: &Homes,
@@ -80,7 +83,7 @@ pub fn first_parcels<M: SimulationModel>(
 }
 
 /// Events, each in the chain of its home.
-pub fn parcels_of(
+fn parcels_of(
     alloc: Global,
     homes: &Homes,
     events: &[Event],
@@ -96,8 +99,24 @@ pub fn parcels_of(
     Ok(parcels)
 }
 
+/// The new node of a number.
+fn first_node<M: SimulationModel>(
+    alloc: Global,
+    model: &Arc<M>,
+    terms: Terms,
+    number: u32,
+    homes: &Arc<Homes>,
+) -> Result<Node<M>, OutOfMemory>
+    requires number { number < (arc_value homes.now).nodes }
+    requires objects { length (arc_value homes.now).homes ≡ (M.meaning (arc_value model.now)).objects }
+    ensures made { IfOk result (IsNodeOf (arc_value model.now) terms (arc_value homes.now) number) }
+    ensures new { IfOk result (IsNewNode (M.meaning (arc_value model.now))) }
+{
+    Node::new(alloc, Arc::clone(model)?, terms, number, Arc::clone(homes)?)
+}
+
 /// New nodes for all homes, in order.
-pub fn first_nodes<M: SimulationModel>(
+fn first_nodes<M: SimulationModel>(
     alloc: Global,
     model: &Arc<M>,
     terms: Terms,
@@ -109,18 +128,13 @@ pub fn first_nodes<M: SimulationModel>(
     let count = homes.nodes();
     let mut nodes = Vec::with_capacity(alloc, count as usize)?;
     for number in 0..count {
-        let node = Node::new(alloc, Arc::clone(model)?, terms, number, Arc::clone(homes)?)?;
-        nodes.push_reserved(node);
+        nodes.push_reserved(first_node(alloc, model, terms, number, homes)?);
     }
     Ok(nodes)
 }
 
 /// Gives each object its state. It takes no memory.
-pub fn set_objects<M: SimulationModel>(
-    nodes: &mut [Node<M>],
-    homes: &Homes,
-    objects: Vec<ObjectState>,
-)
+fn set_objects<M: SimulationModel>(nodes: &mut [Node<M>], homes: &Homes, objects: Vec<ObjectState>)
     requires { (model : M) × (terms : Terms) × CanSet M.meaning model terms homes.now objects.items nodes.old }
     ensures { (model : M) (terms : Terms) → CanSet M.meaning model terms homes.now objects.items nodes.old
         → HaveStatesFrom M.meaning model terms homes.now 0 objects.items nodes.new }
@@ -133,4 +147,43 @@ pub fn set_objects<M: SimulationModel>(
         let home = homes.home(object);
         nodes[home as usize].set_object(object, cells, sent);
     }
+}
+
+/// New nodes, and the initial events, each in the chain of its home.
+pub fn nodes_at_start<M: SimulationModel>(
+    alloc: Global,
+    model: &Arc<M>,
+    terms: Terms,
+    homes: &Arc<Homes>,
+) -> Result<(Vec<Node<M>>, Vec<Chain<Event>>), OutOfMemory>
+    requires { ArePlaced (M.meaning (arc_value model.now)) (arc_value homes.now) }
+    ensures { IfOk result (λ made. CanBegin M.meaning (world_with (arc_value model.now) terms (arc_value homes.now) made.0.items 0) made.1.items (initial_state (M.meaning (arc_value model.now)))) }
+{
+    keeps_laws(&**model);
+    let parcels = first_parcels(alloc, &**model, homes)?;
+    let nodes = first_nodes(alloc, model, terms, homes)?;
+    Ok((nodes, parcels))
+}
+
+/// New nodes with the objects of a state, and its events, each in the chain of its home.
+pub fn nodes_of_state<M: SimulationModel>(
+    alloc: Global,
+    model: &Arc<M>,
+    terms: Terms,
+    homes: &Arc<Homes>,
+    state: State,
+) -> Result<(Vec<Node<M>>, Vec<Chain<Event>>), OutOfMemory>
+    requires placed { ArePlaced (M.meaning (arc_value model.now)) (arc_value homes.now) }
+    requires lawful { Lawful (M.meaning (arc_value model.now)) terms state }
+    ensures { IfOk result (λ made. CanBegin M.meaning (world_with (arc_value model.now) terms (arc_value homes.now) made.0.items state.count) made.1.items state) }
+{
+    let State {
+        objects,
+        pending,
+        count: _,
+    } = state;
+    let parcels = parcels_of(alloc, homes, pending.as_slice())?;
+    let mut nodes = first_nodes(alloc, model, terms, homes)?;
+    set_objects(nodes.as_mut_slice(), homes, objects);
+    Ok((nodes, parcels))
 }

@@ -95,6 +95,55 @@ fn only_told(committed: &[Committed]) -> Option<usize>
     Some(only)
 }
 
+/// The records of two commits or more in a list that was empty, merged two by two.
+fn merge_halves(
+    committed: &mut [Committed],
+    merged: &mut RecordBuffer,
+    spare: &mut RecordBuffer,
+) -> Result<(), OutOfMemory>
+    requires some { 1 < length committed.old }
+    requires ordered { AllByRecursion (λ c. AreInOrder c.done.items) committed.old }
+    requires differ { RecordsDiffer (told_by committed.old) }
+    requires empty { merged.old.items ≡ [] }
+    requires spare { spare.old.items ≡ [] }
+    ensures permutes { OnOk result (IsPermutation (told_by committed.old) merged.new.items) }
+    ensures ordered { OnOk result (AreInOrder merged.new.items) }
+    ensures given { OnOk result (HaveGiven committed.old committed.new) }
+    ensures spare { OnOk result (spare.new.items ≡ []) }
+{
+    let half = committed.len() / 2;
+    let (front, back) = committed.split_at_mut(half);
+    merge_all(front, spare)?;
+    merge_all(back, spare)?;
+    merge_two(&mut front[0].done, &mut back[0].done, merged)
+}
+
+/// All records of these commits in a list that was empty.
+fn put_merged(
+    committed: &mut [Committed],
+    merged: &mut RecordBuffer,
+    spare: &mut RecordBuffer,
+) -> Result<(), OutOfMemory>
+    requires ordered { AllByRecursion (λ c. AreInOrder c.done.items) committed.old }
+    requires differ { RecordsDiffer (told_by committed.old) }
+    requires empty { merged.old.items ≡ [] }
+    requires spare { spare.old.items ≡ [] }
+    ensures permutes { OnOk result (IsPermutation (told_by committed.old) merged.new.items) }
+    ensures ordered { OnOk result (AreInOrder merged.new.items) }
+    ensures given { OnOk result (HaveGiven committed.old committed.new) }
+    ensures spare { OnOk result (spare.new.items ≡ []) }
+{
+    let count = committed.len();
+    if count == 0 {
+        return Ok(());
+    }
+    if let Some(only) = only_told(committed) {
+        mem::swap(&mut committed[only].done, merged);
+        return Ok(());
+    }
+    merge_halves(committed, merged, spare)
+}
+
 /// All records of these commits in the order of their keys, in time linear in their number and logarithmic in that of
 /// the commits. They are taken out of their lists and put into `told`, whatever that holds. Where one commit alone tells of
 /// something, its list is handed out as it is, and has the room of `told` then.
@@ -113,17 +162,6 @@ pub fn merge(
 {
     let mut merged = told;
     merged.clear();
-    let count = committed.len();
-    if count == 0 {
-        return Ok(merged);
-    }
-    if let Some(only) = only_told(committed) {
-        mem::swap(&mut committed[only].done, &mut merged);
-        return Ok(merged);
-    }
-    let (front, back) = committed.split_at_mut(count / 2);
-    merge_all(front, spare)?;
-    merge_all(back, spare)?;
-    merge_two(&mut front[0].done, &mut back[0].done, &mut merged)?;
+    put_merged(committed, &mut merged, spare)?;
     Ok(merged)
 }

@@ -6,17 +6,17 @@ ghost use Rattle.sim_spec.specs.declared.terms.Terms.{Terms};
 ghost use Rattle.node_core.specs.Homes.{home_of};
 ghost use Rattle.node_core.specs.Nodes.{IsAsBefore};
 ghost use Rattle.cycle_core.specs.Places.{EachPair};
-ghost use Rattle.cycle_core.specs.Snapshots.{AllUndone, AreStatesOf, waiting_in};
+ghost use Rattle.cycle_core.specs.Snapshots.{AllUndone, AreRead, AreStatesOf, CanBeRead, IsReadOf, waiting_in};
 ghost use Rattle.cycle_core.specs.Worlds.{AreNodesOf};
 
 use model_core::model::Model as SimulationModel;
 use model_core::{Event, OutOfMemory};
 use node_core::{Homes, Node};
-use sim_spec::ObjectState;
+use sim_spec::{ObjectState, State};
 use std::alloc::Global;
 
 /// Undoes all that these nodes have processed.
-pub fn undo_all<M: SimulationModel>(nodes: &mut [Node<M>])
+fn undo_all<M: SimulationModel>(nodes: &mut [Node<M>])
     ensures { AllUndone M.meaning nodes.old nodes.new }
 {
     for node in nodes.iter_mut() {
@@ -25,7 +25,7 @@ pub fn undo_all<M: SimulationModel>(nodes: &mut [Node<M>])
 }
 
 /// The events that wait at these nodes, in the order of their keys.
-pub fn pending_of<M: SimulationModel>(
+fn pending_of<M: SimulationModel>(
     alloc: Global,
     nodes: &mut [Node<M>],
 ) -> Result<Vec<Event>, OutOfMemory>
@@ -43,7 +43,7 @@ pub fn pending_of<M: SimulationModel>(
 }
 
 /// The state of each object of a model.
-pub fn objects_of<M: SimulationModel>(
+fn objects_of<M: SimulationModel>(
     alloc: Global,
     model: &M,
     homes: &Homes,
@@ -65,4 +65,26 @@ pub fn objects_of<M: SimulationModel>(
         })?;
     }
     Ok(objects)
+}
+
+/// The state that these nodes have, and in which so many events are done. What is processed is undone first.
+pub fn state_of<M: SimulationModel>(
+    alloc: Global,
+    model: &M,
+    homes: &Homes,
+    nodes: &mut [Node<M>],
+    count: u64,
+) -> Result<State, OutOfMemory>
+    requires { CanBeRead M.meaning model.now homes.now nodes.old }
+    ensures read { AreRead M.meaning nodes.old nodes.new }
+    ensures state { IfOk result (IsReadOf M.meaning model.now homes.now count nodes.old nodes.new) }
+{
+    undo_all(nodes);
+    let pending = pending_of(alloc, nodes)?;
+    let objects = objects_of(alloc, model, homes, nodes)?;
+    Ok(State {
+        objects,
+        pending,
+        count,
+    })
 }

@@ -10,10 +10,10 @@ ghost use Rattle.cycle_core.specs.Starts.{ArePlacedBy};
 ghost use Rattle.cycle_core.specs.Worlds.{StandsAt};
 
 use super::World;
-use crate::beginning::{first_nodes, parcels_of, placed_homes, set_objects};
-use crate::saving::{objects_of, pending_of, undo_all};
+use crate::beginning::{nodes_of_state, placed_homes};
+use crate::saving::state_of;
 use model_core::OutOfMemory;
-use model_core::model::{Model as SimulationModel, keeps_laws};
+use model_core::model::Model as SimulationModel;
 use sim_spec::{Placement, State, Terms};
 use std::alloc::Global;
 use std::sync::Arc;
@@ -38,19 +38,10 @@ impl<M: SimulationModel> World<M> {
         ensures stands { IfOk result (λ world. WorldStandsAt M.meaning world (stands state None)) }
         ensures new { IfOk result (λ world. AtEach (λ number n. n.processed ≡ []) world.nodes) }
     {
-        keeps_laws(&*model);
-        let State {
-            objects,
-            pending,
-            count,
-        } = state;
+        let count = state.count;
         let homes = placed_homes(alloc, &*model, nodes, placement)?;
-        let parcels = parcels_of(alloc, &homes, pending.as_slice())?;
-        let mut nodes = first_nodes(alloc, &model, terms, &homes)?;
-        set_objects(nodes.as_mut_slice(), &homes, objects);
-        let mut world = World::with(model, terms, homes, nodes, count);
-        world.hand_out(alloc, parcels)?;
-        Ok(world)
+        let (nodes, parcels) = nodes_of_state(alloc, &model, terms, &homes, state)?;
+        World::opened(alloc, model, terms, homes, nodes, count, parcels)
     }
 
     /// Takes out the state for which the world stands. What is processed is undone first: the world stands for the same
@@ -61,18 +52,10 @@ impl<M: SimulationModel> World<M> {
         ensures stands { (s : State) → StandsAt (M.meaning self.old.model) self.old s → StandsAt (M.meaning self.new.model) self.new s }
         ensures world { self.new ≡ record self.old { nodes = self.new.nodes } }
     {
-        let homes = &*self.homes;
         let Some(nodes) = &mut self.nodes else {
             unreachable!()
         };
         let nodes = nodes.as_mut_slice();
-        undo_all(nodes);
-        let pending = pending_of(alloc, nodes)?;
-        let objects = objects_of(alloc, &*self.model, homes, nodes)?;
-        Ok(State {
-            objects,
-            pending,
-            count: self.count,
-        })
+        state_of(alloc, &*self.model, &*self.homes, nodes, self.count)
     }
 }

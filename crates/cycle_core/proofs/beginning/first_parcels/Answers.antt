@@ -2,8 +2,11 @@ use Rattle.std.proofs.Common.{◌≡◌, ◌++◌, ◌∷◌, ◌∙◌, [], ap,
 use Rattle.std.proofs.lemmas.List.FromFn.{length-map-range_with_len}
 use Rattle.sim_spec.specs.State.{start_event}
 use Rattle.cycle_core.specs.Starts.{ArePartsOf, first_events}
-use Rattle.cycle_core.proofs.StartLemmas.{first-more}
+use Rattle.cycle_core.proofs.StartLemmas.{first-more, no-parts}
 use Rattle.cycle_core.proofs.beginning.first_parcels.Goals as goal
+
+pub loop-i-init : goal.loop-i-init
+loop-i-init g c = no-parts c.args.homes.now c.nodes.result c.in_ok-parcels.parcels.items c.in_ok-parcels.ensures c.nodes.ensures.value
 
 pub put_home-requires-clause-parts : goal.put_home-requires-clause-parts
 put_home-requires-clause-parts g c =

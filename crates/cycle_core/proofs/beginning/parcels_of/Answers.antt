@@ -1,7 +1,11 @@
 use Rattle.std.proofs.Common.{subst, sym, take, arith}
 use Rattle.std.proofs.lemmas.List.{length-take-le, take_all, take_more}
 use Rattle.cycle_core.specs.Starts.{ArePartsOf}
+use Rattle.cycle_core.proofs.StartLemmas.{no-parts}
 use Rattle.cycle_core.proofs.beginning.parcels_of.Goals as goal
+
+pub loop-event-init : goal.loop-event-init
+loop-event-init c = no-parts c.args.homes.now c.nodes.result c.in_ok-parcels.parcels.items c.in_ok-parcels.ensures c.nodes.ensures.value
 
 pub put_home-requires-clause-parts : goal.put_home-requires-clause-parts
 put_home-requires-clause-parts c =

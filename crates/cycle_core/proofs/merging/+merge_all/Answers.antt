@@ -47,3 +47,20 @@ returns-clause-merged t c =
     (λ into spare. subst P (sym split.ensures.value)
     (merged-both split.result.0.now split.result.1.now x y u v into.first_out into.second_out front back c.in_ok-merge_all.ensures.merged c.in_ok-merge_all-2.ensures.merged
     (slice_get-get_or front 0 c.index-front-0.result (search rules)) (slice_get-get_or back 0 c.index-back-0.result (search rules)) into.permutes into.ordered into.emptied))
+
+pub merge_into-requires-clause-spare : goal.merge_into-requires-clause-spare
+merge_into-requires-clause-spare t c = c.in_ok-merge_all-2.ensures.spare
+
+pub merge_into-requires-clause-first : goal.merge_into-requires-clause-first
+merge_into-requires-clause-first t c =
+    let front = c.merge_all.new.parts in (c.in_ok-merge_all.ensures.merged.first (get_or front 0 c.index-front-0.result) (slice_get-get_or front 0 c.index-front-0.result (search rules))).1
+
+pub merge_into-requires-clause-second : goal.merge_into-requires-clause-second
+merge_into-requires-clause-second t c =
+    let back = c.merge_all-2.new.parts in (c.in_ok-merge_all-2.ensures.merged.first (get_or back 0 c.index-back-0.result) (slice_get-get_or back 0 c.index-back-0.result (search rules))).1
+
+pub returns-clause-spare : goal.returns-clause-spare
+returns-clause-spare t c = c.merge_into.ensures.spare
+
+pub returns-then-count-eq1-clause-spare : goal.returns-then-count-eq1-clause-spare
+returns-then-count-eq1-clause-spare t c = c.requires.spare
