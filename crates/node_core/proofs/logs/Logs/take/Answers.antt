@@ -1,5 +1,5 @@
 -- An object leaves the logs.
-use Rattle.std.proofs.Common.{◌≡◌, ℕ, ◌<◌, ◌≤◌, Bool, true, false, List, length, ltb, ltb-true, ltb-false, refl, sym, ap, subst, ◌∙◌, arith}
+use Rattle.std.proofs.Common.{◌≡◌, ℕ, Bool, true, false, List, length, ltb, ltb-true, ltb-false, refl, sym, ap, subst, ◌∙◌}
 use Rattle.std.specs.Arc.{arc_value}
 use Rattle.object_log.specs.Objects.{IsPlaced}
 use Rattle.node_core.specs.Logged.{AreLogged, LogsView}
