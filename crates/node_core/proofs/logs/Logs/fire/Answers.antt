@@ -72,7 +72,7 @@ process-requires-clause-known g c = λ k l.
     ap length (c.as_slice.ensures.homes ∙ ap (λ (h : HomesView). h.homes) c.deref.ensures) ∙ ap (λ (v : LogsView). length v.homes.homes) c.self.view_is ∙ c.requires.objects
 
 pub returns-clause-ok : goal.returns-clause-ok
-returns-clause-ok g c = 
+returns-clause-ok g c =
     let m : Meaning = g.M.Model.meaning c.args.model.now in
     let P : LogsView → ℕ → Type 0 = λ v least. HasProcessed m v.log c.process.new.self.log c.args.event least in
     IfOk-weaker c.process.result (P (record { homes = arc_value c.self.inside.homes; log = c.self.inside.log.log })) (P c.args.self.now) (λ least is. subst (λ v. P v least) c.self.view_is is) c.process.ensures.ok

@@ -16,7 +16,7 @@ pub returns-clause-done : goal.returns-clause-done
 returns-clause-done g c = c.in_ok-places.ensures.done
 
 pub invariant_of-result : goal.invariant_of-result
-invariant_of-result g c = 
+invariant_of-result g c =
     let m = g.M.Model.meaning c.args.model.now in
     let are = subst (λ h. AreFirst m h c.args.number m.objects c.first_places.new.log c.in_ok-places.places.items (length c.first_places.new.log.log.objects)) c.deref-2.ensures c.in_ok-places.ensures in
     first-logged m c.args.homes.value c.args.number c.first_places.new.log c.in_ok-places.places.items (length c.first_places.new.log.log.objects) c.requires are
@@ -25,7 +25,7 @@ pub returns-clause-homes : goal.returns-clause-homes
 returns-clause-homes g c = refl
 
 pub returns-clause-logs : goal.returns-clause-logs
-returns-clause-logs g c = 
+returns-clause-logs g c =
     let m = g.M.Model.meaning c.args.model.now in
     let are = subst (λ h. AreFirst m h c.args.number m.objects c.first_places.new.log c.in_ok-places.places.items (length c.first_places.new.log.log.objects)) c.deref-2.ensures c.in_ok-places.ensures in
     are.logs
