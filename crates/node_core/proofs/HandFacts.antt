@@ -1,5 +1,5 @@
 -- What was undone at once is in hand, and waits again.
-use Rattle.std.proofs.Common.{◌≡◌, ℕ, ◌+◌, ◌<◌, Bool, true, false, not, ◌&&◌, List, [], ◌∷◌, ◌++◌, length, eqb-true, Option, is_some, refl, sym, ap, ◌∙◌, subst, arith, append_assoc}
+use Rattle.std.proofs.Common.{◌≡◌, ℕ, ◌+◌, ◌<◌, true, false, not, ◌&&◌, List, [], ◌∷◌, ◌++◌, length, eqb-true, Option, is_some, refl, sym, ap, ◌∙◌, subst, arith, append_assoc}
 use Rattle.std.specs.Prelude.{filter, nat_lt, ◌==◌}
 use Rattle.std.specs.List.{AllByRecursion as Each}
 use Rattle.std.proofs.lemmas.List.{append-nil, length-map}
@@ -16,7 +16,7 @@ use Rattle.sim_spec.specs.Replay.{events_at}
 use Rattle.speedes_queue.specs.Queues.{QueueView, pending_of}
 use Rattle.object_log.specs.Dones.{Done}
 use Rattle.object_log.specs.EventCalls.{HasGoneBack, HasUndoneFrom}
-use Rattle.object_log.specs.EventLogs.{done_key, dones_at, is_of, logs_upto, rolled_back, state_in, stays}
+use Rattle.object_log.specs.EventLogs.{done_key, dones_at, is_of, logs_upto, state_in, stays}
 use Rattle.object_log.specs.Logs.{LogView, events_of}
 use Rattle.object_log.specs.Objects.{AreSound}
 use Rattle.object_log.specs.Parts.{from_key}

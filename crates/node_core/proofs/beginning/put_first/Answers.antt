@@ -6,7 +6,7 @@ use Rattle.event_log.specs.NodeLogs.{NodeLogView}
 use Rattle.node_core.specs.Homes.{HomesView}
 use Rattle.node_core.specs.NewLogs.{AreFirst}
 use Rattle.node_core.proofs.FirstLogFacts.{first-away, first-here, next-new}
-use Rattle.node_core.proofs.beginning.put_first.Goals.{then-home-number+in_ok-first_cells+in_ok-add, else-home-number}
+use Rattle.node_core.proofs.beginning.put_first.Goals.{then-home-number+in_ok-put_object, else-home-number}
 use Rattle.node_core.proofs.beginning.put_first.Goals as goal
 
 pub home-requires : goal.home-requires
@@ -14,13 +14,13 @@ home-requires g c =
     let W : ℕ → Type 0 = λ n. c.loop-object.object < n in
     subst W (c.objects-object-end.ensures ∙ sym c.requires.known) c.loop-object-test.true
 
-pub first_cells-requires : goal.first_cells-requires
-first_cells-requires g c =
+pub put_object-requires-clause-object : goal.put_object-requires-clause-object
+put_object-requires-clause-object g c κs lives =
     let W : ℕ → Type 0 = λ n. c.loop-object.object < n in
     subst W c.objects-object-end.ensures c.loop-object-test.true
 
-pub add-requires : goal.add-requires
-add-requires g c = next-new (g.M.Model.meaning c.args.model.now) c.args.homes.now c.args.number c.loop-object.object c.loop-object.log c.loop-object.places.items c.loop-object.here c.loop-object.invariant
+pub put_object-requires-clause-away : goal.put_object-requires-clause-away
+put_object-requires-clause-away g c κs lives = next-new (g.M.Model.meaning c.args.model.now) c.args.homes.now c.args.number c.loop-object.object c.loop-object.log c.loop-object.places.items c.loop-object.here c.loop-object.invariant
 
 pub loop-object-init : goal.loop-object-init
 loop-object-init g c = c.requires.none
@@ -38,14 +38,13 @@ loop-object-preserved g c =
     let Q : NodeLogView → Type 0 = λ log. AreFirst m homes number (n + 1) log (places ++ here ∷ []) c.if-home-number.here in
     let R : NodeLogView → ℕ → Type 0 = λ log count. AreFirst m homes number (n + 1) log (places ++ here ∷ []) count in
     subst P {x = places ++ here ∷ []} (sym c.in_ok-push.ensures.items) (elim c.if-home-number.branch [
-      | then-home-number+in_ok-first_cells+in_ok-add w ↦
-          let more : NodeLogView = w.add.new.self in
-          let same = w.add.ensures.same in
-          let o : ObjectView = record { object = n; state = record { cells = w.in_ok-first_cells.field-0.contents; sent = 0 } } in
+      | then-home-number+in_ok-put_object w ↦
+          let more : NodeLogView = w.put_object.new.log in
+          let same = w.put_object.ensures.same in
+          let o : ObjectView = record { object = n; state = record { cells = m.first n; sent = 0 } } in
           subst Q {x = more} (sym w.log-is) (subst (R more) {x = here + 1} (sym w.here-is)
-          (first-here m homes number n log places here c.loop-object.invariant more o refl w.in_ok-add.ensures.ok (ap (λ (v : NodeLogView). v.log.done) same)
-          (sym c.home.ensures.home ∙ w.if-home-number.true) (λ i. record { cells = w.in_ok-first_cells.ensures i; sent = 0 })
-          (ap (λ (v : NodeLogView). v.chained) same) (ap (λ (v : NodeLogView). v.nodes) same)))
+          (first-here m homes number n log places here c.loop-object.invariant more o refl w.in_ok-put_object.ensures.put (ap (λ (v : NodeLogView). v.log.done) same)
+          (sym c.home.ensures.home ∙ w.if-home-number.true) refl (ap (λ (v : NodeLogView). v.chained) same) (ap (λ (v : NodeLogView). v.nodes) same)))
       | else-home-number w ↦
           subst Q {x = log} (sym w.log-is) (subst (R log) {x = here} (sym w.here-is)
           (first-away m homes number n log places here c.loop-object.invariant (λ home. w.if-home-number.false (c.home.ensures.home ∙ home))))

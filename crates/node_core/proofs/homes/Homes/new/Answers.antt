@@ -1,7 +1,8 @@
 -- Home by home the objects are placed.
-use Rattle.std.proofs.Common.{ℕ, ◌<◌, List, length, sym, ap, subst, arith}
+use Rattle.std.proofs.Common.{◌≡◌, ◌∙◌, ℕ, ◌<◌, List, length, refl, sym, ap, subst, arith}
 use Rattle.std.specs.List.{AllByRecursion as Each}
 use Rattle.world_spec.specs.World.{home_by}
+use Rattle.node_core.specs.Homes.{AreCounts}
 use Rattle.node_core.proofs.HomeLemmas.{placed-more}
 use Rattle.node_core.proofs.homes.Homes.new.Goals as goal
 
@@ -20,3 +21,21 @@ loop-object-preserved c =
     let placed = c.placed.ensures in
     let more = placed-more (home_by c.args.placement c.args.objects c.args.nodes) c.args.nodes c.loop-object.object c.placed.result c.loop-object.homes.items _ so_far.long so_far.within so_far.homes placed.home placed.node c.in_ok-push.ensures.items in
     record { long = more.0; within = more.1; homes = more.2 }
+
+pub returns-clause-nodes : goal.returns-clause-nodes
+returns-clause-nodes c = refl
+
+pub returns-clause-objects : goal.returns-clause-objects
+returns-clause-objects c = let all : c.loop-object.object ≡ c.args.objects = omega arith in c.loop-object.invariant.long ∙ all
+
+pub returns-clause-homes : goal.returns-clause-homes
+returns-clause-homes c object below = let all : c.loop-object.object ≡ c.args.objects = omega arith in c.loop-object.invariant.homes object (omega arith)
+
+pub counts_of-requires-clause-within : goal.counts_of-requires-clause-within
+counts_of-requires-clause-within c = subst (Each (λ (home : ℕ). home < c.args.nodes)) (sym c.as_slice.ensures.value) c.loop-object.invariant.within
+
+pub invariant_of-result : goal.invariant_of-result
+invariant_of-result c = (
+  record { low = c.requires.low; high = c.requires.high; few = (let long = c.loop-object.invariant.long in omega arith); within = c.loop-object.invariant.within },
+  subst (λ hs. AreCounts c.args.nodes hs c.in_ok-counts.counts.items) c.as_slice.ensures.value c.in_ok-counts.ensures,
+)

@@ -54,3 +54,21 @@ returns-clause-ok c =
     ok-more c.commit.result (λ done. HasCommittedTo c.as_slice.result.now c.args.horizon c.args.cut.now old new told out) (λ done. C c.args.self.now)
     (λ done h. subst C c.self.view_is (committed-here homes c.args.horizon c.args.cut.now old new told out long (subst K (sym c.self.view_is) c.requires.known) (subst T is h)))
     c.commit.ensures.ok
+
+pub commit-requires-clause-told : goal.commit-requires-clause-told
+commit-requires-clause-told c = c.requires.told
+
+pub commit-requires-clause-blank : goal.commit-requires-clause-blank
+commit-requires-clause-blank c = c.requires.blank
+
+pub returns-clause-told : goal.returns-clause-told
+returns-clause-told c = c.commit.ensures.told
+
+pub returns-clause-blank : goal.returns-clause-blank
+returns-clause-blank c = c.commit.ensures.blank
+
+pub returns-clause-homes : goal.returns-clause-homes
+returns-clause-homes c = ap (λ (l : LogsView). l.homes) c.self.view_is
+
+pub returns-clause-long : goal.returns-clause-long
+returns-clause-long c = c.commit.ensures.long ∙ c.self.invariant.nodes ∙ ap (λ (l : LogsView). l.homes.nodes) c.self.view_is

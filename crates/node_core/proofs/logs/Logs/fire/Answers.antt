@@ -1,6 +1,7 @@
 -- Each object stays at its place, and the messages go to their homes.
 use Rattle.std.proofs.Common.{◌≡◌, ℕ, ◌+◌, ◌<◌, ◌^◌, List, length, None, is_some, true, sym, ap, subst, ◌∙◌}
 use Rattle.std.specs.Arc.{arc_value}
+use Rattle.std.proofs.lemmas.Result.{IfOk-weaker, on_err_weaker}
 use Rattle.std.specs.Prelude.{IfSome, IsTrue}
 use Rattle.std.specs.List.{AllByRecursion as Each}
 use Rattle.event_key.specs.Keys.{key_lt}
@@ -62,3 +63,25 @@ invariant_of-self g c =
     let H : List ℕ → Type 0 = λ hs. AreHomed hs old.chained → AreHomed hs new.chained in
     let homed = subst H (c.as_slice.ensures.homes ∙ ap (λ (h : HomesView). h.homes) c.deref.ensures) c.process.ensures.homed c.self.invariant.homed in
     logged-still homes old new c.self.inside.places.items same c.process.ensures.nodes homed c.self.invariant
+
+pub process-requires-clause-time : goal.process-requires-clause-time
+process-requires-clause-time g c = λ k l. c.requires.time
+
+pub process-requires-clause-known : goal.process-requires-clause-known
+process-requires-clause-known g c = λ k l.
+    ap length (c.as_slice.ensures.homes ∙ ap (λ (h : HomesView). h.homes) c.deref.ensures) ∙ ap (λ (v : LogsView). length v.homes.homes) c.self.view_is ∙ c.requires.objects
+
+pub returns-clause-ok : goal.returns-clause-ok
+returns-clause-ok g c =
+    let m : Meaning = g.M.Model.meaning c.args.model.now in
+    let P : LogsView → ℕ → Type 0 = λ v least. HasProcessed m v.log c.process.new.self.log c.args.event least in
+    IfOk-weaker c.process.result (P (record { homes = arc_value c.self.inside.homes; log = c.self.inside.log.log })) (P c.args.self.now) (λ least is. subst (λ v. P v least) c.self.view_is is) c.process.ensures.ok
+
+pub returns-clause-err : goal.returns-clause-err
+returns-clause-err g c = on_err_weaker c.process.result (λ is. is ∙ ap (λ (v : LogsView). v.log) c.self.view_is) c.process.ensures.err
+
+pub returns-clause-back : goal.returns-clause-back
+returns-clause-back g c = c.process.ensures.back
+
+pub returns-clause-homes : goal.returns-clause-homes
+returns-clause-homes g c = ap (λ (v : LogsView). v.homes) c.self.view_is

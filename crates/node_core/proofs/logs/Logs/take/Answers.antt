@@ -1,6 +1,8 @@
 -- An object leaves the logs.
-use Rattle.std.proofs.Common.{◌≡◌, ℕ, ◌<◌, ◌≤◌, Bool, true, false, List, length, ltb, ltb-true, ltb-false, refl, sym, ap, subst, ◌∙◌, arith}
+use Rattle.std.proofs.Common.{◌≡◌, ◌≤◌, ℕ, Bool, true, false, List, length, ltb, ltb-true, ltb-false, refl, sym, ap, subst, ◌∙◌}
 use Rattle.std.specs.Arc.{arc_value}
+use Rattle.std.specs.Prelude.{Some, filter, not}
+use Rattle.object_log.specs.EventLogs.{dones_at, is_of, slot_in, state_in}
 use Rattle.object_log.specs.Objects.{IsPlaced}
 use Rattle.node_core.specs.Logged.{AreLogged, LogsView}
 use Rattle.node_core.proofs.MovingLogs.{left-last, left-moved, number-known, placed-at}
@@ -34,3 +36,32 @@ invariant_of-self c =
           (left-last c.args.object place i.log new i.places.items (arc_value i.homes) (arc_value c.args.homes) c.self.invariant t.gone t.others t.places t.carried t.nodes nodes objects ge)
     ] in
     by_test (ltb place (length new.log.objects)) refl
+
+pub take-moved-requires-clause-room : goal.take-moved-requires-clause-room
+take-moved-requires-clause-room c =
+    let F : LogsView → Type 0 = λ l. length (dones_at c.args.object l.log.done) ≤ c.args.room.events in
+    subst F (sym c.self.view_is) c.requires.room
+
+pub returns-clause-log : goal.returns-clause-log
+returns-clause-log c =
+    let S : LogsView → Type 0 = λ l. slot_in l.log c.args.object ≡ Some c.take-moved.result.log in
+    subst S c.self.view_is c.take-moved.ensures.log
+
+pub returns-clause-gone : goal.returns-clause-gone
+returns-clause-gone c = c.take-moved.ensures.gone
+
+pub returns-clause-others : goal.returns-clause-others
+returns-clause-others c other apart =
+    let S : LogsView → Type 0 = λ l. state_in c.take-moved.new.self.log.objects other ≡ state_in l.log.objects other in
+    subst S c.self.view_is (c.take-moved.ensures.others other apart)
+
+pub returns-clause-done : goal.returns-clause-done
+returns-clause-done c =
+    let S : LogsView → Type 0 = λ l. c.take-moved.new.self.log.done ≡ filter (λ d. not (is_of c.args.object d)) l.log.done in
+    subst S c.self.view_is c.take-moved.ensures.done
+
+pub returns-clause-room : goal.returns-clause-room
+returns-clause-room c = c.take-moved.ensures.room
+
+pub returns-clause-places : goal.returns-clause-places
+returns-clause-places c = c.take-moved.ensures.places_room

@@ -1,5 +1,5 @@
 -- What stands at a place is known to.
-use Rattle.std.proofs.Common.{◌≡◌, ◌≢◌, ◌<◌, ◌≤◌, ℕ, Some, Option, sym, ap, subst, ◌∙◌, arith}
+use Rattle.std.proofs.Common.{ℕ, Option, ap, subst, arith}
 use Rattle.std.specs.Prelude.{IfSome, slice_set}
 use Rattle.object_log.specs.Objects.{IsPlaced}
 use Rattle.node_core.proofs.MovingLogs.{placed-one, placed-within}

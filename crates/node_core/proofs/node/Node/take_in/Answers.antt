@@ -1,5 +1,5 @@
 -- An object comes to the node.
-use Rattle.std.proofs.Common.{◌≡◌, ◌+◌, ◌%◌, ◌^◌, ℕ, List, length, refl, sym, ap, ◌∙◌, subst}
+use Rattle.std.proofs.Common.{◌+◌, ◌%◌, ◌^◌, refl, sym, subst}
 use Rattle.std.specs.Arc.{arc_value}
 use Rattle.node_core.specs.Homes.{HomesView}
 use Rattle.node_core.specs.Moving.{CanTakeIn, HasTakenIn}

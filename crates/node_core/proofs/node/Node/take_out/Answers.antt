@@ -1,10 +1,10 @@
 -- An object leaves the node.
-use Rattle.std.proofs.Common.{◌≡◌, ◌≢◌, ◌+◌, ◌-◌, ◌%◌, ◌^◌, ◌≤◌, ℕ, List, length, sym, ap, ◌∙◌, subst}
+use Rattle.std.proofs.Common.{◌≢◌, ◌+◌, ◌-◌, ◌%◌, ◌^◌, sym, subst}
 use Rattle.std.specs.Arc.{arc_value}
 use Rattle.world_spec.specs.Share.{IsHome}
 use Rattle.node_core.specs.Homes.{HomesView, home_of}
 use Rattle.node_core.specs.Moving.{AreAlikeBut, HasTakenOut}
-use Rattle.node_core.specs.Nodes.{NodeView, home, log_at}
+use Rattle.node_core.specs.Nodes.{NodeView, home}
 use Rattle.node_core.specs.Sound.{IsNode}
 use Rattle.node_core.proofs.MovingNode.{node-left, taken-out}
 use Rattle.node_core.proofs.NodeViews.{node_of, counts_of}

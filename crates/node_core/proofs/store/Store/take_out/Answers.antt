@@ -1,11 +1,9 @@
 -- An object leaves with its log and its waiting events.
-use Rattle.std.proofs.Common.{◌≡◌, ℕ, ◌<◌, ◌≤◌, true, List, length, is_some, sym, ap, ◌∙◌, subst, refl}
-use Rattle.std.specs.Arc.{arc_value}
+use Rattle.std.proofs.Common.{ℕ, ◌≤◌, List, length, sym, ap, ◌∙◌, subst}
 use Rattle.model_core.specs.declared.event.Event.{Event}
-use Rattle.object_log.specs.EventLogs.{state_in}
 use Rattle.speedes_queue.specs.Queues.{pending_of}
 use Rattle.node_core.specs.Homes.{HomesView}
-use Rattle.node_core.specs.Moving.{HasLeft, MovedView}
+use Rattle.node_core.specs.Moving.{HasLeft}
 use Rattle.node_core.specs.Nodes.{IsHere, log_at}
 use Rattle.node_core.specs.Stores.{StoreView}
 use Rattle.node_core.proofs.ListedLogs.{log-done}
