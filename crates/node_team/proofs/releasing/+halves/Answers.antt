@@ -58,6 +58,6 @@ release_in_parts-returns g t c =
     } in
     let both = c.release_both.ensures in
     let left = c.release_both.new in
-    let low_left = desks_of left.low.0 left.low.1.0 left.low.1.1.0 left.low.1.1.1.0 in
-    let high_left = desks_of left.high.0 left.high.1.0 left.high.1.1.0 left.high.1.1.1.0 in
+    let low_left = desks_of left.n1 left.e1 left.c1 left.i1 in
+    let high_left = desks_of left.n2 left.e2 left.c2 left.i2 in
     on-ok-both c.release_both.result (both-served g.E.NodeEnd g.M.Model.meaning c.args.due.now all low high low_left high_left halves) both.low both.high
