@@ -1,7 +1,7 @@
 -- Two rows of nodes that receive side by side are one that has received.
 use Rattle.std.proofs.Common.{◌≡◌, ℕ, zero, suc, ◌+◌, ◌-◌, ◌<◌, ◌≤◌, Bool, true, false, List, [], ◌∷◌, ◌++◌, length, map, refl, sym, ap, ◌∙◌, subst, arith, ltb, ltb-true, ltb-false}
 use Rattle.std.proofs.lemmas.List.{length-append, length-map, map-append}
-use Rattle.std.proofs.lemmas.Option.{slice_get_past, slice_get_within}
+use Rattle.std.proofs.lemmas.Option.{slice_get_past}
 use Rattle.std.specs.Prelude.{slice_get, Some}
 use Rattle.model_core.specs.declared.event.Event.{Event}
 use Rattle.model_core.specs.Meaning.{Meaning}
