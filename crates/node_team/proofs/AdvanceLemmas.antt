@@ -1,5 +1,5 @@
 -- An advance, turn by turn.
-use Rattle.std.proofs.Common.{◌≡◌, ◌≢◌, ℕ, ◌+◌, ◌≤◌, min, Bool, true, false, List, [], ◌∷◌, ◌++◌, length, refl, sym, ap, ◌∙◌, subst, inl, inr, arith, append_assoc, eqb, eqb-true}
+use Rattle.std.proofs.Common.{◌≡◌, ◌≢◌, ℕ, suc, ◌+◌, ◌≤◌, min, Bool, true, false, List, [], ◌∷◌, ◌++◌, length, refl, sym, ap, ◌∙◌, subst, inl, inr, arith, append_assoc, eqb, eqb-true}
 use Rattle.std.proofs.lemmas.Bool.{eqb-false}
 use Rattle.std.proofs.lemmas.List.{append-nil}
 use Rattle.event_key.specs.declared.key.Key.{Key}
@@ -9,19 +9,38 @@ use Rattle.model_core.specs.Meaning.{Meaning}
 use Rattle.model_core.specs.declared.event.Event.{Event}
 use Rattle.std.specs.List.{AllByRecursion}
 use Rattle.world_spec.specs.Moves.{IsIdle}
+use Rattle.world_spec.specs.Share.{IsHome}
 use Rattle.horizon_word.specs.Views.{SeatView}
 use Rattle.key_order.proofs.EachLemmas.{Each-append}
 use Rattle.object_log.specs.Dones.{Done}
 use Rattle.object_log.specs.Logs.{LogView}
 use Rattle.node_core.specs.Homes.{HomesView, home_of}
-use Rattle.node_core.specs.Nodes.{NodeView, log_at, home, data_of, IsAsBefore}
-use Rattle.node_core.specs.Steps.{IsHeldLeast, HasProcessed}
+use Rattle.node_core.specs.Nodes.{NodeView, base_at, log_at, home, data_of, IsAsBefore}
+use Rattle.node_core.specs.Steps.{IsHeldLeast, HasProcessed, IsLeftIdle}
 use Rattle.cycle_core.specs.Known.{IsKnown}
-use Rattle.cycle_core.specs.Works.{WorksOn}
+use Rattle.cycle_core.specs.Works.{IsSmall, WorksOn}
 use Rattle.cycle_core.proofs.WorkLemmas.{as_before, works-none, works-more, works-then, slot-log}
-use Rattle.node_team.specs.Advances.{HasOffered, HasTold, AreFrom, CanAdvance, HasTurned}
+use Rattle.node_team.specs.Advances.{HasOffered, HasTold, AreFrom, CanAdvance, HasTurned, IsAdvanced, IsIdleBelow}
 use Rattle.node_team.proofs.FloorLemmas.{one-later, floor-waits, floor-held}
 use Rattle.world_spec.proofs.IdleLemmas.{idle-on}
+
+-- one more processed is one fewer that waits
+pub one-fewer : {A : Type 0} (waits left : List A) (x : A) → waits ≡ x ∷ left → suc (length left) ≤ length waits
+one-fewer waits left x is = let long = ap length is in omega arith
+
+-- a node that is small stays so as it works
+pub small-on : {M : Type 0} (meaning_of : M → Meaning) (first n : NodeView M) → WorksOn (meaning_of first.model) first n → IsSmall (meaning_of first.model) first → IsSmall (meaning_of n.model) n
+small-on {M} meaning_of first n works small =
+    let P : M → Type 0 = λ v. IsSmall (meaning_of v) n in
+    subst P (sym works.same.model) (record {
+      sent = λ object here.
+          let H : HomesView → ℕ → Type 0 = λ homes k. IsHome (meaning_of first.model) (home_of homes) k object in
+          let at_first : H first.homes first.number = subst (λ k. H first.homes k) works.same.number (subst (λ homes. H homes n.number) works.same.homes here) in
+          let same : (base_at n.logs object).sent ≡ (base_at first.logs object).sent = ap (λ b. b.sent) (works.base object) in
+          let low = small.sent object at_first in
+          omega arith;
+      few = (let done = works.processed in let left = works.waiting in let few = small.few in omega arith);
+    })
 
 -- a node on its way
 pub record IsAdvancing {M : Type 0} (m : Meaning) (first : NodeView M) (seat : SeatView) (n : NodeView M) (now : SeatView) : Type 0 where
@@ -113,6 +132,38 @@ module _ {M : Type 0} (meaning_of : M → Meaning) (first : NodeView M) (seat : 
       idle-later known idle =
           let K : M → Type 0 = λ v. IsKnown (meaning_of v) n in
           idle-after m bound n new gone.key gone.least (subst K model-is known) did_here later.seen now.seen gone.offered.seen idle
+
+    -- nothing is done where it was idle below a bound
+    module _ (bound : ℕ) (new : NodeView M) (later : SeatView) (left : IsLeftIdle (meaning_of n.model) bound n new) (same : later ≡ now) where
+      pub advancing-left : IsAdvancing m first seat new later
+      advancing-left =
+          let P : SeatView → Type 0 = λ s. IsAdvancing m first seat new s in
+          let Q : NodeView M → Type 0 = λ x. IsAdvancing m first seat x now in
+          subst P (sym same) (subst Q (sym left.unchanged) advancing)
+
+      left-below : (b : ℕ) → bound ≡ b → IsIdleBelow m b new
+      left-below b is =
+          let P : NodeView M → Type 0 = λ x. IsIdleBelow m b x in
+          let Q : ℕ → Type 0 = λ k. IsIdleBelow m k n in
+          let R : M → Type 0 = λ v. IsIdleBelow (meaning_of v) bound n in
+          subst P (sym left.unchanged) (subst Q is (subst R model-is left.idle))
+
+      pub idle-left : bound ≡ now.seen → IsIdleBelow m later.seen new
+      idle-left is = left-below later.seen (is ∙ ap (λ s. s.seen) (sym same))
+
+      -- it is deep enough where that is so below the end
+      pub advanced-left : (ahead : ℕ) → IsIdleBelow m now.seen n → bound ≡ end_stamp first.terms.end → IsAdvanced m ahead first seat new later
+      advanced-left ahead idle is =
+          let P : NodeView M → Type 0 = λ x. IsIdleBelow m later.seen x in
+          let Q : SeatView → Type 0 = λ s. IsIdleBelow m s.seen n in
+          let on = advancing-left in
+          let end_is : end_stamp first.terms.end ≡ end_stamp new.terms.end = ap (λ t. end_stamp t.end) (sym on.works.same.terms) in
+          record {
+            idle = subst P (sym left.unchanged) (subst Q (sym same) idle);
+            offered = record { held = on.held; held_is = on.held_is; least = on.least };
+            taken = on.taken;
+            deep = inr (left-below (end_stamp new.terms.end) (is ∙ end_is));
+          }
 
 module _ {M : Type 0} (told : Key → Type 0) where
   -- a node that has processed nothing has nothing to tell

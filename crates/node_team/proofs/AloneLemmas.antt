@@ -1,5 +1,5 @@
 -- A node that advances on its own, below a plain bound.
-use Rattle.std.proofs.Common.{◌≡◌, ◌⊎◌, inl, inr, ℕ, suc, ◌≤◌, List, [], min, refl, sym, ◌∙◌, subst, arith}
+use Rattle.std.proofs.Common.{◌≡◌, ◌⊎◌, inl, inr, ℕ, suc, ◌≤◌, List, [], min, refl, sym, ap, ◌∙◌, subst, arith}
 use Rattle.std.specs.Prelude.{slice_get, Some}
 use Rattle.std.specs.List.{AllByRecursion as Each}
 use Rattle.event_key.specs.declared.key.Key.{Key}
@@ -16,7 +16,7 @@ use Rattle.cycle_core.specs.Works.{IsSettled}
 use Rattle.cycle_core.proofs.ClosingLemmas.{AreSettling, settling-next}
 use Rattle.cycle_core.proofs.PlaceLemmas.{at-same, upto-more}
 use Rattle.cycle_core.proofs.WorkLemmas.{IsSettling, as_before, settling-more, works-none}
-use Rattle.node_team.specs.Advances.{IsIdleBelow}
+use Rattle.node_team.specs.Advances.{IsDeep, IsIdleBelow}
 use Rattle.node_team.specs.Forks.{HasRun}
 use Rattle.node_team.proofs.AdvanceLemmas.{idle-after}
 use Rattle.node_team.proofs.RunningLemmas.{AreRunning}
@@ -45,6 +45,15 @@ module _ {M : Type 0} (meaning_of : M → Meaning) (first : NodeView M) (bound f
       let P : NodeView M → Type 0 = λ x. IsPast m first bound fallen x in
       let I : M → Type 0 = λ x. IsIdleBelow (meaning_of x) fallen n in
       subst P (sym left.unchanged) (record { settling = settling; idle = subst I settling.works.same.model left.idle })
+
+  -- it is deep enough where nothing is left below the end
+  pub past-deep : (ahead end : ℕ) (new : NodeView M) → IsPast m first bound fallen n → IsLeftIdle (meaning_of n.model) end n new → end ≡ end_stamp first.terms.end → IsDeep m ahead first new
+  past-deep ahead end new past left is =
+      let same = past.settling.works.same in
+      let P : NodeView M → Type 0 = λ x. IsDeep m ahead first x in
+      let I : M → ℕ → Type 0 = λ v b. IsIdleBelow (meaning_of v) b n in
+      let end_is : end ≡ end_stamp n.terms.end = is ∙ ap (λ t. end_stamp t.end) (sym same.terms) in
+      subst P (sym left.unchanged) (inr (subst (λ b. I first.model b) end_is (subst (λ v. I v end) same.model left.idle)))
 
   -- a step below any bound up to the end keeps it so
   pub past-more : (below least : ℕ) (key : Key) (new : NodeView M) → below ≤ end_stamp first.terms.end → IsKnown (meaning_of n.model) n → IsPast m first bound fallen n

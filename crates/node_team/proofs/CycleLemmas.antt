@@ -1,6 +1,6 @@
 -- A cycle in threads: advanced, closed, cut and ended.
-use Rattle.std.proofs.Common.{◌≡◌, ℕ, List, refl, sym, ap, ◌∙◌, subst, arith}
-use Rattle.std.specs.Prelude.{Result, Ok, Err, IfOk}
+use Rattle.std.proofs.Common.{◌≡◌, ℕ, Bool, true, false, List, refl, sym, ap, ◌∙◌, subst, arith}
+use Rattle.std.specs.Prelude.{Result, Ok, Err, IfOk, OnErr, OnOk}
 use Rattle.std.proofs.lemmas.Option.{slice_get_within}
 use Rattle.event_key.specs.declared.key.Key.{Key}
 use Rattle.event_key.specs.Stamps.{end_stamp}
@@ -23,6 +23,11 @@ use Rattle.cycle_core.proofs.WorldLemmas.{close-closed, close-stands}
 use Rattle.node_team.specs.Closes.{HasClosed}
 use Rattle.node_team.specs.Forks.{AllHaveRun}
 use Rattle.node_team.proofs.RunningLemmas.{run-works}
+
+-- what holds unless a call was refused holds of a world that isn't spent
+pub ready-after : {A E : Type 0} (P : Type 0) (r : Result A E) (spent : Bool) → OnOk r P → OnErr r (spent ≡ true) → spent ≡ false → P
+ready-after P (Ok x) spent ready refused awake = ready
+ready-after P (Err e) spent ready refused awake = absurd (cc)
 
 module _ {M : Type 0} (meaning_of : M → Meaning) where
   -- nodes that did nothing

@@ -1,6 +1,7 @@
 -- What is said of each place of two lists.
-use Rattle.std.proofs.Common.{◌≡◌, ℕ, suc, ◌<◌, List, [], ◌∷◌, length, get_or, refl, arith}
-use Rattle.std.specs.Prelude.{Result, Ok, Err, IfOk, OnOk}
+use Rattle.std.proofs.Common.{◌≡◌, ℕ, suc, ◌<◌, List, [], ◌∷◌, length, get_or, refl, subst, sym, arith}
+use Rattle.std.specs.Result.{result_and}
+use Rattle.std.specs.Prelude.{Result, Ok, Err, IsErr, IfOk, OnOk}
 use Rattle.std.specs.List.{AllZip}
 use Rattle.cycle_core.specs.Places.{EachPair}
 
@@ -24,6 +25,21 @@ if-ok (Err e) into is = tt
 pub on-ok-both : {A E : Type 0} {P Q R : Type 0} (r : Result A E) → (P → Q → R) → OnOk r P → OnOk r Q → OnOk r R
 on-ok-both (Ok x) both p q = both p q
 on-ok-both (Err e) both p q = tt
+
+-- what holds unless a part was refused holds unless the whole was
+pub and-first : {A E : Type 0} (P : Type 0) (a b r : Result A E) → r ≡ result_and a b → OnOk a P → OnOk r P
+and-first P (Ok x) (Ok y) r is holds = subst (λ v. OnOk v P) (sym is) holds
+and-first P (Ok x) (Err e) r is holds = subst (λ v. OnOk v P) (sym is) tt
+and-first P (Err e) b r is holds = subst (λ v. OnOk v P) (sym is) tt
+
+pub and-second : {A E : Type 0} (P : Type 0) (a b r : Result A E) → r ≡ result_and a b → OnOk b P → OnOk r P
+and-second P (Ok x) b r is holds = subst (λ v. OnOk v P) (sym is) holds
+and-second P (Err e) b r is holds = subst (λ v. OnOk v P) (sym is) tt
+
+-- a refusal says nothing
+pub err-on : {A E : Type 0} (P : Type 0) (r : Result A E) → IsErr r → OnOk r P
+err-on P (Ok x) err = absurd (cc)
+err-on P (Err e) err = tt
 
 module _ {A : Type 0} (R : A → A → Type 0) where
   -- what is said of each pair is said of the pairs in turn

@@ -1,7 +1,7 @@
 -- Two rows of nodes that receive side by side are one that has received.
 use Rattle.std.proofs.Common.{◌≡◌, ℕ, zero, suc, ◌+◌, ◌-◌, ◌<◌, ◌≤◌, Bool, true, false, List, [], ◌∷◌, ◌++◌, length, map, refl, sym, ap, ◌∙◌, subst, arith, ltb, ltb-true, ltb-false}
 use Rattle.std.proofs.lemmas.List.{length-append, length-map, map-append}
-use Rattle.std.proofs.lemmas.Option.{slice_get_past, slice_get_within}
+use Rattle.std.proofs.lemmas.Option.{slice_get_past}
 use Rattle.std.specs.Prelude.{slice_get, Some}
 use Rattle.model_core.specs.declared.event.Event.{Event}
 use Rattle.model_core.specs.Meaning.{Meaning}
@@ -10,8 +10,9 @@ use Rattle.parcel_exchange.specs.declared.inbox.Inbox.{Inbox}
 use Rattle.node_core.specs.Nodes.{NodeView}
 use Rattle.cycle_core.specs.Ends.{AllCanReceive, Receives, ReceiveUpto}
 use Rattle.cycle_core.specs.Places.{AtEach}
+use Rattle.cycle_core.proofs.PlaceLemmas.{same-some}
 use Rattle.node_team.specs.Receipts.{CanReceiveAll, HaveReceivedAll}
-use Rattle.node_team.specs.Releases.{arrived_in}
+use Rattle.node_team.specs.Releases.{AreClear, arrived_in}
 
 module _ {A : Type 0} where
   front-at : (xs ys : List A) (k : ℕ) (x : A) → slice_get xs k ≡ Some x → slice_get (xs ++ ys) k ≡ Some x
@@ -43,6 +44,10 @@ module _ {A : Type 0} where
   each-whole P [] ys first second k y at = second k y at
   each-whole P (x ∷ xs) ys first second zero y at = first zero y at
   each-whole P (x ∷ xs) ys first second (suc k) y at = each-whole P xs ys (λ j. first (suc j)) second k y at
+
+  each-one : (P : A → Type 0) (x : A) → P x → AtEach (λ k. P) (x ∷ [])
+  each-one P x one zero y at = subst P (same-some x y at) one
+  each-one P x one (suc k) y at = absurd (cc)
 
 module _ {M : Type 0} (meaning_of : M → Meaning) where
   -- what the first so many have received, all have where there are no more
@@ -121,3 +126,11 @@ module _ {M : Type 0} (meaning_of : M → Meaning) where
             arrived = each-whole (λ inbox. inbox.arrived ≡ []) l₁ l₂ first.clear.arrived second.clear.arrived;
           };
         }))
+
+-- one more inbox with nothing in it
+pub clear-more : (many : ℕ) (inboxes : List Inbox) (inbox : Inbox) → AreClear many inboxes → inbox.early.items ≡ [] → inbox.arrived ≡ [] → AreClear (many + 1) (inboxes ++ inbox ∷ [])
+clear-more many inboxes inbox clear early arrived = record {
+  many = (let long = length-append inboxes (inbox ∷ []) in let was = clear.many in omega arith);
+  early = each-whole (λ (x : Inbox). x.early.items ≡ []) inboxes (inbox ∷ []) clear.early (each-one (λ (x : Inbox). x.early.items ≡ []) inbox early);
+  arrived = each-whole (λ (x : Inbox). x.arrived ≡ []) inboxes (inbox ∷ []) clear.arrived (each-one (λ (x : Inbox). x.arrived ≡ []) inbox arrived);
+}

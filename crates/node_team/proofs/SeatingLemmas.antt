@@ -1,7 +1,7 @@
 -- Floors of nodes, and what is said of nodes at their seats.
 use Rattle.std.proofs.Common.{◌≡◌, ℕ, zero, suc, ◌+◌, ◌≤◌, Bool, true, false, List, [], ◌∷◌, ◌++◌, length, map, get_or, refl, sym, ap, ◌∙◌, subst, arith, ltb, ltb-true, ltb-false}
 use Rattle.std.proofs.Math.Seq.{get_or-append_seam}
-use Rattle.std.proofs.lemmas.List.{length-append, length-map, get_or_append_left}
+use Rattle.std.proofs.lemmas.List.{append-nil, length-append, length-map, get_or_append_left}
 use Rattle.std.specs.Option.{option_to_list}
 use Rattle.std.proofs.lemmas.Option.{get_or_from_slice_get, slice_get-get_or, slice_get_within}
 use Rattle.std.specs.Prelude.{Contains, slice_get, Option, Some, None, filter, ◌==◌, All, Result, Ok, Err, IsOk, IfOk, OnOk, Vec}
@@ -143,3 +143,8 @@ module _ {M : Type 0} (meaning_of : M → Meaning) where
   unseated-run word ahead nodes old new (Ok now) are gone is answered =
       let P : List (NodeView M) → List (NodeView M) → Type 0 = AllHaveRun meaning_of ahead in
       subst (λ ns. P nodes ns) (sym is) (subst (λ ns. P ns (map node_in new)) are (all-run word ahead old new gone answered))
+
+-- what was yielded is all, where nothing is left
+pub nothing-left : {A : Type 0} (xs ys zs : List A) (many : ℕ) → xs ++ ys ≡ zs → many ≡ length ys → many ≡ 0 → xs ≡ zs
+nothing-left xs [] zs many whole long none = sym (append-nil xs) ∙ whole
+nothing-left xs (y ∷ ys) zs many whole long none = absurd (omega arith)

@@ -1,6 +1,5 @@
 //! How nodes receive what has come to them.
 ghost use Rattle.std.specs.Prelude.{◌<◌, length, OnOk};
-ghost use Rattle.std.specs.Thread.{IsSend, IsSync};
 ghost use Rattle.node_team.specs.Receipts.{CanReceiveAll, HaveReceivedAll};
 
 use cycle_core::receive;
@@ -14,17 +13,11 @@ use std::mem;
 use std::thread::{Threads, join_mut};
 
 /// How nodes receive.
-#[derive(Clone, Copy, Debug)]
+#[derive(Clone, Copy)]
 pub struct Receipt {
     pub alloc: Global,
     /// So many nodes at most, at least one, receive in one thread. More of them are halved.
     pub most: usize,
-}
-
-/// Some nodes that stand in a row, and for each of them its inbox.
-struct Row<'a, M: SimulationModel> {
-    nodes: &'a mut [Node<M>],
-    inboxes: &'a mut [Inbox],
 }
 
 /// Hands each node what has come to it, and leaves its inbox empty, one after another, on the calling thread.
@@ -62,46 +55,32 @@ pub fn receive_arrived<R: Threads + Sync, M: SimulationModel>(
     let half = nodes.len() / 2;
     let (n1, n2) = nodes.split_at_mut(half);
     let (i1, i2) = inboxes.split_at_mut(half);
-    let low = Row {
-        nodes: n1,
-        inboxes: i1,
-    };
-    let high = Row {
-        nodes: n2,
-        inboxes: i2,
-    };
-    receive_both(rt, receipt, low, high)
+    receive_both(rt, receipt, n1, i1, n2, i2)
 }
 
-/// Two rows receive side by side.
+/// Two rows of nodes receive side by side, each with an inbox for each node.
 #[cycle(halves)]
 fn receive_both<R: Threads + Sync, M: SimulationModel>(
     rt: &R,
     receipt: &Receipt,
-    low: Row<M>,
-    high: Row<M>,
+    n1: &mut [Node<M>],
+    i1: &mut [Inbox],
+    n2: &mut [Node<M>],
+    i2: &mut [Inbox],
 ) -> Result<(), OutOfMemory>
     requires most { 0 < receipt.now.most }
-    requires sizes { (0 < length low.nodes.now) × (0 < length high.nodes.now) }
-    requires low { CanReceiveAll M.meaning low.nodes.now low.inboxes.now }
-    requires high { CanReceiveAll M.meaning high.nodes.now high.inboxes.now }
-    ensures low { OnOk result (HaveReceivedAll M.meaning low.entry.nodes.now low.entry.inboxes.now low.exit.0.now low.exit.1.0.now) }
-    ensures high { OnOk result (HaveReceivedAll M.meaning high.entry.nodes.now high.entry.inboxes.now high.exit.0.now high.exit.1.0.now) }
+    requires sizes { (0 < length n1.old) × (0 < length n2.old) }
+    requires low { CanReceiveAll M.meaning n1.old i1.old }
+    requires high { CanReceiveAll M.meaning n2.old i2.old }
+    ensures low { OnOk result (HaveReceivedAll M.meaning n1.old i1.old n1.new i1.new) }
+    ensures high { OnOk result (HaveReceivedAll M.meaning n2.old i2.old n2.new i2.new) }
 {
-    let Row {
-        nodes: n1,
-        inboxes: i1,
-    } = low;
-    let Row {
-        nodes: n2,
-        inboxes: i2,
-    } = high;
     let mut first = || -> Result<(), OutOfMemory>
-        requires { IsSync R.row × IsSend M.row × IsSync M.row × (0 < receipt.now.most) × CanReceiveAll M.meaning n1.now i1.now }
+        requires { (0 < receipt.now.most) × CanReceiveAll M.meaning n1.now i1.now }
         ensures { OnOk result (HaveReceivedAll M.meaning n1.entry.now i1.entry.now n1.exit.now i1.exit.now) }
     { receive_arrived(rt, receipt, n1, i1) };
     let mut second = || -> Result<(), OutOfMemory>
-        requires { IsSync R.row × IsSend M.row × IsSync M.row × (0 < receipt.now.most) × CanReceiveAll M.meaning n2.now i2.now }
+        requires { (0 < receipt.now.most) × CanReceiveAll M.meaning n2.now i2.now }
         ensures { OnOk result (HaveReceivedAll M.meaning n2.entry.now i2.entry.now n2.exit.now i2.exit.now) }
     { receive_arrived(rt, receipt, n2, i2) };
     let (front, back) = join_mut(rt, &mut first, &mut second);

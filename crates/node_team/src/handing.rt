@@ -3,7 +3,7 @@ ghost use Rattle.std.specs.Prelude.{◌≡◌, ◌<◌, ◌≤◌, ℕ};
 ghost use Rattle.node_team.specs.Handings.{AreWorkers, IsHanding};
 
 /// How the nodes of an advance are handed out to threads.
-#[derive(Clone, Copy, Debug, PartialEq, Eq)]
+#[derive(Clone, Copy)]
 pub enum Handing {
     /// None is: the calling thread advances node after node.
     InTurn,

@@ -31,7 +31,8 @@ impl<L: Lanes + Drop> Kept<L> {
     {
         let mut inboxes = Vec::with_capacity(alloc, nodes as usize)?;
         for _ in 0..nodes {
-            inboxes.push(Inbox::new(alloc, nodes as usize)?)?;
+            let inbox = Inbox::new(alloc, nodes as usize)?;
+            inboxes.push(inbox)?;
         }
         Ok(Kept {
             lanes,

@@ -14,7 +14,7 @@ const MOST_THREADS: usize = 4;
 const MANY_EVENTS: u64 = 1_536;
 
 /// What the nodes of a team did together in their last cycle. It stands for what they will do in the next one.
-#[derive(Clone, Copy, Debug, PartialEq, Eq)]
+#[derive(Clone, Copy)]
 pub struct Load {
     /// How many events were processed before, in all cycles, modulo 2^64.
     pub total: u64,

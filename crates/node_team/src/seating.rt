@@ -1,6 +1,5 @@
 //! Nodes that advance at their seats, for a fork.
 ghost use Rattle.std.specs.Prelude.{◌≡◌, ◌<◌, ◌≤◌, All, IfOk, OnOk, length, map};
-ghost use Rattle.std.specs.Thread.{IsSend, IsSync};
 ghost use Rattle.horizon_word.specs.Views.{SeatView};
 ghost use Rattle.node_team.specs.Forks.{CanGo};
 ghost use Rattle.node_team.specs.Turns.{node_in, AllAnswered, AllCanGo, AllHaveGone, AreSeatedWith, HasGone};
@@ -54,7 +53,7 @@ pub fn advance_all<R: Threads + Sync, M: SimulationModel, G: Gate>(
     ensures { AllHaveGone M.meaning word.now setting.now.ahead all.old all.new }
 {
     let work = |_place: usize, seated: &mut Seated<M>|
-        requires { IsSync R.row × IsSync G.row × IsSend M.row × IsSync M.row × CanGo M.meaning word.now seated.old.node seated.old.seat }
+        requires { CanGo M.meaning word.now seated.old.node seated.old.seat }
         ensures { HasGone M.meaning word.entry.now setting.entry.now.ahead seated.old seated.new }
     { advance_seated(setting, word, seated) };
     for_each_mut(setting.rt, all, threads, &work);

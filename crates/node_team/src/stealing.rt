@@ -1,6 +1,5 @@
 //! Nodes whose turns workers take and steal.
 ghost use Rattle.std.specs.Prelude.{◌≤◌, IfOk};
-ghost use Rattle.std.specs.Thread.{IsSend, IsSync};
 ghost use Rattle.steal_pool.specs.declared.worker.TheConstants.{MOST_WORKERS};
 ghost use Rattle.node_team.specs.Forks.{CanGo};
 ghost use Rattle.node_team.specs.Turns.{AllCanGo, AllHaveGone, HasGone};
@@ -27,7 +26,7 @@ pub fn advance_by<R: Threads + Sync, M: SimulationModel, G: Gate>(
     ensures { IfOk result (λ now. AllHaveGone M.meaning word.now setting.now.ahead all.items now.items) }
 {
     let turn = |seated: &mut Seated<M>|
-        requires { IsSync R.row × IsSync G.row × IsSend M.row × IsSync M.row × CanGo M.meaning word.now seated.old.node seated.old.seat }
+        requires { CanGo M.meaning word.now seated.old.node seated.old.seat }
         ensures { HasGone M.meaning word.entry.now setting.entry.now.ahead seated.old seated.new }
     { advance_seated(setting, word, seated) };
     run_each(setting.rt, setting.alloc, all, workers, &turn)

@@ -59,6 +59,10 @@ next-move [] i d below = absurd (omega arith)
 next-move (x ∷ xs) zero d below = refl
 next-move (x ∷ xs) (suc i) d below = let same : suc (i + 1) ≡ suc i + 1 = omega arith in next-move xs i d (omega arith) ∙ ap (λ n. get_or xs i d ∷ drop n (x ∷ xs)) same
 
+-- the next move can be made
+pub next-exists : (h : HomesView) (moves : List Move) (i : ℕ) (d : Move) → i < length moves → Each (Exists h) (drop i moves) → Exists h (get_or moves i d)
+next-exists h moves i d below exist = (subst (Each (Exists h)) (next-move moves i d below) exist).0
+
 pub next-prepared : (all places : ℕ) (first h after end : HomesView) (moves : List Move) (i : ℕ) (d : Move) (old new : List Step) → i < length moves → places ≡ all
     → AreSteps all first old h → homes_after h (drop i moves) ≡ end → Each (Exists h) (drop i moves)
     → after ≡ rehomed h (get_or moves i d).object (get_or moves i d).node

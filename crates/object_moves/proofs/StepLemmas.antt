@@ -91,7 +91,7 @@ module _ {M : Type 0} (meaning_of : M → Meaning) (p : Step) (ns : List (NodeVi
   many : length w.nodes ≡ w.homes.nodes
   many = stands_so.has.nodes.many
 
-  to-inside : p.to < length w.nodes
+  pub to-inside : p.to < length w.nodes
   to-inside = let all = many in let low = is.to in omega arith
 
   pub from-inside : p.from < length w.nodes

@@ -37,7 +37,8 @@ impl Copies {
         let one = Arc::new(alloc, homes)?;
         let mut more = Vec::with_capacity(alloc, count)?;
         for _ in 0..count {
-            more.push(Arc::clone(&one)?)?;
+            let copy = Arc::clone(&one)?;
+            more.push(copy)?;
         }
         Ok(Copies { one, more })
     }

@@ -1,6 +1,8 @@
-use Rattle.std.proofs.Common.{rules, ◌≡◌, ℕ, ◌≤◌, refl, sym, ◌∙◌, ap, subst, arith}
+use Rattle.std.proofs.Common.{◌≡◌, ℕ, ◌≤◌, length, inl, refl, sym, ◌∙◌, ap, subst, arith}
 use Rattle.event_key.specs.Stamps.{end_stamp}
-use Rattle.node_team.proofs.AdvanceLemmas.{held-floor, advancing-first, advancing-more, advancing-refused, idle-later, told-none, told-on}
+use Rattle.node_core.specs.Nodes.{NodeView}
+use Rattle.node_team.proofs.AdvanceLemmas.{held-floor, advancing-first, advancing-more, advancing-refused, advancing-left, advanced-left, idle-left, idle-later, one-fewer, small-on, told-none, told-on}
+use Rattle.node_team.proofs.ForkLemmas.{err-on}
 use Rattle.node_team.proofs.advancing.advance.Goals as goal
 
 no-less : (n : ℕ) → n ≤ n
@@ -33,10 +35,6 @@ near-init g c =
       told-none (g.G.Gate.was_told c.args.gate.now c.args.node.now.number) c.args.node.now c.args.node.now refl,
     )
 
-pub returns-in_err-answer-clause-works : goal.returns-in_err-answer-clause-works
-returns-in_err-answer-clause-works g c =
-    advancing-refused (g.M.Model.meaning) c.args.node.now c.args.seat.now c.near.node c.near.seat c.near.invariant.0 c.turn.new.node c.in_err-answer.ensures.refused
-
 pub near-preserved : goal.near-preserved
 near-preserved g c =
     let gone = rw c.in-Some.is at c.in_ok-answer.ensures.turn in
@@ -52,14 +50,6 @@ near-preserved g c =
       omega arith,
       told-on (g.G.Gate.was_told c.args.gate.now) c.args.node.now c.near.node c.turn.new.node c.near.invariant.0.works.same.number c.near.invariant.5 c.turn.ensures.told,
     )
-
-pub returns-in_err-answer-clause-told : goal.returns-in_err-answer-clause-told
-returns-in_err-answer-clause-told g c =
-    told-on (g.G.Gate.was_told c.args.gate.now) c.args.node.now c.near.node c.turn.new.node c.near.invariant.0.works.same.number c.near.invariant.5 c.turn.ensures.told
-
-pub returns-in_err-turn-clause-works : goal.returns-in_err-turn-clause-works
-returns-in_err-turn-clause-works g c =
-    advancing-refused (g.M.Model.meaning) c.args.node.now c.args.seat.now c.far.node c.far.seat c.far.invariant.0 c.turn-in-far.new.node c.in_err-turn.ensures.refused
 
 pub far-preserved : goal.far-preserved
 far-preserved g c =
@@ -77,25 +67,6 @@ far-preserved g c =
       told-on (g.G.Gate.was_told c.args.gate.now) c.args.node.now c.far.node c.turn-in-far.new.node c.far.invariant.0.works.same.number c.far.invariant.5 c.turn-in-far.ensures.told,
     )
 
-pub returns-in_err-turn-clause-told : goal.returns-in_err-turn-clause-told
-returns-in_err-turn-clause-told g c =
-    told-on (g.G.Gate.was_told c.args.gate.now) c.args.node.now c.far.node c.turn-in-far.new.node c.far.invariant.0.works.same.number c.far.invariant.5 c.turn-in-far.ensures.told
-
-pub far-init : goal.far-init
-far-init g c =
-    let n = c.near.invariant in (
-      search rules,
-      search rules,
-      c.turn.ensures.offered,
-      no-fewer _ _ _ c.turn.ensures.end n.3,
-      search rules,
-      told-on (g.G.Gate.was_told c.args.gate.now) c.args.node.now c.near.node c.turn.new.node n.0.works.same.number n.5 c.turn.ensures.told,
-    )
-
-pub returns-in-None-2-clause-told : goal.returns-in-None-2-clause-told
-returns-in-None-2-clause-told g c =
-    told-on (g.G.Gate.was_told c.args.gate.now) c.args.node.now c.far.node c.turn-in-far.new.node c.far.invariant.0.works.same.number c.far.invariant.5 c.turn-in-far.ensures.told
-
 pub turn-requires-clause-bound : goal.turn-requires-clause-bound
 turn-requires-clause-bound g c lifetimes outlives =
     let before = c.near.invariant.0 in
@@ -105,3 +76,102 @@ pub turn-requires-in-far-clause-bound : goal.turn-requires-in-far-clause-bound
 turn-requires-in-far-clause-bound g c lifetimes outlives =
     let end : c.end_bound-end.result ≡ end_stamp c.args.node.now.terms.end = c.end_bound-end.ensures ∙ ap (λ t. end_stamp t.end) c.terms.ensures in
     subst (λ t. c.end_bound-end.result ≤ end_stamp t.end) (sym c.far.invariant.0.works.same.terms) (just-end _ _ end)
+
+pub far-init : goal.far-init
+far-init g c =
+    let n = c.near.invariant in
+    let left = rw c.in-None.is at c.in_ok-answer.ensures.turn in
+    let same = ap (λ (x : NodeView _). length x.processed) left.0.unchanged in (
+      advancing-left g.M.Model.meaning c.args.node.now c.args.seat.now c.near.node c.near.seat n.0 c.near.below c.turn.new.node c.turn.new.seat left.0 left.1,
+      idle-left g.M.Model.meaning c.args.node.now c.args.seat.now c.near.node c.near.seat n.0 c.near.below c.turn.new.node c.turn.new.seat left.0 left.1 n.1,
+      c.turn.ensures.offered,
+      no-fewer _ _ _ c.turn.ensures.end n.3,
+      (let deep = n.4 in omega arith),
+      told-on (g.G.Gate.was_told c.args.gate.now) c.args.node.now c.near.node c.turn.new.node n.0.works.same.number n.5 c.turn.ensures.told,
+    )
+
+pub returns-in_err-answer : goal.returns-in_err-answer
+returns-in_err-answer g c =
+    let so_far = c.near.invariant.0 in
+    let seat = c.in_err-answer.ensures.seat in
+    let gone = c.from_residual.ensures.0 in
+    record {
+      works = advancing-refused g.M.Model.meaning c.args.node.now c.args.seat.now c.near.node c.near.seat so_far c.turn.new.node c.in_err-answer.ensures.refused;
+      seat = ap (λ s. s.word) seat ∙ so_far.word ∙ c.requires.seat;
+      floor = ap (λ s. s.floor) seat ∙ so_far.floor;
+      idle = err-on _ c.from_residual.result gone;
+      offered = err-on _ c.from_residual.result gone;
+      taken = err-on _ c.from_residual.result gone;
+      deep = err-on _ c.from_residual.result gone;
+      entered = subst (g.G.Gate.was_entered c.args.gate.now) c.number.ensures c.enter.ensures;
+      told = told-on (g.G.Gate.was_told c.args.gate.now) c.args.node.now c.near.node c.turn.new.node so_far.works.same.number c.near.invariant.5 c.turn.ensures.told;
+    }
+
+pub returns-in_err-turn : goal.returns-in_err-turn
+returns-in_err-turn g c =
+    let so_far = c.far.invariant.0 in
+    let seat = c.in_err-turn.ensures.seat in
+    let gone = c.from_residual-in_err-turn.ensures.0 in
+    record {
+      works = advancing-refused g.M.Model.meaning c.args.node.now c.args.seat.now c.far.node c.far.seat so_far c.turn-in-far.new.node c.in_err-turn.ensures.refused;
+      seat = ap (λ s. s.word) seat ∙ so_far.word ∙ c.requires.seat;
+      floor = ap (λ s. s.floor) seat ∙ so_far.floor;
+      idle = err-on _ c.from_residual-in_err-turn.result gone;
+      offered = err-on _ c.from_residual-in_err-turn.result gone;
+      taken = err-on _ c.from_residual-in_err-turn.result gone;
+      deep = err-on _ c.from_residual-in_err-turn.result gone;
+      entered = subst (g.G.Gate.was_entered c.args.gate.now) c.number.ensures c.enter.ensures;
+      told = told-on (g.G.Gate.was_told c.args.gate.now) c.args.node.now c.far.node c.turn-in-far.new.node so_far.works.same.number c.far.invariant.5 c.turn-in-far.ensures.told;
+    }
+
+pub returns-in-None-2 : goal.returns-in-None-2
+returns-in-None-2 g c =
+    let so_far = c.far.invariant.0 in
+    let left = rw c.in-None-2.is at c.in_ok-turn.ensures.turn in
+    let end : c.end_bound-end.result ≡ end_stamp c.args.node.now.terms.end = c.end_bound-end.ensures ∙ ap (λ t. end_stamp t.end) c.terms.ensures in
+    let on = advancing-left g.M.Model.meaning c.args.node.now c.args.seat.now c.far.node c.far.seat so_far c.end_bound-end.result c.turn-in-far.new.node c.turn-in-far.new.seat left.0 left.1 in
+    let done = advanced-left g.M.Model.meaning c.args.node.now c.args.seat.now c.far.node c.far.seat so_far c.end_bound-end.result c.turn-in-far.new.node c.turn-in-far.new.seat left.0 left.1 c.args.ahead c.far.invariant.1 end in
+    record {
+      works = on.works;
+      seat = on.word ∙ c.requires.seat;
+      floor = on.floor;
+      idle = done.idle;
+      offered = done.offered;
+      taken = done.taken;
+      deep = done.deep;
+      entered = subst (g.G.Gate.was_entered c.args.gate.now) c.number.ensures c.enter.ensures;
+      told = told-on (g.G.Gate.was_told c.args.gate.now) c.args.node.now c.far.node c.turn-in-far.new.node so_far.works.same.number c.far.invariant.5 c.turn-in-far.ensures.told;
+    }
+
+pub returns : goal.returns
+returns g c =
+    let on = c.far.invariant.0 in
+    let deep = c.far.invariant.4 in
+    record {
+      works = on.works;
+      seat = on.word ∙ c.requires.seat;
+      floor = on.floor;
+      idle = c.far.invariant.1;
+      offered = record { held = on.held; held_is = on.held_is; least = on.least };
+      taken = on.taken;
+      deep = inl (omega arith);
+      entered = subst (g.G.Gate.was_entered c.args.gate.now) c.number.ensures c.enter.ensures;
+      told = c.far.invariant.5;
+    }
+
+pub turn-requires-clause-small : goal.turn-requires-clause-small
+turn-requires-clause-small g c lifetimes outlives = small-on g.M.Model.meaning c.args.node.now c.near.node c.near.invariant.0.works c.requires.can.small
+
+pub turn-requires-in-far-clause-small : goal.turn-requires-in-far-clause-small
+turn-requires-in-far-clause-small g c lifetimes outlives = small-on g.M.Model.meaning c.args.node.now c.far.node c.far.invariant.0.works c.requires.can.small
+
+pub turn-requires-in-far-clause-seat : goal.turn-requires-in-far-clause-seat
+turn-requires-in-far-clause-seat g c lifetimes outlives = c.far.invariant.0.word ∙ c.requires.seat
+
+pub turn-requires-clause-seat : goal.turn-requires-clause-seat
+turn-requires-clause-seat g c lifetimes outlives = c.near.invariant.0.word ∙ c.requires.seat
+
+pub near-smaller : goal.near-smaller
+near-smaller g c =
+    let gone = rw c.in-Some.is at c.in_ok-answer.ensures.turn in
+    one-fewer c.near.node.waiting c.turn.new.node.waiting gone.did.step.event gone.did.step.waits

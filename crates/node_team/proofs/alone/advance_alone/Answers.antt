@@ -1,14 +1,17 @@
-use Rattle.std.proofs.Common.{◌≡◌, ℕ, ◌≤◌, length, refl, sym, ap, ◌∙◌, subst, arith}
+use Rattle.std.proofs.Common.{◌≡◌, ℕ, ◌≤◌, length, inl, refl, sym, ap, ◌∙◌, subst, arith}
 use Rattle.event_key.specs.Stamps.{end_stamp}
 use Rattle.node_core.specs.Nodes.{NodeView}
-use Rattle.cycle_core.specs.Works.{IsSettled}
+use Rattle.cycle_core.specs.Works.{IsSettled, WorksOn}
 use Rattle.cycle_core.proofs.WorkLemmas.{settling-first, settling-more, works-refused}
-use Rattle.node_team.proofs.AdvanceLemmas.{told-none, told-on}
-use Rattle.node_team.proofs.AloneLemmas.{past-first, past-more, past-settled}
+use Rattle.node_team.proofs.AdvanceLemmas.{one-fewer, small-on, told-none, told-on}
+use Rattle.node_team.proofs.AloneLemmas.{past-deep, past-first, past-more, past-settled}
 use Rattle.node_team.proofs.alone.advance_alone.Goals as goal
 
 no-less : (n : ℕ) → n ≤ n
 no-less n = omega arith
+
+just-end : (a b : ℕ) → a ≡ b → a ≤ b
+just-end a b is = omega arith
 
 no-fewer : (a b c : ℕ) → a ≤ b → b ≤ c → a ≤ c
 no-fewer a b c more most = omega arith
@@ -88,3 +91,51 @@ far-preserved g c =
       omega arith,
       told-on (g.G.Gate.was_told c.args.gate.now) c.args.node.now c.far.node c.step_told-in-far.new.node before.0.settling.works.same.number before.2 c.step_told-in-far.ensures.told,
     )
+
+pub step_told-requires-clause-small : goal.step_told-requires-clause-small
+step_told-requires-clause-small g c lifetimes outlives = small-on g.M.Model.meaning c.args.node.now c.near.node c.near.invariant.0.works c.requires.small
+
+pub step_told-requires-in-far-clause-small : goal.step_told-requires-in-far-clause-small
+step_told-requires-in-far-clause-small g c lifetimes outlives = small-on g.M.Model.meaning c.args.node.now c.far.node c.far.invariant.0.settling.works c.requires.small
+
+pub step_told-requires-in-far-clause-bound : goal.step_told-requires-in-far-clause-bound
+step_told-requires-in-far-clause-bound g c lifetimes outlives =
+    let end : c.end_bound-end.result ≡ end_stamp c.args.node.now.terms.end = c.end_bound-end.ensures ∙ ap (λ t. end_stamp t.end) c.terms.ensures in
+    subst (λ t. c.end_bound-end.result ≤ end_stamp t.end) (sym c.far.invariant.0.settling.works.same.terms) (just-end _ _ end)
+
+pub near-smaller : goal.near-smaller
+near-smaller g c =
+    let did = rw c.in-Did.is at c.in_ok-least.ensures.ok in
+    one-fewer c.near.node.waiting c.step_told.new.node.waiting did.step.event did.step.waits
+
+pub returns-in_err-least-clause-entered : goal.returns-in_err-least-clause-entered
+returns-in_err-least-clause-entered g c = subst (g.G.Gate.was_entered c.args.gate.now) c.number.ensures c.enter.ensures
+
+pub returns-in_err-least-2-clause-entered : goal.returns-in_err-least-2-clause-entered
+returns-in_err-least-2-clause-entered g c = subst (g.G.Gate.was_entered c.args.gate.now) c.number.ensures c.enter.ensures
+
+pub returns-in-Idle-2-clause-entered : goal.returns-in-Idle-2-clause-entered
+returns-in-Idle-2-clause-entered g c = subst (g.G.Gate.was_entered c.args.gate.now) c.number.ensures c.enter.ensures
+
+pub returns-in-Idle-2-clause-works : goal.returns-in-Idle-2-clause-works
+returns-in-Idle-2-clause-works g c =
+    let left = rw c.in-Idle-2.is at c.in_ok-least-2.ensures.ok in
+    subst (λ n. WorksOn (g.M.Model.meaning c.args.node.now.model) c.args.node.now n) (sym left.unchanged) c.far.invariant.0.settling.works
+
+pub returns-in-Idle-2-clause-deep : goal.returns-in-Idle-2-clause-deep
+returns-in-Idle-2-clause-deep g c =
+    let left = rw c.in-Idle-2.is at c.in_ok-least-2.ensures.ok in
+    let end : c.end_bound-end.result ≡ end_stamp c.args.node.now.terms.end = c.end_bound-end.ensures ∙ ap (λ t. end_stamp t.end) c.terms.ensures in
+    past-deep g.M.Model.meaning c.args.node.now c.args.bound c.far.fallen c.far.node c.args.ahead c.end_bound-end.result c.step_told-in-far.new.node c.far.invariant.0 left end
+
+pub returns : goal.returns
+returns g c =
+    let past = c.far.invariant.0 in
+    let deep = c.far.invariant.1 in
+    record {
+      settled = past-settled g.M.Model.meaning c.args.node.now c.args.bound c.far.fallen c.far.node past;
+      deep = inl (omega arith);
+      works = past.settling.works;
+      entered = subst (g.G.Gate.was_entered c.args.gate.now) c.number.ensures c.enter.ensures;
+      told = c.far.invariant.2;
+    }

@@ -78,3 +78,30 @@ returns-clause-busy g c =
     let nodes = ap (λ v. v.nodes) c.put_nodes.ensures.world ∙ over in
     let B : List (NodeView _) → Type 0 = λ ns. NamesBusy ns c.find_busy.new.busy.items in
     subst B (sym nodes) (busy-on g.M.Model.meaning w.nodes now c.find_busy.new.busy.items (run-works g.M.Model.meaning c.args.setting.now.ahead w.nodes now run) c.in_ok-find_busy.ensures)
+
+pub advance_each-requires-clause-opened : goal.advance_each-requires-clause-opened
+advance_each-requires-clause-opened g c lifetimes outlives =
+    let N : List (NodeView _) → Type 0 = λ ns. IsOpened g.M.Model.meaning (end_stamp c.terms-terms.result.end) ns c.open_busy-opened.result in
+    let E : ℕ → Type 0 = λ end. IsOpened g.M.Model.meaning end c.as_mut_slice-all.result.now c.open_busy-opened.result in
+    subst N (sym c.open_busy-opened.ensures.same) (subst E c.end_bound-end.ensures c.open_busy-opened.ensures.opened)
+
+pub put_nodes-requires-clause-none : goal.put_nodes-requires-clause-none
+put_nodes-requires-clause-none g c lifetimes outlives = ap (λ v. v.nodes) c.take_nodes-nodes.ensures.world
+
+pub put_nodes-requires-clause-awake : goal.put_nodes-requires-clause-awake
+put_nodes-requires-clause-awake g c lifetimes outlives = ap (λ v. v.is_spent) c.take_nodes-nodes.ensures.world ∙ c.requires.1.has.awake
+
+pub returns-in_err-bound-clause-made : goal.returns-in_err-bound-clause-made
+returns-in_err-bound-clause-made g c =
+    let taken = c.take_nodes-nodes.ensures.world in
+    record { model = ap (λ v. v.model) taken; terms = ap (λ v. v.terms) taken; homes = ap (λ v. v.homes) taken }
+
+pub returns-clause-made : goal.returns-clause-made
+returns-clause-made g c =
+    let taken = c.take_nodes-nodes.ensures.world in
+    let put = c.put_nodes.ensures.world in
+    record {
+      model = ap (λ v. v.model) put ∙ ap (λ v. v.model) taken;
+      terms = ap (λ v. v.terms) put ∙ ap (λ v. v.terms) taken;
+      homes = ap (λ v. v.homes) put ∙ ap (λ v. v.homes) taken;
+    }

@@ -17,3 +17,12 @@ returns-in-Err-clause-cycled g c =
     let spent = c.spend.ensures in
     cycled-refused (g.M.Model.meaning) c.args.world.now c.spend.new.self
     (record { model = ap (λ v. v.model) spent ∙ made.model; terms = ap (λ v. v.terms) spent ∙ made.terms; homes = ap (λ v. v.homes) spent ∙ made.homes }) c.in-Err.refused (ap (λ v. v.is_spent) spent)
+
+pub run_cycle-requires-clause-ready : goal.run_cycle-requires-clause-ready
+run_cycle-requires-clause-ready g c lifetimes outlives = c.requires.ready (sym c.is_spent.ensures ∙ c.if-is_spent.false)
+
+pub returns-in-Err-clause-made : goal.returns-in-Err-clause-made
+returns-in-Err-clause-made g c =
+    let made = c.in-Err.ensures.made in
+    let spent = c.spend.ensures in
+    record { model = ap (λ v. v.model) spent ∙ made.model; terms = ap (λ v. v.terms) spent ∙ made.terms; homes = ap (λ v. v.homes) spent ∙ made.homes }

@@ -3,6 +3,7 @@ use Rattle.sim_spec.specs.Cut.{after}
 use Rattle.cycle_core.specs.Busy.{NamesBusy}
 use Rattle.cycle_core.specs.Worlds.{StandsAt}
 use Rattle.cycle_core.proofs.ChangedNodes.{same-then}
+use Rattle.node_team.specs.Releases.{AreClear}
 use Rattle.node_team.proofs.CycleLemmas.{closed-cycle, closed-here}
 use Rattle.node_team.proofs.RiseLemmas.{all-rise}
 use Rattle.node_team.proofs.cycling.run_cycle.Goals as goal
@@ -81,3 +82,15 @@ returns-clause-made g c =
 
 pub returns-clause-fault : goal.returns-clause-fault
 returns-clause-fault g c = ap (λ w. w.fault) c.finish.ensures ∙ sym (ap (λ b. b.fault) c.bucket_of.ensures)
+
+pub end_world-requires-clause-ready : goal.end_world-requires-clause-ready
+end_world-requires-clause-ready g c lifetimes outlives =
+    let ready = c.requires.ready in
+    let many = ap (λ h. h.nodes) (sym c.close_world.ensures.made.homes) in
+    record { wide = ready.wide ∙ many; rest = ready.rest; clear = subst (λ n. AreClear n c.args.kept.now.inboxes.items) many ready.clear }
+
+pub returns-clause-ready : goal.returns-clause-ready
+returns-clause-ready g c =
+    let ready = c.in_ok-records.ensures.ready in
+    let many = ap (λ h. h.nodes) c.close_world.ensures.made.homes in
+    record { wide = ready.wide ∙ many; rest = ready.rest; clear = subst (λ n. AreClear n c.end_world.new.kept.inboxes.items) many ready.clear }

@@ -102,3 +102,53 @@ returns-clause-homes g c =
     ap (λ (v : WorldView g.row.M.Denot). v.homes) c.put_nodes.ensures.world
     ∙ steps-last all c.loop-step.world.homes end c.loop-step.step-iterator.rest.items
     (nil_from_length c.loop-step.step-iterator.rest.items (let none = c.in-None.ensures.steps.0 in let long = c.loop-step.step-iterator.rest.ok.0 in omega arith)) c.loop-step.invariant.steps
+
+pub loop-step-init : goal.loop-step-init
+loop-step-init g c =
+    let world = c.args.world.now in
+    let taken = c.take_nodes-nodes.ensures.world in
+    let items = c.take_nodes-nodes.ensures.nodes in
+    let homes = ap (λ (v : WorldView g.row.M.Denot). v.homes) taken in
+    let bare : HomesView → WorldView g.row.M.Denot = λ h. record world { nodes = []; homes = h } in
+    let R : HomesView → Type 0 = λ h. AreSteps (processed_in world.nodes) h c.in_ok-steps.steps.items (homes_after world.homes c.args.moves.now) in
+    let L : List Step → Type 0 = λ l. AreSteps (processed_in world.nodes) c.take_nodes-nodes.new.self.homes l (homes_after world.homes c.args.moves.now) in
+    record {
+      world = taken ∙ ap bare (sym homes);
+      nodes = ap (λ (h : HomesView). h.nodes) homes;
+      stands = λ s there.
+          let N : List (NodeView g.row.M.Denot) → Type 0 = λ ns. StandsAt (g.M.Model.meaning world.model) (record world { nodes = ns; homes = c.take_nodes-nodes.new.self.homes }) s in
+          let H : HomesView → Type 0 = λ h. StandsAt (g.M.Model.meaning world.model) (record world { nodes = world.nodes; homes = h }) s in
+          subst N (sym items) (subst H (sym homes) there);
+      steps = subst L (sym c.into_iter-step-iterator.ensures.into_iter_gives.0) (subst R (sym homes) c.in_ok-steps.ensures);
+      processed = ap processed_in items;
+    }
+
+pub set_homes-requires-clause-taken : goal.set_homes-requires-clause-taken
+set_homes-requires-clause-taken g c κs within = ap (λ (v : WorldView g.row.M.Denot). v.nodes) c.loop-step.invariant.world
+
+pub put_nodes-requires-clause-none : goal.put_nodes-requires-clause-none
+put_nodes-requires-clause-none g c κs within = ap (λ (v : WorldView g.row.M.Denot). v.nodes) c.loop-step.invariant.world
+
+pub returns-clause-stands : goal.returns-clause-stands
+returns-clause-stands g c s there =
+    let world = c.args.world.now in
+    let inv = c.loop-step.invariant in
+    let is : c.put_nodes.new.self ≡ record world { nodes = c.loop-step.nodes.items; homes = c.loop-step.world.homes } =
+    c.put_nodes.ensures.world ∙ ap (λ (v : WorldView g.row.M.Denot). record v { nodes = c.loop-step.nodes.items }) inv.world in
+    let P : WorldView g.row.M.Denot → Type 0 = λ v. StandsAt (g.M.Model.meaning v.model) v s in
+    subst P (sym is) (inv.stands s there)
+
+pub returns-clause-same : goal.returns-clause-same
+returns-clause-same g c =
+    let world = c.args.world.now in
+    let inv = c.loop-step.invariant in
+    let is : c.put_nodes.new.self ≡ record world { nodes = c.loop-step.nodes.items; homes = c.loop-step.world.homes } =
+    c.put_nodes.ensures.world ∙ ap (λ (v : WorldView g.row.M.Denot). record v { nodes = c.loop-step.nodes.items }) inv.world in
+    record {
+      model = ap (λ (v : WorldView g.row.M.Denot). v.model) is;
+      terms = ap (λ (v : WorldView g.row.M.Denot). v.terms) is;
+      nodes = ap (λ (v : WorldView g.row.M.Denot). v.homes.nodes) is ∙ inv.nodes;
+      count = ap (λ (v : WorldView g.row.M.Denot). v.count) is;
+      fault = ap (λ (v : WorldView g.row.M.Denot). v.fault) is;
+      is_spent = ap (λ (v : WorldView g.row.M.Denot). v.is_spent) is;
+    }

@@ -7,7 +7,7 @@ use Rattle.cycle_core.specs.Moving.{processed_in}
 use Rattle.object_moves.specs.declared.step.Step.{Step}
 use Rattle.object_moves.specs.Moves.{Exists, homes_after}
 use Rattle.object_moves.specs.Steps.{AreSteps}
-use Rattle.object_moves.proofs.PreparingLemmas.{after-none, drop-past, next-prepared, steps-none}
+use Rattle.object_moves.proofs.PreparingLemmas.{after-none, drop-past, next-exists, next-prepared, steps-none}
 use Rattle.object_moves.proofs.preparing.prepare.Goals as goal
 
 pub loop-next-init : goal.loop-next-init
@@ -40,3 +40,6 @@ returns g c =
     sym (after-none (arc_value c.loop-next.homes)) ∙ ap (homes_after (arc_value c.loop-next.homes)) (sym rest) ∙ c.loop-next.invariant.homes in
     let P : HomesView → Type 0 = λ h. AreSteps (processed_in c.args.world.now.nodes) first c.loop-next.steps.items h in
     subst P whole c.loop-next.invariant.steps
+
+pub prepare_next-requires : goal.prepare_next-requires
+prepare_next-requires g c = next-exists (arc_value c.loop-next.homes) c.args.moves.now c.loop-next.next-index _ c.loop-next-test.true c.loop-next.invariant.exist

@@ -1,7 +1,8 @@
 -- A move keeps what the nodes stand for.
-use Rattle.std.proofs.Common.{◌∙◌}
+use Rattle.std.proofs.Common.{◌∙◌, arith}
+use Rattle.std.proofs.lemmas.List.{length-set}
 use Rattle.object_moves.specs.Steps.{CanMake}
-use Rattle.object_moves.proofs.StepLemmas.{all-keep, can-take-in, from-inside, move-stands, move-sum, step-alike, step-goes, step-here, step-room}
+use Rattle.object_moves.proofs.StepLemmas.{all-keep, can-take-in, from-inside, move-stands, move-sum, step-alike, step-goes, step-here, step-room, to-inside}
 use Rattle.object_moves.proofs.step.make.Goals as goal
 
 pub bounds-nodes-from : goal.bounds-nodes-from
@@ -53,3 +54,9 @@ returns-clause-stands g c v s nodes_are step there =
     move-stands g.M.Model.meaning c.args.step c.args.nodes.now can c.index-nodes-from-2.result out.new.self out.result _ c.take.ensures.value out.ensures.left out.ensures.room out.ensures.places
     c.index-nodes-to.result c.take_in.new.self _ (c.take-2.ensures.value ∙ c.take.ensures.same) c.take_in.ensures
     c.rehome.new.nodes _ (c.take-2.ensures.same ∙ c.take.ensures.same) c.rehome.ensures.nodes c.know_all-2.ensures
+
+pub bounds-nodes-to : goal.bounds-nodes-to
+bounds-nodes-to g c =
+    let low = to-inside g.M.Model.meaning c.args.step c.args.nodes.now c.requires in
+    let long = length-set c.args.nodes.now c.args.step.from c.take_out-moved.new.self in
+    omega arith

@@ -36,3 +36,13 @@ loop-from-preserved c =
       subst P (sym whole) (ends_more c.args.nodes from ends mid outs.items end new woven (omega arith) grows (omega arith) within at refl),
       subst N (sym whole) (All-set IsNew mid from new (c.in_ok-outs.ensures.outs, now.1) c.in_ok-outs.ensures.new),
     )
+
+pub rings_to-requires : goal.rings_to-requires
+rings_to-requires c = subst (All IsNew) (sym c.as_mut_slice.ensures.value) c.loop-from.invariant.1
+
+pub index_mut-requires : goal.index_mut-requires
+index_mut-requires c =
+    let count = c.loop-from.invariant.0.count in
+    let long = length-map c.loop-from.ends.items outline in
+    let ok = c.loop-from.ends.ok.0 in
+    omega arith

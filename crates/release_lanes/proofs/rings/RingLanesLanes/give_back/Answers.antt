@@ -1,10 +1,10 @@
-use Rattle.std.proofs.Common.{List, length, map, get_or, subst, sym, ap, ◌∙◌, arith}
+use Rattle.std.proofs.Common.{ℕ, List, length, map, get_or, subst, sym, ap, ◌∙◌, arith}
 use Rattle.std.proofs.lemmas.List.{get_or_default}
 use Rattle.release_lanes.specs.declared.rings.RingEnd.{RingEnd}
 use Rattle.release_lanes.specs.Lanes.{lane_at}
-use Rattle.release_lanes.specs.Rings.{outline, sent_row, received_row, AreBack, sent_on, received_on}
+use Rattle.release_lanes.specs.Rings.{outline, sent_row, received_row, AreBack, AreConnected, sent_on, received_on}
 use Rattle.release_lanes.proofs.Rows.{same_length, lent_whole}
-use Rattle.release_lanes.proofs.RingEnds.{woven_number, connected_like, back_met, this_lane}
+use Rattle.release_lanes.proofs.RingEnds.{woven_length, woven_number, connected_like, back_met, this_lane}
 use Rattle.release_lanes.proofs.rings.RingLanesLanes.give_back.Goals as goal
 
 pub returns-clause-back : goal.returns-clause-back
@@ -39,3 +39,10 @@ returns-clause-received c = λ k d within from.
     ∙ ap (λ rows. lane_at rows end.number from) (c.meet_all.ensures.received ∙ ap (map received_row) c.as_mut_slice.ensures.value)
     ∙ ap (λ n. received_on ends from n) (woven_number c.args.self.now.nodes ends k d c.requires.woven within)
     ∙ this_lane received_row ends k from end within (get_or_default ends k d end within)
+
+pub meet_all-requires : goal.meet_all-requires
+meet_all-requires c =
+    let long = woven_length c.args.self.now.nodes c.args.self.now.nodes c.args.ends.items c.requires.woven in
+    let P : List RingEnd → Type 0 = λ ends. AreConnected (length ends) (map outline ends) in
+    let N : ℕ → Type 0 = λ n. AreConnected n (map outline c.args.ends.items) in
+    subst P (sym c.as_mut_slice.ensures.value) (subst N (sym long) c.requires)
