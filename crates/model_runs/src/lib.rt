@@ -1,6 +1,7 @@
 //! A model, whichever it is, run to the end of its text: on one thread, or on nodes in threads.
 #![tactic(auto)]
 
+mod begun;
 mod handing;
 mod job;
 mod machine;

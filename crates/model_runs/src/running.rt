@@ -3,7 +3,7 @@ ghost use Rattle.std.specs.Prelude.{◌≡◌, ◌≤◌, [], IfOk, None, false}
 ghost use Rattle.std.specs.Arc.{arc_value};
 ghost use Rattle.std.specs.Thread.{IsSend, IsSync};
 ghost use Rattle.sim_spec.specs.Standing.{ended, stands};
-ghost use Rattle.sim_spec.specs.State.{State, initial_state};
+ghost use Rattle.sim_spec.specs.State.{State, Lawful, initial_state};
 ghost use Rattle.run_tally.specs.Tallies.{TotalsOf};
 ghost use Rattle.sim_text.specs.declared.telling.Telling.TheVariants.{Lines};
 ghost use Rattle.sim_text.specs.Rest.{BeginsAt, CanBeTold};
@@ -14,6 +14,7 @@ ghost use Rattle.model_runs.specs.Handed.{HandsOn};
 ghost use Rattle.model_runs.specs.Machines.{IsMachine, IsSpread, IsSpreadAs};
 ghost use Rattle.model_runs.specs.RunStandings.{OneCycles, OneStandsAt, OneWrites, TeamCycles, TeamStandsAt};
 
+use crate::begun::Begun;
 use crate::handing::hand_on;
 use crate::job::Job;
 use crate::machine::{Machine, Spread};
@@ -37,15 +38,15 @@ fn one_thread<M: Model>(
     alloc: Global,
     model: M,
     terms: Terms,
-) -> Result<(Arc<M>, OneThreadRun<M>), OutOfMemory>
-    ensures named { IfOk result (λ both. arc_value both.0 ≡ model) }
-    ensures model { IfOk result (λ both. both.1.engine.model ≡ model) }
-    ensures terms { IfOk result (λ both. both.1.engine.terms ≡ terms) }
-    ensures begins { IfOk result (λ both. OneStandsAt M.meaning both.1 (stands (initial_state (M.meaning model)) None)) }
+) -> Result<Begun<M, OneThreadRun<M>>, OutOfMemory>
+    ensures named { IfOk result (λ begun. arc_value begun.model ≡ model) }
+    ensures model { IfOk result (λ begun. begun.run.engine.model ≡ model) }
+    ensures terms { IfOk result (λ begun. begun.run.engine.terms ≡ terms) }
+    ensures begins { IfOk result (λ begun. OneStandsAt M.meaning begun.run (stands (initial_state (M.meaning model)) None)) }
 {
     let model = Arc::new(alloc, model)?;
     let run = OneThreadRun::new(alloc, model.clone()?, terms)?;
-    Ok((model, run))
+    Ok(Begun { model, run })
 }
 
 /// The same on nodes.
@@ -54,36 +55,68 @@ pub(crate) fn on_nodes<M: Model>(
     model: M,
     terms: Terms,
     spread: Spread,
-) -> Result<(Arc<M>, TeamRun<M>), OutOfMemory>
+) -> Result<Begun<M, TeamRun<M>>, OutOfMemory>
     requires { IsSpread spread }
-    ensures named { IfOk result (λ both. arc_value both.0 ≡ model) }
-    ensures model { IfOk result (λ both. both.1.team.world.model ≡ model) }
-    ensures terms { IfOk result (λ both. both.1.team.world.terms ≡ terms) }
-    ensures spread { IfOk result (λ both. IsSpreadAs both.1 spread) }
-    ensures begins { IfOk result (λ both. TeamStandsAt M.meaning both.1 (stands (initial_state (M.meaning model)) None)) }
+    ensures lawful { Lawful (M.meaning model) terms (initial_state (M.meaning model)) }
+    ensures named { IfOk result (λ begun. arc_value begun.model ≡ model) }
+    ensures model { IfOk result (λ begun. begun.run.team.world.model ≡ model) }
+    ensures terms { IfOk result (λ begun. begun.run.team.world.terms ≡ terms) }
+    ensures spread { IfOk result (λ begun. IsSpreadAs begun.run spread) }
+    ensures begins { IfOk result (λ begun. TeamStandsAt M.meaning begun.run (stands (initial_state (M.meaning model)) None)) }
 {
+    law_initial(&model, &terms);
     let model = Arc::new(alloc, model)?;
     let run = TeamRun::new(alloc, model.clone()?, terms, spread)?;
-    Ok((model, run))
+    Ok(Begun { model, run })
 }
 
-/// Runs a model on one thread, and writes the lines of its events, stretch by stretch.
-fn run_lines<M: Model, K: Sink>(
+/// Writes the lines of the events of a run at the start of a model, stretch by stretch.
+fn tell_lines<M: Model, K: Sink>(
     alloc: Global,
-    model: M,
-    terms: Terms,
+    model: &M,
+    terms: &Terms,
+    run: &mut OneThreadRun<M>,
     out: &mut K,
 ) -> Result<Stop, Unfinished>
-    ensures { (totals : TotalsOf) → HasSimulated K.Sink out.old out.new result (M.meaning model) terms totals (Lines false) (initial_state (M.meaning model)) }
+    requires model { run.old.engine.model ≡ model.now }
+    requires terms { run.old.engine.terms ≡ terms.now }
+    requires begins { BeginsAt (M.meaning model.now) terms.now (OneStandsAt M.meaning) run.old (initial_state (M.meaning model.now)) }
+    ensures { (totals : TotalsOf) → HasSimulated K.Sink out.old out.new result (M.meaning model.now) terms.now totals (Lines false)
+        (initial_state (M.meaning model.now)) }
 {
-    let (model, mut run) = one_thread(alloc, model, terms)?;
-    law_initial(&*model, &terms);
     let stretch = |run: &mut OneThreadRun<M>, alloc: Global, _out: &K, lines: &mut LineBuffer|
         requires { IsSend M.row × IsSync M.row
             × (ended (M.meaning run.old.engine.model) run.old.engine.terms run.old.engine.standing ≡ None) × (lines.old ≡ []) }
         ensures { OneWrites M.meaning run.old result run.new lines.new }
     { run.write_stretch(alloc, lines) };
-    simulate_lines(alloc, &*model, &terms, &mut run, &stretch, out)
+    simulate_lines(alloc, model, terms, run, &stretch, out)
+}
+
+/// Runs the engine for one thread from the start of a model, and writes what is to be told of that.
+fn tell_one_thread<M: Model, L: Tally<M>, K: Sink>(
+    alloc: Global,
+    model: &M,
+    terms: &Terms,
+    run: &mut OneThreadRun<M>,
+    telling: Telling,
+    out: &mut K,
+) -> Result<Stop, Unfinished>
+    requires model { run.old.engine.model ≡ model.now }
+    requires terms { run.old.engine.terms ≡ terms.now }
+    requires begins { OneStandsAt M.meaning run.old (stands (initial_state (M.meaning model.now)) None) }
+    ensures { HasSimulated K.Sink out.old out.new result (M.meaning model.now) terms.now (L.lines model.now terms.now) telling
+        (initial_state (M.meaning model.now)) }
+{
+    law_initial(model, terms);
+    if let Telling::Lines { cycles: false } = telling {
+        return tell_lines(alloc, model, terms, run, out);
+    }
+    let cycle = |run: &mut OneThreadRun<M>, alloc: Global, _out: &K| -> Result<Bucket, OutOfMemory>
+        requires { IsSend M.row × IsSync M.row
+            × (ended (M.meaning run.old.engine.model) run.old.engine.terms run.old.engine.standing ≡ None) }
+        ensures { OneCycles M.meaning run.old result run.new }
+    { run.cycle(alloc) };
+    simulate::<M, L, _, _, K>(alloc, model, terms, run, &cycle, telling, out)
 }
 
 /// Runs a model on one thread, and writes what is to be told of its simulation.
@@ -96,17 +129,8 @@ fn run_one_thread<M: Model, L: Tally<M>, K: Sink>(
 ) -> Result<Stop, Unfinished>
     ensures { HasSimulated K.Sink out.old out.new result (M.meaning model) terms (L.lines model terms) telling (initial_state (M.meaning model)) }
 {
-    if let Telling::Lines { cycles: false } = telling {
-        return run_lines(alloc, model, terms, out);
-    }
-    let (model, mut run) = one_thread(alloc, model, terms)?;
-    law_initial(&*model, &terms);
-    let cycle = |run: &mut OneThreadRun<M>, alloc: Global, _out: &K| -> Result<Bucket, OutOfMemory>
-        requires { IsSend M.row × IsSync M.row
-            × (ended (M.meaning run.old.engine.model) run.old.engine.terms run.old.engine.standing ≡ None) }
-        ensures { OneCycles M.meaning run.old result run.new }
-    { run.cycle(alloc) };
-    simulate::<M, L, _, _, K>(alloc, &*model, &terms, &mut run, &cycle, telling, out)
+    let mut begun = one_thread(alloc, model, terms)?;
+    tell_one_thread::<M, L, K>(alloc, &*begun.model, &terms, &mut begun.run, telling, out)
 }
 
 /// Runs nodes that advance in threads from where they stand, and writes what is to be told of that.
@@ -146,9 +170,8 @@ fn run_on_nodes<R: Threads + Sync, G: Gate, M: Model, L: Tally<M>, K: Sink>(
     requires { IsSpread spread }
     ensures { HasSimulated K.Sink out.old out.new result (M.meaning model) terms (L.lines model terms) telling (initial_state (M.meaning model)) }
 {
-    let (model, mut run) = on_nodes(stage.alloc, model, terms, spread)?;
-    law_initial(&*model, &terms);
-    tell_nodes::<R, G, M, L, K>(stage, &*model, &terms, &mut run, telling, out)
+    let mut begun = on_nodes(stage.alloc, model, terms, spread)?;
+    tell_nodes::<R, G, M, L, K>(stage, &*begun.model, &terms, &mut begun.run, telling, out)
 }
 
 /// Runs a model from its start, writes what is to be told of its simulation, and hands it on. The text is the same whatever

@@ -3,7 +3,7 @@ ghost use Rattle.std.specs.Prelude.{◌≡◌, ◌≤◌, IfOk, None, false};
 ghost use Rattle.std.specs.Arc.{arc_value};
 ghost use Rattle.std.specs.Thread.{IsSend, IsSync};
 ghost use Rattle.sim_spec.specs.Standing.{stands};
-ghost use Rattle.sim_spec.specs.State.{Lawful};
+ghost use Rattle.sim_spec.specs.State.{Lawful, initial_state};
 ghost use Rattle.run_tally.specs.Tallies.{no_totals};
 ghost use Rattle.sim_text.specs.Written.{HasSimulated};
 ghost use Rattle.sim_text.specs.declared.telling.Telling.TheVariants.{Lines};
@@ -14,6 +14,7 @@ ghost use Rattle.model_runs.specs.Machines.{IsSpread, IsSpreadAs};
 ghost use Rattle.model_runs.specs.RunStandings.{TeamCycles, TeamStandsAt};
 ghost use Rattle.model_runs.specs.Saved.{HasSaved};
 
+use crate::begun::Begun;
 use crate::handing::hand_on;
 use crate::machine::Spread;
 use crate::running::{on_nodes, tell_nodes};
@@ -38,18 +39,42 @@ fn at_state<M: Model>(
     terms: Terms,
     spread: Spread,
     state: State,
-) -> Result<(Arc<M>, TeamRun<M>), OutOfMemory>
+) -> Result<Begun<M, TeamRun<M>>, OutOfMemory>
     requires spread { IsSpread spread }
     requires lawful { Lawful (M.meaning model) terms state }
-    ensures named { IfOk result (λ both. arc_value both.0 ≡ model) }
-    ensures model { IfOk result (λ both. both.1.team.world.model ≡ model) }
-    ensures terms { IfOk result (λ both. both.1.team.world.terms ≡ terms) }
-    ensures spread { IfOk result (λ both. IsSpreadAs both.1 spread) }
-    ensures begins { IfOk result (λ both. TeamStandsAt M.meaning both.1 (stands state None)) }
+    ensures named { IfOk result (λ begun. arc_value begun.model ≡ model) }
+    ensures model { IfOk result (λ begun. begun.run.team.world.model ≡ model) }
+    ensures terms { IfOk result (λ begun. begun.run.team.world.terms ≡ terms) }
+    ensures spread { IfOk result (λ begun. IsSpreadAs begun.run spread) }
+    ensures begins { IfOk result (λ begun. TeamStandsAt M.meaning begun.run (stands state None)) }
 {
     let model = Arc::new(alloc, model)?;
     let run = TeamRun::from_state(alloc, model.clone()?, terms, spread, state)?;
-    Ok((model, run))
+    Ok(Begun { model, run })
+}
+
+/// Writes the records of the first cycles of nodes at the start of a model, and answers the state after them.
+fn save_first<R: Threads + Sync, G: Gate, M: Model, K: Sink>(
+    stage: Stage<R, G>,
+    model: &M,
+    terms: &Terms,
+    run: &mut TeamRun<M>,
+    cycles: u32,
+    out: &mut K,
+) -> Result<State, Unfinished>
+    requires model { run.old.team.world.model ≡ model.now }
+    requires terms { run.old.team.world.terms ≡ terms.now }
+    requires begins { TeamStandsAt M.meaning run.old (stands (initial_state (M.meaning model.now)) None) }
+    ensures { HasSaved K.Sink out.old out.new result (M.meaning model.now) terms.now cycles }
+{
+    let Stage { rt, alloc, gate } = stage;
+    law_initial(model, terms);
+    let cycle = |run: &mut TeamRun<M>, alloc: Global, _out: &K| -> Result<Bucket, OutOfMemory>
+        requires { IsSync R.row × IsSync G.row × IsSend M.row × IsSync M.row × AreWorkers run.old.workers × GoesOn M.meaning run.old.team.world }
+        ensures { TeamCycles M.meaning run.old result run.new }
+    { run.cycle(rt, alloc, gate) };
+    simulate_first(alloc, model, terms, run, &cycle, cycles, out)?;
+    Ok(run.team.snapshot(alloc)?)
 }
 
 /// Writes the records of the first cycles of a model, and answers the state after them.
@@ -64,15 +89,8 @@ fn save_after<R: Threads + Sync, G: Gate, M: Model, K: Sink>(
     requires { IsSpread spread }
     ensures { HasSaved K.Sink out.old out.new result (M.meaning model) terms cycles }
 {
-    let Stage { rt, alloc, gate } = stage;
-    let (model, mut run) = on_nodes(alloc, model, terms, spread)?;
-    law_initial(&*model, &terms);
-    let cycle = |run: &mut TeamRun<M>, alloc: Global, _out: &K| -> Result<Bucket, OutOfMemory>
-        requires { IsSync R.row × IsSync G.row × IsSend M.row × IsSync M.row × AreWorkers run.old.workers × GoesOn M.meaning run.old.team.world }
-        ensures { TeamCycles M.meaning run.old result run.new }
-    { run.cycle(rt, alloc, gate) };
-    simulate_first(alloc, &*model, &terms, &mut run, &cycle, cycles, out)?;
-    Ok(run.team.snapshot(alloc)?)
+    let mut begun = on_nodes(stage.alloc, model, terms, spread)?;
+    save_first(stage, &*begun.model, &terms, &mut begun.run, cycles, out)
 }
 
 /// Runs a model from its start for so many cycles, or until it stops, on nodes, writes their records, and hands them on.
@@ -106,9 +124,9 @@ fn resume_at<R: Threads + Sync, G: Gate, M: Model, K: Sink>(
     requires lawful { Lawful (M.meaning model) terms state }
     ensures { HasSimulated K.Sink out.old out.new result (M.meaning model) terms no_totals (Lines false) state }
 {
-    let (model, mut run) = at_state(stage.alloc, model, terms, spread, state)?;
+    let mut begun = at_state(stage.alloc, model, terms, spread, state)?;
     let telling = Telling::Lines { cycles: false };
-    tell_nodes::<R, G, M, NoTally, K>(stage, &*model, &terms, &mut run, telling, out)
+    tell_nodes::<R, G, M, NoTally, K>(stage, &*begun.model, &terms, &mut begun.run, telling, out)
 }
 
 /// Runs a model from a state that a simulation of it can meet until it stops, on nodes, writes its records and why, and

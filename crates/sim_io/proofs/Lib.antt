@@ -1,3 +1,5 @@
+pub mod AppendLemmas
+pub mod GatheringLemmas
 pub mod CycleTextLemmas
 pub mod TextLemmas
 pub mod TakenLemmas

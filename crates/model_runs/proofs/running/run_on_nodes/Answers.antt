@@ -7,25 +7,25 @@ use Rattle.sim_text.proofs.WrittenLemmas.{no_prefix, simulated_before}
 use Rattle.model_runs.specs.RunStandings.{TeamStandsAt}
 use Rattle.model_runs.proofs.running.run_on_nodes.Goals as goal
 
-pub returns-in_err-model : goal.returns-in_err-model
-returns-in_err-model g c = simulated_before _ _ _ _ _ _ _ _ _ c.from_residual.ensures.1 (no_prefix _ _) refl
+pub returns-in_err-begun : goal.returns-in_err-begun
+returns-in_err-begun g c = simulated_before _ _ _ _ _ _ _ _ _ c.from_residual.ensures.1 (no_prefix _ _) refl
 
 pub tell_nodes-requires-clause-begins : goal.tell_nodes-requires-clause-begins
 tell_nodes-requires-clause-begins g c lifetimes outlives =
-    let one = c.deref-2.result.now in
-    let same : one ≡ c.args.model = c.deref-2.ensures ∙ c.in_ok-model.ensures.named in
-    let Begins : g.row.M.Denot → Type 0 = λ x. TeamStandsAt g.M.Model.meaning c.in_ok-model.run' (stands (initial_state (g.M.Model.meaning x)) None) in
+    let one = c.deref.result.now in
+    let same : one ≡ c.args.model = c.deref.ensures ∙ c.in_ok-begun.ensures.named in
+    let Begins : g.row.M.Denot → Type 0 = λ x. TeamStandsAt g.M.Model.meaning c.in_ok-begun.begun.run (stands (initial_state (g.M.Model.meaning x)) None) in
     let IsLawful : g.row.M.Denot → Type 0 = λ x. Lawful (g.M.Model.meaning x) c.args.terms (initial_state (g.M.Model.meaning x)) in
-    (initial_state (g.M.Model.meaning one), record { lawful = subst IsLawful (c.deref.ensures ∙ sym c.deref-2.ensures) c.law_initial.ensures; stands = subst Begins (sym same) c.in_ok-model.ensures.begins }, λ is. refl)
+    (initial_state (g.M.Model.meaning one), record { lawful = subst IsLawful (sym same) c.in_ok-begun.ensures.lawful; stands = subst Begins (sym same) c.in_ok-begun.ensures.begins }, λ is. refl)
 
 pub returns : goal.returns
 returns g c =
-    let one = c.deref-2.result.now in
-    let same : one ≡ c.args.model = c.deref-2.ensures ∙ c.in_ok-model.ensures.named in
-    let Begins : g.row.M.Denot → Type 0 = λ x. TeamStandsAt g.M.Model.meaning c.in_ok-model.run' (stands (initial_state (g.M.Model.meaning x)) None) in
+    let one = c.deref.result.now in
+    let same : one ≡ c.args.model = c.deref.ensures ∙ c.in_ok-begun.ensures.named in
+    let Begins : g.row.M.Denot → Type 0 = λ x. TeamStandsAt g.M.Model.meaning c.in_ok-begun.begun.run (stands (initial_state (g.M.Model.meaning x)) None) in
     let IsLawful : g.row.M.Denot → Type 0 = λ x. Lawful (g.M.Model.meaning x) c.args.terms (initial_state (g.M.Model.meaning x)) in
     let Tells : g.row.M.Denot → Type 0 =
     λ x. HasSimulated g.K.Sink c.args.out.now c.tell_nodes.new.out c.tell_nodes.result (g.M.Model.meaning x) c.args.terms (g.L.Tally.lines x c.args.terms) c.args.telling (initial_state (g.M.Model.meaning x)) in
     subst Tells same
     (c.tell_nodes.ensures (initial_state (g.M.Model.meaning one))
-    (record { lawful = subst IsLawful (c.deref.ensures ∙ sym c.deref-2.ensures) c.law_initial.ensures; stands = subst Begins (sym same) c.in_ok-model.ensures.begins }) (λ is. refl))
+    (record { lawful = subst IsLawful (sym same) c.in_ok-begun.ensures.lawful; stands = subst Begins (sym same) c.in_ok-begun.ensures.begins }) (λ is. refl))
