@@ -1,4 +1,5 @@
 pub mod LinkLemmas
+pub mod ListEnds
 pub mod LinkedParts
 pub mod ShopParts
 pub mod Rising

@@ -75,6 +75,10 @@ delay_law at d = do
   name ← required at (codes "law") ms >>= text at
   named_law at ms name
 
+-- the law at a key that has to be there
+abbrev pub required_law : ℕ → List ℕ → Members → Checked DelayLaw
+required_law at key ms = required at key ms >>= delay_law at
+
 -- no law where the key is absent
 abbrev pub optional_law : ℕ → Option Data → Checked (Option DelayLaw)
 optional_law at None = Ok None

@@ -17,7 +17,7 @@ use model_core::{Name, Sequence};
 use shop_model::{Class, MOST_DUE, MOST_PRIORITY};
 use std::alloc::Global;
 use text_fields::{
-    Directory, Place, Refusal, name_of, new_name, number_or, only, optional_number, required,
+    Directory, Place, Refusal, name_of, number_or, only, optional_number, required, required_name,
     table_of,
 };
 use toml::{Table, Value};
@@ -151,7 +151,7 @@ fn class<'a>(
     ensures links { (most : ℕ) → LinksBelow most (finder directory.old) → IfOk result (λ _. LinksBelow most (finder directory.new)) }
 {
     let table = table_of(value, item)?;
-    let name = new_name(required(table, "name", item)?, directory, item)?;
+    let name = required_name(table, directory, item)?;
     let place = Place {
         number: item - 1,
         takes_links: false,

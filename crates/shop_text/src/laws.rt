@@ -8,15 +8,15 @@ ghost use Rattle.random_streams.specs.declared.delay_law.DelayLaw.TheVariants.{P
 ghost use Rattle.random_streams.specs.Delays.{are_values, do_rise, is_delay_law};
 ghost use Rattle.random_streams.specs.Laws.{is_delay};
 ghost use Rattle.text_fields.specs.Checks.{Gives};
-ghost use Rattle.shop_text.specs.LawTexts.{geometric_law, amounts, table_law, rising, steps_law, delay_law, optional_law};
+ghost use Rattle.shop_text.specs.LawTexts.{geometric_law, amounts, table_law, rising, steps_law, delay_law, required_law, optional_law};
 
 use random_streams::{
     DelayLaw, Divisor, Law, MOST_SHARES, MOST_TRIALS, MOST_UNIT, MOST_VALUE, PreparedLaw, Values,
 };
 use std::alloc::Global;
 use text_fields::{
-    Cause, Refusal, array_of, field, fixed_law, item_count, number, number_or, numbers_of, only,
-    optional_shares, required, table_of, text, uniform_law,
+    Cause, Refusal, array_of, field, fixed_law, item_count, number_or, numbers_of, only,
+    optional_shares, required, required_number, required_text, table_of, uniform_law,
 };
 use toml::{Table, Value};
 
@@ -40,9 +40,9 @@ fn geometric_law(table: &Table, item: u32) -> Result<DelayLaw, Refusal>
     ensures read { Gives (λ law. law) result (geometric_law item (table_view table.now)) }
     ensures delay { IfOk result (λ law. IsTrue (is_delay_law law)) }
 {
-    let p = number(required(table, "p", item)?, item, 1, 4_294_967_295)? as u32;
+    let p = required_number(table, "p", item, 1, 4_294_967_295)? as u32;
     let most = u64::from(MOST_TRIALS);
-    let cap = number(required(table, "cap", item)?, item, 1, most)? as u32;
+    let cap = required_number(table, "cap", item, 1, most)? as u32;
     let unit = number_or(table, "unit", item, 1, 1, MOST_UNIT)?;
     only(table, &["law", "p", "cap", "unit"], item)?;
     if unit == 1 {
@@ -126,7 +126,7 @@ pub(crate) fn delay_law(alloc: Global, value: &Value, item: u32) -> Result<Delay
     ensures delay { IfOk result (λ law. IsTrue (is_delay_law law)) }
 {
     let table = table_of(value, item)?;
-    let name = text(required(table, "law", item)?, item)?;
+    let name = required_text(table, "law", item)?;
     match name {
         "fixed" => Ok(plain(fixed_law(table, item)?)),
         "uniform" => Ok(plain(uniform_law(table, item)?)),
@@ -135,6 +135,19 @@ pub(crate) fn delay_law(alloc: Global, value: &Value, item: u32) -> Result<Delay
         "steps" => steps_law(alloc, table, item),
         _ => Err(Cause::BadValue.at(item)),
     }
+}
+
+/// The law at a key that has to be there.
+pub(crate) fn required_law(
+    alloc: Global,
+    table: &Table,
+    key: &str,
+    item: u32,
+) -> Result<DelayLaw, Refusal>
+    ensures read { Gives (λ law. law) result (required_law item key.now (table_view table.now)) }
+    ensures delay { IfOk result (λ law. IsTrue (is_delay_law law)) }
+{
+    delay_law(alloc, required(table, key, item)?, item)
 }
 
 /// The law at a key, or none where the key is absent.

@@ -11,7 +11,7 @@ use random_streams::MOST_VALUE;
 use shop_model::{MOST_OPEN, MOST_SHIFTS, Shift};
 use std::alloc::Global;
 use text_fields::{
-    Cause, Refusal, number, only, optional_array, optional_number, required, table_of,
+    Cause, Refusal, only, optional_array, optional_number, required_number, table_of,
 };
 use toml::{Table, Value};
 
@@ -31,9 +31,9 @@ fn shift(value: &Value, earliest: u64, item: u32) -> Result<(Shift, u64), Refusa
     ensures next { IfOk result (λ read. read.1 ≡ read.0.at + 1) }
 {
     let table = table_of(value, item)?;
-    let at = number(required(table, "at", item)?, item, 0, MOST_VALUE)?;
+    let at = required_number(table, "at", item, 0, MOST_VALUE)?;
     let most = u64::from(MOST_OPEN);
-    let servers = number(required(table, "servers", item)?, item, 0, most)? as u32;
+    let servers = required_number(table, "servers", item, 0, most)? as u32;
     only(table, &["at", "servers"], item)?;
     if at < earliest {
         return Err(Cause::BadValue.at(item));

@@ -17,8 +17,8 @@ use model_core::Name;
 use shop_model::{Breakdowns, MOST_LINE, MOST_OPEN, Order, Station};
 use std::alloc::Global;
 use text_fields::{
-    Cause, Directory, Place, Refusal, field, name_of, new_name, number_or, only, required,
-    table_of, text,
+    Cause, Directory, Place, Refusal, field, name_of, number_or, only, required_name, table_of,
+    text,
 };
 use toml::{Table, Value};
 
@@ -135,7 +135,7 @@ fn station<'a>(
     ensures links { LinksBelow (item - 1) (finder directory.old) → IfOk result (λ _. LinksBelow item (finder directory.new)) }
 {
     let table = table_of(value, item)?;
-    let name = new_name(required(table, "name", item)?, directory, item)?;
+    let name = required_name(table, directory, item)?;
     let place = Place {
         number: item - 1,
         takes_links: true,

@@ -1,18 +1,20 @@
 //! The steps of a route, each form with its fields.
-ghost use Rattle.std.specs.Prelude.{◌≡◌, IfOk, IsTrue, map};
+ghost use Rattle.std.specs.Prelude.{◌≡◌, Option, IfOk, IsTrue, map};
 ghost use Rattle.std.specs.Option.{ForSome};
 ghost use Rattle.toml.specs.View.{view, table_view};
+ghost use Rattle.random_streams.specs.declared.delay_law.DelayLaw.{DelayLaw};
 ghost use Rattle.random_streams.specs.Delays.{is_delay_law};
 ghost use Rattle.text_fields.specs.Checks.{Gives};
+ghost use Rattle.shop_text.specs.declared.named.NamedStep.TheVariants.{Visit};
 ghost use Rattle.shop_text.specs.Ranges.{IsNamedStep};
 ghost use Rattle.shop_text.specs.StepTexts.{visit_names, visit, service, hold, free, delay, go, step_form};
 
-use crate::laws::{delay_law, optional_law};
+use crate::laws::{optional_law, required_law};
 use crate::named::{NamedStep, NamedVisit, VisitNames};
 use random_streams::DelayLaw;
 use std::alloc::Global;
 use text_fields::{
-    Cause, Refusal, field, name_of, only, optional_weights, required, text, text_or, ways,
+    Cause, Refusal, field, name_of, only, optional_weights, required, required_text, text_or, ways,
 };
 use toml::Table;
 
@@ -43,6 +45,25 @@ fn visit_names(
 
 /// How long a job waits, and where it goes if it isn't served. The step may have no other keys than these.
 #[tactic(auto, unfolding(crate::specs::StepTexts::visit))]
+fn wait(
+    alloc: Global,
+    station: &str,
+    table: &Table,
+    keys: &[&str],
+    item: u32,
+) -> Result<(Option<DelayLaw>, VisitNames), Refusal>
+    ensures read { (service : Option DelayLaw)
+        → Gives (λ wait. Visit (record { names = wait.1; service = service; patience = wait.0 })) result
+        (visit item station.now service (map (λ key. key.now) keys.now) (table_view table.now)) }
+    ensures in_range { IfOk result (λ wait. ForSome wait.0 (λ law. IsTrue (is_delay_law law))) }
+{
+    let patience = optional_law(alloc, table, "patience", item)?;
+    let names = visit_names(alloc, station, table, item)?;
+    only(table, keys, item)?;
+    Ok((patience, names))
+}
+
+/// A visit of this station, where a job is served so. The step may have no other keys than these.
 fn visit(
     alloc: Global,
     station: &str,
@@ -55,9 +76,7 @@ fn visit(
     ensures read { Gives (λ step. step) result (visit item station.now service (map (λ key. key.now) keys.now) (table_view table.now)) }
     ensures in_range { IfOk result IsNamedStep }
 {
-    let patience = optional_law(alloc, table, "patience", item)?;
-    let names = visit_names(alloc, station, table, item)?;
-    only(table, keys, item)?;
+    let (patience, names) = wait(alloc, station, table, keys, item)?;
     Ok(NamedStep::Visit(NamedVisit {
         names,
         service,
@@ -71,8 +90,8 @@ fn service(alloc: Global, table: &Table, item: u32) -> Result<NamedStep, Refusal
     ensures read { Gives (λ step. step) result (service item (table_view table.now)) }
     ensures in_range { IfOk result IsNamedStep }
 {
-    let station = text(required(table, "at", item)?, item)?;
-    let law = delay_law(alloc, required(table, "service", item)?, item)?;
+    let station = required_text(table, "at", item)?;
+    let law = required_law(alloc, table, "service", item)?;
     let keys = &["label", "at", "service", "patience", "away", "full"];
     visit(alloc, station, Some(law), table, keys, item)
 }
@@ -83,7 +102,7 @@ fn hold(alloc: Global, table: &Table, item: u32) -> Result<NamedStep, Refusal>
     ensures read { Gives (λ step. step) result (hold item (table_view table.now)) }
     ensures in_range { IfOk result IsNamedStep }
 {
-    let station = text(required(table, "hold", item)?, item)?;
+    let station = required_text(table, "hold", item)?;
     let keys = &["label", "hold", "patience", "away", "full"];
     visit(alloc, station, None, table, keys, item)
 }
@@ -94,7 +113,7 @@ fn free(alloc: Global, table: &Table, item: u32) -> Result<NamedStep, Refusal>
     ensures read { Gives (λ step. step) result (free item (table_view table.now)) }
     ensures in_range { IfOk result IsNamedStep }
 {
-    let station = text(required(table, "free", item)?, item)?;
+    let station = required_text(table, "free", item)?;
     only(table, &["label", "free"], item)?;
     let station = name_of(alloc, station)?;
     Ok(NamedStep::Free { station })
@@ -106,7 +125,7 @@ fn delay(alloc: Global, table: &Table, item: u32) -> Result<NamedStep, Refusal>
     ensures read { Gives (λ step. step) result (delay item (table_view table.now)) }
     ensures in_range { IfOk result IsNamedStep }
 {
-    let law = delay_law(alloc, required(table, "delay", item)?, item)?;
+    let law = required_law(alloc, table, "delay", item)?;
     only(table, &["label", "delay"], item)?;
     Ok(NamedStep::Delay { law })
 }

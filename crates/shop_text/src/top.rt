@@ -11,7 +11,9 @@ use model_core::{MOST_EVENTS, MOST_TEXT_BYTES};
 use shop_model::Shop;
 use sim_spec::Terms;
 use std::alloc::Global;
-use text_fields::{Cause, Refusal, number, number_or, only, required, terms_of, text, tree};
+use text_fields::{
+    Cause, Refusal, number_or, only, required, required_number, required_text, terms_of, tree,
+};
 use toml::{Table, Value};
 
 /// The greatest seed: 2^63 - 1.
@@ -33,10 +35,10 @@ fn top(alloc: Global, table: &Table) -> Result<(Shop, Terms), Refusal>
     ensures { Gives (λ read. shop_read (parts_of read.0) read.1 (counted_from read.0)) result (top (table_view table.now)) }
 {
     is_first(required(table, "format", 0)?)?;
-    if text(required(table, "model", 0)?, 0)? != "shop" {
+    if required_text(table, "model", 0)? != "shop" {
         return Err(Cause::BadValue.at(0));
     }
-    let end = number(required(table, "end", 0)?, 0, 0, LAST_TICK)?;
+    let end = required_number(table, "end", 0, 0, LAST_TICK)?;
     let seed = number_or(table, "seed", 0, 0, 0, MOST_SEED)?;
     let limit = number_or(table, "limit", 0, 10_000_000, 1, MOST_EVENTS)?;
     let from = number_or(table, "from", 0, 0, 0, LAST_TICK)?;

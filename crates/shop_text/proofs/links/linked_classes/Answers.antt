@@ -1,28 +1,16 @@
-use Rattle.std.proofs.Common.{◌≡◌, ℕ, ◌+◌, ◌<◌, ◌++◌, List, ◌∷◌, [], length, drop, get_or, Ok, arith, sym, ap, subst, ◌∙◌}
-use Rattle.std.proofs.lemmas.List.{drop_more, length_push}
+use Rattle.std.proofs.Common.{◌≡◌, ◌+◌, ◌++◌, ◌∷◌, [], length, drop, Ok, arith, sym, ap, subst, ◌∙◌}
+use Rattle.std.proofs.lemmas.List.{length_push}
 use Rattle.std.proofs.lemmas.Result.{err_from_is_err_and}
 use Rattle.std.proofs.lemmas.Iterator.Adapters.{YieldsList-from_vec}
 use Rattle.std.proofs.lemmas.Iterator.Consumers.{YieldsList-turn}
-use Rattle.model_reader.specs.declared.refusal.Refusal.{Refusal}
-use Rattle.model_reader.specs.declared.refusal.Refusal.TheVariants.{At, OutOfMemory}
-use Rattle.text_fields.specs.Checks.{Checked, Fails, ◌>>=◌}
+use Rattle.text_fields.specs.Checks.{Fails}
 use Rattle.text_fields.specs.Directories.{finder}
-use Rattle.text_fields.specs.Fields.{each_of}
 use Rattle.text_fields.proofs.Each.{list_goes_on, with_front}
 use Rattle.shop_text.specs.declared.named.NamedClass.{NamedClass}
 use Rattle.shop_text.specs.LinkedRoutes.{linked_class}
 use Rattle.shop_text.specs.Views.{class_text, linked_named}
+use Rattle.shop_text.proofs.ListEnds.{list_ends}
 use Rattle.shop_text.proofs.links.linked_classes.Goals as goal
-
--- the first element that is refused is the answer
-list_ends : {X A : Type 0} (read : ℕ → X → Checked A) (front : List A) (e : Refusal) (k i : ℕ) (xs : List X) (x : X) (total : Checked (List A))
-    → i < length xs → x ≡ get_or xs i x → Fails e (read k x) → with_front front (each_of read k (drop i xs)) ≡ total → Fails e total
-list_ends read front OutOfMemory k i xs x total lt same fails so_far = tt
-list_ends read front (At code place) k i xs x total lt same fails so_far =
-    let split : drop i xs ≡ x ∷ drop (i + 1) xs = drop_more xs i x lt ∙ ap (λ y. y ∷ drop (i + 1) xs) (sym same) in
-    sym so_far
-    ∙ ap (λ ys. with_front front (each_of read k ys)) split
-    ∙ ap (λ check. with_front front (check >>= (λ first. each_of read (k + 1) (drop (i + 1) xs) >>= (λ others. Ok (first ∷ others))))) fails
 
 pub returns-in_err-linked_class : goal.returns-in_err-linked_class
 returns-in_err-linked_class c =

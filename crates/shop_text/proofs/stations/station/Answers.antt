@@ -1,31 +1,30 @@
 use Rattle.std.proofs.Common.{◌≡◌, ◌-◌, ◌<◌, ℕ, List, Ok, refl, arith, sym, subst}
-use Rattle.std.specs.Prelude.{codes}
 use Rattle.std.proofs.lemmas.Result.{IfOk-weaker}
 use Rattle.toml.specs.Data.{Data, Members}
 use Rattle.toml.specs.View.{table_view, view}
 use Rattle.shop_model.specs.declared.station.Station.{Station}
 use Rattle.text_fields.specs.Checks.{◌>>=◌}
 use Rattle.text_fields.specs.Directories.{finder}
-use Rattle.text_fields.specs.Fields.{required, table_of}
-use Rattle.text_fields.specs.Names.{Finder, new_name, taken_in}
+use Rattle.text_fields.specs.Fields.{table_of}
+use Rattle.text_fields.specs.Names.{Finder, required_name, taken_in}
 use Rattle.shop_text.specs.Ranges.{IsStationText, LinksBelow}
 use Rattle.shop_text.specs.StationTexts.{station, station_named, station_place}
 use Rattle.shop_text.proofs.GivesLemmas.{gives_more}
 use Rattle.shop_text.proofs.LinkLemmas.{below_more, below_taken}
 use Rattle.shop_text.proofs.stations.station.Goals as goal
 
-name-read : (at : ℕ) (find : Finder) (d value : Data) (ms : Members) (name : List ℕ)
-    → table_of at d ≡ Ok ms → required at (codes "name") ms ≡ Ok value → new_name find at value ≡ Ok name
+name-read : (at : ℕ) (find : Finder) (d : Data) (ms : Members) (name : List ℕ)
+    → table_of at d ≡ Ok ms → required_name find at ms ≡ Ok name
     → station at find d ≡ (station_named at name ms >>= (λ station. Ok (station, taken_in find name (station_place at))))
 unfolding station
-name-read at find d value ms name one two three = rw (one, two, three) refl
+name-read at find d ms name one two = rw (one, two) refl
 
 pub returns-clause-read : goal.returns-clause-read
 returns-clause-read c =
     let find = finder c.args.directory.now in
     let name = c.in_ok-name.name.now in
     let ms = table_view c.in_ok-table.table.now in
-    rw (name-read c.args.item find (view c.args.value.now) _ ms name c.in_ok-table.ensures c.in_ok-required.ensures c.in_ok-name.ensures.read, c.in_ok-add.ensures.taken_in, c.as_bytes.ensures.value)
+    rw (name-read c.args.item find (view c.args.value.now) ms name c.in_ok-table.ensures c.in_ok-name.ensures.read, c.in_ok-add.ensures.taken_in, c.as_bytes.ensures.value)
     (gives_more (λ (station : Station). station) (λ (station : Station). (station, taken_in find name (station_place c.args.item)))
     c.station_named.result (station_named c.args.item name ms) c.station_named.ensures.read)
 
