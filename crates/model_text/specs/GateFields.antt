@@ -24,6 +24,10 @@ logic_kind at word =
     else if bytes_eq word (codes "dff") then Ok Dff
     else refusal BadValue at
 
+-- the kind that a table gives
+abbrev pub required_kind : ℕ → Members → Checked LogicKind
+required_kind at ms = required at (codes "kind") ms >>= text at >>= logic_kind at
+
 -- how many pins a kind may have: 1 to 8, but for these four
 abbrev pub takes : LogicKind → ℕ → Bool
 takes Input pins = pins == 0

@@ -4,7 +4,7 @@ ghost use Rattle.toml.specs.View.{view, items_view, table_view};
 ghost use Rattle.circuit_model.specs.Gates.{HasPins, is_input};
 ghost use Rattle.circuit_model.specs.declared.limits.TheConstants.{MOST_FLIPS};
 ghost use Rattle.text_fields.specs.Checks.{Gives};
-ghost use Rattle.model_text.specs.GateFields.{logic_kind, takes, flips, feeders, probe, input, fed_gate};
+ghost use Rattle.model_text.specs.GateFields.{logic_kind, required_kind, takes, flips, feeders, probe, input, fed_gate};
 ghost use Rattle.model_text.specs.NamedGates.{IsNamedGate};
 
 use crate::named::NamedGate;
@@ -14,12 +14,12 @@ use model_core::{Name, Sequence};
 use std::alloc::Global;
 use text_fields::{
     Cause, Refusal, entries_of, item_count, names_of, number_or, numbers_of, only, optional_array,
-    required, truth_or,
+    required, required_text, truth_or,
 };
 use toml::{Table, Value};
 
 /// The kind with this word.
-pub(crate) fn logic_kind(word: &str, item: u32) -> Result<LogicKind, Refusal>
+fn logic_kind(word: &str, item: u32) -> Result<LogicKind, Refusal>
     ensures { Gives (λ kind. kind) result (logic_kind item word.now) }
 {
     match word {
@@ -34,6 +34,13 @@ pub(crate) fn logic_kind(word: &str, item: u32) -> Result<LogicKind, Refusal>
         "dff" => Ok(LogicKind::Dff),
         _ => Err(Cause::BadValue.at(item)),
     }
+}
+
+/// The kind that a table gives.
+pub(crate) fn required_kind(table: &Table, item: u32) -> Result<LogicKind, Refusal>
+    ensures { Gives (λ kind. kind) result (required_kind item (table_view table.now)) }
+{
+    logic_kind(required_text(table, "kind", item)?, item)
 }
 
 /// When an input turns, where those before it turn so often.

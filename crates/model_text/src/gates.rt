@@ -9,10 +9,10 @@ ghost use Rattle.text_fields.specs.Directories.{finder};
 ghost use Rattle.text_fields.specs.Names.{TakesIn};
 ghost use Rattle.model_text.specs.NamedGates.{IsNamedGate, flip_count, gate_place, gate_place_in};
 
-use crate::gate_fields::{fed_gate, input, logic_kind};
+use crate::gate_fields::{fed_gate, input, required_kind};
 use crate::named::NamedGate;
 use std::alloc::Global;
-use text_fields::{Directory, Place, Refusal, name_of, required_name, required_text, table_of};
+use text_fields::{Directory, Place, Refusal, name_of, required_name, table_of};
 use toml::Value;
 
 /// The gate with this number, counted from 0, which may have none of the names in the directory and is taken in there, where
@@ -36,7 +36,7 @@ fn gate<'a>(
     let item = number + 1;
     let table = table_of(value, item)?;
     let name = required_name(table, directory, item)?;
-    let kind = logic_kind(required_text(table, "kind", item)?, item)?;
+    let kind = required_kind(table, item)?;
     directory.add(
         name.as_bytes(),
         Place {

@@ -1,5 +1,5 @@
 //! The kinds of objects, each with its fields, its keys and its links.
-ghost use Rattle.std.specs.Prelude.{◌≡◌, ◌^◌, ◌<◌, IfOk, map};
+ghost use Rattle.std.specs.Prelude.{◌≡◌, ◌^◌, ◌<◌, IfOk, codes, map};
 ghost use Rattle.std.specs.Option.{ForSome};
 ghost use Rattle.toml.specs.Data.{get_member};
 ghost use Rattle.toml.specs.View.{view, table_view};
@@ -7,6 +7,7 @@ ghost use Rattle.queue_models.specs.Kinds.{IsKind};
 ghost use Rattle.model_text.specs.declared.formats.Format.TheVariants.{One, Two};
 ghost use Rattle.text_fields.specs.Checks.{Gives};
 ghost use Rattle.text_fields.specs.Directories.{finder};
+ghost use Rattle.text_fields.specs.Fields.{required_text};
 ghost use Rattle.model_text.specs.NamedItems.{AnyName};
 ghost use Rattle.model_text.specs.Kinds.{source, station, delay, router, sink, named_kind, linked_kind};
 ghost use Rattle.model_text.specs.Objects.{known_keys};
@@ -14,6 +15,7 @@ ghost use Rattle.model_text.specs.Objects.{known_keys};
 use crate::formats::Format;
 use crate::named::NamedKind;
 use event_key::LAST_TICK;
+use model_core::Name;
 use queue_models::{
     Delay, Kind, MOST_JOBS, MOST_SERVERS, MOST_WAITING, Router, Sink, Source, Station,
 };
@@ -24,6 +26,14 @@ use text_fields::{
 };
 use toml::Table;
 
+/// The name of the object to which jobs go on.
+fn next_name(alloc: Global, table: &Table, item: u32) -> Result<Name, Refusal>
+    ensures { Gives (λ name. name) result (required_text item (codes "next") (table_view table.now)) }
+{
+    let next = required_text(table, "next", item)?;
+    Ok(name_of(alloc, next)?)
+}
+
 /// A source.
 #[tactic(auto, unfolding(crate::specs::Kinds::source))]
 fn source(alloc: Global, table: &Table, item: u32) -> Result<NamedKind, Refusal>
@@ -33,8 +43,7 @@ fn source(alloc: Global, table: &Table, item: u32) -> Result<NamedKind, Refusal>
     let first = required_number(table, "first", item, 0, LAST_TICK)?;
     let every = required_law(table, "every", item)?;
     let count = required_number(table, "count", item, 1, u64::from(MOST_JOBS))? as u32;
-    let next = required_text(table, "next", item)?;
-    let next = name_of(alloc, next)?;
+    let next = next_name(alloc, table, item)?;
     Ok(NamedKind::Source(Source {
         first,
         every,
@@ -54,8 +63,7 @@ fn station(alloc: Global, table: &Table, item: u32) -> Result<NamedKind, Refusal
     let most = u64::from(MOST_WAITING);
     let line = number_or(table, "line", item, most, 0, most)? as u32;
     let strict = truth_or(table, "strict", item, false)?;
-    let next = required_text(table, "next", item)?;
-    let next = name_of(alloc, next)?;
+    let next = next_name(alloc, table, item)?;
     Ok(NamedKind::Station(Station {
         servers,
         service,
@@ -72,8 +80,7 @@ fn delay(alloc: Global, table: &Table, item: u32) -> Result<NamedKind, Refusal>
     ensures in_range { IfOk result (IsKind AnyName) }
 {
     let delay = required_law(table, "delay", item)?;
-    let next = required_text(table, "next", item)?;
-    let next = name_of(alloc, next)?;
+    let next = next_name(alloc, table, item)?;
     Ok(NamedKind::Delay(Delay { delay, next }))
 }
 
