@@ -1,2 +1,4 @@
 pub mod LevelLemmas
 pub mod PlaceLemmas
+pub mod RoomLemmas
+pub mod StepLemmas
