@@ -1,3 +1,4 @@
+use super::assert_act;
 use event_bags::Bags;
 use std::alloc::Global;
 use std::marker::Model;
@@ -63,7 +64,7 @@ impl Three {
 fn assert_acts<R: Abort>(rt: &R, alloc: Global, acts: &[Act]) -> Result<(), Fail> {
     let mut three = Three::new(alloc, 4)?;
     for (place, act) in acts.iter().enumerate() {
-        assert!(rt; three.act(act)?, "act {place}");
+        assert_act(rt, three.act(act)?, place);
     }
     Ok(())
 }

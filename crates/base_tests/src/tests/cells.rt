@@ -40,7 +40,7 @@ fn chain_of(alloc: Global, values: &[u64]) -> Result<Chain<u64>, Fail> {
 }
 
 /// A chain has these values, in this order.
-fn assert_values<R: Abort>(rt: &R, mut chain: Chain<u64>, values: &[u64]) -> Result<(), Fail> {
+fn assert_values<R: Abort>(rt: &R, chain: &mut Chain<u64>, values: &[u64]) -> Result<(), Fail> {
     assert!(rt; chain.len() == values.len());
     for value in values {
         let cell = chain.pop_front().ok_or("empty")?;
@@ -62,7 +62,7 @@ fn a_chain_is_its_values_in_order(rt: HostRuntime) -> Result<(), Fail> {
     chain.push_front(first);
     chain.append(more);
     assert!(rt; chain.front() == Some(&1));
-    assert_values(&rt, chain, &[1, 2, 3])
+    assert_values(&rt, &mut chain, &[1, 2, 3])
 }
 
 #[test]
@@ -120,7 +120,7 @@ fn pair(alloc: Global, first: u64, second: u64) -> Result<Chain<u64>, Fail>
 fn two_sorted_chains_become_one(rt: HostRuntime) -> Result<(), Fail> {
     let mut chain = pair(rt.alloc(), 1, 3)?;
     chain.merge_sorted(pair(rt.alloc(), 2, 4)?);
-    assert_values(&rt, chain, &[1, 2, 3, 4])
+    assert_values(&rt, &mut chain, &[1, 2, 3, 4])
 }
 
 #[test]

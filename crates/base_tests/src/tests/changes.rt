@@ -5,6 +5,7 @@ ghost use Rattle.delta_exchange.specs.Changes.{AllFit, cells_after_all};
 
 use delta_exchange::{Cells, Change, OutOfMemory};
 use std::alloc::Global;
+use std::process::Abort;
 use std::test::Fail;
 
 /// Does the changes of two events, each after its `room`, and takes them back, the later first.
@@ -49,6 +50,11 @@ fn holds(cells: &Cells, words: [u64; 2], line: [u64; 2]) -> bool {
         && [cells.line_at(0, 0), cells.line_at(0, 1)] == line
 }
 
+/// There are these words, and the one line has these values.
+fn assert_holds<R: Abort>(rt: &R, cells: &Cells, words: [u64; 2], line: [u64; 2]) {
+    assert!(rt; holds(cells, words, line));
+}
+
 #[test]
 #[tactic(auto, unfolding(delta_exchange::specs::Changes::AllFit))]
 fn each_change_becomes_its_inverse_and_undo_takes_all_back(rt: HostRuntime) -> Result<(), Fail> {
@@ -71,11 +77,11 @@ fn each_change_becomes_its_inverse_and_undo_takes_all_back(rt: HostRuntime) -> R
     let mut log = changes;
     cells.room(&log)?;
     cells.apply(&mut log);
-    assert!(rt; holds(&cells, [5, 8], [2, 18446744073709551612]));
+    assert_holds(&rt, &cells, [5, 8], [2, 18446744073709551612]);
     assert!(rt; log == inverses);
 
     cells.undo(&mut log);
-    assert!(rt; holds(&cells, [7, 8], [1, 2]));
+    assert_holds(&rt, &cells, [7, 8], [1, 2]);
     assert!(rt; log == changes);
     Ok(())
 }
@@ -85,8 +91,8 @@ fn a_copy_has_the_same_words_and_lines(rt: HostRuntime) -> Result<(), Fail> {
     let alloc = rt.alloc();
     let cells = example(alloc)?;
     let copy = cells.copy(alloc)?;
-    assert!(rt; holds(&copy, [7, 8], [1, 2]));
-    assert!(rt; holds(&cells, [7, 8], [1, 2]));
+    assert_holds(&rt, &copy, [7, 8], [1, 2]);
+    assert_holds(&rt, &cells, [7, 8], [1, 2]);
     Ok(())
 }
 
@@ -103,7 +109,7 @@ fn two_events_are_taken_back_the_later_first(rt: HostRuntime) -> Result<(), Fail
     let mut earlier = Vec::from_slice(alloc, &first)?;
     let mut later = Vec::from_slice(alloc, &second)?;
     react_twice_and_roll_back(&mut cells, &mut earlier, &mut later)?;
-    assert!(rt; holds(&cells, [7, 8], [1, 2]));
+    assert_holds(&rt, &cells, [7, 8], [1, 2]);
     assert!(rt; earlier.as_slice() == first.as_slice());
     assert!(rt; later.as_slice() == second.as_slice());
     Ok(())

@@ -1,6 +1,6 @@
 ghost use Rattle.std.specs.Prelude.{◌≡◌, IfOk};
 
-use super::{Sorted, following};
+use super::{Sorted, assert_act, following};
 use event_chain::{Cell, Chain};
 use event_key::{Key, NO_STAMP};
 use model_core::Event;
@@ -120,7 +120,7 @@ fn cell(alloc: Global, stamp: u64, serial: u32) -> Result<Cell<Event>, Fail>
 fn assert_acts<R: Abort>(rt: &R, alloc: Global, acts: &[Act]) -> Result<(), Fail> {
     let mut counted = Counted::new();
     for (place, act) in acts.iter().enumerate() {
-        assert!(rt; counted.act(alloc, act)?, "act {place}");
+        assert_act(rt, counted.act(alloc, act)?, place);
     }
     Ok(())
 }

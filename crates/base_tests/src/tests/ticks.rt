@@ -1,6 +1,6 @@
 ghost use Rattle.std.specs.Prelude.{◌≡◌, IfOk};
 
-use super::{Sorted, following};
+use super::{Sorted, assert_act, following};
 use event_key::{Key, NO_STAMP, STEPS};
 use model_core::Event;
 use std::alloc::Global;
@@ -140,7 +140,7 @@ enum Act {
 fn assert_acts<R: Abort>(rt: &R, alloc: Global, acts: &[Act]) -> Result<(), Fail> {
     let mut counted = Counted::new(alloc)?;
     for (place, act) in acts.iter().enumerate() {
-        assert!(rt; counted.act(act)?, "act {place}");
+        assert_act(rt, counted.act(act)?, place);
     }
     Ok(())
 }

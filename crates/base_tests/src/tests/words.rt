@@ -3,6 +3,7 @@ use random_streams::{
     draw,
 };
 use std::alloc::Global;
+use std::process::Abort;
 use std::test::Fail;
 
 #[test]
@@ -15,46 +16,55 @@ fn the_first_words_under_seed_0(rt: HostRuntime) {
 }
 
 /// The words of test vectors 1 and 2 of RFC 8439, appendix A.1: key and nonce are zero, and the block counter is 0 and 1.
+const STANDARD: [[u8; 4]; 18] = [
+    [0x76, 0xb8, 0xe0, 0xad],
+    [0xa0, 0xf1, 0x3d, 0x90],
+    [0x40, 0x5d, 0x6a, 0xe5],
+    [0x53, 0x86, 0xbd, 0x28],
+    [0xbd, 0xd2, 0x19, 0xb8],
+    [0xa0, 0x8d, 0xed, 0x1a],
+    [0xa8, 0x36, 0xef, 0xcc],
+    [0x8b, 0x77, 0x0d, 0xc7],
+    [0xda, 0x41, 0x59, 0x7c],
+    [0x51, 0x57, 0x48, 0x8d],
+    [0x77, 0x24, 0xe0, 0x3f],
+    [0xb8, 0xd8, 0x4a, 0x37],
+    [0x6a, 0x43, 0xb8, 0xf4],
+    [0x15, 0x18, 0xa1, 0x1c],
+    [0xc3, 0x87, 0xb6, 0x69],
+    [0xb2, 0xee, 0x65, 0x86],
+    [0x9f, 0x07, 0xe7, 0xbe],
+    [0x55, 0x51, 0x38, 0x7a],
+];
+
+/// Seeds, objects and places from which a stream comes there.
+const EARLIER: [(u64, u32, u64); 6] = [
+    (0, 0, 0),
+    (0, 0, 3),
+    (0, 0, 16),
+    (0, 0, 15),
+    (0, 1, 5),
+    (1, 0, 5),
+];
+
+/// From a place on a stream has the words of the standard.
+fn assert_standard<R: Abort>(rt: &R, words: &mut Stream, place: usize) {
+    words.move_to(0, 0, place as u64);
+    for want in STANDARD.iter().skip(place) {
+        assert!(rt; words.word().to_le_bytes() == *want);
+    }
+}
+
 /// A word at a place is the same however the stream came there: from the start, back within the block, from the next
 /// block, from another object or from another seed.
 #[test]
 fn the_words_of_the_standard_by_every_way(rt: HostRuntime) {
-    let bytes: [[u8; 4]; 18] = [
-        [0x76, 0xb8, 0xe0, 0xad],
-        [0xa0, 0xf1, 0x3d, 0x90],
-        [0x40, 0x5d, 0x6a, 0xe5],
-        [0x53, 0x86, 0xbd, 0x28],
-        [0xbd, 0xd2, 0x19, 0xb8],
-        [0xa0, 0x8d, 0xed, 0x1a],
-        [0xa8, 0x36, 0xef, 0xcc],
-        [0x8b, 0x77, 0x0d, 0xc7],
-        [0xda, 0x41, 0x59, 0x7c],
-        [0x51, 0x57, 0x48, 0x8d],
-        [0x77, 0x24, 0xe0, 0x3f],
-        [0xb8, 0xd8, 0x4a, 0x37],
-        [0x6a, 0x43, 0xb8, 0xf4],
-        [0x15, 0x18, 0xa1, 0x1c],
-        [0xc3, 0x87, 0xb6, 0x69],
-        [0xb2, 0xee, 0x65, 0x86],
-        [0x9f, 0x07, 0xe7, 0xbe],
-        [0x55, 0x51, 0x38, 0x7a],
-    ];
     let mut words = Stream::new(0, 0, 0);
-    for (seed, object, place) in [
-        (0, 0, 0),
-        (0, 0, 3),
-        (0, 0, 16),
-        (0, 0, 15),
-        (0, 1, 5),
-        (1, 0, 5),
-    ] {
-        words.move_to(seed, object, place);
+    for (seed, object, place) in &EARLIER {
+        words.move_to(*seed, *object, *place);
         words.word();
         for back in [0, 7, 16] {
-            words.move_to(0, 0, back as u64);
-            for want in bytes.iter().skip(back) {
-                assert!(rt; words.word().to_le_bytes() == *want);
-            }
+            assert_standard(&rt, &mut words, back);
         }
     }
     assert!(rt; words.place() == 18);
@@ -143,13 +153,17 @@ const WEIGHTS: [(&[u32], bool); 6] = [
     (&[], false),
 ];
 
+/// A law that chooses is one, or none, and never one of delays.
+fn assert_choice<R: Abort>(rt: &R, law: &Law, want: bool) {
+    assert!(rt; law.check() == want, "{law:?}");
+    assert!(rt; !law.is_delay());
+}
+
 #[test]
 fn weights_are_checked_at_their_bounds(rt: HostRuntime) -> Result<(), Fail> {
     for (list, want) in &WEIGHTS {
         let weights = Weights::new(list.to_vec(rt.alloc())?);
-        let law = Law::Choice { weights };
-        assert!(rt; law.check() == *want, "{law:?}");
-        assert!(rt; !law.is_delay());
+        assert_choice(&rt, &Law::Choice { weights }, *want);
     }
     Ok(())
 }
@@ -196,47 +210,58 @@ fn shares_of(alloc: Global, list: &[u32]) -> Result<Shares, Fail> {
     Ok(Shares::new(alloc, weights)?)
 }
 
+/// A place of the stream, and the value that a law draws there, with the place behind it.
+type Draw = (u64, (u64, u64));
+
+const TABLE_DRAWS: [Draw; 2] = [(0, (9, 1)), (2, (5, 3))];
+
+const STEPS_DRAWS: [Draw; 2] = [(0, (6, 2)), (3, (33, 5))];
+
+/// A law draws this under seed 0.
+fn assert_draws<R: Abort>(rt: &R, words: &mut Stream, law: &DelayLaw, draws: &[Draw]) {
+    assert!(rt; law.check());
+    for (place, want) in draws {
+        words.move_to(0, 0, *place);
+        let value = words.draw_delay(law);
+        assert!(rt; (value, words.place()) == *want, "{law:?}");
+    }
+}
+
+/// A law of three values.
+fn table(alloc: Global) -> Result<DelayLaw, Fail> {
+    Ok(DelayLaw::Table {
+        values: Values::new(vec![in alloc; 5, 9, 30]?),
+        weights: shares_of(alloc, &[3, 5, 2])?,
+    })
+}
+
+/// A law of two steps.
+fn steps(alloc: Global) -> Result<DelayLaw, Fail> {
+    Ok(DelayLaw::Steps {
+        bounds: Values::new(vec![in alloc; 0, 10, 40]?),
+        weights: shares_of(alloc, &[1, 1])?,
+    })
+}
+
+/// A law of so many spread units at most.
+fn spread(cap: u32) -> DelayLaw {
+    DelayLaw::Spread {
+        p: 2147483648,
+        cap,
+        unit: Divisor::new(10),
+    }
+}
+
 #[test]
 #[tactic(auto, unfolding(random_streams::specs::Laws::is_drawable))]
 fn delays_under_seed_0(rt: HostRuntime) -> Result<(), Fail> {
-    let alloc = rt.alloc();
-    let half = 2147483648;
-    let table = DelayLaw::Table {
-        values: Values::new(vec![in alloc; 5, 9, 30]?),
-        weights: shares_of(alloc, &[3, 5, 2])?,
-    };
-    let steps = DelayLaw::Steps {
-        bounds: Values::new(vec![in alloc; 0, 10, 40]?),
-        weights: shares_of(alloc, &[1, 1])?,
-    };
-    let five = DelayLaw::Spread {
-        p: half,
-        cap: 5,
-        unit: Divisor::new(10),
-    };
-    let three = DelayLaw::Spread {
-        p: half,
-        cap: 3,
-        unit: Divisor::new(10),
-    };
-    let fixed = DelayLaw::Plain {
-        law: PreparedLaw::new(Law::Fixed { value: 6 }),
-    };
     let mut words = Stream::new(0, 0, 0);
-    for (law, place, want) in [
-        (&table, 0, (9, 1)),
-        (&table, 2, (5, 3)),
-        (&steps, 0, (6, 2)),
-        (&steps, 3, (33, 5)),
-        (&five, 0, (34, 5)),
-        (&three, 0, (23, 3)),
-        (&fixed, 9, (6, 9)),
-    ] {
-        assert!(rt; law.check());
-        words.move_to(0, 0, place);
-        let value = words.draw_delay(law);
-        assert!(rt; (value, words.place()) == want, "{law:?}");
-    }
+    assert_draws(&rt, &mut words, &table(rt.alloc())?, &TABLE_DRAWS);
+    assert_draws(&rt, &mut words, &steps(rt.alloc())?, &STEPS_DRAWS);
+    assert_draws(&rt, &mut words, &spread(5), &[(0, (34, 5))]);
+    assert_draws(&rt, &mut words, &spread(3), &[(0, (23, 3))]);
+    let law = PreparedLaw::new(Law::Fixed { value: 6 });
+    assert_draws(&rt, &mut words, &DelayLaw::Plain { law }, &[(9, (6, 9))]);
     Ok(())
 }
 

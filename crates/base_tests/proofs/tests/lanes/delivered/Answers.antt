@@ -1,5 +1,5 @@
 -- What node 0 posted to node 1 rests there alone.
-use Rattle.std.proofs.Common.{◌≡◌, ⊎_elim, ℕ, ◌<◌, List, [], ◌∷◌, ◌++◌, map, length, get_or, set, sym, ap, ◌∙◌, arith}
+use Rattle.std.proofs.Common.{◌≡◌, ⊎_elim, ℕ, ◌<◌, List, [], ◌∷◌, ◌++◌, map, length, get_or, set, sym, ap, subst, ◌∙◌, arith}
 use Rattle.std.specs.Prelude.{All, Some, slice_get}
 use Rattle.std.specs.List.{range_with_len}
 use Rattle.std.proofs.lemmas.Bool.{cases_eq}
@@ -100,3 +100,66 @@ returns g c =
     let first = sym rest.1 ∙ ap (λ n. g.L.Lanes.rest lanes n 1) (sym at_one) ∙ some.first in
     absurd cc)
     (cases_eq from 0)
+
+-- the first end is that of node 0 before and after its first post, and both lanes are free
+pub post-requires-clause-node : goal.post-requires-clause-node
+post-requires-clause-node g c =
+    let had = c.in_ok-ends.ensures in
+    let long = numbered_length g.L.End.NodeEnd.number c.in_ok-ends.ends.items (g.L.Lanes.nodes c.args.lanes.now) had.numbers in
+    let two = c.requires.nodes in
+    let count = ap g.L.End.NodeEnd.nodes c.index_mut.ensures.value ∙ had.count 0 c.index_mut.result.now (omega arith) in
+    omega arith
+
+pub post-requires-clause-from : goal.post-requires-clause-from
+post-requires-clause-from g c =
+    let number = g.L.End.NodeEnd.number in
+    let two = c.requires.nodes in
+    sym (ap number c.index_mut.ensures.value ∙ numbered_at number c.in_ok-ends.ends.items (g.L.Lanes.nodes c.args.lanes.now) 0 c.index_mut.result.now c.in_ok-ends.ensures.numbers (omega arith))
+
+pub post-requires-clause-free : goal.post-requires-clause-free
+post-requires-clause-free g c =
+    let had = c.in_ok-ends.ensures in
+    let long = numbered_length g.L.End.NodeEnd.number c.in_ok-ends.ends.items (g.L.Lanes.nodes c.args.lanes.now) had.numbers in
+    let two = c.requires.nodes in
+    let P : g.row.L-End.Denot → Type 0 = λ end. g.L.End.NodeEnd.is_free end 0 in
+    subst P (sym c.index_mut.ensures.value) (had.free 0 c.index_mut.result.now (omega arith) 0 (omega arith))
+
+pub post-requires-2-clause-node : goal.post-requires-2-clause-node
+post-requires-2-clause-node g c =
+    let had = c.in_ok-ends.ensures in
+    let ends = c.in_ok-ends.ends.items in
+    let met = g.met.L.End.NodeEnd g.world.𝓛 g.world.𝓜 g.world.𝓡 ((λ s x. x), (λ x. x), (λ x. x), λ x. x) in
+    let long = numbered_length g.L.End.NodeEnd.number ends (g.L.Lanes.nodes c.args.lanes.now) had.numbers in
+    let two = c.requires.nodes in
+    let e1 = c.post.new.self in
+    let again = c.index_mut-2.result.now in
+    let same : again ≡ e1 = c.index_mut-2.ensures.value ∙ get_or-set_same ends 0 e1 again (omega arith) in
+    let count = ap g.L.End.NodeEnd.nodes same ∙ met.same_nodes c.index_mut.result.now e1 c.post.ensures.end ∙ ap g.L.End.NodeEnd.nodes c.index_mut.ensures.value ∙ had.count 0 c.index_mut.result.now (omega arith) in
+    omega arith
+
+pub post-requires-2-clause-from : goal.post-requires-2-clause-from
+post-requires-2-clause-from g c =
+    let had = c.in_ok-ends.ensures in
+    let ends = c.in_ok-ends.ends.items in
+    let number = g.L.End.NodeEnd.number in
+    let met = g.met.L.End.NodeEnd g.world.𝓛 g.world.𝓜 g.world.𝓡 ((λ s x. x), (λ x. x), (λ x. x), λ x. x) in
+    let long = numbered_length number ends (g.L.Lanes.nodes c.args.lanes.now) had.numbers in
+    let two = c.requires.nodes in
+    let e1 = c.post.new.self in
+    let again = c.index_mut-2.result.now in
+    let same : again ≡ e1 = c.index_mut-2.ensures.value ∙ get_or-set_same ends 0 e1 again (omega arith) in
+    sym (ap number same ∙ met.same_number c.index_mut.result.now e1 c.post.ensures.end ∙ ap number c.index_mut.ensures.value
+    ∙ numbered_at number ends (g.L.Lanes.nodes c.args.lanes.now) 0 c.index_mut.result.now had.numbers (omega arith))
+
+pub post-requires-2-clause-free : goal.post-requires-2-clause-free
+post-requires-2-clause-free g c =
+    let had = c.in_ok-ends.ensures in
+    let ends = c.in_ok-ends.ends.items in
+    let long = numbered_length g.L.End.NodeEnd.number ends (g.L.Lanes.nodes c.args.lanes.now) had.numbers in
+    let two = c.requires.nodes in
+    let e1 = c.post.new.self in
+    let again = c.index_mut-2.result.now in
+    let same : again ≡ e1 = c.index_mut-2.ensures.value ∙ get_or-set_same ends 0 e1 again (omega arith) in
+    let apart : ◌≡◌ {A = ℕ} 1 0 → ⊥ = λ (e : ◌≡◌ {A = ℕ} 1 0). absurd (omega arith) in
+    let P : g.row.L-End.Denot → Type 0 = λ end. g.L.End.NodeEnd.is_free end 1 in
+    subst P (sym same) (c.post.ensures.free 1 apart (subst P (sym c.index_mut.ensures.value) (had.free 0 c.index_mut.result.now (omega arith) 1 (omega arith))))

@@ -127,25 +127,43 @@ fn put_told<R: Abort, M: SimulationModel>(
     lines.put_done(alloc, names, &key(*time, *step, *dest), parts, text)
 }
 
-/// Records of these objects have their lines, one after another, and the line of the end comes behind them.
+/// The text is the one that is wanted. It is lent, and so are the lines below, since an assertion beside what is owned is dear.
+fn assert_text<R: Abort>(rt: &R, text: &[u8], wanted: &[u8], last: &str) {
+    assert!(rt; text == wanted, "{last}");
+}
+
+/// Records of these objects have their lines, one after another.
+fn assert_records<R: Abort, M: SimulationModel>(
+    rt: &R,
+    alloc: Global,
+    names: &M,
+    lines: &mut LineWriter,
+    text: &mut Vec<u8>,
+    wanted: &mut Vec<u8>,
+) -> Result<(), OutOfMemory> {
+    for record in &RECORDS {
+        put_told(rt, alloc, names, lines, record, text)?;
+        wanted.extend_from_slice(record.4.as_bytes())?;
+        assert_text(rt, text.as_slice(), wanted.as_slice(), record.4);
+    }
+    Ok(())
+}
+
+/// The records have their lines, and the line of the end comes behind them.
 fn assert_run<R: Abort, M: SimulationModel>(
     rt: &R,
     alloc: Global,
     names: &M,
-    records: &[Told],
 ) -> Result<(), OutOfMemory> {
-    let mut lines = LineWriter::new(alloc)?;
+    let terms = Terms { end: 9, limit: 100 };
+    let end = "end 9 events 3\n";
     let mut text = Vec::new(alloc);
     let mut wanted = Vec::new(alloc);
-    for record in records {
-        put_told(rt, alloc, names, &mut lines, record, &mut text)?;
-        wanted.extend_from_slice(record.4.as_bytes())?;
-        assert!(rt; text.as_slice() == wanted.as_slice(), "{}", record.4);
-    }
-    let terms = Terms { end: 9, limit: 100 };
+    let mut lines = LineWriter::new(alloc)?;
+    assert_records(rt, alloc, names, &mut lines, &mut text, &mut wanted)?;
     put_stop(alloc, names, &terms, 3, &Stop::End, &mut text)?;
-    wanted.extend_from_slice(b"end 9 events 3\n")?;
-    assert!(rt; text.as_slice() == wanted.as_slice());
+    wanted.extend_from_slice(end.as_bytes())?;
+    assert_text(rt, text.as_slice(), wanted.as_slice(), end);
     Ok(())
 }
 
@@ -165,7 +183,7 @@ fn assert_stop<R: Abort, M: SimulationModel>(
     };
     let mut text = Vec::new(alloc);
     put_stop(alloc, names, &terms, 2, stop, &mut text)?;
-    assert!(rt; text.as_slice() == wanted.as_bytes(), "{wanted}");
+    assert_text(rt, text.as_slice(), wanted.as_bytes(), wanted);
     Ok(())
 }
 
@@ -199,7 +217,7 @@ fn assert_lines<R: Abort, M: SimulationModel>(
     alloc: Global,
     names: &M,
 ) -> Result<(), OutOfMemory> {
-    assert_run(rt, alloc, names, &RECORDS)?;
+    assert_run(rt, alloc, names)?;
     for fault in &FAULTS {
         assert_fault(rt, alloc, names, fault)?;
     }

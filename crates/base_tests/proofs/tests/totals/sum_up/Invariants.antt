@@ -1,5 +1,5 @@
 use Rattle.std.proofs.Common.{◌≡◌, ◌≤◌, length}
-use Rattle.text_tests.proofs.tests.totals.sum_up.Given as goal
+use Rattle.base_tests.proofs.tests.totals.sum_up.Given as goal
 
 abbrev pub invariant-loop-time : goal.invariant-loop-time
 invariant-loop-time g l = record {

@@ -66,10 +66,15 @@ fn assert_by_format<R: Abort>(rt: &R, alloc: Global, all: &ChangesByFormat) -> R
     for (old, new, first, second) in all.changes {
         let text = replaced(alloc, all.text, old, new)?;
         let later = replaced(alloc, text.as_str(), "format = 1", "format = 2")?;
-        let answer = answer_of(alloc, text.as_bytes());
-        assert!(rt; answer == Some(*first), "{} first: {new}", all.shows);
-        let answer = answer_of(alloc, later.as_bytes());
-        assert!(rt; answer == Some(*second), "{} second: {new}", all.shows);
+        let answers = (
+            answer_of(alloc, text.as_bytes()),
+            answer_of(alloc, later.as_bytes()),
+        );
+        assert!(rt;
+            answers == (Some(*first), Some(*second)),
+            "{}: {new}",
+            all.shows
+        );
     }
     Ok(())
 }
@@ -117,8 +122,10 @@ delay = { law = \"uniform\", low = 1, high = 10 }
 to = \"uniform\"
 ";
 
-/// Texts of models, their ends and limits, and how many objects and initial events they have.
-const MODELS: [(&str, u64, u64, u32, u32); 11] = [
+/// The text of a model, its end and its limit, and how many objects and initial events it has.
+type Read = (&'static str, u64, u64, u32, u32);
+
+const MODELS: [Read; 11] = [
     (TIE, 9, 10_000_000, 3, 2),
     (DEFAULTS, 9, 10_000_000, 2, 8),
     (PULSE, 5, 10_000_000, 3, 3),
@@ -193,19 +200,30 @@ fn start_at<M: Model>(model: &M, place: u32) -> Option<Start> {
     None
 }
 
+/// A model and its terms are as a text says. They are lent, since an assertion beside a model that is owned is dear.
+fn assert_read<R: Abort, M: Model>(rt: &R, model: &M, terms: &Terms, read: &Read) {
+    let (text, end, limit, objects, starts) = read;
+    assert!(rt; (terms.end, terms.limit) == (*end, *limit), "{text}");
+    assert!(rt;
+        (model.objects(), model.starts()) == (*objects, *starts),
+        "{text}"
+    );
+}
+
+/// The initial event at a place is this one.
+fn assert_start<R: Abort, M: Model>(rt: &R, model: &M, place: u32, start: &Start, text: &str) {
+    assert!(rt; start_at(model, place) == Some(*start), "{text}");
+}
+
 #[test]
 fn models_have_their_terms_objects_and_initial_events(rt: HostRuntime) -> Result<(), Fail> {
-    for (text, end, limit, objects, starts) in &MODELS {
-        let (model, terms) = model_of(rt.alloc(), text)?;
-        assert!(rt; (terms.end, terms.limit) == (*end, *limit), "{text}");
-        assert!(rt;
-            (model.objects(), model.starts()) == (*objects, *starts),
-            "{text}"
-        );
+    for read in &MODELS {
+        let (model, terms) = model_of(rt.alloc(), read.0)?;
+        assert_read(&rt, &model, &terms, read);
     }
     for (text, place, start) in &STARTS {
         let (model, _terms) = model_of(rt.alloc(), text)?;
-        assert!(rt; start_at(&model, *place) == Some(*start), "{text}");
+        assert_start(&rt, &model, *place, start, text);
     }
     Ok(())
 }

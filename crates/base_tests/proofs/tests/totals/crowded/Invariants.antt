@@ -1,5 +1,5 @@
 use Rattle.std.proofs.Common.{◌≡◌, ◌≤◌, length}
-use Rattle.text_tests.proofs.tests.totals.crowded.Given as goal
+use Rattle.base_tests.proofs.tests.totals.crowded.Given as goal
 
 abbrev pub invariant-loop : goal.invariant-loop
 invariant-loop l = record {

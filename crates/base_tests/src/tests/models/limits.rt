@@ -8,13 +8,13 @@ use test_texts::{PULSE, Parts, ROUTER_LOOP, built};
 
 /// A number of a text: where it goes, what goes there with `#` for the number, the item that it belongs to, and a number
 /// that is just too low, the least and the greatest that are read, and one that is just too high.
-type Number = (&'static str, &'static str, u32, [&'static str; 4]);
+type Number = (&'static str, &'static str, u32, [i64; 4]);
 
-const TIMES: [&str; 4] = ["-1", "0", "70368744177663", "70368744177664"];
+const TIMES: [i64; 4] = [-1, 0, 70368744177663, 70368744177664];
 
-const DELAYS: [&str; 4] = ["-1", "0", "1099511627776", "1099511627777"];
+const DELAYS: [i64; 4] = [-1, 0, 1099511627776, 1099511627777];
 
-const RANKS: [&str; 4] = ["-1", "0", "255", "256"];
+const RANKS: [i64; 4] = [-1, 0, 255, 256];
 
 /// A model of PHOLD with every number at the top and in the table.
 const HOPS: &str = "format = 2
@@ -52,9 +52,10 @@ fn answer_at(
     text: &str,
     old: &str,
     new: &str,
-    value: &str,
+    value: i64,
 ) -> Result<Option<Answer>, Fail> {
-    let new = replaced(alloc, new, "#", value)?;
+    let value = format!(in alloc; "{value}")?;
+    let new = replaced(alloc, new, "#", value.as_str())?;
     let text = replaced(alloc, text, old, new.as_str())?;
     Ok(answer_of(alloc, text.as_bytes()))
 }
@@ -64,7 +65,7 @@ fn assert_bounds<R: Abort>(rt: &R, alloc: Global, text: &str, number: &Number) -
     let (old, new, item, bounds) = number;
     let wanted = [(5, *item), (0, 0), (0, 0), (7, *item)];
     for (bound, answer) in bounds.iter().zip(wanted) {
-        let given = answer_at(alloc, text, old, new, bound)?;
+        let given = answer_at(alloc, text, old, new, *bound)?;
         assert!(rt; given == Some(answer), "{new} {bound}");
     }
     Ok(())
@@ -77,67 +78,47 @@ const STATION: &str = "kind = \"station\"";
 
 const HOPS_NUMBERS: [Number; 11] = [
     ("end = 9", "end = #", 0, TIMES),
-    (
-        "limit = 10",
-        "limit = #",
-        0,
-        ["0", "1", "1000000000", "1000000001"],
-    ),
-    (
-        "objects = 65536",
-        "objects = #",
-        0,
-        ["-1", "0", "65536", "65537"],
-    ),
-    ("each = 0", "each = #", 0, ["-1", "0", "4", "5"]),
+    ("limit = 10", "limit = #", 0, [0, 1, 1000000000, 1000000001]),
+    ("objects = 65536", "objects = #", 0, [-1, 0, 65536, 65537]),
+    ("each = 0", "each = #", 0, [-1, 0, 4, 5]),
     ("[]\n", "[]\nrank = #\n", 0, RANKS),
     (FIXED, "law = \"fixed\", value = #", 0, DELAYS),
     (
         FIXED,
         "law = \"geometric\", p = #, cap = 1",
         0,
-        ["0", "1", "4294967295", "4294967296"],
+        [0, 1, 4294967295, 4294967296],
     ),
     (
         FIXED,
         "law = \"geometric\", p = 1, cap = #",
         0,
-        ["0", "1", "65536", "65537"],
+        [0, 1, 65536, 65537],
     ),
     ("[]", "[ { time = #, at = 0 } ]", 1, TIMES),
-    (
-        "[]",
-        "[ { time = 0, at = # } ]",
-        1,
-        ["-1", "0", "65535", "65536"],
-    ),
+    ("[]", "[ { time = 0, at = # } ]", 1, [-1, 0, 65535, 65536]),
     ("[]", "[ { time = 0, at = 0, rank = # } ]", 1, RANKS),
 ];
 
 const KINDS_NUMBERS: [Number; 16] = [
     ("first = 0", "first = #", 1, TIMES),
     ("value = 2", "value = #", 1, DELAYS),
-    (
-        "count = 3",
-        "count = #",
-        1,
-        ["0", "1", "1000000", "1000001"],
-    ),
+    ("count = 3", "count = #", 1, [0, 1, 1000000, 1000001]),
     (
         STATION,
         "kind = \"station\", servers = #",
         2,
-        ["0", "1", "1024", "1025"],
+        [0, 1, 1024, 1025],
     ),
     (
         STATION,
         "kind = \"station\", line = #",
         2,
-        ["-1", "0", "65536", "65537"],
+        [-1, 0, 65536, 65537],
     ),
     ("value = 3", "value = #", 2, DELAYS),
     ("value = 4", "value = #", 3, DELAYS),
-    ("[1, 1]", "[1, #]", 4, ["-1", "0", "65535", "65536"]),
+    ("[1, 1]", "[1, #]", 4, [-1, 0, 65535, 65536]),
     ("kind = \"sink\"", "kind = \"sink\", due = #", 5, TIMES),
     ("time = 4", "time = #", 6, TIMES),
     ("next = \"s\" ", "next = \"s\", rank = # ", 1, RANKS),

@@ -57,30 +57,42 @@ fn one_byte_more_tells_that_an_input_is_too_long(rt: HostRuntime) -> Result<(), 
     assert_taken(&rt, rt.alloc(), 47, TEXT, b"")
 }
 
-#[test]
-fn a_write_that_fails_in_mid_stream(rt: HostRuntime) -> Result<(), Fail> {
-    let alloc = rt.alloc();
-    for (call, taken) in [(1, 0), (2, 16), (3, 32)] {
-        let mut failing = MemSink::new(alloc, 100, vec![in alloc; call]?, Vec::new(alloc), 16)?;
-        assert!(rt; write_all(&mut failing, TEXT) == Err(Failed));
-        assert!(rt; failing.bytes() == TEXT.get(..taken).ok_or("taken")?);
-        let mut idle = MemSink::new(alloc, 100, Vec::new(alloc), vec![in alloc; call]?, 16)?;
-        assert!(rt; write_all(&mut idle, TEXT) == Err(Failed));
-        assert!(rt; idle.bytes() == TEXT.get(..taken).ok_or("taken")?);
-    }
-    let mut sink = MemSink::new(alloc, 47, vec![in alloc; 4]?, vec![in alloc; 4]?, 16)?;
-    assert!(rt; write_all(&mut sink, TEXT) == Ok(()));
-    assert!(rt; sink.bytes() == TEXT);
+/// A sink with so much room that takes 16 bytes a write, fails at these calls and takes nothing at those.
+fn sink_of(alloc: Global, room: usize, fails: &[u64], idle: &[u64]) -> Result<MemSink, Fail> {
+    let fails = fails.to_vec(alloc)?;
+    let idle = idle.to_vec(alloc)?;
+    Ok(MemSink::new(alloc, room, fails, idle, 16)?)
+}
+
+/// The text is written so, and so much of it is taken. The sink is lent, since an assertion beside what is owned is dear.
+fn assert_written<R: Abort>(
+    rt: &R,
+    sink: &mut MemSink,
+    written: Result<(), Failed>,
+    taken: usize,
+) -> Result<(), Fail> {
+    assert!(rt; write_all(sink, TEXT) == written);
+    assert!(rt; sink.bytes() == TEXT.get(..taken).ok_or("taken")?);
     Ok(())
 }
 
 #[test]
-fn a_sink_that_is_full(rt: HostRuntime) -> Result<(), Fail> {
+fn a_write_that_fails_in_mid_stream(rt: HostRuntime) -> Result<(), Fail> {
     let alloc = rt.alloc();
-    let mut sink = MemSink::new(alloc, 40, Vec::new(alloc), Vec::new(alloc), 16)?;
-    assert!(rt; write_all(&mut sink, TEXT) == Err(Failed));
-    assert!(rt; sink.bytes() == TEXT.get(..40).ok_or("room")?);
-    Ok(())
+    for (call, taken) in [(1, 0), (2, 16), (3, 32)] {
+        let mut failing = sink_of(alloc, 100, &[call], &[])?;
+        assert_written(&rt, &mut failing, Err(Failed), taken)?;
+        let mut idle = sink_of(alloc, 100, &[], &[call])?;
+        assert_written(&rt, &mut idle, Err(Failed), taken)?;
+    }
+    let mut sink = sink_of(alloc, 47, &[4], &[4])?;
+    assert_written(&rt, &mut sink, Ok(()), TEXT.len())
+}
+
+#[test]
+fn a_sink_that_is_full(rt: HostRuntime) -> Result<(), Fail> {
+    let mut sink = sink_of(rt.alloc(), 40, &[], &[])?;
+    assert_written(&rt, &mut sink, Err(Failed), 40)
 }
 
 #[test]
