@@ -1,5 +1,6 @@
 //! How nodes release what is due: each commits, and its end posts what that sends.
 ghost use Rattle.std.specs.Prelude.{◌≡◌, ◌<◌, ◌^◌, [], ℕ, length, OnOk};
+ghost use Rattle.std.specs.Thread.{IsSend, IsSync};
 ghost use Rattle.cycle_core.specs.Blank.{AreBlank};
 ghost use Rattle.cycle_core.specs.Cuts.{CanEnd};
 ghost use Rattle.cycle_core.specs.Places.{AtEach};
@@ -33,6 +34,14 @@ impl Due {
     fn polls(&self, nodes: usize) -> usize {
         if nodes <= self.most { 0 } else { nodes }
     }
+}
+
+/// Some nodes that stand in a row, and for each of them its end of the lanes, what it commits, and its inbox.
+struct Part<'a, M: SimulationModel, E: NodeEnd> {
+    nodes: &'a mut [Node<M>],
+    ends: &'a mut [E],
+    committed: &'a mut [Committed],
+    inboxes: &'a mut [Inbox],
 }
 
 /// Posts what a commit hands out, and polls so many times for what has come by then.
@@ -119,40 +128,60 @@ fn release_in_parts<R: Threads + Sync, M: SimulationModel, E: NodeEnd>(
     let (e1, e2) = ends.split_at_mut(half);
     let (c1, c2) = committed.split_at_mut(half);
     let (i1, i2) = inboxes.split_at_mut(half);
-    release_both(rt, due, n1, e1, c1, i1, n2, e2, c2, i2)
+    let low = Part {
+        nodes: n1,
+        ends: e1,
+        committed: c1,
+        inboxes: i1,
+    };
+    let high = Part {
+        nodes: n2,
+        ends: e2,
+        committed: c2,
+        inboxes: i2,
+    };
+    release_both(rt, due, low, high)
 }
 
-/// Releases at two parts of the nodes side by side, each with its ends, what it commits, and its inboxes.
+/// Releases at two parts side by side.
 #[cycle(halves)]
 fn release_both<R: Threads + Sync, M: SimulationModel, E: NodeEnd>(
     rt: &R,
     due: &Due,
-    n1: &mut [Node<M>],
-    e1: &mut [E],
-    c1: &mut [Committed],
-    i1: &mut [Inbox],
-    n2: &mut [Node<M>],
-    e2: &mut [E],
-    c2: &mut [Committed],
-    i2: &mut [Inbox],
+    low: Part<M, E>,
+    high: Part<M, E>,
 ) -> Result<(), OutOfMemory>
     requires most { 0 < due.now.most }
-    requires sizes { (0 < length n1.old) × (0 < length n2.old) }
-    requires low { CanServe E.NodeEnd M.meaning due.now (desks_of n1.old e1.old c1.old i1.old) }
-    requires high { CanServe E.NodeEnd M.meaning due.now (desks_of n2.old e2.old c2.old i2.old) }
+    requires sizes { (0 < length low.nodes.now) × (0 < length high.nodes.now) }
+    requires low { CanServe E.NodeEnd M.meaning due.now (desks_of low.nodes.now low.ends.now low.committed.now low.inboxes.now) }
+    requires high { CanServe E.NodeEnd M.meaning due.now (desks_of high.nodes.now high.ends.now high.committed.now high.inboxes.now) }
     ensures low { OnOk result (HaveServed E.NodeEnd M.meaning due.now
-        (desks_of n1.old e1.old c1.old i1.old) (desks_of n1.new e1.new c1.new i1.new)) }
+        (desks_of low.entry.nodes.now low.entry.ends.now low.entry.committed.now low.entry.inboxes.now)
+        (desks_of low.exit.0.now low.exit.1.0.now low.exit.1.1.0.now low.exit.1.1.1.0.now)) }
     ensures high { OnOk result (HaveServed E.NodeEnd M.meaning due.now
-        (desks_of n2.old e2.old c2.old i2.old) (desks_of n2.new e2.new c2.new i2.new)) }
+        (desks_of high.entry.nodes.now high.entry.ends.now high.entry.committed.now high.entry.inboxes.now)
+        (desks_of high.exit.0.now high.exit.1.0.now high.exit.1.1.0.now high.exit.1.1.1.0.now)) }
 {
+    let Part {
+        nodes: n1,
+        ends: e1,
+        committed: c1,
+        inboxes: i1,
+    } = low;
+    let Part {
+        nodes: n2,
+        ends: e2,
+        committed: c2,
+        inboxes: i2,
+    } = high;
     let mut first = || -> Result<(), OutOfMemory>
-        requires { (0 < due.now.most)
+        requires { IsSync R.row × IsSend M.row × IsSync M.row × IsSend E.row × (0 < due.now.most)
             × CanServe E.NodeEnd M.meaning due.now (desks_of n1.now e1.now c1.now i1.now) }
         ensures { OnOk result (HaveServed E.NodeEnd M.meaning due.entry.now
             (desks_of n1.entry.now e1.entry.now c1.entry.now i1.entry.now) (desks_of n1.exit.now e1.exit.now c1.exit.now i1.exit.now)) }
     { release_in_parts(rt, due, n1, e1, c1, i1) };
     let mut second = || -> Result<(), OutOfMemory>
-        requires { (0 < due.now.most)
+        requires { IsSync R.row × IsSend M.row × IsSync M.row × IsSend E.row × (0 < due.now.most)
             × CanServe E.NodeEnd M.meaning due.now (desks_of n2.now e2.now c2.now i2.now) }
         ensures { OnOk result (HaveServed E.NodeEnd M.meaning due.entry.now
             (desks_of n2.entry.now e2.entry.now c2.entry.now i2.entry.now) (desks_of n2.exit.now e2.exit.now c2.exit.now i2.exit.now)) }

@@ -1,7 +1,7 @@
-use Rattle.std.proofs.Common.{of_calls, ◌∙◌, sym}
+use Rattle.std.proofs.Common.{◌∙◌, sym}
 use Rattle.node_team.specs.Desks.{desks_of}
 use Rattle.node_team.proofs.DeskLemmas.{AreHalves, both-served, can-halves}
-use Rattle.node_team.proofs.ForkLemmas.{and-first, and-second, on-ok-both}
+use Rattle.node_team.proofs.ForkLemmas.{on-ok-both}
 use Rattle.node_team.proofs.releasing.+halves.Goals as goal
 
 pub release_in_parts-release_both-requires-clause-low : goal.release_in_parts-release_both-requires-clause-low
@@ -58,12 +58,6 @@ release_in_parts-returns g t c =
     } in
     let both = c.release_both.ensures in
     let left = c.release_both.new in
-    let low_left = desks_of left.n1 left.e1 left.c1 left.i1 in
-    let high_left = desks_of left.n2 left.e2 left.c2 left.i2 in
+    let low_left = desks_of left.low.0 left.low.1.0 left.low.1.1.0 left.low.1.1.1.0 in
+    let high_left = desks_of left.high.0 left.high.1.0 left.high.1.1.0 left.high.1.1.1.0 in
     on-ok-both c.release_both.result (both-served g.E.NodeEnd g.M.Model.meaning c.args.due.now all low high low_left high_left halves) both.low both.high
-
-pub release_both-returns-clause-low : goal.release_both-returns-clause-low
-release_both-returns-clause-low g t c = and-first _ c.join_mut-front.result.0 c.join_mut-front.result.1 c.and.result c.and.ensures (search of_calls)
-
-pub release_both-returns-clause-high : goal.release_both-returns-clause-high
-release_both-returns-clause-high g t c = and-second _ c.join_mut-front.result.0 c.join_mut-front.result.1 c.and.result c.and.ensures (search of_calls)
