@@ -1,7 +1,7 @@
 -- What a sink that gathers has taken, once some of that is handed on.
-use Rattle.std.proofs.Common.{◌≡◌, ℕ, List, [], ◌∷◌, ◌++◌, length, take, Option, None, Some, Result, Ok, Err, IsErrAnd, refl, sym, ap, ◌∙◌, subst, append_assoc, append-nil}
+use Rattle.std.proofs.Common.{◌≡◌, ℕ, List, [], ◌∷◌, ◌++◌, length, take, Result, Ok, Err, IsErrAnd, refl, sym, ap, ◌∙◌, subst, append_assoc, append-nil}
 use Rattle.std.proofs.KnownBytes.{Keeps-trans as known-trans, append_known-kept, append_known-moved, append_known-grown, append_known-passed}
-use Rattle.std.specs.Io.KnownBytes.{Appends as AppendsKnown, Keeps as KeepsKnown, append_known}
+use Rattle.std.specs.Io.KnownBytes.{Appends as AppendsKnown, append_known}
 use Rattle.sim_io.specs.Taken.{Taken, Appends, Keeps, WriteAppends, append_taken}
 use Rattle.sim_io.specs.Transfers.{AppendsSome}
 
@@ -48,18 +48,6 @@ passes_write old mid new rest bytes (Err e) kept none took = kept_on old mid new
 pub failed_write : {E : Type 0} (old new : Taken) (bytes : List ℕ) (r : Result ℕ E) (Q : E → Type 0) → IsErrAnd r Q → Keeps old new → WriteAppends old new r bytes
 failed_write old new bytes (Ok n) Q is kept = absurd is
 failed_write old new bytes (Err e) Q is kept = kept
-
-all_known : (known handed : Option (List ℕ)) (rest : List ℕ) → rest ≡ [] → KeepsKnown known handed → KeepsKnown (append_known known rest) handed
-all_known None handed rest none kept = tt
-all_known (Some x) None rest none kept = absurd kept
-all_known (Some x) (Some y) rest none kept = kept ∙ sym (append-nil x) ∙ ap (λ l. x ++ l) (sym none)
-
--- nothing is gathered any more, and the sink behind has handed on all
-pub all_on : (told handed : Taken) (rest : List ℕ) → rest ≡ [] → Keeps told handed → Keeps (append_taken told rest) handed
-all_on told handed rest none kept = record {
-  known = all_known told.known handed.known rest none kept.known;
-  holds = λ all held. subst handed.holds (sym (held.2 ∙ ap (λ l. held.0 ++ l) none ∙ append-nil held.0)) (kept.holds held.0 held.1);
-}
 
 pub is_empty : (xs : List ℕ) → length xs ≡ 0 → xs ≡ []
 is_empty [] none = refl
