@@ -157,7 +157,8 @@ pub fn nodes_at_start<M: SimulationModel>(
     homes: &Arc<Homes>,
 ) -> Result<(Vec<Node<M>>, Vec<Chain<Event>>), OutOfMemory>
     requires { ArePlaced (M.meaning (arc_value model.now)) (arc_value homes.now) }
-    ensures { IfOk result (λ made. CanBegin M.meaning (world_with (arc_value model.now) terms (arc_value homes.now) made.0.items 0) made.1.items (initial_state (M.meaning (arc_value model.now)))) }
+    ensures { IfOk result (λ made. CanBegin M.meaning (world_with (arc_value model.now) terms (arc_value homes.now) made.0.items 0)
+        made.1.items (initial_state (M.meaning (arc_value model.now)))) }
 {
     keeps_laws(&**model);
     let parcels = first_parcels(alloc, &**model, homes)?;
@@ -175,7 +176,8 @@ pub fn nodes_of_state<M: SimulationModel>(
 ) -> Result<(Vec<Node<M>>, Vec<Chain<Event>>), OutOfMemory>
     requires placed { ArePlaced (M.meaning (arc_value model.now)) (arc_value homes.now) }
     requires lawful { Lawful (M.meaning (arc_value model.now)) terms state }
-    ensures { IfOk result (λ made. CanBegin M.meaning (world_with (arc_value model.now) terms (arc_value homes.now) made.0.items state.count) made.1.items state) }
+    ensures { IfOk result (λ made. CanBegin M.meaning (world_with (arc_value model.now) terms (arc_value homes.now) made.0.items state.count)
+        made.1.items state) }
 {
     let State {
         objects,

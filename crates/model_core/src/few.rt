@@ -27,9 +27,7 @@ impl<T, const CAP: usize> Few<T, CAP> {
     pub fn new(alloc: Global) -> Result<Few<T, CAP>, OutOfMemory>
         ensures { IfOk result (λ few. few ≡ []) }
     {
-        let Ok(items) = Vec::with_capacity(alloc, CAP) else {
-            return Err(OutOfMemory);
-        };
+        let items = Vec::with_capacity(alloc, CAP)?;
         Ok(Few { items })
     }
 

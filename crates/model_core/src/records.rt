@@ -102,13 +102,9 @@ impl RecordBuffer {
         ensures room { OnOk result (records ≤ self.new.room) }
         ensures same { self.new.items ≡ self.old.items }
     {
-        let Ok(()) = self.heads.reserve(records) else {
-            return Err(OutOfMemory);
-        };
+        self.heads.reserve(records)?;
         // so many that their number is too large can't be had
-        let Ok(()) = self.parts.reserve(records.saturating_mul(NOTE_PARTS)) else {
-            return Err(OutOfMemory);
-        };
+        self.parts.reserve(records.saturating_mul(NOTE_PARTS))?;
         self.room = room_of(&self.heads, &self.parts);
         Ok(())
     }

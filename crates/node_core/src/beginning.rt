@@ -19,7 +19,8 @@ pub fn first_places<M: SimulationModel>(
 ) -> Result<Vec<u32>, OutOfMemory>
     requires known { length homes.now.homes ≡ (M.meaning model.now).objects }
     requires none { AreFirst (M.meaning model.now) homes.now number 0 log.old [] 0 }
-    ensures { IfOk result (λ places. AreFirst (M.meaning model.now) homes.now number (M.meaning model.now).objects log.new places.items (length log.new.log.objects)) }
+    ensures { IfOk result (λ places. AreFirst (M.meaning model.now) homes.now number (M.meaning model.now).objects log.new places.items
+        (length log.new.log.objects)) }
 {
     let mut places = Vec::with_capacity(alloc, homes.objects() as usize)?;
     put_first(alloc, model, number, homes, log, &mut places)?;
@@ -37,7 +38,8 @@ fn put_first<M: SimulationModel>(
 ) -> Result<(), OutOfMemory>
     requires known { length homes.now.homes ≡ (M.meaning model.now).objects }
     requires none { AreFirst (M.meaning model.now) homes.now number 0 log.old places.old.items 0 }
-    ensures { OnOk result (AreFirst (M.meaning model.now) homes.now number (M.meaning model.now).objects log.new places.new.items (length log.new.log.objects)) }
+    ensures { OnOk result (AreFirst (M.meaning model.now) homes.now number (M.meaning model.now).objects log.new places.new.items
+        (length log.new.log.objects)) }
 {
     keeps_laws(model);
     let mut here = 0;
@@ -60,7 +62,8 @@ fn put_object<M: SimulationModel>(
 ) -> Result<(), OutOfMemory>
     requires object { object < (M.meaning model.now).objects }
     requires away { state_in log.old.log.objects object ≡ None }
-    ensures put { OnOk result (log.new.log.objects ≡ log.old.log.objects ++ (record { object = object; state = record { cells = (M.meaning model.now).first object; sent = 0 } }) ∷ []) }
+    ensures put { OnOk result (log.new.log.objects ≡ log.old.log.objects
+        ++ (record { object = object; state = record { cells = (M.meaning model.now).first object; sent = 0 } }) ∷ []) }
     ensures same { log.new ≡ record log.old { log = record log.old.log { objects = log.new.log.objects } } }
 {
     let cells = model.first_cells(alloc, object)?;
