@@ -70,6 +70,5 @@ carried-went news news' places places' from items items' same long long' up up' 
     ∙ (λ i. lesser_fault (went i) (none i)))
 
 -- one is taken out
-pub left-went : (may : Bool) (ps qs : List Placed) (i : ℕ) → qs ≡ remove ps i → (may ≡ false → fault_of (dones_in ps) ≡ None) → (may ≡ true → fault_of (dones_in qs) ≡ None) → fault_of (dones_in qs) ≡ None
-left-went true ps qs i is none left = left refl
-left-went false ps qs i is none left = ap (λ (xs : List Placed). fault_of (dones_in xs)) is ∙ fault-removed ps i (none refl)
+pub left-went : (ps qs : List Placed) (i : ℕ) → qs ≡ remove ps i → fault_of (dones_in ps) ≡ None → fault_of (dones_in qs) ≡ None
+left-went ps qs i is none = ap (λ (xs : List Placed). fault_of (dones_in xs)) is ∙ fault-removed ps i none

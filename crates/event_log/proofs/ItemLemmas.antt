@@ -87,3 +87,9 @@ mend-ends (suc n) es none but = absurd (omega arith)
 pub none-carried : Ascends item_key [] × AreHeld [] × MayFail false []
 unfolding Ascends AreHeld fault_of
 none-carried = (tt, tt, (λ none. refl))
+
+-- those behind the first hold what they held
+pub held-behind : (is : List Item) → AreHeld is → AreHeld (remove is 0)
+unfolding AreHeld
+held-behind [] held = tt
+held-behind (i ∷ is) held = held.1

@@ -151,3 +151,7 @@ module _ (v : NewsView) (told : Told) (rows : List Row) (undo : List Change) (se
         (news ++ d ∷ [], inside.1, joins-news told' rows' undo' sent' (Some fault) d whole went above p),
         joined told' rows' undo' sent' (Some fault) d whole went above p m homes e old new NO_STAMP nodes' fired (sent_is ∙ sym (append-nil sent)) nodes_is (least-start [] refl) (omega arith) (omega arith),
       )
+
+-- what came behind others stands behind them
+pub none-lost : (to from now was added : ℕ) → to ≡ now → from ≡ was → now ≡ was + added → from ≤ to
+none-lost to from now was added to_is from_is more = omega arith

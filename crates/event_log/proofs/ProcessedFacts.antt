@@ -194,9 +194,10 @@ pub all-carried : (places : List ℕ) (v : NewsView) (c : CarriedView) (view : P
 all-carried places v c view is none = sym (merged-none v.done places c.items (ap (λ (w : ProcessedView). w.news) is ∙ none)) ∙ ap (λ (w : ProcessedView). w.items) is
 
 -- so it is with other carried events
-pub other-carried : (places : List ℕ) (v : NewsView) (c c' : CarriedView) (idle cells : ℕ) → IsProcessed places v c idle cells → v.done ≡ [] → Ascends placed_key c'.items → IsProcessed places v c' idle cells
-other-carried places v c c' idle cells p none up =
+pub other-carried : (places : List ℕ) (v : NewsView) (c c' : CarriedView) (idle cells cells' : ℕ) → IsProcessed places v c idle cells → v.done ≡ [] → Ascends placed_key c'.items → IsProcessed places v c' idle cells'
+other-carried places v c c' idle cells cells' p none up =
     let long = ap length none in
+    let most = p.idle_most in
     record {
       ordered = subst (Ascends placed_key) (sym (merged-none v.done places c'.items none)) up;
       long = p.long;
@@ -204,7 +205,7 @@ other-carried places v c c' idle cells p none up =
       few = p.few;
       zeros_are = p.zeros_are;
       idle_most = p.idle_most;
-      cells_are = p.cells_are;
+      cells_are = omega arith;
       whole = p.whole;
     }
 

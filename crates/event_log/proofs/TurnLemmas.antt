@@ -1,6 +1,7 @@
 -- Carried events while news go among them.
-use Rattle.std.proofs.Common.{◌≡◌, ◌≢◌, ℕ, zero, suc, ◌+◌, ◌<◌, ◌≤◌, true, false, cond, List, [], ◌∷◌, ◌++◌, length, take, drop, get_or, sym, ap, ◌∙◌, subst, arith, length-append, length-drop, length-take, append_assoc}
+use Rattle.std.proofs.Common.{◌≡◌, ◌≢◌, ℕ, zero, suc, ◌+◌, ◌<◌, ◌≤◌, true, false, cond, List, [], ◌∷◌, ◌++◌, length, take, drop, get_or, slice_get, Some, refl, sym, ap, ◌∙◌, subst, arith, length-append, length-drop, length-take, append_assoc}
 use Rattle.std.proofs.lemmas.List.{append-nil, drop-append-le, length-map, map-append, take-append-le}
+use Rattle.std.proofs.lemmas.Option.{same_Some}
 use Rattle.std.specs.List.{AllByRecursion as Each}
 use Rattle.event_key.specs.declared.key.Key.{Key}
 use Rattle.event_key.specs.Keys.{key_lt}
@@ -13,6 +14,7 @@ use Rattle.key_order.proofs.KeyLemmas.{key_lt-other}
 use Rattle.object_log.specs.Carrying.{Placed, placed_key}
 use Rattle.object_log.specs.Dones.{Done}
 use Rattle.object_log.specs.EventLogs.{done_key}
+use Rattle.object_log.specs.Logs.{keys_of}
 use Rattle.object_log.specs.Weave.{insert}
 use Rattle.object_log.proofs.WeaveLemmas.{insert-ascends, insert-first}
 use Rattle.event_log.specs.Items.{AreHeld, AreHeldBut, CarriedView, IsHeld, IsHeldBut, Item, first_held, item_key, placed, placed_of}
@@ -226,3 +228,25 @@ can-same places v c c' cells can items_are room =
       few = can.few;
       cells_are = can.cells_are;
     }
+
+-- the last of processed events, whose key is read
+pub last-done : (ds : List Done) (n : ℕ) (key : Key) → n + 1 ≡ length ds → slice_get (keys_of ds) n ≡ Some key → (front : List Done) × (d : Done) × (ds ≡ front ++ d ∷ []) × (key ≡ d.event.key)
+last-done [] n key long at = absurd (omega arith)
+last-done (d ∷ []) zero key long at = ([], d, refl, same_Some key d.event.key (sym at))
+last-done (d ∷ []) (suc n) key long at = absurd (omega arith)
+last-done (d ∷ e ∷ ds) zero key long at = absurd (omega arith)
+last-done (d ∷ e ∷ ds) (suc n) key long at =
+    let more = last-done (e ∷ ds) n key (omega arith) at in
+    (d ∷ more.0, more.1, ap (λ (xs : List Done). d ∷ xs) more.2, more.3)
+
+-- a list has one last event
+pub same-last : (xs ys : List Done) (d e : Done) → xs ++ d ∷ [] ≡ ys ++ e ∷ [] → d ≡ e
+same-last xs ys d e same =
+    let long = ap length same in
+    let one = length-append xs (d ∷ []) in
+    let two = length-append ys (e ∷ []) in
+    same_Some d e (sym (seam xs d) ∙ ap (λ (ds : List Done). slice_get ds (length xs)) same ∙ ap (slice_get (ys ++ e ∷ [])) (omega arith) ∙ seam ys e)
+  where
+    seam : (zs : List Done) (x : Done) → slice_get (zs ++ x ∷ []) (length zs) ≡ Some x
+    seam [] x = refl
+    seam (z ∷ zs) x = seam zs x

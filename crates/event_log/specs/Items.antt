@@ -37,6 +37,10 @@ item_key i = i.done.event.key
 abbrev pub item_least : Item → ℕ
 item_least i = least_stamp NO_STAMP i.done.sends
 
+-- an event at a place, and the least of what it sends and of what others hold
+abbrev pub item_before : Done → ℕ → ℕ → Item
+item_before d place held = record { done = d; place = place; held = min (least_stamp NO_STAMP d.sends) held }
+
 -- what the first one holds
 abbrev pub first_held : List Item → ℕ
 first_held [] = NO_STAMP

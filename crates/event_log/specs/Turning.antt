@@ -5,6 +5,8 @@ use Rattle.event_key.specs.declared.key.Key.{Key}
 use Rattle.event_key.specs.Keys.{key_lt}
 use Rattle.key_order.specs.Ascending.{Ascends}
 use Rattle.event_log.specs.Items.{AreHeld, AreHeldBut, CarriedView, IsHeld, Item, item_key, placed, placed_of}
+use Rattle.event_log.specs.News.{NewsView}
+use Rattle.event_log.specs.Popping.{HasPopped}
 
 -- all of them, the others first
 abbrev pub turned_back : ℕ → List Item → List Item
@@ -34,3 +36,11 @@ pub record HasTurnedLast (turned place : ℕ) (old new : List Item) : Type 0 whe
   pub new_is : new ≡ put ∷ front
   pub put_is : placed_of put ≡ record { done = last.done; place = place }
   pub held : IsHeld put (take turned front)
+
+-- the last of the news has come before all with this place, and holds what it and so many behind it send
+pub record HasPutLast (turned place : ℕ) (old new : List Item) (news news' : NewsView) : Type 0 where
+  pub put : Item
+  pub popped : HasPopped news news' put.done
+  pub new_is : new ≡ put ∷ old
+  pub place_is : put.place ≡ place
+  pub held : IsHeld put (take turned old)

@@ -9,20 +9,21 @@ ghost use Rattle.key_order.specs.Stamps.{least_stamp};
 ghost use Rattle.object_log.specs.Logs.{fault_of, held_of};
 ghost use Rattle.model_core.specs.declared.event.Event.{Event};
 ghost use Rattle.object_log.specs.Carrying.{Placed, placed_key};
+ghost use Rattle.object_log.specs.Objects.{HasUndone, IsNewest};
 ghost use Rattle.object_log.specs.Weave.{weave};
 ghost use Rattle.event_log.specs.Items.{AreHeld, AreHeldBut, first_held, placed};
+ghost use Rattle.event_log.specs.Keeping.{IsReleased, IsTakenBack};
 ghost use Rattle.event_log.specs.Moves.{other_items, own_items, shifted};
 ghost use Rattle.event_log.specs.Processing.{CanCarry, merged};
 
 use crate::items::Items;
-use crate::kept::Kept;
 use crate::news::News;
 use crate::parting::{join_all, part, settle};
 use crate::turning::carry_into;
-use event_chain::CellPool;
+use event_chain::{Cell, CellPool};
 use event_key::{Key, NO_STAMP};
 use model_core::{Event, OutOfMemory};
-use object_log::Verdict;
+use object_log::{Object, Released, Verdict};
 use std::alloc::Global;
 use std::marker::Model;
 
@@ -116,17 +117,36 @@ impl Carried {
         (entry.key, entry.place)
     }
 
-    /// Takes the event at a place of the list out. It moves the shorter side. If the event failed, it looks at the others up to
-    /// the first that failed.
-    pub fn take(&mut self, index: usize) -> Kept
-        requires { index < length self.old.items }
+    /// Takes the event at a place of the list out and back, at its object, which fired it last of those that it has not taken
+    /// back. It moves the shorter side. If the event failed, it looks at the others up to the first that failed.
+    #[inline(always)]
+    pub fn undo(
+        &mut self,
+        index: usize,
+        object: &mut Object,
+        cells: &mut CellPool<Event>,
+    ) -> Cell<Event>
+        requires index { index < length self.old.items }
+        requires newest { (p : Placed) → slice_get self.old.items index ≡ Some p → IsNewest object.old p.done }
         ensures left { self.new.items ≡ remove self.old.items index }
-        ensures value { (p : Placed) × (slice_get self.old.items index ≡ Some p) × (result ≡ p.done) }
+        ensures undone { (p : Placed) × (slice_get self.old.items index ≡ Some p) × IsTakenBack p.done object.old object.new result }
     {
-        let done = self.items.take_out(index);
+        let (cell, failed) = self.items.undo(index, object, cells);
         mend(&mut self.items, index);
-        self.may_fail = may_fail_without(self.may_fail, &done, &self.items);
-        done
+        if failed {
+            self.may_fail = has_failed(&self.items);
+        }
+        cell
+    }
+
+    /// Takes the first event out, and apart.
+    #[inline(always)]
+    pub fn release_first(&mut self, cells: &mut CellPool<Event>) -> Released
+        requires { 0 < length self.old.items }
+        ensures left { self.new.items ≡ remove self.old.items 0 }
+        ensures released { (p : Placed) × (slice_get self.old.items 0 ≡ Some p) × IsReleased p.done result }
+    {
+        self.items.release_first(cells)
     }
 
     /// Takes the events of an object out, and puts them into a list that has room for them. What stood at one place has another
@@ -215,16 +235,6 @@ fn may_fail_with(may_fail: bool, news: &News) -> bool
     ensures { result ≡ false → (may_fail ≡ false) × (fault_of news.now.done ≡ None) }
 {
     may_fail || news.faulted().is_some()
-}
-
-/// Whether one of those that are left may have failed once one is taken out.
-fn may_fail_without(may_fail: bool, taken: &Kept, left: &Items) -> bool
-    ensures { result ≡ false → may_fail ≡ true → fault_of (map (λ p. p.done) (placed left.now.items)) ≡ None }
-{
-    match taken.verdict() {
-        Verdict::Noted(_) => may_fail,
-        Verdict::Failed(_) => has_failed(left),
-    }
 }
 
 /// Whether one failed.

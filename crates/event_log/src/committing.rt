@@ -70,7 +70,7 @@ pub fn commit_first(
             event,
             sends,
             verdict,
-        } = carried.take(0).release(cells);
+        } = carried.release_first(cells);
         let Verdict::Noted(note) = verdict else {
             unreachable!()
         };

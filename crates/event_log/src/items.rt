@@ -1,37 +1,49 @@
 //! Carried events, one behind another, each in a slot of its own.
-ghost use Rattle.std.specs.Prelude.{◌≡◌, ◌+◌, ◌<◌, ◌≤◌, ◌^◌, [], ◌∷◌, ◌++◌, length, take, drop, slice_index_or, slice_set, IfOk, IfSome, IfNone, OnOk, List};
-ghost use Rattle.std.specs.List.{remove};
-ghost use Rattle.event_log.specs.Items.{Item};
-ghost use Rattle.event_log.specs.Slots.{TellsOf};
+ghost use Rattle.std.specs.Prelude.{◌≡◌, ◌+◌, ◌<◌, ◌≤◌, ◌^◌, [], ◌∷◌, ◌++◌, length, min, take, drop, slice_get, slice_index_or, slice_set, vec_len, vec_capacity, IfOk, IfSome, IfNone, OnOk, List, Some};
+ghost use Rattle.std.specs.List.{AllByRecursion, remove};
+ghost use Rattle.event_key.specs.declared.stamp.TheConstants.{NO_STAMP};
+ghost use Rattle.key_order.specs.Stamps.{least_stamp};
+ghost use Rattle.object_log.specs.Dones.{Done};
+ghost use Rattle.object_log.specs.Flat.{zeros};
+ghost use Rattle.object_log.specs.Objects.{HasUndone, IsNewest};
+ghost use Rattle.event_log.specs.Items.{Item, item_before};
+ghost use Rattle.event_log.specs.Keeping.{IsReleased, IsTakenBack};
+ghost use Rattle.event_log.specs.Popping.{HasPopped};
+ghost use Rattle.event_log.specs.Slots.{HasOpened, TellsOf};
 
+use crate::contents::Contents;
 use crate::entry::Entry;
 use crate::kept::Kept;
-use model_core::OutOfMemory;
-use object_log::Verdict;
-use slab::Slab;
+use crate::news::News;
+use event_chain::{Cell, CellPool};
+use model_core::{Event, OutOfMemory};
+use object_log::{Object, Released, Verdict};
 use std::alloc::Global;
 use std::collections::VecDeque;
 use std::marker::Model;
+use std::mem;
 
-/// Carried events, one behind another, each with the place of its object. An event lies in a slot and stays there, so that what
-/// moves in the list is short.
+/// Carried events, one behind another, each with the place of its object. An event lies in a slot, where it is written and read,
+/// so that what moves in the list is short. A slot that is left is used again.
 #[derive(Drop)]
 pub struct Items {
     entries: VecDeque<Entry, Global>,
-    slots: Slab<Kept, Global>,
+    slots: Vec<Contents>,
+    // the slots in which no event lies
+    free: Vec<usize>,
 }
 
 impl Model for Items {
-    ghost use Rattle.std.specs.Prelude.{min};
+    ghost use Rattle.std.specs.Prelude.{◌≤◌, length, min, vec_capacity};
     ghost use Rattle.std.specs.VecDeque.{deque_capacity};
     ghost use Rattle.event_log.specs.Items.{ItemsView};
-    ghost use Rattle.event_log.specs.Slots.{AreInSlots, items_in};
+    ghost use Rattle.event_log.specs.Slots.{AreInSlots, items_view};
 
     ghost Value = { ItemsView };
 
-    ghost view = { λ s. record { items = items_in s.slots s.entries.items; capacity = min (deque_capacity s.entries) s.slots.capacity } };
+    ghost view = { λ s. items_view s.slots.items s.entries.items (min (deque_capacity s.entries) (min (vec_capacity s.slots) (vec_capacity s.free))) };
 
-    ghost invariant = { λ s. AreInSlots s.slots s.entries.items };
+    ghost invariant = { λ s. AreInSlots s.slots.items s.free.items s.entries.items × (length s.slots.items ≤ vec_capacity s.free) };
 }
 
 impl Items {
@@ -41,7 +53,8 @@ impl Items {
     {
         Items {
             entries: VecDeque::new(alloc),
-            slots: Slab::new(alloc),
+            slots: Vec::new(alloc),
+            free: Vec::new(alloc),
         }
     }
 
@@ -52,7 +65,8 @@ impl Items {
     {
         Ok(Items {
             entries: VecDeque::with_capacity(alloc, events)?,
-            slots: Slab::with_capacity(alloc, events)?,
+            slots: Vec::with_capacity(alloc, events)?,
+            free: Vec::with_capacity(alloc, events)?,
         })
     }
 
@@ -62,8 +76,10 @@ impl Items {
         ensures capacity { self.old.capacity ≤ self.new.capacity }
         ensures items { self.new.items ≡ self.old.items }
     {
-        self.slots.reserve(events)?;
         self.entries.reserve(events)?;
+        let most = self.entries.capacity();
+        self.slots.reserve(most.saturating_sub(self.slots.len()))?;
+        self.free.reserve(most.saturating_sub(self.free.len()))?;
         Ok(())
     }
 
@@ -90,7 +106,7 @@ impl Items {
         ensures { (i : Item) × (i ≡ slice_index_or self.now.items index i) × (result ≡ i.done.verdict) }
     {
         let slot = self.entries[index].slot;
-        self.slots[slot].verdict()
+        self.slots[slot].verdict
     }
 
     /// Gives the event at a place of the list another place of its object and another least stamp.
@@ -105,8 +121,33 @@ impl Items {
         entry.held = held;
     }
 
-    /// Puts an event before all.
+    /// Puts the last of the news before all, with the least stamp of those behind that it has to know.
     #[inline(always)]
+    pub fn push_last(&mut self, news: &mut News, cells: &mut CellPool<Event>, place: u32, held: u64)
+        requires room { length self.old.items < self.old.capacity }
+        requires some { 0 < length news.old.done }
+        requires small { AllByRecursion (λ d. length d.undo ≤ 16) news.old.done }
+        requires cells { zeros news.old.done ≤ cells.old }
+        ensures put { (d : Done) × HasPopped news.old news.new d × (self.new.items ≡ item_before d place held ∷ self.old.items) }
+        ensures few { length self.new.items < 2 ^ 64 }
+        ensures capacity { self.new.capacity ≡ self.old.capacity }
+        ensures cells { zeros news.new.done ≤ cells.new }
+    {
+        let slot = open_slot(&mut self.slots, &mut self.free);
+        let contents = &mut self.slots[slot];
+        news.pop(cells, contents);
+        let key = contents.event.key;
+        let least = contents.least;
+        self.entries.push_front_reserved(Entry {
+            key,
+            place,
+            slot,
+            least,
+            held: least.min(held),
+        });
+    }
+
+    /// Puts an event before all.
     pub fn push_front(&mut self, done: Kept, place: u32, held: u64)
         requires { length self.old.items < self.old.capacity }
         ensures items { self.new.items ≡ (record { done = done; place = place; held = held }) ∷ self.old.items }
@@ -115,7 +156,8 @@ impl Items {
     {
         let key = done.key();
         let least = done.least();
-        let slot = self.slots.insert_reserved(done);
+        let slot = open_slot(&mut self.slots, &mut self.free);
+        self.slots[slot] = done.into_contents();
         self.entries.push_front_reserved(Entry {
             key,
             place,
@@ -133,7 +175,8 @@ impl Items {
     {
         let key = done.key();
         let least = done.least();
-        let slot = self.slots.insert_reserved(done);
+        let slot = open_slot(&mut self.slots, &mut self.free);
+        self.slots[slot] = done.into_contents();
         self.entries.push_back_reserved(Entry {
             key,
             place,
@@ -144,7 +187,6 @@ impl Items {
     }
 
     /// Takes the event at a place of the list out. It moves the shorter side of the list.
-    #[inline(always)]
     pub fn take_out(&mut self, index: usize) -> Kept
         requires { index < length self.old.items }
         ensures items { self.new.items ≡ remove self.old.items index }
@@ -154,7 +196,50 @@ impl Items {
         let Some(entry) = self.entries.remove(index) else {
             unreachable!()
         };
-        self.slots.remove(entry.slot)
+        let contents = mem::replace(&mut self.slots[entry.slot], Contents::new());
+        self.free.push_reserved(entry.slot);
+        Kept::new(contents)
+    }
+
+    /// Takes the event at a place of the list out and back, at its object, which fired it last of those that it has not taken
+    /// back. It moves the shorter side of the list. Answers its cell, and whether it had failed.
+    #[inline(always)]
+    pub fn undo(
+        &mut self,
+        index: usize,
+        object: &mut Object,
+        cells: &mut CellPool<Event>,
+    ) -> (Cell<Event>, bool)
+        requires index { index < length self.old.items }
+        requires newest { (i : Item) → i ≡ slice_index_or self.old.items index i → IsNewest object.old i.done }
+        ensures items { self.new.items ≡ remove self.old.items index }
+        ensures undone { (i : Item) × (i ≡ slice_index_or self.old.items index i) × IsTakenBack i.done object.old object.new result.0 }
+        ensures capacity { self.new.capacity ≡ self.old.capacity }
+    {
+        let Some(entry) = self.entries.remove(index) else {
+            unreachable!()
+        };
+        let contents = &mut self.slots[entry.slot];
+        let failed = matches!(contents.verdict, Verdict::Failed(_));
+        let cell = contents.undo(object, cells);
+        self.free.push_reserved(entry.slot);
+        (cell, failed)
+    }
+
+    /// Takes the first event out, and apart.
+    #[inline(always)]
+    pub fn release_first(&mut self, cells: &mut CellPool<Event>) -> Released
+        requires { 0 < length self.old.items }
+        ensures items { self.new.items ≡ remove self.old.items 0 }
+        ensures released { (i : Item) × (i ≡ slice_index_or self.old.items 0 i) × IsReleased i.done result }
+        ensures capacity { self.new.capacity ≡ self.old.capacity }
+    {
+        let Some(entry) = self.entries.remove(0) else {
+            unreachable!()
+        };
+        let released = self.slots[entry.slot].release(cells);
+        self.free.push_reserved(entry.slot);
+        released
     }
 
     /// Takes the last event out, if there is one, and the place of its object.
@@ -164,7 +249,9 @@ impl Items {
         ensures capacity { self.new.capacity ≡ self.old.capacity }
     {
         let entry = self.entries.pop_back()?;
-        Some((self.slots.remove(entry.slot), entry.place))
+        let contents = mem::replace(&mut self.slots[entry.slot], Contents::new());
+        self.free.push_reserved(entry.slot);
+        Some((Kept::new(contents), entry.place))
     }
 
     /// Moves so many from the front to the back, by the shorter way round.
@@ -185,5 +272,22 @@ impl Items {
         ensures capacity { self.new.capacity ≡ self.old.capacity }
     {
         self.entries.rotate_right(1);
+    }
+}
+
+/// Takes a slot from those that are free, or makes one if there is none.
+#[inline(always)]
+fn open_slot(slots: &mut Vec<Contents>, free: &mut Vec<usize>) -> usize
+    requires { free.old.items ≡ [] → vec_len slots.old + 1 ≤ vec_capacity slots.old }
+    ensures opened { HasOpened slots.old.items free.old.items slots.new.items free.new.items result }
+    ensures slots_room { vec_capacity slots.new ≡ vec_capacity slots.old }
+    ensures free_room { vec_capacity free.new ≡ vec_capacity free.old }
+{
+    match free.pop() {
+        Some(slot) => slot,
+        None => {
+            slots.push_reserved(Contents::new());
+            slots.len() - 1
+        }
     }
 }

@@ -5,6 +5,7 @@
 
 mod carried;
 mod committing;
+mod contents;
 mod entry;
 mod items;
 mod kept;

@@ -230,9 +230,8 @@ impl NodeLog {
         ensures carried { IsStillCarried self.old self.new }
     {
         let (_key, place) = self.events.at(index);
-        let done = self.events.take(index);
         let object = &mut self.objects[place as usize];
-        self.events.undo(done, object)
+        self.events.undo(index, object)
     }
 
     /// The key of the event at a place of the list.

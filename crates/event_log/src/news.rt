@@ -14,16 +14,16 @@ ghost use Rattle.object_log.specs.Objects.{IsSameObject};
 ghost use Rattle.object_log.specs.Parts.{due_of, left_of};
 ghost use Rattle.object_log.specs.Tellings.{told_all};
 ghost use Rattle.object_log.specs.Flat.{zeros};
+ghost use Rattle.event_log.specs.Keeping.{IsKept, done_in};
 ghost use Rattle.event_log.specs.News.{CanTake, HasJoined, least_after};
 ghost use Rattle.event_log.specs.Outboxes.{AreBlank, chain_at, parcel};
 ghost use Rattle.event_log.specs.Popping.{HasPopped};
 
-use crate::kept::Kept;
+use crate::contents::Contents;
 use crate::outbox::Outbox;
-use crate::popped::{Taken, take_sends, verdict_at};
+use crate::popped::{take_sends, verdict_at};
 use crate::row::Row;
 use crate::sending::hold_all;
-use crate::undo_list::UndoList;
 use event_chain::{Cell, CellPool, Chain};
 use event_key::{Key, NO_STAMP};
 use model_core::model::Model as SimulationModel;
@@ -210,24 +210,25 @@ impl News {
         0
     }
 
-    /// Takes the last event back, with a cell of the pool if it sends nothing. Takes no memory.
-    pub fn pop(&mut self, cells: &mut CellPool<Event>) -> Kept
+    /// Takes the last event back, into a slot, with a cell of the pool if it sends nothing. Takes no memory.
+    #[inline(always)]
+    pub fn pop(&mut self, cells: &mut CellPool<Event>, slot: &mut Contents)
         requires some { 0 < length self.old.done }
         requires few { AllByRecursion (λ d. length d.undo ≤ 16) self.old.done }
         requires cells { zeros self.old.done ≤ cells.old }
-        ensures popped { HasPopped self.old self.new result }
+        ensures popped { HasPopped self.old self.new (done_in slot.new) }
+        ensures kept { IsKept slot.new }
         ensures cells { zeros self.new.done ≤ cells.new }
     {
         let last = self.rows.len() - 1;
         let row = self.rows[last];
         let from = self.undo.len() - row.changes as usize;
-        let undo = UndoList::of(&self.undo[from..]);
         let verdict = verdict_at(&self.told, last, self.fault);
-        let Taken { sends, least } = take_sends(&mut self.outbox, row.sends);
+        let taken = take_sends(&mut self.outbox, row.sends);
+        slot.fill(row.event, &self.undo[from..], taken, verdict, cells);
         self.rows.truncate(last);
         self.undo.truncate(from);
         self.fault = None;
-        Kept::new(row.event, undo, sends, least, verdict, cells)
     }
 
     /// Whether an event of this key can come behind them: it comes after the last one, none failed, and they are few.

@@ -22,6 +22,7 @@ pub struct Taken {
 }
 
 /// Takes so many messages back, those that were put in last, and answers them in the order in which they were.
+#[inline(always)]
 pub fn take_sends(outbox: &mut Outbox, sends: u32) -> Taken
     requires { sends ≤ length outbox.old.sent }
     ensures taken { TakesLast outbox.old.sent outbox.new.sent sends result.sends }
@@ -41,6 +42,7 @@ pub fn take_sends(outbox: &mut Outbox, sends: u32) -> Taken
 }
 
 /// What came of the event at a place, which failed if there is a code, and else has a record there.
+#[inline(always)]
 pub fn verdict_at(told: &RecordBuffer, place: usize, fault: Option<u32>) -> Verdict
     requires { IfNone fault (place < length told.now.items) }
     ensures failed { IfSome fault (λ code. result ≡ Failed code) }

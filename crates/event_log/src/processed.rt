@@ -18,6 +18,7 @@ ghost use Rattle.object_log.specs.Weave.{weave};
 ghost use Rattle.object_log.specs.Whole.{dones_in};
 ghost use Rattle.event_log.specs.Faults.{lesser_fault};
 ghost use Rattle.event_log.specs.Items.{placed};
+ghost use Rattle.event_log.specs.Keeping.{IsTakenBack};
 ghost use Rattle.event_log.specs.Moves.{other_items, own_items, shifted};
 ghost use Rattle.event_log.specs.Outboxes.{AreBlank};
 ghost use Rattle.event_log.specs.Committing.{HasCommittedDue};
@@ -26,7 +27,6 @@ ghost use Rattle.event_log.specs.Processing.{AreHomed, CanJoin, HasCome, IsSameP
 use crate::carried::Carried;
 use crate::committing::{commit_first, due_in};
 use crate::items::Items;
-use crate::kept::Kept;
 use crate::news::News;
 use crate::reading::push_below;
 use event_chain::{Cell, CellPool, Chain};
@@ -348,15 +348,18 @@ impl Processed {
         self.carried.at(index)
     }
 
-    /// Takes the event at a place of the list out. It moves the shorter side.
-    pub fn take(&mut self, index: usize) -> Kept
+    /// Takes the event at a place of the list out and back, at its object, which fired it last of those that it has not taken
+    /// back. It moves the shorter side.
+    #[inline(always)]
+    pub fn undo(&mut self, index: usize, object: &mut Object) -> Cell<Event>
         requires news { self.old.news ≡ [] }
         requires index { index < length self.old.items }
+        requires newest { (p : Placed) → slice_get self.old.items index ≡ Some p → IsNewest object.old p.done }
         ensures left { self.new.items ≡ remove self.old.items index }
-        ensures value { (p : Placed) × (slice_get self.old.items index ≡ Some p) × (result ≡ p.done) }
+        ensures undone { (p : Placed) × (slice_get self.old.items index ≡ Some p) × IsTakenBack p.done object.old object.new result }
         ensures same { self.new ≡ record self.old { items = self.new.items } }
     {
-        self.carried.take(index)
+        self.carried.undo(index, object, &mut self.cells)
     }
 
     /// Takes the events of an object out, and puts them into a list that has room for them. What stood at one place has another
@@ -383,17 +386,6 @@ impl Processed {
         ensures same { self.new ≡ record self.old { items = self.new.items } }
     {
         self.carried.absorb(items, to);
-    }
-
-    /// Takes an event back that was taken out, at its object, which fired it last of those that it has not taken back.
-    pub fn undo(&mut self, done: Kept, object: &mut Object) -> Cell<Event>
-        requires news { self.old.news ≡ [] }
-        requires newest { IsNewest object.old done }
-        ensures undone { HasUndone object.old object.new done }
-        ensures event { result ≡ done.event }
-        ensures same { self.new ≡ self.old }
-    {
-        done.undo(object, &mut self.cells)
     }
 }
 

@@ -6,10 +6,12 @@ ghost use Rattle.event_key.specs.Keys.{key_lt};
 ghost use Rattle.key_order.specs.Keys.{times};
 ghost use Rattle.model_core.specs.declared.event.Event.{Event};
 ghost use Rattle.object_log.specs.Carrying.{placed_key};
+ghost use Rattle.object_log.specs.Flat.{zeros};
 ghost use Rattle.object_log.specs.Weave.{insert};
 ghost use Rattle.event_log.specs.Items.{IsHeld, Item, first_held, item_key, placed, placed_of};
+ghost use Rattle.event_log.specs.Popping.{HasPopped};
 ghost use Rattle.event_log.specs.Processing.{CanCarry, merged};
-ghost use Rattle.event_log.specs.Turning.{AreAfter, HasTurnedLast, IsTurned, turned_back, turned_view};
+ghost use Rattle.event_log.specs.Turning.{AreAfter, HasPutLast, HasTurnedLast, IsTurned, turned_back, turned_view};
 
 use crate::items::Items;
 use crate::kept::Kept;
@@ -40,9 +42,11 @@ pub fn carry_into(
     news.tells();
     let mut turned = 0;
     while news.len() > from {
-        let done = news.pop(cells);
+        let key = news.key_at(news.len() - 1);
         let place = places.pop().unwrap();
-        turned = join(items, turned, done, place);
+        let past = turn_past(items, turned, &key);
+        put_last(items, past, news, cells, place);
+        turned = past + 1;
     }
     turned
 }
@@ -116,6 +120,29 @@ fn put_first(items: &mut Items, turned: usize, done: Kept, place: u32)
 {
     let held = done.least().min(held_in_front(items, turned));
     items.push_front(done, place, held);
+}
+
+/// Puts the last of the news before all, with the least stamp that it and so many behind it send.
+#[inline(always)]
+fn put_last(
+    items: &mut Items,
+    turned: usize,
+    news: &mut News,
+    cells: &mut CellPool<Event>,
+    place: u32,
+)
+    requires within { turned ≤ length items.old.items }
+    requires room { length items.old.items < items.old.capacity }
+    requires some { 0 < length news.old.done }
+    requires small { AllByRecursion (λ d. length d.undo ≤ 16) news.old.done }
+    requires cells { zeros news.old.done ≤ cells.old }
+    ensures put { HasPutLast turned place items.old.items items.new.items news.old news.new }
+    ensures few { length items.new.items < 2 ^ 64 }
+    ensures capacity { items.new.capacity ≡ items.old.capacity }
+    ensures cells { zeros news.new.done ≤ cells.new }
+{
+    let held = held_in_front(items, turned);
+    items.push_last(news, cells, place, held);
 }
 
 /// The least stamp that so many in front send, or `NO_STAMP`.

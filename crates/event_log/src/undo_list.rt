@@ -1,5 +1,5 @@
 //! What undoes an event, in place.
-ghost use Rattle.std.specs.Prelude.{◌≡◌, ◌≤◌, length};
+ghost use Rattle.std.specs.Prelude.{◌≡◌, ◌≤◌, [], length};
 ghost use Rattle.object_log.specs.Dones.{Done};
 ghost use Rattle.object_log.specs.Objects.{HasUndone, IsNewest};
 
@@ -29,26 +29,33 @@ impl Model for UndoList {
 }
 
 impl UndoList {
-    /// A list of these changes.
-    pub fn of(changes: &[Change]) -> UndoList
-        requires { length changes.now ≤ 16 }
-        ensures { result ≡ changes.now }
+    /// No change.
+    pub fn new() -> UndoList
+        ensures { result ≡ [] }
     {
-        let count = changes.len();
-        let mut list = [Change::Pop { line: 0 }; MOST_CHANGES];
-        list[..count].copy_from_slice(changes);
         UndoList {
-            count: count as u32,
-            changes: list,
+            count: 0,
+            changes: [Change::Pop { line: 0 }; MOST_CHANGES],
         }
     }
 
-    /// Takes the event back at its object, which fired it last of those that it has not taken back. It sent so many messages.
-    pub fn take_back(self, object: &mut Object, sends: usize)
-        requires { (d : Done) × IsNewest object.old d × (self ≡ d.undo) × (sends ≡ length d.sends) }
-        ensures { (d : Done) → self ≡ d.undo → sends ≡ length d.sends → HasUndone object.old object.new d }
+    /// Puts these changes in, in place of those that are there.
+    #[inline(always)]
+    pub fn fill(&mut self, changes: &[Change])
+        requires { length changes.now ≤ 16 }
+        ensures { self.new ≡ changes.now }
     {
-        let UndoList { count, mut changes } = self;
-        object.take_back(&mut changes[..count as usize], sends);
+        let count = changes.len();
+        self.changes[..count].copy_from_slice(changes);
+        self.count = count as u32;
+    }
+
+    /// Takes the event back at its object, which fired it last of those that it has not taken back. It sent so many messages.
+    #[inline(always)]
+    pub fn take_back(&mut self, object: &mut Object, sends: usize)
+        requires { (d : Done) × IsNewest object.old d × (self.old ≡ d.undo) × (sends ≡ length d.sends) }
+        ensures { (d : Done) → self.old ≡ d.undo → sends ≡ length d.sends → HasUndone object.old object.new d }
+    {
+        object.take_back(&mut self.changes[..self.count as usize], sends);
     }
 }

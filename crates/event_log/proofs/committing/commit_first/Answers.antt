@@ -7,7 +7,6 @@ use Rattle.key_order.specs.Keys.{times}
 use Rattle.model_core.specs.declared.event.Event.{Event}
 use Rattle.model_core.specs.declared.note.Note.{Note}
 use Rattle.object_log.specs.Carrying.{Placed, placed_key}
-use Rattle.object_log.specs.Dones.{Done}
 use Rattle.object_log.specs.Flat.{goes_to}
 use Rattle.object_log.specs.Tellings.{told_of}
 use Rattle.object_log.specs.Whole.{dones_in}
@@ -24,8 +23,8 @@ loop-init c = record {
   room = omega (arith, c.requires.room);
 }
 
-pub take-requires : goal.take-requires
-take-requires c =
+pub release_first-sends-requires : goal.release_first-sends-requires
+release_first-sends-requires c =
     let a = c.loop.invariant.among in
     let whole = ap length a.split in
     let parts = length-append a.gone c.loop.carried.items in
@@ -35,21 +34,21 @@ take-requires c =
 pub unreachable-requires : goal.unreachable-requires
 unreachable-requires c =
     let a = c.loop.invariant.among in
-    let at = c.take.ensures.value in
+    let at = c.release_first-sends.ensures.released in
     let due = c.args.due in
     let old = c.args.carried.now.items in
     let went = next-each c.args.homes.now (take c.args.count c.args.news.now.items) old c.args.told.now.items c.args.out.now.items c.loop.counter c.loop.from c.loop.carried.items c.loop.told.items c.loop.out.items a due at.0 (omega arith) at.1
     (λ (p : Placed). Went p.done) (each-image (λ (p : Placed). p.done) Went (take due old) (all-went (dones_in (take due old)) c.requires.went)) in
-    failed-never at.0.done.verdict _ went (sym (ap (λ (d : Done). d.verdict) at.2) ∙ sym c.release-sends.ensures.verdict ∙ c.in_default.is)
+    failed-never at.0.done.verdict _ went (sym at.2.verdict_is ∙ c.in_default.is)
 
 pub tell_among-from-requires-clause-apart : goal.tell_among-from-requires-clause-apart
 tell_among-from-requires-clause-apart c =
     let a = c.loop.invariant.among in
-    let at = c.take.ensures.value in
+    let at = c.release_first-sends.ensures.released in
     let records = take c.args.count c.args.news.now.items in
     let new = next-each c.args.homes.now records c.args.carried.now.items c.args.told.now.items c.args.out.now.items c.loop.counter c.loop.from c.loop.carried.items c.loop.told.items c.loop.out.items a c.args.due at.0 (omega arith) at.1
     (λ (p : Placed). times told_key (placed_key p) records ≡ 0) c.requires.apart in
-    ap (λ (e : Event). times told_key e.key records) (c.release-sends.ensures.event ∙ ap (λ (d : Done). d.event) at.2) ∙ new
+    ap (λ (e : Event). times told_key e.key records) at.2.event_is ∙ new
 
 pub tell_among-from-requires-clause-room : goal.tell_among-from-requires-clause-room
 tell_among-from-requires-clause-room c = omega (arith, c.loop.invariant.room)
@@ -57,10 +56,10 @@ tell_among-from-requires-clause-room c = omega (arith, c.loop.invariant.room)
 pub send_home-requires-clause-known : goal.send_home-requires-clause-known
 send_home-requires-clause-known c =
     let a = c.loop.invariant.among in
-    let at = c.take.ensures.value in
+    let at = c.release_first-sends.ensures.released in
     let K : Event → Type 0 = λ e. e.key.dest < length c.args.homes.now in
     let known = next-held c.args.homes.now (take c.args.count c.args.news.now.items) c.args.carried.now.items c.args.told.now.items c.args.out.now.items c.loop.counter c.loop.from c.loop.carried.items c.loop.told.items c.loop.out.items a c.args.due at.0 (omega arith) at.1 K c.requires.known in
-    subst (Each K) (sym (c.release-sends.ensures.sends ∙ ap (λ (d : Done). d.sends) at.2)) known
+    subst (Each K) (sym at.2.sends_are) known
 
 pub send_home-requires-clause-homes : goal.send_home-requires-clause-homes
 send_home-requires-clause-homes c =
@@ -70,24 +69,24 @@ send_home-requires-clause-homes c =
 pub send_home-requires-clause-few : goal.send_home-requires-clause-few
 send_home-requires-clause-few c = λ to.
     let a = c.loop.invariant.among in
-    let at = c.take.ensures.value in
+    let at = c.release_first-sends.ensures.released in
     let few = next-few c.args.homes.now (take c.args.count c.args.news.now.items) c.args.carried.now.items c.args.told.now.items c.args.out.now.items c.loop.counter c.loop.from c.loop.carried.items c.loop.told.items c.loop.out.items a c.args.due at.0 (omega arith) at.1 c.requires.few to in
-    let same = ap length (c.release-sends.ensures.sends ∙ ap (λ (d : Done). d.sends) at.2) in
+    let same = ap length at.2.sends_are in
     omega arith
 
 pub loop-preserved : goal.loop-preserved
 loop-preserved c =
     let a = c.loop.invariant.among in
-    let at = c.take.ensures.value in
+    let at = c.release_first-sends.ensures.released in
     let d = at.0.done in
-    let t : Key × Note = (c.release-sends.result.event.key, c.in-Noted.note) in
-    let event = c.release-sends.ensures.event ∙ ap (λ (x : Done). x.event) at.2 in
-    let verdict = sym (c.release-sends.ensures.verdict ∙ ap (λ (x : Done). x.verdict) at.2) ∙ c.in-Noted.is in
+    let t : Key × Note = (c.release_first-sends.result.event.key, c.in-Noted.note) in
+    let event = at.2.event_is in
+    let verdict = sym at.2.verdict_is ∙ c.in-Noted.is in
     let one : told_of d.event.key d.verdict ≡ t ∷ [] = ap (told_of d.event.key) verdict ∙ ap (λ (e : Event). (e.key, c.in-Noted.note) ∷ []) (sym event) in
     record {
       among = among-next c.args.homes.now (take c.args.count c.args.news.now.items) c.args.carried.now.items c.args.told.now.items c.args.out.now.items c.loop.counter c.loop.from c.loop.carried.items c.loop.told.items c.loop.out.items a
-          at.0 t c.tell_among-from.result c.take.new.self.items c.tell_among-from.new.told.items c.send_home.new.out.items at.1 c.take.ensures.left one c.tell_among-from.ensures.told
-          (λ to. c.send_home.ensures.sent to ∙ ap (λ es. chain_at c.loop.out.items to ++ filter (goes_to (slice_index c.args.homes.now) to) es) (c.release-sends.ensures.sends ∙ ap (λ (x : Done). x.sends) at.2))
+          at.0 t c.tell_among-from.result c.release_first-sends.new.self.items c.tell_among-from.new.told.items c.send_home.new.out.items at.1 c.release_first-sends.ensures.left one c.tell_among-from.ensures.told
+          (λ to. c.send_home.ensures.sent to ∙ ap (λ es. chain_at c.loop.out.items to ++ filter (goes_to (slice_index c.args.homes.now) to) es) at.2.sends_are)
           c.send_home.ensures.long;
       within = c.tell_among-from.ensures.within;
       room = omega (arith, c.loop.invariant.room, c.tell_among-from.ensures.room);

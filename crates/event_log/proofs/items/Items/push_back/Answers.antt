@@ -1,41 +1,46 @@
 -- It lies in a slot that was free.
-use Rattle.std.proofs.Common.{◌≡◌, ◌∷◌, [], ◌++◌, sym, ap, ◌∙◌, subst, ℕ, ◌<◌, List, length, min, arith}
-use Rattle.std.proofs.lemmas.List.{map-append, length-map}
+use Rattle.std.proofs.Common.{◌≡◌, ◌<◌, ◌≤◌, [], ◌∷◌, ◌++◌, length, set, sym, ap, ◌∙◌, subst, arith, vec_capacity}
+use Rattle.std.proofs.lemmas.List.{length-map, length-set, map-append}
+use Rattle.event_key.specs.declared.stamp.TheConstants.{NO_STAMP}
+use Rattle.key_order.specs.Stamps.{least_stamp}
+use Rattle.object_log.specs.Dones.{Done}
 use Rattle.event_log.specs.declared.entry.Entry.{Entry}
 use Rattle.event_log.specs.Items.{ItemsView}
 use Rattle.event_log.specs.Slots.{AreInSlots, item_in, items_in}
-use Rattle.object_log.specs.Dones.{Done}
-use Rattle.slab.specs.Slab.{Slab}
-use Rattle.event_log.proofs.SlotLemmas.{put-item, put-slots, put-stay, turned-slots}
+use Rattle.event_log.proofs.SlotLemmas.{opened, opened-long, put-item, put-slots, put-stay, turned-slots}
 use Rattle.event_log.proofs.items.Items.push_back.Goals as goal
 
 pub invariant_of-self : goal.invariant_of-self
 invariant_of-self c =
-    let slots = c.self.inside.slots in
-    let new = c.insert_reserved-slot.new.self in
+    let old = c.self.inside.slots.items in
     let es = c.self.inside.entries.items in
-    let put = c.insert_reserved-slot.ensures in
-    let e : Entry = record { key = c.key-key.result; place = c.args.place; slot = c.insert_reserved-slot.result; least = c.least-least.result; held = c.args.held } in
-    subst (AreInSlots new) (sym c.push_back_reserved.ensures.items) (turned-slots new (e ∷ []) es (put-slots slots new e c.args.done es c.self.invariant put.was_vacant put.updates put.len c.key-key.ensures c.least-least.ensures))
+    let opens = c.open_slot-slot.ensures.opened in
+    let slots = c.open_slot-slot.new.slots.items in
+    let free = c.open_slot-slot.new.free.items in
+    let x = c.into_contents.result in
+    let e : Entry = record { key = c.key-key.result; place = c.args.place; slot = c.open_slot-slot.result; least = c.least-least.result; held = c.args.held } in
+    let o = opened old slots c.self.inside.free.items free es e.slot c.self.invariant.0 opens in
+    let now = set slots e.slot x in
+    let kept = c.into_contents.ensures.kept in
+    let same = c.into_contents.ensures.done in
+    let key = c.key-key.ensures ∙ ap (λ (d : Done). d.event.key) (sym same) in
+    let least = c.least-least.ensures ∙ ap (λ (d : Done). least_stamp NO_STAMP d.sends) (sym same) ∙ sym kept.least_is in
+    let more : length es < vec_capacity c.self.inside.free = omega (arith, c.requires, ap (λ (v : ItemsView). length v.items) c.self.view_is, ap (λ (v : ItemsView). v.capacity) c.self.view_is, length-map es (item_in old)) in
+    let fits = opened-long old slots c.self.inside.free.items free es e.slot (vec_capacity c.self.inside.free) c.self.invariant.0 opens c.self.invariant.1 more in
+    let long : length now ≤ vec_capacity c.open_slot-slot.new.free = omega (arith, length-set slots e.slot x, c.open_slot-slot.ensures.free_room) in
+    (subst (AreInSlots now free) (sym c.push_back_reserved.ensures.items) (turned-slots now free (e ∷ []) es (put-slots slots free e x es o.0 kept key least)), omega (arith, long))
 
 pub returns-clause-items : goal.returns-clause-items
 returns-clause-items c =
-    let slots = c.self.inside.slots in
-    let new = c.insert_reserved-slot.new.self in
+    let old = c.self.inside.slots.items in
     let es = c.self.inside.entries.items in
-    let put = c.insert_reserved-slot.ensures in
-    let e : Entry = record { key = c.key-key.result; place = c.args.place; slot = c.insert_reserved-slot.result; least = c.least-least.result; held = c.args.held } in
-    let stay : items_in new es ≡ items_in slots es = put-stay slots new e c.args.done es c.self.invariant put.was_vacant put.updates put.len in
-    let own : item_in new e ≡ record { done = c.args.done; place = c.args.place; held = c.args.held } = put-item slots new e c.args.done es c.self.invariant put.was_vacant put.updates put.len in
-    ap (items_in new) c.push_back_reserved.ensures.items ∙ map-append (item_in new) es (e ∷ []) ∙ (λ i. stay i ++ own i ∷ []) ∙ ap (λ (v : ItemsView). v.items ++ (record { done = c.args.done; place = c.args.place; held = c.args.held }) ∷ []) c.self.view_is
-
--- there is room for one entry more
-one-fits : (entries : List Entry) (slots : Slab Done) (v : ItemsView) (len room : ℕ) → (record { items = items_in slots entries; capacity = min room slots.capacity }) ≡ v → len ≡ length entries → length v.items < v.capacity → len < room
-one-fits entries slots v len room is len_is enough =
-    let one = ap (λ (w : ItemsView). length w.items) is in
-    let two = ap (λ (w : ItemsView). w.capacity) is in
-    let three = length-map entries (item_in slots) in
-    omega arith
-
-pub push_back_reserved-requires : goal.push_back_reserved-requires
-push_back_reserved-requires c = one-fits c.self.inside.entries.items c.self.inside.slots c.args.self.now _ _ c.self.view_is c.self.inside.entries.ok.0 c.requires
+    let opens = c.open_slot-slot.ensures.opened in
+    let slots = c.open_slot-slot.new.slots.items in
+    let free = c.open_slot-slot.new.free.items in
+    let x = c.into_contents.result in
+    let e : Entry = record { key = c.key-key.result; place = c.args.place; slot = c.open_slot-slot.result; least = c.least-least.result; held = c.args.held } in
+    let o = opened old slots c.self.inside.free.items free es e.slot c.self.invariant.0 opens in
+    let now = set slots e.slot x in
+    let stay : items_in now es ≡ items_in old es = put-stay slots free e x es o.0 ∙ o.1 in
+    let own : item_in now e ≡ record { done = c.args.done; place = c.args.place; held = c.args.held } = put-item slots free e x es o.0 ∙ ap (λ d. record { done = d; place = c.args.place; held = c.args.held }) c.into_contents.ensures.done in
+    ap (items_in now) c.push_back_reserved.ensures.items ∙ map-append (item_in now) es (e ∷ []) ∙ (λ i. stay i ++ own i ∷ []) ∙ ap (λ (v : ItemsView). v.items ++ (record { done = c.args.done; place = c.args.place; held = c.args.held }) ∷ []) c.self.view_is

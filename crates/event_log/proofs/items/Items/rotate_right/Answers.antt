@@ -9,14 +9,15 @@ use Rattle.event_log.proofs.items.Items.rotate_right.Goals as goal
 
 pub invariant_of-self : goal.invariant_of-self
 invariant_of-self c =
-    let slots = c.self.inside.slots in
+    let slots = c.self.inside.slots.items in
     let es = c.self.inside.entries.items in
     let n = deque_len c.self.inside.entries - 1 in
-    subst (AreInSlots slots) (sym c.rotate_right.ensures.items) (turned-slots slots (take n es) (drop n es) (subst (AreInSlots slots) (sym (take-append-drop n es)) c.self.invariant))
+    let free = c.self.inside.free.items in
+    (subst (AreInSlots slots free) (sym c.rotate_right.ensures.items) (turned-slots slots free (take n es) (drop n es) (subst (AreInSlots slots free) (sym (take-append-drop n es)) c.self.invariant.0)), c.self.invariant.1)
 
 pub returns-clause-items : goal.returns-clause-items
 returns-clause-items c =
-    let slots = c.self.inside.slots in
+    let slots = c.self.inside.slots.items in
     let es = c.self.inside.entries.items in
     let n = deque_len c.self.inside.entries - 1 in
     let long : n + 1 ≡ length es = omega (arith, c.requires, ap (λ (v : ItemsView). length v.items) c.self.view_is, length-map es (item_in slots)) in

@@ -8,16 +8,16 @@ use Rattle.event_log.proofs.items.Items.set.Goals as goal
 
 pub invariant_of-self : goal.invariant_of-self
 invariant_of-self c =
-    let slots = c.self.inside.slots in
+    let slots = c.self.inside.slots.items in
     let es = c.self.inside.entries.items in
     let e : Entry = c.index_mut-entry.result.now in
     let f : Entry = record { key = e.key; place = c.args.place; slot = e.slot; least = e.least; held = c.args.held } in
     let within = entry-within slots es c.args.self.now.items c.args.index (ap (λ (v : ItemsView). v.items) c.self.view_is) c.requires in
-    set-slots slots e f refl refl refl c.args.index es within c.index_mut-entry.ensures.value c.self.invariant
+    (set-slots slots e f refl refl refl c.self.inside.free.items c.args.index es within c.index_mut-entry.ensures.value c.self.invariant.0, c.self.invariant.1)
 
 pub returns-clause-items : goal.returns-clause-items
 returns-clause-items c =
-    let slots = c.self.inside.slots in
+    let slots = c.self.inside.slots.items in
     let es = c.self.inside.entries.items in
     let e : Entry = c.index_mut-entry.result.now in
     let f : Entry = record { key = e.key; place = c.args.place; slot = e.slot; least = e.least; held = c.args.held } in

@@ -36,25 +36,20 @@ at-place-requires-clause-news c = no-news (goal.at.at-place-requires-clause-news
 pub at-place-requires-clause-index : goal.at-place-requires-clause-index
 at-place-requires-clause-index c = within (goal.at.at-place-requires-clause-index c).After-self
 
-pub take-done-requires-clause-news : goal.take-done-requires-clause-news
-take-done-requires-clause-news c = no-news (goal.at.take-done-requires-clause-news c).After-self
-
-pub take-done-requires-clause-index : goal.take-done-requires-clause-index
-take-done-requires-clause-index c = within (goal.at.take-done-requires-clause-index c).After-self
-
 pub undo-requires-clause-news : goal.undo-requires-clause-news
-undo-requires-clause-news c =
-    ap (λ (v : ProcessedView). v.news) c.take-done.ensures.same ∙ no-news (goal.at.undo-requires-clause-news c).After-self
+undo-requires-clause-news c = no-news (goal.at.undo-requires-clause-news c).After-self
+
+pub undo-requires-clause-index : goal.undo-requires-clause-index
+undo-requires-clause-index c = within (goal.at.undo-requires-clause-index c).After-self
 
 pub undo-requires-clause-newest : goal.undo-requires-clause-newest
-undo-requires-clause-newest c =
+undo-requires-clause-newest c = λ p found.
     let objects = c.self.inside.objects.items in
     let items = c.self.inside.events.items in
     let at = c.at-place.ensures in
     let o = c.index_mut-object.result.now in
     let g = going objects items c.args.self.now.log c.args.index c.at-place.result.1 at.0 o (ap (λ (v : NodeLogView). v.log) c.self.view_is) c.self.invariant.0 c.requires.newest at.1 at.3 c.index_mut-object.ensures.value in
-    let same = c.take-done.ensures.value.2 ∙ ap (λ (p : Placed). p.done) (same-found items c.args.index c.take-done.ensures.value.0 at.0 c.take-done.ensures.value.1 at.1) in
-    subst (IsNewest o) (sym same) (going-newest objects items c.args.index at.0 o g)
+    subst (λ (q : Placed). IsNewest o q.done) (same-found items c.args.index at.0 p at.1 found) (going-newest objects items c.args.index at.0 o g)
 
 pub invariant_of-self : goal.invariant_of-self
 invariant_of-self c =
@@ -64,11 +59,12 @@ invariant_of-self c =
     let o = c.index_mut-object.result.now in
     let later = c.undo.new.object in
     let g = going objects items c.args.self.now.log c.args.index c.at-place.result.1 at.0 o (ap (λ (v : NodeLogView). v.log) c.self.view_is) c.self.invariant.0 c.requires.newest at.1 at.3 c.index_mut-object.ensures.value in
-    let same = c.take-done.ensures.value.2 ∙ ap (λ (p : Placed). p.done) (same-found items c.args.index c.take-done.ensures.value.0 at.0 c.take-done.ensures.value.1 at.1) in
+    let u = c.undo.ensures.undone in
+    let same : u.0.done ≡ at.0.done = ap (λ (p : Placed). p.done) (same-found items c.args.index u.0 at.0 u.1 at.1) in
     let P : ℕ → Type 0 = λ k. IsEventLog (slice_set objects k later) c.undo.new.self.items in
     let Q : List Placed → Type 0 = IsEventLog (slice_set objects at.0.place later) in
-    let left = sym (ap (λ (v : ProcessedView). v.items) c.undo.ensures.same ∙ c.take-done.ensures.left) in (
-      subst P (sym at.3) (subst Q left (left-log objects items c.args.index at.0 o g later (subst (HasUndone o later) same c.undo.ensures.undone))),
+    let left = sym (c.undo.ensures.left) in (
+      subst P (sym at.3) (subst Q left (left-log objects items c.args.index at.0 o g later (subst (HasUndone o later) same u.2.undone))),
       subst (AreBounded c.self.inside.latest) left (bounded-removed c.self.inside.latest items c.args.index c.self.invariant.1),
     )
 
@@ -80,23 +76,23 @@ returns-clause-undone c =
     let o = c.index_mut-object.result.now in
     let later = c.undo.new.object in
     let g = going objects items c.args.self.now.log c.args.index c.at-place.result.1 at.0 o (ap (λ (v : NodeLogView). v.log) c.self.view_is) c.self.invariant.0 c.requires.newest at.1 at.3 c.index_mut-object.ensures.value in
-    let same = c.take-done.ensures.value.2 ∙ ap (λ (p : Placed). p.done) (same-found items c.args.index c.take-done.ensures.value.0 at.0 c.take-done.ensures.value.1 at.1) in
+    let u = c.undo.ensures.undone in
+    let same : u.0.done ≡ at.0.done = ap (λ (p : Placed). p.done) (same-found items c.args.index u.0 at.0 u.1 at.1) in
     let event = c.undo.result in
     let V : EventLogView → Type 0 = λ v. HasUndoneAt c.args.index v (log_view (slice_set objects c.at-place.result.1 later) c.undo.new.self.items) event in
     let P : ℕ → Type 0 = λ k. HasUndoneAt c.args.index (log_view objects items) (log_view (slice_set objects k later) c.undo.new.self.items) event in
     let Q : List Placed → Type 0 = λ left. HasUndoneAt c.args.index (log_view objects items) (log_view (slice_set objects at.0.place later) left) event in
     subst V (ap (λ (v : NodeLogView). v.log) c.self.view_is)
-    (subst P (sym at.3) (subst Q (sym (ap (λ (v : ProcessedView). v.items) c.undo.ensures.same ∙ c.take-done.ensures.left))
-    (undone-at objects items c.args.index at.0 o g later (subst (HasUndone o later) same c.undo.ensures.undone) event (c.undo.ensures.event ∙ ap (λ (d : Done). d.event) same))))
+    (subst P (sym at.3) (subst Q (sym (c.undo.ensures.left))
+    (undone-at objects items c.args.index at.0 o g later (subst (HasUndone o later) same u.2.undone) event (u.2.event_is ∙ ap (λ (d : Done). d.event) same))))
 
 pub returns-clause-carried : goal.returns-clause-carried
 returns-clause-carried c =
-    let taken = c.take-done.ensures.same in
     let undone = c.undo.ensures.same in
     record {
-      news = ap (λ (v : ProcessedView). v.news) undone ∙ ap (λ (v : ProcessedView). v.news) taken ∙ no-news (goal.at.returns-clause-carried c).After-self;
-      chained = ap (λ (v : ProcessedView). v.chained) undone ∙ ap (λ (v : ProcessedView). v.chained) taken ∙ ap (λ (v : NodeLogView). v.chained) c.self.view_is ∙ c.requires.carried.chained;
-      nodes = ap (λ (v : ProcessedView). v.nodes) undone ∙ ap (λ (v : ProcessedView). v.nodes) taken ∙ ap (λ (v : NodeLogView). v.nodes) c.self.view_is;
+      news = ap (λ (v : ProcessedView). v.news) undone ∙ no-news (goal.at.returns-clause-carried c).After-self;
+      chained = ap (λ (v : ProcessedView). v.chained) undone ∙ ap (λ (v : NodeLogView). v.chained) c.self.view_is ∙ c.requires.carried.chained;
+      nodes = ap (λ (v : ProcessedView). v.nodes) undone ∙ ap (λ (v : NodeLogView). v.nodes) c.self.view_is;
     }
 
 -- the object stands there

@@ -1,5 +1,6 @@
 -- The object fires the event, which joins the news.
 use Rattle.std.proofs.Common.{◌≡◌, ℕ, ◌+◌, ◌-◌, ◌<◌, ◌≤◌, ◌^◌, min, List, [], ◌∷◌, ◌++◌, length, map, refl, sym, ap, ◌∙◌, subst, arith, length-append, Fits, w32}
+use Rattle.std.proofs.Math.Nat.{le_trans}
 use Rattle.std.proofs.lemmas.List.{length-map}
 use Rattle.std.specs.Prelude.{Option}
 use Rattle.std.specs.List.{AllByRecursion as Each}
@@ -24,11 +25,8 @@ use Rattle.event_log.specs.declared.row.Row.{Row}
 use Rattle.event_log.specs.News.{HoldsNews, NewsView, homed, least_after, news_view}
 use Rattle.event_log.specs.Outboxes.{message}
 use Rattle.object_log.proofs.FireFacts.{still}
-use Rattle.event_log.proofs.ProcessFacts.{failed-in, went-in}
+use Rattle.event_log.proofs.ProcessFacts.{failed-in, none-lost, went-in}
 use Rattle.event_log.proofs.news.News.process.Goals as goal
-
-no-fewer : (a b c : ℕ) → a ≤ b → b ≤ c → a ≤ c
-no-fewer a b c more most = omega arith
 
 -- the serials of so few messages fit
 serials-fit : (serial was sends : ℕ) → serial ≡ was → was < 2 ^ 60 → sends ≤ 8 → serial + sends < 2 ^ 64
@@ -41,10 +39,6 @@ cells-ready sends room full few enough full_is = omega arith
 -- so few messages more are few
 still-few : (now was sends : ℕ) → now ≡ was → was + 8 < 2 ^ 60 → sends ≤ 8 → now + sends < 2 ^ 60
 still-few now was sends now_is few few_sends = omega arith
-
--- changes come behind others
-none-lost : (to from now was added : ℕ) → to ≡ now → from ≡ was → now ≡ was + added → from ≤ to
-none-lost to from now was added to_is from_is more = omega arith
 
 few-changes : (to from now was added : ℕ) → to ≡ now → from ≡ was → now ≡ was + added → added ≤ 16 → Fits w32 (to - from)
 few-changes to from now was added to_is from_is more few = omega arith
@@ -150,7 +144,7 @@ hold_all-least-requires g c =
       homes = subst H (sym (c.make_room-room.ensures.nodes ∙ ap (λ (v : NewsView). v.nodes) c.self.view_is)) c.requires.homes;
       serials = serials-fit _ _ _ c.sent-serial.ensures c.requires.sent few;
       cells = cells-ready _ _ _ few c.in-Ok.ensures.cells c.recycle-event.ensures.spare;
-      room = no-fewer _ _ _ few c.in-Ok.ensures.sent_room;
+      room = le_trans few c.in-Ok.ensures.sent_room;
       few = still-few _ _ _ (ap length c.make_room-room.ensures.sent ∙ ap (λ (v : NewsView). length v.sent) c.self.view_is) c.requires.few few;
     }
 

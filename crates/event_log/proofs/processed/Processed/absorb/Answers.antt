@@ -31,7 +31,7 @@ invariant_of-self c =
     let same = all-carried n.places.items n.news n.carried c.args.self.now c.self.view_is c.requires.news in
     let come = map (shifted 0 c.args.to) (placed c.args.items.items) in
     let A : List Placed → Type 0 = λ items. Ascends placed_key (weave placed_key items come) in
-    other-carried n.places.items n.news n.carried c.absorb.new.self n.idle n.cells c.self.invariant none
+    other-carried n.places.items n.news n.carried c.absorb.new.self n.idle n.cells n.cells c.self.invariant none
     (subst (Ascends placed_key) (sym c.absorb.ensures) (subst A (sym same) c.requires.ordered))
 
 pub returns-clause-items : goal.returns-clause-items

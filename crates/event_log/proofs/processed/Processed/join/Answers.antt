@@ -1,5 +1,6 @@
 -- The event comes behind the news, for which there is room.
 use Rattle.std.proofs.Common.{◌≡◌, ℕ, ◌+◌, ◌-◌, ◌<◌, ◌≤◌, ◌^◌, min, List, [], ◌∷◌, ◌++◌, length, map, refl, sym, ap, ◌∙◌, subst, arith, length-append}
+use Rattle.std.proofs.Math.Nat.{le_trans}
 use Rattle.std.proofs.lemmas.List.{length-map}
 use Rattle.std.specs.List.{AllByRecursion as Each}
 use Rattle.key_order.specs.Keys.{times}
@@ -12,15 +13,9 @@ use Rattle.object_log.proofs.FireFacts.{still}
 use Rattle.event_log.specs.Items.{CarriedView}
 use Rattle.event_log.specs.News.{HasJoined, NewsView, homed}
 use Rattle.event_log.specs.Processing.{AreHomed, CanJoin, HasCome, IsProcessed, ProcessedView, merged, processed_view}
+use Rattle.event_log.proofs.ProcessFacts.{none-lost}
 use Rattle.event_log.proofs.ProcessedFacts.{homed-more, joined-items, roomier, still-processed}
 use Rattle.event_log.proofs.processed.Processed.join.Goals as goal
-
-no-fewer : (a b c : ℕ) → a ≤ b → b ≤ c → a ≤ c
-no-fewer a b c more most = omega arith
-
--- messages come behind others
-none-lost : (to from now was added : ℕ) → to ≡ now → from ≡ was → now ≡ was + added → from ≤ to
-none-lost to from now was added to_is from_is more = omega arith
 
 idle-few : (idle done news : ℕ) → idle ≤ done → done ≡ news → news + 8 < 2 ^ 60 → idle < 2 ^ 60
 idle-few idle done news most same few = omega arith
@@ -158,7 +153,7 @@ invariant_of-self-in-Err g c =
     let made = c.make_room-room.ensures in
     let R : NewsView → Type 0 = λ v. IsProcessed c.make_room-room.new.places.items v c.make_room-room.new.carried n.idle c.process.new.pool in
     subst R (sym c.in-Err.ensures.err)
-    (roomier n.places.items c.make_room-room.new.places.items n.news n.carried c.make_room-room.new.carried n.idle n.cells c.process.new.pool c.self.invariant made.places made.items made.room_kept (no-fewer _ _ _ made.cells_kept c.in-Err.ensures.cells_kept))
+    (roomier n.places.items c.make_room-room.new.places.items n.news n.carried c.make_room-room.new.carried n.idle n.cells c.process.new.pool c.self.invariant made.places made.items made.room_kept (le_trans made.cells_kept c.in-Err.ensures.cells_kept))
 
 pub returns-in_default : goal.returns-in_default
 returns-in_default g c =

@@ -22,7 +22,7 @@ invariant_of-self c =
     let none = ap (λ (v : ProcessedView). v.news) c.self.view_is ∙ c.requires.news in
     let up = subst (Ascends placed_key) (merged-none n.news.done n.places.items n.carried.items none) c.self.invariant.ordered in
     let others = Ascends-filter placed_key (λ (p : Placed). not (is_of c.args.object p.done)) n.carried.items up in
-    other-carried n.places.items n.news n.carried c.part.new.self n.idle n.cells c.self.invariant none
+    other-carried n.places.items n.news n.carried c.part.new.self n.idle n.cells n.cells c.self.invariant none
     (subst (Ascends placed_key) (sym c.part.ensures.items) (Ascends-map placed_key (shifted c.args.from c.args.to) (other_items c.args.object n.carried.items) others))
 
 pub returns-clause-items : goal.returns-clause-items
