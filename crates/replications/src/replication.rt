@@ -17,6 +17,14 @@ use sim_spec::{Stop, Terms};
 use std::alloc::Global;
 use std::sync::Arc;
 
+/// A replication: how far its run goes, the first tick of its window, and its seed.
+#[derive(Clone, Copy)]
+struct Replication {
+    terms: Terms,
+    first: u64,
+    seed: u64,
+}
+
 /// Runs an engine from its start until it has ended, and sums up all records. No bucket is kept.
 fn run_to_stop<M: SimulationModel, W: Rows<M>>(
     alloc: Global,
@@ -58,21 +66,27 @@ fn run_to_stop<M: SimulationModel, W: Rows<M>>(
 fn put_run<M: SimulationModel, W: Rows<M>>(
     alloc: Global,
     model: &M,
-    terms: &Terms,
-    first: u64,
-    seed: u64,
+    replication: &Replication,
     engine: &mut OneThread<M>,
     into: &mut Vec<u8>,
 ) -> Result<Stop, OutOfMemory>
     requires model { engine.old.model ≡ model.now }
-    requires terms { engine.old.terms ≡ terms.now }
+    requires terms { engine.old.terms ≡ replication.now.terms }
     requires begins { engine.old.standing ≡ stands (initial_state (M.meaning model.now)) None }
-    ensures rows { OnOk result (into.new.items ≡ into.old.items ++ rows_of_run (W.rows_of model.now) (M.meaning model.now) terms.now first seed) }
-    ensures stop { IfOk result (λ stop. stop ≡ (run (M.meaning model.now) terms.now (initial_state (M.meaning model.now))).stop) }
+    ensures rows { OnOk result (into.new.items ≡ into.old.items
+        ++ rows_of_run (W.rows_of model.now) (M.meaning model.now) replication.now.terms replication.now.first replication.now.seed) }
+    ensures stop { IfOk result (λ stop. stop ≡ (run (M.meaning model.now) replication.now.terms (initial_state (M.meaning model.now))).stop) }
 {
-    let mut rows = W::new(alloc, model, first)?;
-    let end = run_to_stop(alloc, model, terms, seed, engine, &mut rows)?;
-    rows.put(alloc, model, terms, &end, into)?;
+    let mut rows = W::new(alloc, model, replication.first)?;
+    let end = run_to_stop(
+        alloc,
+        model,
+        &replication.terms,
+        replication.seed,
+        engine,
+        &mut rows,
+    )?;
+    rows.put(alloc, model, &replication.terms, &end, into)?;
     Ok(end.stop)
 }
 
@@ -90,5 +104,6 @@ pub fn replicate_once<M: SimulationModel, W: Rows<M>>(
     ensures stop { IfOk result (λ stop. stop ≡ (run (M.meaning (arc_value model)) terms (initial_state (M.meaning (arc_value model)))).stop) }
 {
     let mut engine = OneThread::new(alloc, model.clone()?, terms)?;
-    put_run::<M, W>(alloc, &*model, &terms, first, seed, &mut engine, into)
+    let replication = Replication { terms, first, seed };
+    put_run::<M, W>(alloc, &*model, &replication, &mut engine, into)
 }
