@@ -29,19 +29,20 @@ struct Replication {
 fn run_to_stop<M: SimulationModel, W: Rows<M>>(
     alloc: Global,
     model: &M,
-    terms: &Terms,
-    seed: u64,
+    replication: &Replication,
     engine: &mut OneThread<M>,
     rows: &mut W,
 ) -> Result<RunEnd, OutOfMemory>
     requires model { engine.old.model ≡ model.now }
-    requires terms { engine.old.terms ≡ terms.now }
+    requires terms { engine.old.terms ≡ replication.now.terms }
     requires begins { engine.old.standing ≡ stands (initial_state (M.meaning model.now)) None }
     requires rows { (first : ℕ) × W.sums_up model.now first rows.old [] }
     ensures rows { OnOk result ((first : ℕ) → W.sums_up model.now first rows.old []
-        → W.sums_up model.now first rows.new (run (M.meaning model.now) terms.now (initial_state (M.meaning model.now))).records) }
-    ensures end { IfOk result (λ end. end ≡ end_of seed (run (M.meaning model.now) terms.now (initial_state (M.meaning model.now)))) }
+        → W.sums_up model.now first rows.new (run (M.meaning model.now) replication.now.terms (initial_state (M.meaning model.now))).records) }
+    ensures end { IfOk result (λ end.
+        end ≡ end_of replication.now.seed (run (M.meaning model.now) replication.now.terms (initial_state (M.meaning model.now)))) }
 {
+    let terms = &replication.terms;
     law_initial(model, terms);
     law_next(model, terms);
     law_bucket(model, terms);
@@ -52,6 +53,7 @@ fn run_to_stop<M: SimulationModel, W: Rows<M>>(
     loop {
         if let Some(stop) = engine.ended() {
             let events = engine.count();
+            let seed = replication.seed;
             return Ok(RunEnd { seed, events, stop });
         }
         let bucket = engine.bucket(alloc)?;
@@ -78,14 +80,7 @@ fn put_run<M: SimulationModel, W: Rows<M>>(
     ensures stop { IfOk result (λ stop. stop ≡ (run (M.meaning model.now) replication.now.terms (initial_state (M.meaning model.now))).stop) }
 {
     let mut rows = W::new(alloc, model, replication.first)?;
-    let end = run_to_stop(
-        alloc,
-        model,
-        &replication.terms,
-        replication.seed,
-        engine,
-        &mut rows,
-    )?;
+    let end = run_to_stop(alloc, model, replication, engine, &mut rows)?;
     rows.put(alloc, model, &replication.terms, &end, into)?;
     Ok(end.stop)
 }
