@@ -111,7 +111,8 @@ impl StationTotals {
         requires station { visit.station < length (parts_of shop.now).stations }
         requires place { visit.place < length (classes_at (parts_of shop.now) visit.station) }
         requires sums { (first : ℕ) × (told : List TimedPart) × SumsUpShopStation (parts_of shop.now) first visit.station told (2 ^ 62) self.now }
-        ensures { OnOk result ((first parts : ℕ) (told : List TimedPart) → SumsUpShopStation (parts_of shop.now) first visit.station told parts self.now
+        ensures { OnOk result ((first parts : ℕ) (told : List TimedPart)
+            → SumsUpShopStation (parts_of shop.now) first visit.station told parts self.now
             → into.new.items ≡ into.old.items ++ visit_line (F.form form.now) (parts_of shop.now) first told visit.station
             (get_or (classes_at (parts_of shop.now) visit.station) visit.place 0)) }
     {
@@ -140,7 +141,8 @@ impl StationTotals {
         requires clock { self.now.sums.clock ≤ clock }
         requires soon { clock < 2 ^ 48 }
         requires sums { (first : ℕ) × (told : List TimedPart) × SumsUpShopStation (parts_of shop.now) first station told (2 ^ 62) self.now }
-        ensures { OnOk result ((first parts : ℕ) (told : List TimedPart) → SumsUpShopStation (parts_of shop.now) first station told parts self.now
+        ensures { OnOk result ((first parts : ℕ) (told : List TimedPart)
+            → SumsUpShopStation (parts_of shop.now) first station told parts self.now
             → into.new.items ≡ into.old.items ++ station_lines (F.form form.now) (parts_of shop.now) first clock told station) }
     {
         put_named(alloc, form, shop, station, into)?;
