@@ -1,5 +1,5 @@
 -- The parts that the three passes give are those of a network.
-use Rattle.std.proofs.Common.{◌≡◌, ◌≢◌, ℕ, suc, ◌+◌, ◌<◌, ◌≤◌, ◌^◌, Bool, true, false, cond, not, List, [], ◌∷◌, length, map, get_or, Option, Some, None, Ok, Err, refl, sym, ap, subst, ◌∙◌, arith}
+use Rattle.std.proofs.Common.{◌≡◌, ◌≢◌, ℕ, suc, ◌+◌, ◌<◌, ◌≤◌, ◌^◌, Bool, true, false, cond, not, List, [], ◌∷◌, length, map, get_or, Option, Some, None, Ok, refl, sym, ap, subst, ◌∙◌, arith}
 use Rattle.std.specs.Prelude.{IsTrue, ◌||◌, All, AllPairs}
 use Rattle.std.specs.Str.{bytes_eq}
 use Rattle.std.proofs.lemmas.Bool.Decides.{nat_tests}
@@ -12,7 +12,6 @@ use Rattle.queue_models.specs.Kinds.{is_source, is_station, IsKind}
 use Rattle.queue_models.specs.Objects.{Item, network_of, no_object}
 use Rattle.queue_models.specs.Parts.{IsName, IsLink, IsObject, IsJob, IsNetwork}
 use Rattle.text_fields.specs.declared.directory.Place.{Place}
-use Rattle.text_fields.specs.Checks.{Checked, ◌>>=◌}
 use Rattle.text_fields.specs.Fields.{each_of}
 use Rattle.model_text.specs.Linked.{IsLinkedJob}
 use Rattle.model_text.specs.Kinds.{linked_kind}

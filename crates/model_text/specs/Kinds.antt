@@ -1,7 +1,7 @@
 -- The kinds of objects: the fields of each, its word and its keys, and what pass two makes of it.
 use Rattle.std.specs.Prelude.{ℕ, pos, false, List, [], ◌∷◌, length, Ok, codes, if◌then◌else◌}
 use Rattle.std.specs.Str.{bytes_eq}
-use Rattle.toml.specs.Data.{Data, integer, boolean, Members, get_member}
+use Rattle.toml.specs.Data.{integer, boolean, Members, get_member}
 use Rattle.event_key.specs.declared.stamp.TheConstants.{LAST_TICK}
 use Rattle.queue_models.specs.declared.kind.KindOver.{KindOver}
 use Rattle.queue_models.specs.declared.kind.KindOver.TheVariants.{Source, Station, Delay, Router, Sink}

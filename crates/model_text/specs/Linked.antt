@@ -1,5 +1,5 @@
 -- What is known of a job whose link was found.
-use Rattle.std.specs.Prelude.{ℕ, ◌^◌, ◌<◌, ◌≤◌}
+use Rattle.std.specs.Prelude.{◌^◌, ◌<◌, ◌≤◌}
 use Rattle.event_key.specs.declared.key.TheConstants.{MOST_RANK}
 use Rattle.model_core.specs.declared.entry.Entry.{Entry}
 use Rattle.text_fields.specs.Links.{IsFound}

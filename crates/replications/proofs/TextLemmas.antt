@@ -1,5 +1,5 @@
 -- The rows of replications, some of them and then the others.
-use Rattle.std.proofs.Common.{◌≡◌, ℕ, suc, ◌+◌, ◌-◌, ◌≤◌, List, [], ◌∷◌, ◌++◌, map, refl, sym, ap, ◌∙◌, arith, append-nil, append_assoc, subst}
+use Rattle.std.proofs.Common.{◌≡◌, ℕ, suc, ◌+◌, ◌-◌, ◌≤◌, List, [], ◌∷◌, ◌++◌, map, sym, ap, ◌∙◌, arith, append-nil, append_assoc, subst}
 use Rattle.std.specs.List.{flat_map, range_with_len}
 use Rattle.sim_io.specs.Taken.{Taken, Appends}
 use Rattle.std.proofs.lemmas.Grind.{flat_map-append}
@@ -14,11 +14,11 @@ range-split a (Prim.Native.Nat.suc i) k =
     let next : suc i + k ≡ suc (i + k) = omega arith in
     ap (range_with_len a) next ∙ ap (λ rest. a ∷ rest) (range-split (a + 1) i k ∙ ap (λ n. range_with_len (a + 1) i ++ range_with_len n k) (omega arith))
 
-pub rows_between-none : (s : StudyOf) (number : ℕ) → rows_between s number 0 ≡ []
-unfolding rows_between
-rows_between-none s number = refl
+-- so many of what is numbered are some of them and then the others
+abbrev pub Splits : {X : Type 0} → (ℕ → ℕ → List X) → Type 0
+Splits between = (number i k : ℕ) → between number (i + k) ≡ between number i ++ between (number + i) k
 
-pub rows_between-split : (s : StudyOf) (number i k : ℕ) → rows_between s number (i + k) ≡ rows_between s number i ++ rows_between s (number + i) k
+pub rows_between-split : (s : StudyOf) → Splits (rows_between s)
 unfolding rows_between
 rows_between-split s number i k = ap (flat_map (rows_at s)) (range-split number i k) ∙ flat_map-append (rows_at s) (range_with_len number i) (range_with_len (number + i) k)
 
@@ -26,11 +26,7 @@ pub rows_between-more : (s : StudyOf) (number i : ℕ) → rows_between s number
 unfolding rows_between
 rows_between-more s number i = rows_between-split s number i 1 ∙ ap (λ rows. rows_between s number i ++ rows) (append-nil (rows_at s (number + i)))
 
-pub stops_between-none : (s : StudyOf) (number : ℕ) → stops_between s number 0 ≡ []
-unfolding stops_between
-stops_between-none s number = refl
-
-pub stops_between-split : (s : StudyOf) (number i k : ℕ) → stops_between s number (i + k) ≡ stops_between s number i ++ stops_between s (number + i) k
+pub stops_between-split : (s : StudyOf) → Splits (stops_between s)
 unfolding stops_between
 stops_between-split s number i k =
     ap (λ ns. map (stop_at s) ns) (range-split number i k) ∙ map-append (stop_at s) (range_with_len number i) (range_with_len (number + i) k)
@@ -57,13 +53,9 @@ next-prefix s number i k all within old mid now written part =
     ∙ append_assoc (rows_between s number i) (rows_between s (number + i) k) behind)
 
 -- a batch more
-pub rows-batch : (s : StudyOf) (done many until : ℕ) → done + many ≡ until → rows_between s 0 done ++ rows_between s done many ≡ rows_between s 0 until
-rows-batch s done many until is =
-    ap (λ n. rows_between s 0 done ++ rows_between s n many) (omega arith) ∙ sym (rows_between-split s 0 done many) ∙ ap (rows_between s 0) is
-
-pub stops-batch : (s : StudyOf) (done many until : ℕ) → done + many ≡ until → stops_between s 0 done ++ stops_between s done many ≡ stops_between s 0 until
-stops-batch s done many until is =
-    ap (λ n. stops_between s 0 done ++ stops_between s n many) (omega arith) ∙ sym (stops_between-split s 0 done many) ∙ ap (stops_between s 0) is
+pub batch : {X : Type 0} (between : ℕ → ℕ → List X) → Splits between → (done many until : ℕ) → done + many ≡ until → between 0 done ++ between done many ≡ between 0 until
+batch between split done many until is =
+    ap (λ n. between 0 done ++ between n many) (omega arith) ∙ sym (split 0 done many) ∙ ap (between 0) is
 
 pub batch-prefix : (s : StudyOf) (done many all : ℕ) → done + many ≤ all → (old mid now : Taken) → Appends old mid (rows_between s 0 done) → AppendsPrefix mid now (rows_between s done many)
     → AppendsPrefix old now (rows_between s 0 all)

@@ -17,23 +17,32 @@ use sim_spec::{Stop, Terms};
 use std::alloc::Global;
 use std::sync::Arc;
 
+/// A replication: how far its run goes, the first tick of its window, and its seed.
+#[derive(Clone, Copy)]
+struct Replication {
+    terms: Terms,
+    first: u64,
+    seed: u64,
+}
+
 /// Runs an engine from its start until it has ended, and sums up all records. No bucket is kept.
 fn run_to_stop<M: SimulationModel, W: Rows<M>>(
     alloc: Global,
     model: &M,
-    terms: &Terms,
-    seed: u64,
+    replication: &Replication,
     engine: &mut OneThread<M>,
     rows: &mut W,
 ) -> Result<RunEnd, OutOfMemory>
     requires model { engine.old.model ≡ model.now }
-    requires terms { engine.old.terms ≡ terms.now }
+    requires terms { engine.old.terms ≡ replication.now.terms }
     requires begins { engine.old.standing ≡ stands (initial_state (M.meaning model.now)) None }
     requires rows { (first : ℕ) × W.sums_up model.now first rows.old [] }
     ensures rows { OnOk result ((first : ℕ) → W.sums_up model.now first rows.old []
-        → W.sums_up model.now first rows.new (run (M.meaning model.now) terms.now (initial_state (M.meaning model.now))).records) }
-    ensures end { IfOk result (λ end. end ≡ end_of seed (run (M.meaning model.now) terms.now (initial_state (M.meaning model.now)))) }
+        → W.sums_up model.now first rows.new (run (M.meaning model.now) replication.now.terms (initial_state (M.meaning model.now))).records) }
+    ensures end { IfOk result (λ end.
+        end ≡ end_of replication.now.seed (run (M.meaning model.now) replication.now.terms (initial_state (M.meaning model.now)))) }
 {
+    let terms = &replication.terms;
     law_initial(model, terms);
     law_next(model, terms);
     law_bucket(model, terms);
@@ -44,6 +53,7 @@ fn run_to_stop<M: SimulationModel, W: Rows<M>>(
     loop {
         if let Some(stop) = engine.ended() {
             let events = engine.count();
+            let seed = replication.seed;
             return Ok(RunEnd { seed, events, stop });
         }
         let bucket = engine.bucket(alloc)?;
@@ -58,21 +68,20 @@ fn run_to_stop<M: SimulationModel, W: Rows<M>>(
 fn put_run<M: SimulationModel, W: Rows<M>>(
     alloc: Global,
     model: &M,
-    terms: &Terms,
-    first: u64,
-    seed: u64,
+    replication: &Replication,
     engine: &mut OneThread<M>,
     into: &mut Vec<u8>,
 ) -> Result<Stop, OutOfMemory>
     requires model { engine.old.model ≡ model.now }
-    requires terms { engine.old.terms ≡ terms.now }
+    requires terms { engine.old.terms ≡ replication.now.terms }
     requires begins { engine.old.standing ≡ stands (initial_state (M.meaning model.now)) None }
-    ensures rows { OnOk result (into.new.items ≡ into.old.items ++ rows_of_run (W.rows_of model.now) (M.meaning model.now) terms.now first seed) }
-    ensures stop { IfOk result (λ stop. stop ≡ (run (M.meaning model.now) terms.now (initial_state (M.meaning model.now))).stop) }
+    ensures rows { OnOk result (into.new.items ≡ into.old.items
+        ++ rows_of_run (W.rows_of model.now) (M.meaning model.now) replication.now.terms replication.now.first replication.now.seed) }
+    ensures stop { IfOk result (λ stop. stop ≡ (run (M.meaning model.now) replication.now.terms (initial_state (M.meaning model.now))).stop) }
 {
-    let mut rows = W::new(alloc, model, first)?;
-    let end = run_to_stop(alloc, model, terms, seed, engine, &mut rows)?;
-    rows.put(alloc, model, terms, &end, into)?;
+    let mut rows = W::new(alloc, model, replication.first)?;
+    let end = run_to_stop(alloc, model, replication, engine, &mut rows)?;
+    rows.put(alloc, model, &replication.terms, &end, into)?;
     Ok(end.stop)
 }
 
@@ -90,5 +99,6 @@ pub fn replicate_once<M: SimulationModel, W: Rows<M>>(
     ensures stop { IfOk result (λ stop. stop ≡ (run (M.meaning (arc_value model)) terms (initial_state (M.meaning (arc_value model)))).stop) }
 {
     let mut engine = OneThread::new(alloc, model.clone()?, terms)?;
-    put_run::<M, W>(alloc, &*model, &terms, first, seed, &mut engine, into)
+    let replication = Replication { terms, first, seed };
+    put_run::<M, W>(alloc, &*model, &replication, &mut engine, into)
 }

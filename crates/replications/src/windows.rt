@@ -13,6 +13,14 @@ use sim_spec::{Stop, Terms};
 use std::alloc::Global;
 use std::marker::Model;
 
+/// A row: the object that it is of, the last tick of its window, and how the run ended.
+#[derive(Clone, Copy)]
+struct Row {
+    object: u32,
+    last: u64,
+    end: RunEnd,
+}
+
 /// What is known of each object of a model within a window that begins at a tick, kept as records come.
 #[derive(Debug, Drop)]
 pub struct Windows {
@@ -85,27 +93,26 @@ impl Windows {
         }
     }
 
-    /// Appends the row of an object.
+    /// Appends a row.
     fn put_row<M: SimulationModel>(
         &self,
         alloc: Global,
         model: &M,
-        object: u32,
-        last: u64,
-        end: &RunEnd,
+        which: Row,
         into: &mut Vec<u8>,
     ) -> Result<(), OutOfMemory>
-        requires object { object < (M.meaning model.now).objects }
-        requires exists { object < length self.now.objects }
-        requires last { last ≤ 2 ^ 48 }
+        requires object { which.object < (M.meaning model.now).objects }
+        requires exists { which.object < length self.now.objects }
+        requires last { which.last ≤ 2 ^ 48 }
         ensures { (first objects : ℕ) (records : List (Key × Note)) → self.now ≡ windows_of first objects records
-            → OnOk result (into.new.items ≡ into.old.items ++ row (M.meaning model.now) first last end.now object (window_sums first last (parts_told object records))) }
+            → OnOk result (into.new.items ≡ into.old.items
+            ++ row (M.meaning model.now) first which.last which.end which.object (window_sums first which.last (parts_told which.object records))) }
     {
-        let sums = self.objects[object as usize].close(self.first, last);
-        put_seed(end.seed, into)?;
-        model.put_name(alloc, object, into)?;
+        let sums = self.objects[which.object as usize].close(self.first, which.last);
+        put_seed(which.end.seed, into)?;
+        model.put_name(alloc, which.object, into)?;
         put_columns(&sums, into)?;
-        put_end(last.saturating_sub(self.first), end, into)?;
+        put_end(which.last.saturating_sub(self.first), &which.end, into)?;
         Ok(())
     }
 
@@ -124,7 +131,12 @@ impl Windows {
     {
         let last = self.last_tick(terms, &end.stop);
         for object in 0..model.objects() {
-            self.put_row(alloc, model, object, last, end, into)?;
+            let row = Row {
+                object,
+                last,
+                end: *end,
+            };
+            self.put_row(alloc, model, row, into)?;
         }
         Ok(())
     }

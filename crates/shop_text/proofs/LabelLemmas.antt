@@ -1,6 +1,6 @@
 -- Labels stand for steps of the route or for its two ends.
-use Rattle.std.proofs.Common.{◌≡◌, ℕ, ◌+◌, ◌<◌, ◌≤◌, Ok, arith, ap, subst}
-use Rattle.std.specs.Prelude.{codes, List, Option, Some, None}
+use Rattle.std.proofs.Common.{◌≡◌, ℕ, ◌+◌, ◌<◌, Ok, arith, ap, subst}
+use Rattle.std.specs.Prelude.{codes, Option, Some, None}
 use Rattle.toml.specs.Data.{Data, get_member}
 use Rattle.text_fields.specs.Fields.{table_of}
 use Rattle.text_fields.specs.Names.{Finder, new_name, nothing, taken_in}

@@ -5,13 +5,12 @@ use Rattle.std.proofs.lemmas.List.Elements.{All-nil, All-cons, All-head, All-tai
 use Rattle.std.proofs.lemmas.List.Sums.{sum_by-cons}
 use Rattle.shop_model.specs.declared.class.Class.{Class}
 use Rattle.shop_model.specs.declared.step.Step.{Step}
-use Rattle.shop_model.specs.declared.step.Step.TheVariants.{Visit, Free, Delay, Go}
+use Rattle.shop_model.specs.declared.step.Step.TheVariants.{Free, Delay, Go}
 use Rattle.shop_model.specs.Parts.{IsVisit, IsBranch, IsStep, IsClass}
 use Rattle.shop_text.specs.declared.named.NamedStep.{NamedStep}
 use Rattle.shop_text.specs.declared.named.NamedStep.TheVariants.{Visit as NamesVisit, Free as NamesFree, Delay as NamesDelay, Go as NamesGo}
 use Rattle.shop_text.specs.declared.named.NamedVisit.{NamedVisit}
 use Rattle.shop_text.specs.declared.links.VisitLinks.{VisitLinks}
-use Rattle.text_fields.specs.Checks.{Checked}
 use Rattle.text_fields.specs.Fields.{each_of}
 use Rattle.text_fields.specs.Links.{link, links, IsFound}
 use Rattle.text_fields.specs.Names.{Finder}

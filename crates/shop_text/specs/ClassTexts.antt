@@ -1,5 +1,5 @@
 -- The check of a class: its fields in their order, its route, and then unknown keys.
-use Rattle.std.specs.Prelude.{ℕ, ◌+◌, ◌-◌, false, List, [], ◌∷◌, length, Option, Ok, codes}
+use Rattle.std.specs.Prelude.{ℕ, ◌+◌, ◌-◌, false, List, [], ◌∷◌, length, Ok, codes}
 use Rattle.toml.specs.Data.{Data, array, Items, no_items, Members, get_member}
 use Rattle.event_key.specs.declared.stamp.TheConstants.{LAST_TICK}
 use Rattle.shop_model.specs.declared.class.Class.{Class}

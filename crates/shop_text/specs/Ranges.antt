@@ -1,5 +1,5 @@
 -- The numbers of what was read lie within their bounds.
-use Rattle.std.specs.Prelude.{◌≡◌, ℕ, ◌+◌, ◌^◌, ◌<◌, ◌≤◌, Bool, true, IsTrue, List, length, All, Some}
+use Rattle.std.specs.Prelude.{◌≡◌, ℕ, ◌+◌, ◌^◌, ◌<◌, ◌≤◌, true, IsTrue, List, length, All, Some}
 use Rattle.std.specs.List.{AllPairs}
 use Rattle.std.specs.Option.{ForSome}
 use Rattle.random_streams.specs.Delays.{is_delay_law}

@@ -5,7 +5,6 @@ use Rattle.random_streams.specs.declared.delay_law.DelayLaw.{DelayLaw}
 use Rattle.shop_model.specs.declared.class.TheConstants.{MOST_STEPS}
 use Rattle.shop_text.specs.declared.named.NamedStep.{NamedStep}
 use Rattle.shop_text.specs.declared.named.NamedStep.TheVariants.{Visit, Free, Delay, Go}
-use Rattle.shop_text.specs.declared.named.NamedVisit.{NamedVisit}
 use Rattle.shop_text.specs.declared.named.VisitNames.{VisitNames}
 use Rattle.text_fields.specs.declared.directory.Place.{Place}
 use Rattle.text_fields.specs.declared.refusal.Cause.TheVariants.{BadValue, Missing}

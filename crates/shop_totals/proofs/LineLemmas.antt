@@ -1,8 +1,9 @@
 -- Lines that are appended one after another.
 use Rattle.std.proofs.Common.{◌≡◌, ◌∙◌, ℕ, ◌+◌, ◌<◌, List, [], ◌∷◌, ◌++◌, length, take, get_or, ap, sym, append-nil, append_assoc}
-use Rattle.std.specs.List.{flat_map}
+use Rattle.std.specs.List.{flat_map, range_with_len}
 use Rattle.std.proofs.lemmas.Grind.{flat_map-append}
 use Rattle.std.proofs.lemmas.List.{take_more}
+use Rattle.model_core.proofs.Numbers.{flat_map-numbers-more}
 use Rattle.shop_model.specs.Meaning.{name_at}
 use Rattle.shop_model.specs.ShopParts.{ShopParts}
 use Rattle.shop_totals.specs.declared.visit_sums.VisitSums.{VisitSums}
@@ -42,3 +43,11 @@ lines-next f numbers place before head into new within are more =
     ∙ ap (λ (numbers : List ℕ). flat_map f numbers) (sym (take_more numbers place 0 within)) in
     more ∙ ap (λ (xs : List ℕ). xs ++ line) are ∙ append_assoc before (head ++ so_far) line
     ∙ ap (λ (xs : List ℕ). before ++ xs) (append_assoc head so_far line ∙ ap (λ (xs : List ℕ). head ++ xs) lines)
+
+-- what is told of one more of the numbers from 0 on
+pub numbered-next : (f : ℕ → List ℕ) (n : ℕ) (before into new : List ℕ) → into ≡ before ++ flat_map f (range_with_len 0 n) → new ≡ into ++ f n
+    → new ≡ before ++ flat_map f (range_with_len 0 (n + 1))
+numbered-next f n before into new are more =
+    more ∙ ap (λ (lines : List ℕ). lines ++ f n) are
+    ∙ append_assoc before (flat_map f (range_with_len 0 n)) (f n)
+    ∙ ap (λ (lines : List ℕ). before ++ lines) (sym (flat_map-numbers-more f n))

@@ -1,13 +1,15 @@
 -- What is told with a record more, and of which class a part tells.
-use Rattle.std.proofs.Common.{◌≡◌, ◌≢◌, ℕ, ◌/◌, Bool, List, [], ◌∷◌, ◌++◌, refl, ap, ◌∙◌, eq-eqb, ne_eqb, cond, append-nil}
+use Rattle.std.proofs.Common.{◌≡◌, ◌≢◌, ℕ, ◌+◌, ◌/◌, ◌<◌, Bool, List, [], ◌∷◌, ◌++◌, length, take, get_or, refl, sym, ap, ◌∙◌, eq-eqb, ne_eqb, cond, append-nil, append_assoc}
 use Rattle.std.specs.Prelude.{◌==◌}
 use Rattle.std.specs.List.{filter, flat_map}
 use Rattle.std.proofs.lemmas.Grind.{flat_map-append}
+use Rattle.std.proofs.lemmas.List.{map_more}
 use Rattle.std.proofs.lemmas.List.Elements.{filter-append}
 use Rattle.event_key.specs.declared.key.Key.{Key}
 use Rattle.model_core.specs.declared.note.Note.{Note}
+use Rattle.model_core.specs.declared.note.Part.{Part}
 use Rattle.shop_model.specs.declared.job.TheConstants.{JOBS_A_CLASS}
-use Rattle.shop_totals.specs.Records.{timed_parts, told_at, of_class}
+use Rattle.shop_totals.specs.Records.{parts_at, timed_parts, told_at, of_class}
 use Rattle.shop_totals.specs.Told.{TimedPart}
 
 told_at-more : (object : ℕ) (records : List (Key × Note)) (told : Key × Note)
@@ -31,6 +33,13 @@ unfolding told_at
 told_at-elsewhere object records told apart =
     let none : told_at object (told ∷ []) ≡ [] = ap (λ b. flat_map timed_parts (cond b (told ∷ []) [])) (ne_eqb told.0.dest object apart) in
     told_at-more object records told ∙ ap (λ (parts : List TimedPart). told_at object records ++ parts) none ∙ append-nil (told_at object records)
+
+-- with one part more of a note
+pub parts_at-more : (told : List TimedPart) (time : ℕ) (note : Note) (i : ℕ) (none : Part) → i < length note
+    → (told ++ parts_at time (take i note)) ++ record { time = time; part = get_or note i none } ∷ [] ≡ told ++ parts_at time (take (i + 1) note)
+parts_at-more told time note i none within =
+    let timed_at : Part → TimedPart = λ part. record { time = time; part = part } in
+    append_assoc told (parts_at time (take i note)) (timed_at (get_or note i none) ∷ []) ∙ ap (λ (parts : List TimedPart). told ++ parts) (sym (map_more timed_at note i none within))
 
 pub told_at-none : (object : ℕ) → told_at object [] ≡ []
 unfolding told_at

@@ -1,5 +1,5 @@
 -- The totals of a shop with one record more.
-use Rattle.std.proofs.Common.{◌≡◌, ◌≢◌, ◌∙◌, ℕ, ◌+◌, ◌*◌, ◌<◌, ◌≤◌, Bool, true, false, List, [], ◌∷◌, ◌++◌, length, replicate, get_or, eqb, eqb-true, eq-eqb, refl, ap, sym, subst, arith}
+use Rattle.std.proofs.Common.{◌≡◌, ◌≢◌, ◌∙◌, ℕ, ◌+◌, ◌*◌, ◌-◌, ◌<◌, ◌≤◌, Bool, true, false, List, [], ◌∷◌, ◌++◌, length, replicate, get_or, eqb, eqb-true, eq-eqb, refl, ap, sym, subst, arith}
 use Rattle.std.proofs.Math.ListN.{set}
 use Rattle.std.proofs.lemmas.Grind.{get_or-set_at}
 use Rattle.std.proofs.lemmas.List.{get_or-set_other, get_or-replicate, length-replicate, length-set, get_or_append_left, get_or_push, length_push}
@@ -14,7 +14,7 @@ use Rattle.shop_totals.specs.declared.class_sums.ClassSums.{ClassSums}
 use Rattle.shop_totals.specs.declared.shop_totals.ShopTotals.{ShopTotals}
 use Rattle.shop_totals.specs.declared.station_totals.StationTotals.{StationTotals}
 use Rattle.shop_totals.specs.Records.{timed_parts, told_at}
-use Rattle.shop_totals.specs.Summed.{SumsUpStation, SumsUpClass, SumsUpAtStation, SumsUpAtClass, SumsUpShop, IsNewStation, AreNewStations}
+use Rattle.shop_totals.specs.Summed.{SumsUpShopStation, SumsUpClass, SumsUpAtStation, SumsUpAtClass, SumsUpShop, IsNewStation, AreNewStations}
 use Rattle.shop_totals.specs.Visits.{classes_at}
 use Rattle.shop_totals.proofs.BoundLemmas.{sums_up-within, class_sums_up-within}
 use Rattle.shop_totals.proofs.ClassLemmas.{class_sums_up-told}
@@ -35,7 +35,7 @@ station-elsewhere p first records told last k totals apart le is = (
 )
 
 station-here : (p : ShopParts) (first : ℕ) (records : List (Key × Note)) (told : Key × Note) (k : ℕ) (totals : StationTotals) → told.0.dest ≡ k
-    → SumsUpStation first (station_at p.stations k).servers (classes_at p k) (told_at k records ++ timed_parts told) (4 * length records + 4) totals
+    → SumsUpShopStation p first k (told_at k records ++ timed_parts told) (4 * length records + 4) totals
     → totals.sums.clock ≡ time_part told.0.stamp → SumsUpAtStation p first (records ++ told ∷ []) (time_part told.0.stamp) k totals
 station-here p first records told k totals here is clock = (
   sums_up-within first (station_at p.stations k).servers (classes_at p k) (told_at k (records ++ told ∷ [])) (4 * length records + 4) (4 * length (records ++ told ∷ [])) totals
@@ -70,7 +70,7 @@ class-here p first records told k totals here is clock = (
 pub shop-station : (p : ShopParts) (first : ℕ) (records : List (Key × Note)) (told : Key × Note) (totals new : ShopTotals) (one : StationTotals) → SumsUpShop p first totals records
     → length records < MOST_EVENTS → told.0.dest < length p.stations → last_time 0 records ≤ time_part told.0.stamp
     → new.stations.items ≡ set totals.stations.items told.0.dest one → new.classes.items ≡ totals.classes.items → new.last ≡ time_part told.0.stamp
-    → SumsUpStation first (station_at p.stations told.0.dest).servers (classes_at p told.0.dest) (told_at told.0.dest records ++ timed_parts told) (4 * length records + 4) one
+    → SumsUpShopStation p first told.0.dest (told_at told.0.dest records ++ timed_parts told) (4 * length records + 4) one
     → one.sums.clock ≡ time_part told.0.stamp → SumsUpShop p first new (records ++ told ∷ [])
 shop-station p first records told totals new one is few exists in_time stations classes last sums clock = record {
   few = omega (arith, one-more records told);
@@ -100,6 +100,14 @@ shop-station p first records told totals new one is few exists in_time stations 
         let At : StationTotals → Type 0 = SumsUpAtStation p first (records ++ told ∷ []) (time_part told.0.stamp) k in
         subst At (sym (get_or-set_other totals.stations.items told.0.dest k one none apart))
         (station-elsewhere p first records told totals.last k (get_or totals.stations.items k none) (λ same. apart (sym same)) (omega (arith, is.last)) (is.stations k none within))
+
+-- what is kept of the class of an object that stands behind the stations
+pub class-before : (p : ShopParts) (first : ℕ) (records : List (Key × Note)) (totals : ShopTotals) (object stations : ℕ) (own : ClassSums) → SumsUpShop p first totals records
+    → object < length p.stations + length p.classes → stations ≡ length p.stations → stations ≤ object → own ≡ get_or totals.classes.items (object - stations) own
+    → SumsUpAtClass p first records totals.last (object - stations) own
+class-before p first records totals object stations own is exists many behind same =
+    let At : ClassSums → Type 0 = SumsUpAtClass p first records totals.last (object - stations) in
+    subst At (sym same) (is.classes (object - stations) own (omega arith))
 
 -- a record of a class
 pub shop-class : (p : ShopParts) (first : ℕ) (records : List (Key × Note)) (told : Key × Note) (class : ℕ) (totals new : ShopTotals) (one : ClassSums) → SumsUpShop p first totals records

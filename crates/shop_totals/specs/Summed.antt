@@ -30,6 +30,10 @@ pub record SumsUpStation (first servers : ℕ) (classes : List ℕ) (told : List
   pub visits : totals.visits.items ≡ map (visit_of first told) classes
   pub visits_within : All (IsVisitWithin parts) totals.visits.items
 
+-- at most so many parts told of station k of a shop
+abbrev pub SumsUpShopStation : ShopParts → ℕ → ℕ → List TimedPart → ℕ → StationTotals → Type 0
+SumsUpShopStation p first k told parts totals = SumsUpStation first (station_at p.stations k).servers (classes_at p k) told parts totals
+
 -- at most so many parts told of a class
 pub record SumsUpClass (first : ℕ) (told : List TimedPart) (parts : ℕ) (totals : ClassSums) : Type 0 where
   pub since : totals.first ≡ first
@@ -40,7 +44,7 @@ pub record SumsUpClass (first : ℕ) (told : List TimedPart) (parts : ℕ) (tota
 -- the totals of a station sum up these records, the last of them at this time
 abbrev pub SumsUpAtStation : ShopParts → ℕ → List (Key × Note) → ℕ → ℕ → StationTotals → Type 0
 SumsUpAtStation p first records last k totals =
-    SumsUpStation first (station_at p.stations k).servers (classes_at p k) (told_at k records) (4 * length records) totals × (totals.sums.clock ≤ last)
+    SumsUpShopStation p first k (told_at k records) (4 * length records) totals × (totals.sums.clock ≤ last)
 
 -- so do the sums of a class
 abbrev pub SumsUpAtClass : ShopParts → ℕ → List (Key × Note) → ℕ → ℕ → ClassSums → Type 0
@@ -58,7 +62,7 @@ pub record SumsUpShop (p : ShopParts) (first : ℕ) (totals : ShopTotals) (recor
 
 -- of a station nothing was told yet
 abbrev pub IsNewStation : ShopParts → ℕ → ℕ → StationTotals → Type 0
-IsNewStation p first k totals = SumsUpStation first (station_at p.stations k).servers (classes_at p k) [] 0 totals × (totals.sums.clock ≡ 0)
+IsNewStation p first k totals = SumsUpShopStation p first k [] 0 totals × (totals.sums.clock ≡ 0)
 
 -- nor of the first n stations
 abbrev pub AreNewStations : ShopParts → ℕ → ℕ → List StationTotals → Type 0

@@ -1,11 +1,10 @@
 //! The totals of a station: its sums, and those of each class that visits it.
 ghost use Rattle.std.specs.Prelude.{◌≡◌, ◌<◌, ◌≤◌, ◌+◌, ◌^◌, ◌++◌, ◌∷◌, [], ℕ, List, All, IfOk, OnOk, get_or, length, map};
 ghost use Rattle.std.specs.List.{AllPairs};
-ghost use Rattle.shop_model.specs.ShopParts.{station_at};
 ghost use Rattle.shop_model.specs.Views.{parts_of};
 ghost use Rattle.shop_totals.specs.Records.{parts_at};
 ghost use Rattle.shop_totals.specs.ShopLines.{station_lines, visit_line};
-ghost use Rattle.shop_totals.specs.Summed.{SumsUpStation, visit_of};
+ghost use Rattle.shop_totals.specs.Summed.{SumsUpStation, SumsUpShopStation, visit_of};
 ghost use Rattle.shop_totals.specs.Sums.{IsVisitWithin};
 ghost use Rattle.shop_totals.specs.Told.{TimedPart};
 ghost use Rattle.shop_totals.specs.Visits.{classes_at};
@@ -25,6 +24,13 @@ pub struct StationTotals {
     // the numbers of the classes, which rise, and for each of them its sums
     classes: Vec<u64>,
     visits: Vec<VisitSums>,
+}
+
+/// A class that visits a station: the station, and the place of the class among those that visit it.
+#[derive(Clone, Copy)]
+struct Visit {
+    station: u32,
+    place: usize,
 }
 
 /// A part is told that counts, at a station that these classes visit, whose sums these are.
@@ -99,25 +105,24 @@ impl StationTotals {
         alloc: Global,
         form: &F,
         shop: &Shop,
-        station: u32,
-        place: usize,
+        visit: Visit,
         into: &mut Vec<u8>,
     ) -> Result<(), OutOfMemory>
-        requires station { station < length (parts_of shop.now).stations }
-        requires place { place < length (classes_at (parts_of shop.now) station) }
-        requires sums { (first : ℕ) × (told : List TimedPart)
-            × SumsUpStation first (station_at (parts_of shop.now).stations station).servers (classes_at (parts_of shop.now) station) told (2 ^ 62) self.now }
+        requires station { visit.station < length (parts_of shop.now).stations }
+        requires place { visit.place < length (classes_at (parts_of shop.now) visit.station) }
+        requires sums { (first : ℕ) × (told : List TimedPart) × SumsUpShopStation (parts_of shop.now) first visit.station told (2 ^ 62) self.now }
         ensures { OnOk result ((first parts : ℕ) (told : List TimedPart)
-            → SumsUpStation first (station_at (parts_of shop.now).stations station).servers (classes_at (parts_of shop.now) station) told parts self.now
-            → into.new.items ≡ into.old.items ++ visit_line (F.form form.now) (parts_of shop.now) first told station (get_or (classes_at (parts_of shop.now) station) place 0)) }
+            → SumsUpShopStation (parts_of shop.now) first visit.station told parts self.now
+            → into.new.items ≡ into.old.items ++ visit_line (F.form form.now) (parts_of shop.now) first told visit.station
+            (get_or (classes_at (parts_of shop.now) visit.station) visit.place 0)) }
     {
         let first = shop.stations().len() as u32;
-        let class = self.classes[place] as u32;
-        put_named(alloc, form, shop, station, into)?;
+        let class = self.classes[visit.place] as u32;
+        put_named(alloc, form, shop, visit.station, into)?;
         into.push(b'/')?;
         shop.put_name(alloc, first + class, into)?;
-        let visit = &self.visits[place];
-        form.put_visit(alloc, visit, into)?;
+        let sums = &self.visits[visit.place];
+        form.put_visit(alloc, sums, into)?;
         Ok(())
     }
 
@@ -135,17 +140,16 @@ impl StationTotals {
         requires station { station < length (parts_of shop.now).stations }
         requires clock { self.now.sums.clock ≤ clock }
         requires soon { clock < 2 ^ 48 }
-        requires sums { (first : ℕ) × (told : List TimedPart)
-            × SumsUpStation first (station_at (parts_of shop.now).stations station).servers (classes_at (parts_of shop.now) station) told (2 ^ 62) self.now }
+        requires sums { (first : ℕ) × (told : List TimedPart) × SumsUpShopStation (parts_of shop.now) first station told (2 ^ 62) self.now }
         ensures { OnOk result ((first parts : ℕ) (told : List TimedPart)
-            → SumsUpStation first (station_at (parts_of shop.now).stations station).servers (classes_at (parts_of shop.now) station) told parts self.now
+            → SumsUpShopStation (parts_of shop.now) first station told parts self.now
             → into.new.items ≡ into.old.items ++ station_lines (F.form form.now) (parts_of shop.now) first clock told station) }
     {
         put_named(alloc, form, shop, station, into)?;
         let sums = self.sums.pass(clock);
         form.put_station(alloc, &sums, into)?;
         for place in 0..self.classes.len() {
-            self.put_visit(alloc, form, shop, station, place, into)?;
+            self.put_visit(alloc, form, shop, Visit { station, place }, into)?;
         }
         Ok(())
     }

@@ -1,14 +1,12 @@
 -- What the parts of the model are, and so what it means under each seed.
-use Rattle.std.proofs.Common.{rules, ◌≡◌, ℕ, List, Ok, refl, ap, sym, ◌∙◌}
+use Rattle.std.proofs.Common.{rules, ◌≡◌, ℕ, Ok, ap, sym, ◌∙◌}
 use Rattle.std.specs.Prelude.{codes, pos}
 use Rattle.toml.specs.Data.{Data, Members, integer, array, no_items}
-use Rattle.toml.specs.declared.value.Value.{Value}
 use Rattle.toml.specs.View.{view, table_view, items_view}
-use Rattle.toml.proofs.Views.{view-Array, view-Integer}
 use Rattle.model_core.specs.declared.limits.TheConstants.{MOST_ENTRIES, MOST_OBJECTS}
 use Rattle.model_core.specs.Meaning.{Meaning}
 use Rattle.phold_model.specs.Meaning.{phold_meaning}
-use Rattle.phold_model.specs.Parts.{PholdParts, phold_parts, phold_under}
+use Rattle.phold_model.specs.Parts.{PholdParts, phold_under}
 use Rattle.model_text.specs.Additions.{rank}
 use Rattle.text_fields.specs.Checks.{Checked, ◌>>=◌}
 use Rattle.text_fields.specs.Fields.{number, table_of, array_of, required, optional, only}

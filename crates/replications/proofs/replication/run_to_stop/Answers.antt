@@ -19,7 +19,7 @@ pub loop-stop-init : goal.loop-stop-init
 unfolding records_of_buckets
 loop-stop-init g c =
     let m = g.M.Model.meaning c.args.model.now in
-    let t = c.args.terms.now in
+    let t = c.args.replication.now.terms in
     let Way : Standing → Type 0 = λ at. IsUnderWay m t (initial_state m) at [] in
     record {
       model = c.requires.model;
@@ -45,8 +45,8 @@ returns-in-Some-clause-end g c =
     let ended = ended-same _ _ _ _ _ _ (ap g.M.Model.meaning i.model) i.terms (sym c.in-Some.is ∙ c.ended.ensures) in
     let counted = c.count-events.ensures.standing i.way.state i.way.fault i.way.at_state in
     let ends = ends_so _ _ _ i.laws _ i.so_far i.way c.in-Some.stop c.count-events.result ended counted in
-    let so : ℕ → Stop → RunEnd = λ events stop. record { seed = c.args.seed; events = events; stop = stop } in
-    ap (λ n. so n c.in-Some.stop) (sym ends.counted) ∙ ap (λ (stop : Stop). so (run (g.M.Model.meaning c.args.model.now) c.args.terms.now (initial_state (g.M.Model.meaning c.args.model.now))).last.count stop) (sym ends.stops_at)
+    let so : ℕ → Stop → RunEnd = λ events stop. record { seed = c.args.replication.now.seed; events = events; stop = stop } in
+    ap (λ n. so n c.in-Some.stop) (sym ends.counted) ∙ ap (λ (stop : Stop). so (run (g.M.Model.meaning c.args.model.now) c.args.replication.now.terms (initial_state (g.M.Model.meaning c.args.model.now))).last.count stop) (sym ends.stops_at)
 
 pub bucket-requires-after_bounds : goal.bucket-requires-after_bounds
 bucket-requires-after_bounds g c κs within = sym c.ended.ensures ∙ none_of _ c.in_default.not-Some
@@ -76,7 +76,7 @@ pub loop-stop-preserved : goal.loop-stop-preserved
 loop-stop-preserved g c =
     let i = c.loop-stop.invariant in
     let m = g.M.Model.meaning c.args.model.now in
-    let t = c.args.terms.now in
+    let t = c.args.replication.now.terms in
     let b = c.in_ok-bucket.bucket in
     let same = ap g.M.Model.meaning i.model in
     let own_none = sym c.ended.ensures ∙ none_of _ c.in_default.not-Some in

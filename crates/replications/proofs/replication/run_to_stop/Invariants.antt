@@ -10,13 +10,13 @@ invariant-loop-stop g l =
     let m = g.M.Model.meaning l.model in
     record {
       model : l.engine.model ≡ l.model;
-      terms : l.engine.terms ≡ l.terms;
+      terms : l.engine.terms ≡ l.replication.terms;
       so_far : List Bucket;
-      laws : SimulationLaws m l.terms (initial_state m);
-      way : IsUnderWay m l.terms (initial_state m) l.engine.standing so_far;
+      laws : SimulationLaws m l.replication.terms (initial_state m);
+      way : IsUnderWay m l.replication.terms (initial_state m) l.engine.standing so_far;
       numbered : l.cycles ≡ length so_far;
       kept : (first : ℕ) → g.W.Rows.sums_up l.model first l.fn.rows [] → g.W.Rows.sums_up l.model first l.rows (records_of_buckets so_far);
     }
 
 abbrev pub decreases-loop-stop : goal.decreases-loop-stop
-decreases-loop-stop g l = (l.terms.limit + 3) - l.cycles
+decreases-loop-stop g l = (l.replication.terms.limit + 3) - l.cycles

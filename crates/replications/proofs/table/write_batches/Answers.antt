@@ -1,27 +1,22 @@
-use Rattle.std.proofs.Common.{◌≡◌, ℕ, [], ◌++◌, length, refl, sym, ap, ◌∙◌, subst, arith}
+use Rattle.std.proofs.Common.{ℕ, ◌++◌, length, refl, sym, ap, ◌∙◌, subst, arith}
 use Rattle.sim_io.proofs.TakenLemmas.{Appends-nil, Appends-trans}
 use Rattle.sim_io.specs.Taken.{Appends}
 use Rattle.sim_io.specs.Transfers.{AppendsPrefix}
-use Rattle.sim_spec.specs.declared.stop.Stop.TheVariants.{End}
 use Rattle.replications.specs.Families.{study_of}
 use Rattle.replications.specs.Studies.{AreDone, rows_between, stops_between, gravest}
 use Rattle.replications.proofs.PrefixLemmas.{cut_short}
-use Rattle.replications.proofs.TextLemmas.{rows_between-none, stops_between-none, so_far-prefix, batch-prefix, rows-batch, stops-batch}
+use Rattle.replications.proofs.TextLemmas.{rows_between-split, stops_between-split, so_far-prefix, batch-prefix, batch}
 use Rattle.replications.proofs.table.write_batches.Goals as goal
 
 pub loop-done-init : goal.loop-done-init
-unfolding gravest
-loop-done-init g c =
-    let s = study_of g.S.Seeds.seeded g.S.Seeds.rows c.args.table.now.study.now in
-    let ends : End ≡ gravest [] = refl in
-    let told = g.K.Sink.told c.args.out.now in
-    record {
-      within = omega arith;
-      written = subst (Appends told told) (sym (rows_between-none s 0)) (Appends-nil told);
-      stops = ends ∙ ap gravest (sym (stops_between-none s 0));
-      later = omega arith;
-      quiet = refl;
-    }
+unfolding gravest rows_between stops_between
+loop-done-init g c = record {
+  within = omega arith;
+  written = Appends-nil (g.K.Sink.told c.args.out.now);
+  stops = refl;
+  later = omega arith;
+  quiet = refl;
+}
 
 pub returns-in_err-jobs-clause-text : goal.returns-in_err-jobs-clause-text
 returns-in_err-jobs-clause-text g c =
@@ -48,12 +43,12 @@ loop-done-preserved g c =
     let P : ℕ → Type 0 = λ n. Appends mid new (rows_between s c.loop-done.done n) in
     record {
       within = omega (arith, c.min-until.ensures);
-      written = subst (Appends (g.K.Sink.told c.args.out.now) new) (rows-batch s c.loop-done.done (length jobs) c.min-until.result c.in_ok-jobs.ensures.many)
+      written = subst (Appends (g.K.Sink.told c.args.out.now) new) (batch (rows_between s) (rows_between-split s) c.loop-done.done (length jobs) c.min-until.result c.in_ok-jobs.ensures.many)
           (Appends-trans _ mid new (rows_between s 0 c.loop-done.done) (rows_between s c.loop-done.done (length jobs)) i.written
           (subst P (ap length c.as_slice.ensures.value) ((c.in_ok-write_rows.ensures.text s c.loop-done.done all).whole)));
       stops = c.in_ok-write_rows.ensures.stops s c.loop-done.done (stops_between s 0 c.loop-done.done) all i.stops
           ∙ ap gravest (ap (λ n. stops_between s 0 c.loop-done.done ++ stops_between s c.loop-done.done n) (ap length c.as_slice.ensures.value)
-          ∙ stops-batch s c.loop-done.done (length jobs) c.min-until.result c.in_ok-jobs.ensures.many);
+          ∙ batch (stops_between s) (stops_between-split s) c.loop-done.done (length jobs) c.min-until.result c.in_ok-jobs.ensures.many);
       later = omega (arith, i.later, c.in_ok-write_rows.ensures.faults.later);
       quiet = c.in_ok-write_rows.ensures.faults.quiet ∙ i.quiet;
     }

@@ -7,18 +7,17 @@ use Rattle.replications.specs.Studies.{rows_at, rows_between, stops_between, gra
 use Rattle.replications.proofs.GravestLemmas.{gravest-more}
 use Rattle.replications.proofs.JobLemmas.{done_rows}
 use Rattle.replications.proofs.PrefixLemmas.{cut_short}
-use Rattle.replications.proofs.TextLemmas.{rows_between-none, rows_between-more, stops_between-none, stops_between-more, so_far-prefix, next-prefix, one_row}
+use Rattle.replications.proofs.TextLemmas.{rows_between-more, stops_between-more, so_far-prefix, next-prefix, one_row}
 use Rattle.replications.proofs.table.write_rows.Goals as goal
 
 pub loop-job-init : goal.loop-job-init
-loop-job-init g c =
-    let told = g.K.Sink.told c.args.out.now in
-    record {
-      written = λ s number all. subst (Appends told told) (sym (rows_between-none s number)) (Appends-nil told);
-      stops = λ s number before all was. was ∙ ap gravest (sym (ap (λ (stops : List Stop). before ++ stops) (stops_between-none s number) ∙ append-nil before));
-      later = omega arith;
-      quiet = refl;
-    }
+unfolding rows_between stops_between
+loop-job-init g c = record {
+  written = λ s number all. Appends-nil (g.K.Sink.told c.args.out.now);
+  stops = λ s number before all was. was ∙ ap gravest (sym (append-nil before));
+  later = omega arith;
+  quiet = refl;
+}
 
 pub returns-in_default-clause-text : goal.returns-in_default-clause-text
 returns-in_default-clause-text g c = λ s number all. record {

@@ -1,17 +1,15 @@
-use Rattle.std.proofs.Common.{◌≡◌, ◌≤◌, ◌+◌, ℕ, List, Ok, length, nat_lt, false, refl, arith}
+use Rattle.std.proofs.Common.{◌≡◌, ◌+◌, ℕ, List, Ok, length, nat_lt, false, refl, arith}
 use Rattle.std.proofs.lemmas.Bool.Decides.{nat_tests}
 use Rattle.std.specs.Prelude.{codes}
 use Rattle.toml.specs.Data.{Members, Items, array, no_items}
 use Rattle.toml.specs.View.{items_view, table_view}
 use Rattle.model_core.specs.declared.limits.TheConstants.{MOST_OBJECTS}
 use Rattle.shop_model.specs.declared.station.Station.{Station}
-use Rattle.text_fields.specs.Directories.{finder}
 use Rattle.text_fields.specs.Fields.{array_of, item_count, optional}
 use Rattle.text_fields.specs.Names.{Finder}
 use Rattle.shop_text.specs.ClassTexts.{ClassText, Known, classes}
 use Rattle.shop_text.specs.ShopTexts.{body, linked_shop}
 use Rattle.shop_text.specs.StationTexts.{stations}
-use Rattle.shop_text.specs.Views.{class_texts}
 use Rattle.shop_text.proofs.body.body.Goals as goal
 
 -- both arrays and all entries are read: what is left are the links

@@ -1,4 +1,4 @@
-use Rattle.std.proofs.Common.{◌≡◌, ◌+◌, List, Ok, length, arith, sym, ap, ◌∙◌}
+use Rattle.std.proofs.Common.{◌+◌, List, Ok, arith, sym, ap, ◌∙◌}
 use Rattle.std.proofs.lemmas.Result.{err_from_is_err_and}
 use Rattle.shop_model.specs.declared.station.Station.{Station}
 use Rattle.shop_model.specs.ShopParts.{ShopParts, shop_of}

@@ -1,4 +1,4 @@
-use Rattle.std.proofs.Common.{◌≡◌, ℕ, ◌+◌, ◌<◌, ◌≤◌, ◌++◌, ◌∷◌, List, [], length, drop, arith, Ok, refl, sym, ap, subst, ◌∙◌}
+use Rattle.std.proofs.Common.{◌≡◌, ℕ, ◌+◌, ◌++◌, ◌∷◌, List, [], length, drop, arith, Ok, refl, sym, ap, subst}
 use Rattle.std.proofs.lemmas.List.{length_push}
 use Rattle.std.proofs.lemmas.List.Sums.{sum_by_push}
 use Rattle.std.proofs.lemmas.Result.{err_from_is_err_and}
@@ -10,7 +10,7 @@ use Rattle.text_fields.specs.Fields.{each_with}
 use Rattle.text_fields.proofs.Known.{with_known, known_begins, known_goes_on, known_ends}
 use Rattle.shop_text.specs.declared.named.NamedClass.{NamedClass}
 use Rattle.shop_text.specs.ClassTexts.{ClassText, Known, class, classes}
-use Rattle.shop_text.specs.Ranges.{IsClassText, LinksBelow}
+use Rattle.shop_text.specs.Ranges.{IsClassText}
 use Rattle.shop_text.specs.Views.{class_text, class_texts}
 use Rattle.shop_text.proofs.ClassLemmas.{texts-push}
 use Rattle.shop_text.proofs.classes.classes.Goals as goal

@@ -1,4 +1,4 @@
-use Rattle.std.proofs.Common.{◌≡◌, ◌+◌, ◌-◌, ◌≤◌, length, arith, sym, ◌∙◌}
+use Rattle.std.proofs.Common.{◌-◌, arith, sym, ◌∙◌}
 use Rattle.shop_text.proofs.Rising.{rising-end, rising-rise}
 use Rattle.shop_text.proofs.laws.rising.Goals as goal
 

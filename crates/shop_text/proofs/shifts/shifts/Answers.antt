@@ -1,11 +1,11 @@
-use Rattle.std.proofs.Common.{◌≡◌, ℕ, ◌+◌, ◌<◌, ◌≤◌, ◌++◌, ◌∷◌, [], length, arith, refl, get_or, ap, ◌∙◌}
+use Rattle.std.proofs.Common.{◌≡◌, ◌+◌, ◌<◌, ◌≤◌, ◌++◌, ◌∷◌, [], arith, refl}
 use Rattle.std.specs.Prelude.{All}
 use Rattle.std.proofs.lemmas.List.{length_push}
 use Rattle.std.proofs.lemmas.Result.{err_from_is_err_and}
 use Rattle.std.proofs.lemmas.List.Elements.{All-nil, All-push, All-get_or, All-weaker}
 use Rattle.std.proofs.lemmas.List.Quantifiers.{all_pairs_push}
 use Rattle.shop_model.specs.declared.station.Shift.{Shift}
-use Rattle.text_fields.proofs.Known.{known_begins, known_goes_on, known_ends, known_done}
+use Rattle.text_fields.proofs.Known.{known_begins, known_goes_on, known_ends}
 use Rattle.shop_text.specs.Ranges.{IsShift}
 use Rattle.shop_text.specs.StationTexts.{shift}
 use Rattle.shop_text.proofs.shifts.shifts.Goals as goal

@@ -8,16 +8,16 @@ use Rattle.replications.proofs.windows.Windows.put_row.Goals as goal
 
 pub returns : goal.returns
 returns g c = λ first objects records summed.
-    let object = c.args.object in
+    let object = c.args.which.object in
     let told = parts_told object records in
     let whole = c.self.view_is ∙ summed in
     let many = ap (λ (s : WindowsView). length s.objects) summed ∙ windows_of-length first objects records in
     let begins = ap (λ (s : WindowsView). s.first) whole ∙ windows_of-first first objects records in
     let window : c.index.result.now ≡ window_of first told =
     c.index.ensures ∙ ap (λ (s : WindowsView). get_or s.objects object c.index.result.now) whole ∙ windows_of-at first objects records object c.index.result.now (omega (arith, many, c.requires.exists)) in
-    let sums : c.close-sums.result ≡ window_sums first c.args.last told =
-    c.close-sums.ensures told (window ∙ ap (λ n. window_of n told) (sym begins)) ∙ ap (λ n. window_sums n c.args.last told) begins in
-    let ticks : c.saturating_sub.result ≡ c.args.last - first = c.saturating_sub.ensures ∙ ap (λ n. c.args.last - n) begins in
-    row-written (g.M.Model.meaning c.args.model.now) first c.args.last c.saturating_sub.result c.args.end.now object c.close-sums.result (window_sums first c.args.last told)
+    let sums : c.close-sums.result ≡ window_sums first c.args.which.last told =
+    c.close-sums.ensures told (window ∙ ap (λ n. window_of n told) (sym begins)) ∙ ap (λ n. window_sums n c.args.which.last told) begins in
+    let ticks : c.saturating_sub.result ≡ c.args.which.last - first = c.saturating_sub.ensures ∙ ap (λ n. c.args.which.last - n) begins in
+    row-written (g.M.Model.meaning c.args.model.now) first c.args.which.last c.saturating_sub.result c.args.which.end object c.close-sums.result (window_sums first c.args.which.last told)
     c.args.into.now.items c.put_seed.new.into.items c.put_name.new.into.items c.put_columns.new.into.items c.put_end.new.into.items
     c.in_ok-put_seed.ensures c.in_ok-put_name.ensures.ok c.in_ok-put_columns.ensures c.in_ok-put_end.ensures sums ticks

@@ -1,15 +1,10 @@
-use Rattle.std.proofs.Common.{◌∙◌, ◌+◌, ◌^◌, ◌++◌, [], ℕ, List, take, take_all, ap, sym, arith, append-nil, append_assoc}
-use Rattle.std.proofs.lemmas.List.{map_more}
+use Rattle.std.proofs.Common.{◌∙◌, ◌+◌, ◌^◌, ◌++◌, [], take, take_all, ap, sym, arith, append-nil}
 use Rattle.model_core.specs.declared.note.Note.{Note}
-use Rattle.model_core.specs.declared.note.Part.{Part}
 use Rattle.shop_totals.specs.Records.{parts_at}
-use Rattle.shop_totals.specs.Told.{TimedPart}
 use Rattle.shop_totals.proofs.BoundLemmas.{class-within, class_sums_up-within}
 use Rattle.shop_totals.proofs.ClassLemmas.{class_sums_up-pass, class_sums_up-part, class_sums_up-told}
+use Rattle.shop_totals.proofs.RecordLemmas.{parts_at-more}
 use Rattle.shop_totals.proofs.class_sums.ClassSums.and_all.Goals as goal
-
-abbrev timed_at : ℕ → Part → TimedPart
-timed_at time part = record { time = time; part = part }
 
 pub loop-part-init : goal.loop-part-init
 loop-part-init c = record {
@@ -37,7 +32,7 @@ loop-part-preserved c =
       sums = λ first told most is.
           class_sums_up-within first (told ++ parts_at c.args.time (take (i + 1) note)) (most + i + 1) (most + (i + 1)) c.and-sums.result (omega arith)
           (class_sums_up-told first _ (told ++ parts_at c.args.time (take (i + 1) note)) (most + i + 1) c.and-sums.result
-          (append_assoc told seen _ ∙ ap (λ (parts : List TimedPart). told ++ parts) (sym (map_more (timed_at c.args.time) note i _ c.loop-part-test.true)))
+          (parts_at-more told c.args.time note i _ c.loop-part-test.true)
           (class_sums_up-part first (told ++ seen) (most + i) c.args.time _ c.loop-part.sums c.and-sums.result (c.loop-part.invariant.sums first told most is)
           c.loop-part.invariant.clock c.and-sums.ensures.clock c.and-sums.ensures.first c.and-sums.ensures.sums c.and-sums.ensures.within));
     }

@@ -1,6 +1,5 @@
-use Rattle.std.proofs.Common.{◌≡◌, ◌∙◌, ℕ, ◌+◌, ◌*◌, ◌++◌, List, length, subst, sym, ap, arith, append_assoc}
+use Rattle.std.proofs.Common.{◌≡◌, ◌∙◌, ℕ, ◌+◌, ◌*◌, ◌++◌, List, length, subst, sym, ap, arith}
 use Rattle.std.specs.List.{flat_map, range_with_len}
-use Rattle.model_core.proofs.Numbers.{flat_map-numbers-more}
 use Rattle.shop_model.specs.Meaning.{shop_meaning}
 use Rattle.shop_model.specs.Views.{parts_of, counted_from}
 use Rattle.shop_totals.specs.declared.class_sums.ClassSums.{ClassSums}
@@ -10,7 +9,7 @@ use Rattle.shop_totals.specs.ShopLines.{class_line}
 use Rattle.shop_totals.specs.Summed.{SumsUpAtClass}
 use Rattle.shop_totals.specs.Sums.{class_sums_of}
 use Rattle.shop_totals.proofs.ClassLemmas.{passed-class}
-use Rattle.shop_totals.proofs.LineLemmas.{named-put}
+use Rattle.shop_totals.proofs.LineLemmas.{named-put, numbered-next}
 use Rattle.shop_totals.proofs.ObjectLemmas.{class-object}
 use Rattle.shop_totals.proofs.shop_totals.ShopTotals.put_classes.Goals as goal
 
@@ -34,13 +33,12 @@ loop-number-preserved g c records is =
     let own : At c.index-class.result.now =
     subst At (sym c.index-class.ensures) (is.classes n c.index-class.result.now (omega (arith, c.loop-number-test.true, c.len-number-end.ensures, is.class_count))) in
     let object : c.len.result + n ≡ length p.stations + n = omega (arith, c.len.ensures, is.station_count) in
-    named-put c.loop-number.into.items c.put_named.new.into.items c.put_class.new.into.items (named form p (length p.stations + n)) (form.class (class_sums_of first told c.args.clock)) (form.class c.pass-sums.result)
+    numbered-next f n c.args.into.now.items c.loop-number.into.items c.put_class.new.into.items
+    (c.loop-number.invariant records is)
+    (named-put c.loop-number.into.items c.put_named.new.into.items c.put_class.new.into.items (named form p (length p.stations + n)) (form.class (class_sums_of first told c.args.clock)) (form.class c.pass-sums.result)
     (c.in_ok-put_named.ensures ∙ ap (λ object. c.loop-number.into.items ++ named form p object) object)
     c.in_ok-put_class.ensures
-    (ap (λ (sums : ClassSums). form.class sums) (passed-class first told (4 * length records) c.args.clock c.index-class.result.now c.pass-sums.result own.0 c.pass-sums.ensures.sums))
-    ∙ ap (λ (lines : List ℕ). lines ++ f n) (c.loop-number.invariant records is)
-    ∙ append_assoc c.args.into.now.items (flat_map f (range_with_len 0 n)) (f n)
-    ∙ ap (λ (lines : List ℕ). c.args.into.now.items ++ lines) (sym (flat_map-numbers-more f n))
+    (ap (λ (sums : ClassSums). form.class sums) (passed-class first told (4 * length records) c.args.clock c.index-class.result.now c.pass-sums.result own.0 c.pass-sums.ensures.sums)))
 
 pub returns : goal.returns
 returns g c records is =

@@ -1,11 +1,11 @@
-use Rattle.std.proofs.Common.{◌≡◌, ◌∙◌, ℕ, ◌*◌, ◌++◌, List, length, subst, sym, ap, arith, append_assoc}
+use Rattle.std.proofs.Common.{◌≡◌, ◌∙◌, ℕ, ◌*◌, ◌++◌, List, length, subst, sym, ap, arith}
 use Rattle.std.specs.List.{flat_map, range_with_len}
-use Rattle.model_core.proofs.Numbers.{flat_map-numbers-more}
 use Rattle.shop_model.specs.Views.{parts_of, counted_from}
 use Rattle.shop_totals.specs.declared.station_totals.StationTotals.{StationTotals}
 use Rattle.shop_totals.specs.Records.{told_at}
 use Rattle.shop_totals.specs.ShopLines.{station_lines}
 use Rattle.shop_totals.specs.Summed.{SumsUpAtStation}
+use Rattle.shop_totals.proofs.LineLemmas.{numbered-next}
 use Rattle.shop_totals.proofs.shop_totals.ShopTotals.put_stations.Goals as goal
 
 pub loop-number-preserved : goal.loop-number-preserved
@@ -17,10 +17,9 @@ loop-number-preserved g c records is =
     let At : StationTotals → Type 0 = SumsUpAtStation p first records c.args.self.now.last n in
     let own : At c.index-station.result.now =
     subst At (sym c.index-station.ensures) (is.stations n c.index-station.result.now (omega (arith, c.loop-number-test.true, c.len-number-end.ensures, is.station_count))) in
-    c.in_ok-put.ensures first (4 * length records) (told_at n records) own.0
-    ∙ ap (λ (lines : List ℕ). lines ++ f n) (c.loop-number.invariant records is)
-    ∙ append_assoc c.args.into.now.items (flat_map f (range_with_len 0 n)) (f n)
-    ∙ ap (λ (lines : List ℕ). c.args.into.now.items ++ lines) (sym (flat_map-numbers-more f n))
+    numbered-next f n c.args.into.now.items c.loop-number.into.items c.put.new.into.items
+    (c.loop-number.invariant records is)
+    (c.in_ok-put.ensures first (4 * length records) (told_at n records) own.0)
 
 pub returns : goal.returns
 returns g c records is =

@@ -4,13 +4,12 @@ use Rattle.model_core.specs.declared.note.Note.{Note}
 use Rattle.shop_model.specs.Meaning.{shop_meaning}
 use Rattle.shop_model.specs.ShopParts.{station_at}
 use Rattle.shop_model.specs.Views.{parts_of, counted_from}
-use Rattle.shop_totals.specs.declared.class_sums.ClassSums.{ClassSums}
 use Rattle.shop_totals.specs.declared.station_totals.StationTotals.{StationTotals}
 use Rattle.shop_totals.specs.Records.{parts_at, told_at}
-use Rattle.shop_totals.specs.Summed.{SumsUpStation, SumsUpClass, SumsUpAtStation, SumsUpAtClass}
+use Rattle.shop_totals.specs.Summed.{SumsUpShopStation, SumsUpClass, SumsUpAtStation}
 use Rattle.shop_totals.specs.Visits.{classes_at}
 use Rattle.shop_totals.proofs.BoundLemmas.{class-within}
-use Rattle.shop_totals.proofs.ShopLemmas.{shop-station, shop-class}
+use Rattle.shop_totals.proofs.ShopLemmas.{class-before, shop-station, shop-class}
 use Rattle.shop_totals.proofs.shop_totals.ShopTotalsTallyShop.add.Goals as goal
 
 pub add-requires-clause-soon : goal.add-requires-clause-soon
@@ -26,7 +25,7 @@ returns-then-object-stations c records is can =
     let old = c.index_mut-totals.result.now in
     let At : StationTotals → Type 0 = SumsUpAtStation p first records c.args.self.now.last k in
     let before : At old = subst At (sym c.index_mut-totals.ensures.value) (is.stations k old exists) in
-    let Sums : ℕ → Type 0 = λ time. SumsUpStation first (station_at p.stations k).servers (classes_at p k) (told_at k records ++ parts_at time c.args.parts.now) (4 * length records + 4) c.add.new.self in
+    let Sums : ℕ → Type 0 = λ time. SumsUpShopStation p first k (told_at k records ++ parts_at time c.args.parts.now) (4 * length records + 4) c.add.new.self in
     shop-station p first records told c.args.self.now _ c.add.new.self is can.room exists can.in_time refl refl c.time_of-time.ensures
     (subst Sums c.time_of-time.ensures
     (c.add.ensures.sums first (station_at p.stations k).servers (classes_at p k) (told_at k records) (4 * length records) before.0))
@@ -43,11 +42,8 @@ pub and_all-requires-clause-time : goal.and_all-requires-clause-time
 unfolding shop_meaning
 and_all-requires-clause-time c =
     let is = c.requires.1 in
-    let object = c.requires.2.object in
-    let class = c.args.key.now.dest - c.len-stations.result in
-    let exists : class < length (parts_of c.args._model.now).classes = omega (arith, c.if-object-stations.false, c.len-stations.ensures, is.station_count, object) in
-    let At : ClassSums → Type 0 = SumsUpAtClass (parts_of c.args._model.now) (counted_from c.args._model.now) c.requires.0 c.args.self.now.last class in
-    let before : At c.index_mut-sums.result.now = subst At (sym c.index_mut-sums.ensures.value) (is.classes class c.index_mut-sums.result.now exists) in
+    let before = class-before (parts_of c.args._model.now) (counted_from c.args._model.now) c.requires.0 c.args.self.now c.args.key.now.dest c.len-stations.result c.index_mut-sums.result.now is
+    c.requires.2.object (omega (arith, c.len-stations.ensures, is.station_count)) c.if-object-stations.false c.index_mut-sums.ensures.value in
     omega (arith, before.1, is.last, c.requires.2.in_time, c.time_of-time.ensures)
 
 pub and_all-requires-clause-soon : goal.and_all-requires-clause-soon
@@ -57,11 +53,8 @@ pub and_all-requires-clause-room : goal.and_all-requires-clause-room
 unfolding shop_meaning
 and_all-requires-clause-room c =
     let is = c.requires.1 in
-    let object = c.requires.2.object in
-    let class = c.args.key.now.dest - c.len-stations.result in
-    let exists : class < length (parts_of c.args._model.now).classes = omega (arith, c.if-object-stations.false, c.len-stations.ensures, is.station_count, object) in
-    let At : ClassSums → Type 0 = SumsUpAtClass (parts_of c.args._model.now) (counted_from c.args._model.now) c.requires.0 c.args.self.now.last class in
-    let before : At c.index_mut-sums.result.now = subst At (sym c.index_mut-sums.ensures.value) (is.classes class c.index_mut-sums.result.now exists) in
+    let before = class-before (parts_of c.args._model.now) (counted_from c.args._model.now) c.requires.0 c.args.self.now c.args.key.now.dest c.len-stations.result c.index_mut-sums.result.now is
+    c.requires.2.object (omega (arith, c.len-stations.ensures, is.station_count)) c.if-object-stations.false c.index_mut-sums.ensures.value in
     class-within (4 * length c.requires.0) (2 ^ 61) c.index_mut-sums.result.now (omega (arith, is.few)) before.0.within
 
 pub returns : goal.returns
@@ -76,8 +69,7 @@ returns c records is can =
     let dest : k ≡ length p.stations + class = omega (arith, c.if-object-stations.false, c.len-stations.ensures, is.station_count) in
     let exists : class < length p.classes = omega (arith, dest, object) in
     let old = c.index_mut-sums.result.now in
-    let At : ClassSums → Type 0 = SumsUpAtClass p first records c.args.self.now.last class in
-    let before : At old = subst At (sym c.index_mut-sums.ensures.value) (is.classes class old exists) in
+    let before = class-before p first records c.args.self.now k c.len-stations.result old is object (omega (arith, c.len-stations.ensures, is.station_count)) c.if-object-stations.false c.index_mut-sums.ensures.value in
     let Own : ℕ → Type 0 = λ object. SumsUpClass first (told_at object records) (4 * length records) old in
     let Sums : ℕ → Type 0 = λ time. SumsUpClass first (told_at k records ++ parts_at time c.args.parts.now) (4 * length records + 4) c.and_all.result in
     shop-class p first records told class c.args.self.now _ c.and_all.result is can.room dest exists can.in_time refl refl c.time_of-time.ensures

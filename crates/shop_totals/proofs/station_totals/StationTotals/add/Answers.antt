@@ -1,15 +1,10 @@
-use Rattle.std.proofs.Common.{◌∙◌, ◌+◌, ◌^◌, ◌++◌, [], ℕ, List, take, take_all, ap, sym, refl, arith, append-nil, append_assoc}
-use Rattle.std.proofs.lemmas.List.{map_more}
+use Rattle.std.proofs.Common.{◌∙◌, ◌+◌, ◌^◌, ◌++◌, [], take, take_all, ap, sym, refl, arith, append-nil}
 use Rattle.model_core.specs.declared.note.Note.{Note}
-use Rattle.model_core.specs.declared.note.Part.{Part}
 use Rattle.shop_totals.specs.Records.{parts_at}
-use Rattle.shop_totals.specs.Told.{TimedPart}
 use Rattle.shop_totals.proofs.BoundLemmas.{sums_up-within}
+use Rattle.shop_totals.proofs.RecordLemmas.{parts_at-more}
 use Rattle.shop_totals.proofs.StationLemmas.{sums_up-pass, sums_up-told}
 use Rattle.shop_totals.proofs.station_totals.StationTotals.add.Goals as goal
-
-abbrev timed_at : ℕ → Part → TimedPart
-timed_at time part = record { time = time; part = part }
 
 pub loop-part-init : goal.loop-part-init
 loop-part-init c = record {
@@ -48,7 +43,7 @@ loop-part-preserved c =
       sums = λ first servers classes told most is.
           sums_up-within first servers classes (told ++ parts_at c.args.time (take (i + 1) note)) (most + i + 1) (most + (i + 1)) c.add_part.new.self (omega arith)
           (sums_up-told first servers classes _ (told ++ parts_at c.args.time (take (i + 1) note)) (most + i + 1) c.add_part.new.self
-          (append_assoc told seen _ ∙ ap (λ (parts : List TimedPart). told ++ parts) (sym (map_more (timed_at c.args.time) note i _ c.loop-part-test.true)))
+          (parts_at-more told c.args.time note i _ c.loop-part-test.true)
           (c.add_part.ensures.sums first servers c.args.time classes (told ++ seen) (most + i) c.loop-part.invariant.clock (c.loop-part.invariant.sums first servers classes told most is)));
     }
 

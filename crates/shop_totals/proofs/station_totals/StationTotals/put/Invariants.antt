@@ -4,7 +4,7 @@ use Rattle.shop_model.specs.ShopParts.{station_at}
 use Rattle.shop_model.specs.Views.{parts_of}
 use Rattle.shop_totals.specs.Forms.{named}
 use Rattle.shop_totals.specs.ShopLines.{visit_line}
-use Rattle.shop_totals.specs.Summed.{SumsUpStation}
+use Rattle.shop_totals.specs.Summed.{SumsUpShopStation}
 use Rattle.shop_totals.specs.Sums.{station_sums_of}
 use Rattle.shop_totals.specs.Told.{TimedPart}
 use Rattle.shop_totals.specs.Visits.{classes_at}
@@ -14,7 +14,7 @@ abbrev pub invariant-loop-place : goal.invariant-loop-place
 invariant-loop-place g l =
     let form = g.F.LineForm.form l.form in
     (first parts : ℕ) (told : List TimedPart)
-    → SumsUpStation first (station_at (parts_of l.shop).stations l.station).servers (classes_at (parts_of l.shop) l.station) told parts l.self
+    → SumsUpShopStation (parts_of l.shop) first l.station told parts l.self
     → l.into.items ≡ l.fn.into.items ++ ((named form (parts_of l.shop) l.station
     ++ form.station (station_sums_of first (station_at (parts_of l.shop).stations l.station).servers told l.clock))
     ++ flat_map (visit_line form (parts_of l.shop) first told l.station) (take l.place (classes_at (parts_of l.shop) l.station)))
