@@ -118,7 +118,7 @@ module _ {M : Type 0} (meaning_of : M → Meaning) where
       let K : List Event → Type 0 = λ xs. CanReceive meaning_of xs n in
       let R : List Event → Type 0 = λ xs. Receives meaning_of xs n n in
       let C : List (NodeView M) → Type 0 = λ ns. ReceiveUpto meaning_of (place + 1) parcels old ns in
-      let receives : Receives meaning_of [] n n = record { roomy = n; room = as_before (meaning_of n.model) n; count = 0; receives = nothing (subst K none can).keys } in
+      let receives : Receives meaning_of [] n n = record { roomy = n; room = as_before n; count = 0; receives = nothing (subst K none can).keys } in
       subst C (at-same now place n here) (receive-more meaning_of place parcels old now es n n upto here parcel (subst R (sym none) receives))
 
   -- as far as nodes have committed: the lists behind stand as they did before

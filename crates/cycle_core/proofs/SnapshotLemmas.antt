@@ -32,7 +32,7 @@ use Rattle.cycle_core.specs.Worlds.{StandsAt, WorldView}
 use Rattle.cycle_core.proofs.EndLemmas.{node-same, stands-as, to-world}
 use Rattle.cycle_core.proofs.PlaceLemmas.{at-some, drop-at, same-some}
 use Rattle.cycle_core.proofs.WholeLemmas.{none-elsewhere}
-use Rattle.cycle_core.proofs.WorkLemmas.{same-none}
+use Rattle.cycle_core.proofs.WorkLemmas.{as_before}
 use Rattle.cycle_core.proofs.WorldLemmas.{data-is, home-here, home-there, node-stands}
 
 -- no event has a stamp below 0
@@ -66,11 +66,8 @@ home-inside homes object at = by_test (ltb object (length homes.homes)) refl
         absurd (omega arith)
 
 module _ {M : Type 0} where
-  pub as-before : (n : NodeView M) → IsAsBefore n n
-  as-before n = record { same = same-none n; logs = refl; processed = refl; waiting = refl; spare = omega arith; work = refl; met = refl; counts = refl }
-
   pub each-as-before : (ns : List (NodeView M)) → EachPair IsAsBefore ns ns
-  each-as-before ns = record { many = refl; pairs = λ place x y at_x at_y. subst (IsAsBefore x) (same-some x y (sym at_x ∙ at_y)) (as-before x) }
+  each-as-before ns = record { many = refl; pairs = λ place x y at_x at_y. subst (IsAsBefore x) (same-some x y (sym at_x ∙ at_y)) (as_before x) }
 
   -- the events that wait, node by node
   pub waiting-more : (place : ℕ) (ns : List (NodeView M)) (n : NodeView M) (events more : List Event) → slice_get ns place ≡ Some n → more ≡ events ++ n.waiting

@@ -1,6 +1,6 @@
 -- Where a world stands in a simulation, by the keys of its nodes.
 use Rattle.std.proofs.Common.{◌≡◌, ◌≢◌, ℕ, ◌<◌, ◌≤◌, Bool, true, false, ltb, ltb-true, ltb-false, List, [], ◌∷◌, ◌++◌, length, refl, sym, ap, ◌∙◌, subst, inl, inr, arith, eq-eqb}
-use Rattle.std.specs.Prelude.{slice_get, Option, Some, None, Contains, filter, ◌==◌, Ok, Err}
+use Rattle.std.specs.Prelude.{slice_get, Option, Some, None, Contains, filter, ◌==◌, Ok}
 use Rattle.std.proofs.lemmas.Option.{slice_get_within}
 use Rattle.event_key.specs.declared.key.Key.{Key}
 use Rattle.event_key.specs.Keys.{key_lt}
@@ -8,7 +8,6 @@ use Rattle.event_key.specs.Stamps.{end_stamp}
 use Rattle.event_key.proofs.Order.{key_lt-stamp, stamp-le}
 use Rattle.model_core.specs.Meaning.{Meaning}
 use Rattle.model_core.specs.declared.event.Event.{Event}
-use Rattle.delta_exchange.specs.declared.memory.OutOfMemory.{OutOfMemory}
 use Rattle.sim_spec.specs.declared.bucket.Bucket.{Bucket}
 use Rattle.sim_spec.specs.Cut.{after, cut}
 use Rattle.sim_spec.specs.declared.stop.Stop.{Stop}
@@ -22,8 +21,7 @@ use Rattle.sim_spec.proofs.NextLemmas.{goes-on, stops-full, stops-late, stops-no
 use Rattle.key_order.specs.Ascending.{Ascends, key_of}
 use Rattle.key_order.specs.Keys.{first_key}
 use Rattle.key_order.proofs.MemberLemmas.{each-contains, filter-contains, first-or-later, is-first, none-in, contains-filter}
-use Rattle.object_log.specs.Dones.{Done}
-use Rattle.object_log.specs.Logs.{events_of, keys_of}
+use Rattle.object_log.specs.Logs.{events_of}
 use Rattle.world_spec.specs.Share.{IsHome, is_at}
 use Rattle.node_core.specs.Calls.{IsLeastKeyOf}
 use Rattle.node_core.specs.Homes.{home_of}
@@ -32,12 +30,9 @@ use Rattle.node_core.specs.Shares.{AreProcessedKeys}
 use Rattle.cycle_core.specs.Gathered.{HasKeyOf, MayKeyOf, HaveEventBefore, HaveNoneBefore}
 use Rattle.cycle_core.specs.Standings.{HasCycled, WorldStandsAt}
 use Rattle.cycle_core.specs.Worlds.{IsSameWorld, WorldView, StandsAt}
+use Rattle.cycle_core.proofs.CutLemmas.{none-kept}
 use Rattle.cycle_core.proofs.PlaceLemmas.{at-some}
 use Rattle.cycle_core.proofs.WorldLemmas.{home-there}
-
-no_done : (ds : List Done) → keys_of ds ≡ [] → ds ≡ []
-no_done [] none = refl
-no_done (d ∷ ds) none = absurd (cc)
 
 module _ {M : Type 0} (meaning_of : M → Meaning) (n : NodeView M) where
   -- if the least key isn't before a bound, no event is
@@ -57,7 +52,7 @@ module _ {M : Type 0} (meaning_of : M → Meaning) (n : NodeView M) where
   key-none keys is k may =
       let object = may.0 in
       let p = λ (k : Key). k.dest == object in
-      let done : (log_at n.logs object).done ≡ [] = no_done (log_at n.logs object).done (sym (keys.parts object) ∙ ap (filter p) is.0) in
+      let done : (log_at n.logs object).done ≡ [] = none-kept (log_at n.logs object).done (sym (keys.parts object) ∙ ap (filter p) is.0) in
       let none : pending_at n.logs n.waiting object ≡ [] = ap (λ ds. events_of ds ++ events_at object n.waiting) done ∙ ap (events_at object) is.1 in
       none-in may.2 (subst (λ es. Contains es may.2) none may.3)
 
@@ -179,11 +174,6 @@ module _ {M : Type 0} (meaning_of : M → Meaning) (w : WorldView M) where
       goes-on (meaning_of w.model) w.terms s first.0 first.1 first.2 (λ full. free (there.stands.count ∙ full)))
 
 module _ {M : Type 0} (meaning_of : M → Meaning) (old new : WorldView M) (same : IsSameWorld old new) where
-  -- a refusal leaves a world that is spent
-  pub cycled-refused : (refused : OutOfMemory) → new.is_spent ≡ true → HasCycled meaning_of old (Err refused) new
-  unfolding WorldStandsAt CycleGives
-  cycled-refused refused is at there more = record { left = spent; stands = is; gives = refl; same_meaning = ap meaning_of same.model; same_terms = same.terms }
-
   pub cycled-done : (bucket : Bucket) → old.is_spent ≡ false → new.fault ≡ bucket.fault
       → ((s : State) → StandsAt (meaning_of old.model) old s → bucket ≡ cut (meaning_of old.model) old.terms s)
       → ((s : State) → StandsAt (meaning_of old.model) old s → StandsAt (meaning_of old.model) new (after (meaning_of old.model) old.terms s))

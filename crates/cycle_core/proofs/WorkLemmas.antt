@@ -66,6 +66,9 @@ module _ {M : Type 0} where
   unfolding log_at
   slot-log old new object same = ap log_or same
 
+  pub as_before : (n : NodeView M) → IsAsBefore n n
+  as_before n = record { same = same-none n; logs = refl; processed = refl; waiting = refl; spare = omega arith; work = refl; met = refl; counts = refl }
+
 module _ {M : Type 0} (m : Meaning) where
   pub ahead-few : (n : NodeView M) → AreProcessedKeys m n → (object : ℕ) → ahead_of n object ≤ length n.processed
   ahead-few n keys object =
@@ -103,9 +106,6 @@ module _ {M : Type 0} (m : Meaning) where
     met = (let same : new.met ≡ old.met = un.met in omega arith);
     met_more = λ f. inl (f.0, home-before m old new un.same f.0 f.1, f.2, ap (λ logs. (replay_of (log_at logs f.0).state (log_at logs f.0).done).fault) (sym un.logs) ∙ f.3);
   }
-
-  pub as_before : (n : NodeView M) → IsAsBefore n n
-  as_before n = record { same = same-none n; logs = refl; processed = refl; waiting = refl; spare = omega arith; work = refl; met = refl; counts = refl }
 
   -- first this, then that
   pub works-then : (old mid new : NodeView M) → WorksOn m old mid → WorksOn m mid new → WorksOn m old new
@@ -290,7 +290,7 @@ module _ {M : Type 0} (meaning_of : M → Meaning) (first : NodeView M) where
   works-refused mid new works un = works-then m first mid new works (works-none m mid new un)
 
   pub settling-first : (bound : ℕ) → IsHeldFrom m bound first → IsSettling m first bound bound first
-  settling-first bound from = record { works = works-none m first first (as_before m first); from = from; within = omega arith; reached = inl refl }
+  settling-first bound from = record { works = works-none m first first (as_before first); from = from; within = omega arith; reached = inl refl }
 
   -- by a step below any bound up to the end
   pub settling-more : (bound fallen below least : ℕ) (key : Key) (mid new : NodeView M) → below ≤ end_stamp first.terms.end → IsSettling m first bound fallen mid → HasProcessed (meaning_of mid.model) below mid new key least

@@ -32,15 +32,16 @@ fn blank_commits(alloc: Global, nodes: u32) -> Result<Vec<Committed>, OutOfMemor
 }
 
 impl Lists {
-    /// Lists for a cycle of so many nodes.
-    pub fn new(alloc: Global, nodes: u32) -> Result<Lists, OutOfMemory>
-        ensures { IfOk result (AreBlankLists nodes) }
+    /// Lists for a cycle of so many nodes, in a box.
+    pub fn boxed(alloc: Global, nodes: u32) -> Result<Box<Lists>, OutOfMemory>
+        ensures { IfOk result (λ lists. AreBlankLists nodes lists.value) }
     {
-        Ok(Lists {
+        let lists = Lists {
             committed: blank_commits(alloc, nodes)?,
             parcels: empty_parcels(alloc, nodes)?,
             spare: RecordBuffer::new(alloc),
             told: RecordBuffer::new(alloc),
-        })
+        };
+        Ok(Box::new(alloc, lists)?)
     }
 }

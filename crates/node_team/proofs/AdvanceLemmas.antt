@@ -78,7 +78,7 @@ module _ {M : Type 0} (meaning_of : M → Meaning) (first : NodeView M) (seat : 
 
   pub advancing-first : (held : ℕ) (now : SeatView) → CanAdvance m first seat → IsKnown m first → IsHeldLeast m first held → HasOffered seat held now → IsAdvancing m first seat first now
   advancing-first held now can known is offered = record {
-    works = works-none m first first (as_before m first);
+    works = works-none m first first (as_before first);
     held = held;
     held_is = is;
     least = offered.least;

@@ -78,7 +78,7 @@ pub advancing-over : {M : Type 0} (meaning_of : M → Meaning) (terms : Terms) (
 advancing-over meaning_of terms ahead first now fallen place n at quiet so_far =
     let m = meaning_of n.model in
     let here = so_far.settling.upto.rest place (omega arith) ∙ at in
-    let works = works-none m n n (as_before m n) in
+    let works = works-none m n n (as_before n) in
     let same = at-same now place n here in
     let S : List (NodeView _) → Type 0 = λ ns. AreSettling meaning_of terms (suc place) first ns fallen in
     let R : List (NodeView _) → Type 0 = λ ns. AreRunning meaning_of ahead (suc place) first ns in

@@ -36,7 +36,7 @@ module _ {M : Type 0} (meaning_of : M → Meaning) where
     many = refl;
     pairs = λ place x y at_x at_y.
         let P : NodeView M → Type 0 = λ v. WorksOn (meaning_of x.model) x v in
-        subst P (same-some x y (sym at_x ∙ at_y)) (works-none (meaning_of x.model) x x (as_before (meaning_of x.model) x));
+        subst P (same-some x y (sym at_x ∙ at_y)) (works-none (meaning_of x.model) x x (as_before x));
   }
 
   -- nodes that worked on, and worked on

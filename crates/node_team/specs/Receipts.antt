@@ -1,5 +1,5 @@
 -- Nodes that receive what has come to their inboxes.
-use Rattle.std.specs.Prelude.{◌≡◌, ℕ, List, [], length, map}
+use Rattle.std.specs.Prelude.{◌≡◌, List, [], length, map}
 use Rattle.model_core.specs.Meaning.{Meaning}
 use Rattle.parcel_exchange.specs.declared.inbox.Inbox.{Inbox}
 use Rattle.node_core.specs.Nodes.{NodeView}

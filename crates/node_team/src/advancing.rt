@@ -16,6 +16,14 @@ use model_core::model::Model as SimulationModel;
 use node_core::{Node, Step};
 use std::alloc::Global;
 
+/// What stays the same for an advance: its memory, the word, and the gate that is told of it.
+#[derive(Drop)]
+struct Shared<'a, G> {
+    alloc: Global,
+    word: &'a HorizonWord,
+    gate: &'a G,
+}
+
 /// Offers a stamp to the word, by one step, and answers the word. A stamp that isn't below what the seat has offered needs
 /// no fetch-min: it can't lower the word, and a load costs less.
 fn offer(word: &HorizonWord, seat: &mut WordSeat, offered: &mut u64, stamp: u64) -> u64
@@ -38,15 +46,13 @@ fn offer(word: &HorizonWord, seat: &mut WordSeat, offered: &mut u64, stamp: u64)
 /// Processes one event below a bound, offers what it sends and tells the gate. Answers the word, or None where the
 /// node is idle below the bound.
 fn turn<M: SimulationModel, G: Gate>(
-    alloc: Global,
+    shared: &Shared<G>,
     node: &mut Node<M>,
-    word: &HorizonWord,
     seat: &mut WordSeat,
     offered: &mut u64,
-    gate: &G,
     bound: u64,
 ) -> Result<Option<u64>, OutOfMemory>
-    requires seat { IsSeatOf word.now seat.old }
+    requires seat { IsSeatOf shared.now.word.now seat.old }
     requires small { IsSmall (M.meaning node.old.model) node.old }
     requires bound { bound ≤ end_stamp node.old.terms.end }
     requires floor { AreFrom seat.old.floor node.old.waiting }
@@ -55,15 +61,15 @@ fn turn<M: SimulationModel, G: Gate>(
     ensures turn { IfOk result (λ answer. IsTurn (M.meaning node.old.model) bound node.old seat.old answer node.new seat.new) }
     ensures offered { seat.new.least ≤ offered.new }
     ensures end { offered.new ≤ offered.old }
-    ensures told { HasTold (G.was_told gate.now node.old.number) node.old node.new }
+    ensures told { HasTold (G.was_told shared.now.gate.now node.old.number) node.old node.new }
     ensures refused { OnErr result (IsAsBefore node.old node.new) }
     ensures seat { OnErr result (seat.new ≡ seat.old) }
 {
-    match step_small(alloc, node, bound)? {
+    match step_small(shared.alloc, node, bound)? {
         Step::Idle => Ok(None),
         Step::Did { key, least } => {
-            let answer = offer(word, seat, offered, least);
-            gate.did(node.number(), &key);
+            let answer = offer(shared.word, seat, offered, least);
+            shared.gate.did(node.number(), &key);
             Ok(Some(answer))
         }
     }
@@ -96,6 +102,7 @@ pub fn advance<M: SimulationModel, G: Gate>(
     ensures entered { G.was_entered gate.now node.old.number }
     ensures told { HasTold (G.was_told gate.now node.old.number) node.old node.new }
 {
+    let shared = Shared { alloc, word, gate };
     gate.enter(node.number());
     know(node);
     let end = end_bound(node.terms().end);
@@ -104,7 +111,7 @@ pub fn advance<M: SimulationModel, G: Gate>(
     let mut below = offer(word, seat, &mut offered, held);
     let mut left = ahead;
     'near: loop {
-        match turn(alloc, node, word, seat, &mut offered, gate, below)? {
+        match turn(&shared, node, seat, &mut offered, below)? {
             Some(answer) => below = answer,
             None => break,
         }
@@ -112,7 +119,7 @@ pub fn advance<M: SimulationModel, G: Gate>(
     }
     'far: for _ in 0..left {
         know(node);
-        match turn(alloc, node, word, seat, &mut offered, gate, end)? {
+        match turn(&shared, node, seat, &mut offered, end)? {
             Some(_) => {}
             None => return Ok(()),
         }

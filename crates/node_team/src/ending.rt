@@ -99,7 +99,7 @@ fn release_world<R: Threads + Sync, M: SimulationModel, L: Lanes, G>(
     let mut lists = world.take_lists(setting.alloc)?;
     let mut nodes = world.take_nodes();
     know_all(&nodes);
-    let records = end_nodes(setting, &due, nodes.as_mut_slice(), kept, &mut lists)?;
+    let records = end_nodes(setting, &due, nodes.as_mut_slice(), kept, &mut *lists)?;
     world.put_nodes(nodes);
     world.put_lists(lists);
     Ok(records)

@@ -9,7 +9,7 @@ ghost use Rattle.cycle_core.specs.Standings.{WorldStandsAt};
 ghost use Rattle.cycle_core.specs.Starts.{ArePlacedBy};
 ghost use Rattle.cycle_core.specs.Worlds.{StandsAt};
 
-use super::World;
+use super::{Basis, World};
 use crate::beginning::{nodes_of_state, placed_homes};
 use crate::saving::state_of;
 use model_core::OutOfMemory;
@@ -41,7 +41,12 @@ impl<M: SimulationModel> World<M> {
         let count = state.count;
         let homes = placed_homes(alloc, &*model, nodes, placement)?;
         let (nodes, parcels) = nodes_of_state(alloc, &model, terms, &homes, state)?;
-        World::opened(alloc, model, terms, homes, nodes, count, parcels)
+        let basis = Basis {
+            model,
+            terms,
+            homes,
+        };
+        World::opened(alloc, basis, nodes, count, parcels)
     }
 
     /// Takes out the state for which the world stands. What is processed is undone first: the world stands for the same

@@ -9,13 +9,14 @@ use Rattle.key_order.proofs.InOrder.{in_order_by_sort}
 use Rattle.node_core.specs.Nodes.{IsAsBefore}
 use Rattle.cycle_core.specs.Snapshots.{waiting_in}
 use Rattle.cycle_core.proofs.PlaceLemmas.{upto-more, upto-rest, upto-all}
-use Rattle.cycle_core.proofs.SnapshotLemmas.{as-before, waiting-all, waiting-more}
+use Rattle.cycle_core.proofs.SnapshotLemmas.{waiting-all, waiting-more}
+use Rattle.cycle_core.proofs.WorkLemmas.{as_before}
 use Rattle.cycle_core.proofs.saving.pending_of.Goals as goal
 
 pub returns-in_err-put_pending-clause-same : goal.returns-in_err-put_pending-clause-same
 returns-in_err-put_pending-clause-same g c =
     let at = slice_get-get_or c.loop-node.nodes c.loop-node.node-index c.node-item.result (omega arith) in
-    upto-rest IsAsBefore _ c.args.nodes.now _ (λ place x at. as-before x)
+    upto-rest IsAsBefore _ c.args.nodes.now _ (λ place x at. as_before x)
     (upto-more IsAsBefore c.loop-node.node-index c.args.nodes.now c.loop-node.nodes _ c.put_pending.new.self c.loop-node.invariant.same at c.put_pending.ensures.same)
 
 pub loop-node-preserved : goal.loop-node-preserved

@@ -1,18 +1,10 @@
 use Rattle.std.proofs.Common.{◌≡◌, ℕ, ◌≤◌, length, inl, refl, sym, ◌∙◌, ap, subst, arith}
+use Rattle.std.proofs.Math.Nat.{le_of_eq, le_refl, le_trans}
 use Rattle.event_key.specs.Stamps.{end_stamp}
 use Rattle.node_core.specs.Nodes.{NodeView}
 use Rattle.node_team.proofs.AdvanceLemmas.{held-floor, advancing-first, advancing-more, advancing-refused, advancing-left, advanced-left, idle-left, idle-later, one-fewer, small-on, told-none, told-on}
 use Rattle.node_team.proofs.ForkLemmas.{err-on}
 use Rattle.node_team.proofs.advancing.advance.Goals as goal
-
-no-less : (n : ℕ) → n ≤ n
-no-less n = omega arith
-
-no-fewer : (a b c : ℕ) → a ≤ b → b ≤ c → a ≤ c
-no-fewer a b c more most = omega arith
-
-just-end : (a b : ℕ) → a ≡ b → a ≤ b
-just-end a b is = omega arith
 
 -- the word never rises
 below-end : (below seen first end : ℕ) → below ≡ seen → seen ≤ first → first ≤ end → below ≤ end
@@ -31,7 +23,7 @@ near-init g c =
       c.offer-below.ensures.answer,
       c.offer-below.ensures.offered,
       c.offer-below.ensures.end,
-      no-less _,
+      le_refl _,
       told-none (g.G.Gate.was_told c.args.gate.now c.args.node.now.number) c.args.node.now c.args.node.now refl,
     )
 
@@ -46,7 +38,7 @@ near-preserved g c =
       advancing-more (g.M.Model.meaning) c.args.node.now c.args.seat.now c.near.node c.near.seat c.near.invariant.0 c.near.below c.in-Some.answer c.turn.new.node c.turn.new.seat gone (below-end _ _ _ _ below c.near.invariant.0.seen c.requires.can.seen),
       gone.answer_is,
       c.turn.ensures.offered,
-      no-fewer _ _ _ less end,
+      le_trans less end,
       omega arith,
       told-on (g.G.Gate.was_told c.args.gate.now) c.args.node.now c.near.node c.turn.new.node c.near.invariant.0.works.same.number c.near.invariant.5 c.turn.ensures.told,
     )
@@ -59,10 +51,10 @@ far-preserved g c =
     let deep = c.far.invariant.4 in
     let less = c.turn-in-far.ensures.end in
     let before = c.far.invariant.3 in (
-      advancing-more (g.M.Model.meaning) c.args.node.now c.args.seat.now c.far.node c.far.seat c.far.invariant.0 c.end_bound-end.result _ c.turn-in-far.new.node c.turn-in-far.new.seat gone (just-end _ _ end),
+      advancing-more (g.M.Model.meaning) c.args.node.now c.args.seat.now c.far.node c.far.seat c.far.invariant.0 c.end_bound-end.result _ c.turn-in-far.new.node c.turn-in-far.new.seat gone (le_of_eq end),
       idle-later (g.M.Model.meaning) c.args.node.now c.args.seat.now c.far.node c.far.seat c.far.invariant.0 c.end_bound-end.result _ c.turn-in-far.new.node c.turn-in-far.new.seat gone c.know-in-far.ensures c.far.invariant.1,
       c.turn-in-far.ensures.offered,
-      no-fewer _ _ _ less before,
+      le_trans less before,
       omega arith,
       told-on (g.G.Gate.was_told c.args.gate.now) c.args.node.now c.far.node c.turn-in-far.new.node c.far.invariant.0.works.same.number c.far.invariant.5 c.turn-in-far.ensures.told,
     )
@@ -75,7 +67,7 @@ turn-requires-clause-bound g c lifetimes outlives =
 pub turn-requires-in-far-clause-bound : goal.turn-requires-in-far-clause-bound
 turn-requires-in-far-clause-bound g c lifetimes outlives =
     let end : c.end_bound-end.result ≡ end_stamp c.args.node.now.terms.end = c.end_bound-end.ensures ∙ ap (λ t. end_stamp t.end) c.terms.ensures in
-    subst (λ t. c.end_bound-end.result ≤ end_stamp t.end) (sym c.far.invariant.0.works.same.terms) (just-end _ _ end)
+    subst (λ t. c.end_bound-end.result ≤ end_stamp t.end) (sym c.far.invariant.0.works.same.terms) (le_of_eq end)
 
 pub far-init : goal.far-init
 far-init g c =
@@ -85,7 +77,7 @@ far-init g c =
       advancing-left g.M.Model.meaning c.args.node.now c.args.seat.now c.near.node c.near.seat n.0 c.near.below c.turn.new.node c.turn.new.seat left.0 left.1,
       idle-left g.M.Model.meaning c.args.node.now c.args.seat.now c.near.node c.near.seat n.0 c.near.below c.turn.new.node c.turn.new.seat left.0 left.1 n.1,
       c.turn.ensures.offered,
-      no-fewer _ _ _ c.turn.ensures.end n.3,
+      le_trans c.turn.ensures.end n.3,
       (let deep = n.4 in omega arith),
       told-on (g.G.Gate.was_told c.args.gate.now) c.args.node.now c.near.node c.turn.new.node n.0.works.same.number n.5 c.turn.ensures.told,
     )

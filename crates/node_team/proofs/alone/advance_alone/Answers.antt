@@ -1,4 +1,5 @@
-use Rattle.std.proofs.Common.{◌≡◌, ℕ, ◌≤◌, length, inl, refl, sym, ap, ◌∙◌, subst, arith}
+use Rattle.std.proofs.Common.{◌≡◌, ◌≤◌, length, inl, refl, sym, ap, ◌∙◌, subst, arith}
+use Rattle.std.proofs.Math.Nat.{le_of_eq, le_refl, le_trans}
 use Rattle.event_key.specs.Stamps.{end_stamp}
 use Rattle.node_core.specs.Nodes.{NodeView}
 use Rattle.cycle_core.specs.Works.{IsSettled, WorksOn}
@@ -7,24 +8,15 @@ use Rattle.node_team.proofs.AdvanceLemmas.{one-fewer, small-on, told-none, told-
 use Rattle.node_team.proofs.AloneLemmas.{past-deep, past-first, past-more, past-settled}
 use Rattle.node_team.proofs.alone.advance_alone.Goals as goal
 
-no-less : (n : ℕ) → n ≤ n
-no-less n = omega arith
-
-just-end : (a b : ℕ) → a ≡ b → a ≤ b
-just-end a b is = omega arith
-
-no-fewer : (a b c : ℕ) → a ≤ b → b ≤ c → a ≤ c
-no-fewer a b c more most = omega arith
-
 pub step_told-requires-clause-bound : goal.step_told-requires-clause-bound
 step_told-requires-clause-bound g c lifetimes outlives =
     let before = c.near.invariant.0 in
-    subst (λ t. c.near.fallen ≤ end_stamp t.end) (sym before.works.same.terms) (no-fewer _ _ _ before.within c.requires.within)
+    subst (λ t. c.near.fallen ≤ end_stamp t.end) (sym before.works.same.terms) (le_trans before.within c.requires.within)
 
 pub near-init : goal.near-init
 near-init g c = (
   settling-first g.M.Model.meaning c.args.node.now c.args.bound c.requires.from,
-  no-less _,
+  le_refl _,
   told-none (g.G.Gate.was_told c.args.gate.now c.args.node.now.number) c.args.node.now c.args.node.now refl,
 )
 
@@ -45,7 +37,7 @@ near-preserved g c =
     let one = did.processed in
     let deep = before.1 in (
       rw c.min-fallen.ensures
-          (settling-more g.M.Model.meaning c.args.node.now c.args.bound c.near.fallen c.near.fallen c.in-Did.least c.in-Did.key c.near.node c.step_told.new.node (no-fewer _ _ _ low within) before.0 did),
+          (settling-more g.M.Model.meaning c.args.node.now c.args.bound c.near.fallen c.near.fallen c.in-Did.least c.in-Did.key c.near.node c.step_told.new.node (le_trans low within) before.0 did),
       omega arith,
       told-on (g.G.Gate.was_told c.args.gate.now) c.args.node.now c.near.node c.step_told.new.node before.0.works.same.number before.2 c.step_told.ensures.told,
     )
@@ -101,7 +93,7 @@ step_told-requires-in-far-clause-small g c lifetimes outlives = small-on g.M.Mod
 pub step_told-requires-in-far-clause-bound : goal.step_told-requires-in-far-clause-bound
 step_told-requires-in-far-clause-bound g c lifetimes outlives =
     let end : c.end_bound-end.result ≡ end_stamp c.args.node.now.terms.end = c.end_bound-end.ensures ∙ ap (λ t. end_stamp t.end) c.terms.ensures in
-    subst (λ t. c.end_bound-end.result ≤ end_stamp t.end) (sym c.far.invariant.0.settling.works.same.terms) (just-end _ _ end)
+    subst (λ t. c.end_bound-end.result ≤ end_stamp t.end) (sym c.far.invariant.0.settling.works.same.terms) (le_of_eq end)
 
 pub near-smaller : goal.near-smaller
 near-smaller g c =

@@ -76,7 +76,8 @@ pub end_nodes-requires-clause-blank : goal.end_nodes-requires-clause-blank
 end_nodes-requires-clause-blank g c lifetimes outlives =
     let items : c.take_nodes-nodes.result.items ≡ c.args.world.now.nodes = c.take_nodes-nodes.ensures.nodes ∙ ap (λ v. v.nodes) c.take_lists.ensures.same in
     let many = c.requires.stands.1.has.nodes.many in
-    subst (λ n. AreBlankLists n c.in_ok-lists.lists) (sym (ap length (c.as_mut_slice.ensures.value ∙ items) ∙ many)) c.in_ok-lists.ensures.blank
+    subst (AreBlankLists (length c.as_mut_slice.result.now)) (sym c.deref_mut.ensures.value)
+    (subst (λ n. AreBlankLists n c.in_ok-lists.lists.value) (sym (ap length (c.as_mut_slice.ensures.value ∙ items) ∙ many)) c.in_ok-lists.ensures.blank)
 
 pub returns-in_err-lists-clause-laws : goal.returns-in_err-lists-clause-laws
 returns-in_err-lists-clause-laws g c = subst (λ v. MeaningLaws (g.M.Model.meaning v)) c.model.ensures c.keeps_laws.ensures

@@ -1,11 +1,12 @@
 use Rattle.std.proofs.Common.{◌≡◌, ◌∙◌, ap, false, inl, inr, sym, refl}
 use Rattle.std.proofs.lemmas.Bool.{false≢true}
-use Rattle.cycle_core.proofs.StandingLemmas.{cycled-done, cycled-refused}
+use Rattle.cycle_core.proofs.SpentCycles.{spent-cycled}
+use Rattle.cycle_core.proofs.StandingLemmas.{cycled-done}
 use Rattle.cycle_core.proofs.world.World.cycle_alone.Goals as goal
 
 pub returns-then-self-clause-cycled : goal.returns-then-self-clause-cycled
 returns-then-self-clause-cycled g c =
-    cycled-refused (g.M.Model.meaning) c.args.self.now c.args.self.now (record { model = refl; terms = refl; homes = refl }) _ (sym (ap (λ v. v.is_spent) c.self.view_is) ∙ c.if-self.true)
+    spent-cycled (g.M.Model.meaning) c.args.self.now c.args.self.now refl refl _ (sym (ap (λ v. v.is_spent) c.self.view_is) ∙ c.if-self.true)
 
 pub returns-in-Ok-clause-cycled : goal.returns-in-Ok-clause-cycled
 returns-in-Ok-clause-cycled g c =
@@ -15,8 +16,7 @@ returns-in-Ok-clause-cycled g c =
 pub returns-in-Err-clause-cycled : goal.returns-in-Err-clause-cycled
 returns-in-Err-clause-cycled g c =
     let made = c.in-Err.ensures.made in
-    cycled-refused (g.M.Model.meaning) c.args.self.now _
-    (record { model = ap (λ v. v.model) c.self-2.view_is ∙ made.model; terms = ap (λ v. v.terms) c.self-2.view_is ∙ made.terms; homes = ap (λ v. v.homes) c.self-2.view_is ∙ made.homes }) c.in-Err.refused refl
+    spent-cycled (g.M.Model.meaning) c.args.self.now _ (ap (λ v. v.model) c.self-2.view_is ∙ made.model) (ap (λ v. v.terms) c.self-2.view_is ∙ made.terms) c.in-Err.refused refl
 
 pub run_cycle-requires-after_bounds : goal.run_cycle-requires-after_bounds
 run_cycle-requires-after_bounds g c lifetimes outlives =
