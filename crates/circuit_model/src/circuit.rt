@@ -19,7 +19,7 @@ use random_streams::Stream;
 use std::alloc::Global;
 
 /// Gates, each of which feeds pins of others.
-#[derive(Debug, Drop)]
+#[derive(Drop)]
 pub struct Circuit {
     gates: Vec<LogicGate>,
     hot: HotGates,

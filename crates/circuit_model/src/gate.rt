@@ -29,7 +29,7 @@ pub enum LogicKind {
 }
 
 /// A gate of a circuit, as it is described.
-#[derive(Debug, Drop)]
+#[derive(Drop)]
 pub struct LogicGate {
     pub name: Name,
     pub kind: LogicKind,

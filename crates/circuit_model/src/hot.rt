@@ -12,7 +12,7 @@ use model_core::OutOfMemory;
 use std::alloc::Global;
 
 /// What an event needs of one gate.
-#[derive(Clone, Copy, Debug)]
+#[derive(Clone, Copy)]
 pub struct HotGate {
     /// How long its output takes to the pins that it feeds, in ticks. That of an input takes no time, whatever stands here.
     pub delay: u64,
@@ -27,7 +27,7 @@ pub struct HotGate {
 }
 
 /// The same of all gates, and the pins that they feed, gate by gate.
-#[derive(Debug, Drop)]
+#[derive(Drop)]
 pub struct HotGates {
     pub gates: Vec<HotGate>,
     pub fed: Vec<Pin>,

@@ -17,7 +17,7 @@ pub struct Pin {
 }
 
 /// Pins in order.
-#[derive(Debug, Drop)]
+#[derive(Drop)]
 pub struct Pins {
     pins: Vec<Pin>,
 }

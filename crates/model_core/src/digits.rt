@@ -12,7 +12,7 @@ use std::alloc::Global;
 const MOST_DIGITS: usize = 20;
 
 /// The digits of the numbers below 1,000, made once: a number below a million is written by two of them, with no loop.
-#[derive(Debug, Drop)]
+#[derive(Drop)]
 pub struct Digits {
     // from the first digit on, and in the last byte how many there are
     short: Vec<[u8; 4]>,

@@ -10,7 +10,7 @@ use std::alloc::Global;
 
 /// What an event changes at its object, what it sends, and what is told of it. It is a sheet that is kept from one
 /// event to the next and written again, so that an event takes no memory here.
-#[derive(Debug, Drop)]
+#[derive(Drop)]
 pub struct Effect {
     pub changes: Few<Change, 16>,
     pub sends: Few<Send, 8>,
@@ -27,7 +27,7 @@ pub enum Ending {
 }
 
 /// An event has an effect, or fails with a code of the model's, at least 2.
-#[derive(Debug, Drop)]
+#[derive(Drop)]
 pub enum Outcome {
     Goes(Effect),
     Fails(u32),

@@ -6,7 +6,7 @@ use std::alloc::Global;
 use std::marker::Model;
 
 /// At most `CAP` values in order. It has room for all of them from the start, so only `new` takes memory.
-#[derive(Debug, Drop)]
+#[derive(Drop)]
 pub struct Few<T, const CAP: usize> {
     items: Vec<T>,
 }

@@ -9,7 +9,7 @@ use std::marker::Model;
 const SHORT_NAME: usize = 16;
 
 /// Where the bytes of a name are kept.
-#[derive(Debug, Drop)]
+#[derive(Drop)]
 enum Kept {
     /// In place, the first ones of these.
     InPlace { count: u8, bytes: [u8; 16] },
@@ -18,7 +18,7 @@ enum Kept {
 }
 
 /// A name, as the bytes that are printed. A short one stands in place.
-#[derive(Debug, Drop)]
+#[derive(Drop)]
 pub struct Name {
     kept: Kept,
 }

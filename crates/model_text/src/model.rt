@@ -9,7 +9,7 @@ use random_streams::Stream;
 use std::alloc::Global;
 
 /// A model of any kind that a text can describe.
-#[derive(Debug, Drop)]
+#[derive(Drop)]
 pub enum AnyModel {
     Phold(Phold),
     Network(Network),

@@ -10,7 +10,7 @@ pub(crate) type NamedKind = KindOver<Name>;
 pub(crate) type NamedItem = ItemOver<Name>;
 
 /// A gate.
-#[derive(Debug, Drop)]
+#[derive(Drop)]
 pub(crate) struct NamedGate {
     pub(crate) name: Name,
     pub(crate) kind: LogicKind,

@@ -12,7 +12,7 @@ use std::alloc::Global;
 use std::sync::Arc;
 
 /// A model with a seed in place of its own, and the same parts: nothing of them is copied.
-#[derive(Debug, Drop)]
+#[derive(Drop)]
 pub struct Seeded {
     model: Arc<AnyModel>,
     seed: u64,

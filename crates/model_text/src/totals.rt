@@ -9,7 +9,7 @@ use std::alloc::Global;
 
 /// The sums of each object of a model of any kind.
 // the tally that a reader names can't be one whose `impl` is for all models
-#[derive(Debug, Drop)]
+#[derive(Drop)]
 pub struct ModelTotals {
     totals: Totals,
 }

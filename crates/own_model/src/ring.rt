@@ -15,7 +15,7 @@ pub const HOLDS: u32 = 1;
 pub const LATE: u32 = 2;
 
 /// A ring of stations. The cells of each are two words: its random place, and the tick at which the token came last.
-#[derive(Debug, Drop)]
+#[derive(Drop)]
 pub struct Ring {
     /// Which random words are drawn.
     pub seed: u64,

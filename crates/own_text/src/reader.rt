@@ -16,7 +16,7 @@ use text_fields::{code_name, document, law, number, only, required, terms_of};
 use toml::Table;
 
 /// The reader of token rings.
-#[derive(Clone, Copy, Debug)]
+#[derive(Clone, Copy)]
 pub struct RingTexts;
 
 /// The ring of a table, and how far its simulation goes. A refusal is at item 0.

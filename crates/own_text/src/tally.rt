@@ -7,7 +7,7 @@ use sim_spec::{Stop, Terms};
 use std::alloc::Global;
 
 /// How often the token came to a station.
-#[derive(Clone, Copy, Debug, Drop)]
+#[derive(Clone, Copy, Drop)]
 pub struct RingTally {
     turns: u64,
 }

@@ -17,7 +17,7 @@ const HOP_KIND: u32 = 4;
 
 /// Objects that hand events on: each event sends one to the next object, or to one that is drawn evenly, after a
 /// delay that is drawn by a law.
-#[derive(Debug, Drop)]
+#[derive(Drop)]
 pub struct Phold {
     seed: u64,
     objects: u32,

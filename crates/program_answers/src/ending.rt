@@ -10,7 +10,7 @@ use sim_spec::Stop;
 use sim_text::Unfinished;
 
 /// How the program ends.
-#[derive(Debug, Drop)]
+#[derive(Drop)]
 pub enum Ending {
     /// The simulation ran until it stopped.
     Stopped(Stop),

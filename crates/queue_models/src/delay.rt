@@ -10,7 +10,7 @@ use model_core::{Effect, Ending, HELD_WORD};
 use random_streams::{Law, Stream};
 
 /// What holds each job for a while.
-#[derive(Debug, Drop)]
+#[derive(Drop)]
 pub struct Delay<L> {
     /// How long it holds a job.
     pub delay: Law,

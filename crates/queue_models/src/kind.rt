@@ -15,7 +15,7 @@ use std::alloc::Global;
 
 /// What an object does with the jobs that come to it, over what stands for the objects to which it sends: their numbers
 /// in a network, and their names in a text. An object to which others send is never a source.
-#[derive(Debug, Drop)]
+#[derive(Drop)]
 pub enum KindOver<L> {
     Source(Source<L>),
     Station(Station<L>),
@@ -30,7 +30,7 @@ pub type Kind = KindOver<u32>;
 /// An object: its name, of 1 to 16 bytes, each an ASCII letter, a digit, `_` or `-`; what it does; the rank of all that
 /// it sends, at most `MOST_RANK`; whether it is quiet, so that nothing is told of its events; and whether it is traced,
 /// so that each event at it tells besides how many servers are busy and how many jobs wait. Only a station is traced.
-#[derive(Debug, Drop)]
+#[derive(Drop)]
 pub struct ItemOver<L> {
     pub name: Name,
     pub kind: KindOver<L>,

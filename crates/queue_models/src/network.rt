@@ -17,7 +17,7 @@ use random_streams::Stream;
 use std::alloc::Global;
 
 /// Objects through which jobs go.
-#[derive(Debug, Drop)]
+#[derive(Drop)]
 pub struct Network {
     seed: u64,
     objects: Vec<Item>,

@@ -10,7 +10,7 @@ use model_core::{Effect, Ending, ROUTED_WORD, Sequence, keep_place};
 use random_streams::{Stream, Weights, choose_by};
 
 /// What sends each job at once one of several ways.
-#[derive(Debug, Drop)]
+#[derive(Drop)]
 pub struct Router<L> {
     /// The ways, 1 to 64 objects.
     pub next: Sequence<L>,

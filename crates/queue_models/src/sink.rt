@@ -8,7 +8,7 @@ use event_key::time_of;
 use model_core::{Effect, Ending, Event, LATE, LEFT_WORD};
 
 /// What takes each job out of the network.
-#[derive(Debug, Drop)]
+#[derive(Drop)]
 pub struct Sink {
     /// The greatest age of a job, below 2^46, where there is one. A job that is older fails with code 3.
     pub due: Option<u64>,

@@ -14,7 +14,7 @@ use std::alloc::Global;
 pub const MOST_JOBS: u32 = 1_000_000;
 
 /// What makes jobs. None is sent to it.
-#[derive(Debug, Drop)]
+#[derive(Drop)]
 pub struct Source<L> {
     /// When the first job is made, below 2^46.
     pub first: u64,

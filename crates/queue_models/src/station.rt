@@ -27,7 +27,7 @@ pub const MOST_SERVERS: u32 = 1_024;
 pub const MOST_WAITING: u32 = 65_536;
 
 /// Where jobs are served.
-#[derive(Debug, Drop)]
+#[derive(Drop)]
 pub struct Station<L> {
     /// How many servers it has, 1 to `MOST_SERVERS`, each of which serves one job at a time.
     pub servers: u32,

@@ -12,7 +12,7 @@ use table_program::{Family, FamilyReader};
 const ROW_BYTES: u64 = 274;
 
 /// The reader of model texts, and of the windows of their objects.
-#[derive(Clone, Copy, Debug)]
+#[derive(Clone, Copy)]
 pub struct ReplicateTexts;
 
 impl FamilyReader for ReplicateTexts {

@@ -7,7 +7,7 @@ use std::alloc::Global;
 use std::sync::Arc;
 
 /// A model that was read of a text. It is shared by all its replications, and none copies it.
-#[derive(Debug, Drop)]
+#[derive(Drop)]
 pub struct TextSeeds {
     pub model: Arc<AnyModel>,
 }

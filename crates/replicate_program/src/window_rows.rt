@@ -8,7 +8,7 @@ use sim_spec::Terms;
 use std::alloc::Global;
 
 /// What each object of a model of any kind did within a window of time.
-#[derive(Debug, Drop)]
+#[derive(Drop)]
 pub struct WindowRows {
     windows: Windows,
 }

@@ -2,7 +2,7 @@
 use sim_spec::Stop;
 
 /// A replication, and what came of it.
-#[derive(Debug, Drop)]
+#[derive(Drop)]
 pub struct Job {
     pub seed: u64,
     /// Its rows, once it is done.

@@ -2,7 +2,7 @@
 use sim_spec::Terms;
 
 /// A model under every seed, how far its runs go, the first tick of the window, and the seed of the first replication.
-#[derive(Debug, Drop)]
+#[derive(Drop)]
 pub struct Study<S> {
     pub models: S,
     /// The head line of the table.

@@ -22,7 +22,7 @@ struct Row {
 }
 
 /// What is known of each object of a model within a window that begins at a tick, kept as records come.
-#[derive(Debug, Drop)]
+#[derive(Drop)]
 pub struct Windows {
     objects: Vec<Window>,
     first: u64,

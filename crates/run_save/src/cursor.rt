@@ -5,7 +5,7 @@ use crate::digits::{decimal_value, digit_count};
 use crate::refusal::{StateCause, StateRefusal};
 
 /// What is left of a text, and the number of the line in which it begins.
-#[derive(Clone, Copy, Debug)]
+#[derive(Clone, Copy)]
 pub(crate) struct Cursor<'a> {
     pub bytes: &'a [u8],
     pub line: u64,

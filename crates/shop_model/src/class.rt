@@ -19,7 +19,7 @@ pub const MOST_STEPS: usize = 1_024;
 pub const MOST_TIMES: usize = 250_000;
 
 /// A class of jobs: when they arrive, and by which route they go. From the last step a job goes out.
-#[derive(Debug, Drop)]
+#[derive(Drop)]
 pub struct Class {
     pub name: Name,
     /// How many ticks after an arrival the next one comes.

@@ -13,7 +13,7 @@ use crate::step::{Step, Visit};
 use model_core::{Send, Sequence};
 
 /// The classes, and how many stations come before them in the numbering of objects.
-#[derive(Debug, Drop)]
+#[derive(Drop)]
 pub struct Routes {
     pub stations: u32,
     pub classes: Sequence<Class>,

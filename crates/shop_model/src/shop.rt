@@ -24,7 +24,7 @@ use random_streams::Stream;
 use std::alloc::Global;
 
 /// Stations, and classes of jobs that go by their routes from station to station.
-#[derive(Debug, Drop)]
+#[derive(Drop)]
 pub struct Shop {
     seed: u64,
     counted_from: u64,

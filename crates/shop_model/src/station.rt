@@ -45,21 +45,21 @@ pub enum Order {
 }
 
 /// From a tick on so many servers are open.
-#[derive(Clone, Copy, Debug)]
+#[derive(Clone, Copy)]
 pub struct Shift {
     pub at: u64,
     pub servers: u32,
 }
 
 /// For how long a station works and stands still, in turn.
-#[derive(Debug, Drop)]
+#[derive(Drop)]
 pub struct Breakdowns {
     pub up: DelayLaw,
     pub down: DelayLaw,
 }
 
 /// A station, whose servers serve jobs or are held by them.
-#[derive(Debug, Drop)]
+#[derive(Drop)]
 pub struct Station {
     pub name: Name,
     /// How many servers are open at the start.

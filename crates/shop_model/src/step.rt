@@ -3,7 +3,7 @@ use model_core::Sequence;
 use random_streams::{DelayLaw, Weights};
 
 /// A step of a route.
-#[derive(Debug, Drop)]
+#[derive(Drop)]
 pub enum Step {
     /// The job visits a station.
     Visit(Visit),
@@ -16,7 +16,7 @@ pub enum Step {
 }
 
 /// A visit of a station, where a job waits if no server is free.
-#[derive(Debug, Drop)]
+#[derive(Drop)]
 pub struct Visit {
     /// The number of the station.
     pub station: u32,
@@ -31,7 +31,7 @@ pub struct Visit {
 }
 
 /// A choice among steps, each in proportion to its weight.
-#[derive(Debug, Drop)]
+#[derive(Drop)]
 pub struct Branch {
     /// The steps, 1 to 64.
     pub steps: Sequence<u32>,

@@ -26,7 +26,7 @@ fn most_rows(shop: &Shop) -> u64 {
 }
 
 /// The reader of texts of shops, and of the rows of their totals.
-#[derive(Clone, Copy, Debug)]
+#[derive(Clone, Copy)]
 pub struct ShopTables;
 
 impl FamilyReader for ShopTables {

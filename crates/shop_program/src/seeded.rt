@@ -11,7 +11,7 @@ use std::alloc::Global;
 use std::sync::Arc;
 
 /// A shop with a seed in place of its own, and the same parts: nothing of them is copied.
-#[derive(Debug, Drop)]
+#[derive(Drop)]
 pub struct SeededShop {
     shop: Arc<Shop>,
     seed: u64,

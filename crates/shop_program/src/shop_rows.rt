@@ -11,7 +11,7 @@ use sim_spec::Terms;
 use std::alloc::Global;
 
 /// The totals of a shop, in a row for each line.
-#[derive(Debug, Drop)]
+#[derive(Drop)]
 pub struct ShopRows {
     totals: ShopTotals,
 }

@@ -8,7 +8,7 @@ use std::alloc::Global;
 use std::sync::Arc;
 
 /// A shop that was read of a text. It is shared by all its replications, and none copies it.
-#[derive(Debug, Drop)]
+#[derive(Drop)]
 pub struct ShopSeeds {
     pub shop: Arc<Shop>,
 }

@@ -8,7 +8,7 @@ use std::alloc::Global;
 use text_fields::{Refusal, code_name};
 
 /// The reader of these texts.
-#[derive(Clone, Copy, Debug)]
+#[derive(Clone, Copy)]
 pub struct ShopTexts;
 
 impl ModelReader for ShopTexts {

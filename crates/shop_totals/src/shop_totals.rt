@@ -21,7 +21,7 @@ use sim_spec::{Stop, Terms};
 use std::alloc::Global;
 
 /// The totals of each station and of each class of a shop, as sums over what is told of them.
-#[derive(Debug, Drop)]
+#[derive(Drop)]
 pub struct ShopTotals {
     stations: Vec<StationTotals>,
     classes: Vec<ClassSums>,

@@ -18,7 +18,7 @@ use shop_model::{JOBS_A_CLASS, Shop};
 use std::alloc::Global;
 
 /// The sums of a station, and those of each class that visits it, in the order of the classes.
-#[derive(Debug, Drop)]
+#[derive(Drop)]
 pub struct StationTotals {
     pub sums: StationSums,
     // the numbers of the classes, which rise, and for each of them its sums

@@ -3,7 +3,7 @@ use event_key::Key;
 use model_core::Records;
 
 /// The events below one event horizon (Steinman 1994), as far as the limit lets them happen.
-#[derive(Debug, Drop)]
+#[derive(Drop)]
 pub struct Bucket {
     /// What happened, in the order of the keys.
     pub done: Records,

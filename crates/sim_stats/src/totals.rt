@@ -11,7 +11,7 @@ use std::alloc::Global;
 use std::marker::Model;
 
 /// The sums of each object of a model over the records of a simulation, kept as the records come.
-#[derive(Debug, Drop)]
+#[derive(Drop)]
 pub struct Totals {
     objects: Vec<Sums>,
     records: u64,

@@ -12,7 +12,7 @@ use std::alloc::Global;
 use std::marker::Model;
 
 /// Lines of events that are under way, and the writer of the next ones. Contracts see their text.
-#[derive(Debug, Drop)]
+#[derive(Drop)]
 pub struct LineBuffer {
     writer: LineWriter,
     text: Vec<u8>,

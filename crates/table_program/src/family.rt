@@ -2,7 +2,7 @@
 use sim_spec::Terms;
 
 /// A model that can be had under any seed, and how far its runs go.
-#[derive(Debug, Drop)]
+#[derive(Drop)]
 pub struct Family<S> {
     pub models: S,
     pub terms: Terms,

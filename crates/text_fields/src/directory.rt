@@ -5,7 +5,7 @@ use std::alloc::{AllocError, Global};
 use std::collections::HashMap;
 
 /// What has a name: an object or a gate.
-#[derive(Clone, Copy, Debug)]
+#[derive(Clone, Copy)]
 pub struct Place {
     /// Its number among those of the model, counted from 0.
     pub number: u32,

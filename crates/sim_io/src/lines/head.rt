@@ -11,7 +11,7 @@ pub const LINE: usize = 112;
 
 /// A stamp and its text, with a space, as the lines of its events begin. Behind it stand bytes that mean nothing, so that
 /// where it is copied there is room for the rest of a line.
-#[derive(Debug, Drop)]
+#[derive(Drop)]
 pub struct Head {
     pub stamp: u64,
     pub bytes: [u8; 112],

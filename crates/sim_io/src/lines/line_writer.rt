@@ -15,7 +15,7 @@ use model_core::{Digits, OutOfMemory, Part};
 use std::alloc::Global;
 
 /// Writes the lines of events. It keeps the text of the last stamp, since the next event mostly has the same one.
-#[derive(Debug, Drop)]
+#[derive(Drop)]
 pub struct LineWriter {
     digits: Digits,
     head: Head,

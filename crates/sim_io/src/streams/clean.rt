@@ -61,7 +61,7 @@ impl Source for CleanSource {
 }
 
 /// Takes each piece whole, keeps no byte and tells none.
-#[derive(Clone, Copy, Debug, Default)]
+#[derive(Clone, Copy, Default)]
 pub struct CleanSink;
 
 impl CleanSink {

@@ -18,11 +18,11 @@ use std::test::Fail;
 use std::thread::Threads;
 
 /// One object, and one event that goes on to it after 1 to 10 ticks, from time 0 on.
-#[derive(Debug, Drop)]
+#[derive(Drop)]
 struct Hops;
 
 /// The windows of its objects.
-#[derive(Debug, Drop)]
+#[derive(Drop)]
 struct HopRows {
     windows: Windows,
 }
