@@ -7,7 +7,7 @@
     python3 analysis/btb_tables.py summary < table.csv
 
 It needs pandas and scipy, and matplotlib for the plots (Debian: python3-pandas python3-scipy python3-matplotlib). The
-programs are the one that this repository builds, `crates/btb/out/btb`, and the script beside this one, or the commands
+programs are those that this repository builds, `crates/btb/out/btb` and `crates/replicate/out/replicate`, or the commands
 that the environment variables BTB and REPLICATE have.
 
 A model is the path of a file, or the text of a model itself, which has several lines. Times are ticks; the model says what a
