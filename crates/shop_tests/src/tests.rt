@@ -9,52 +9,17 @@ mod words;
 
 use shop_program::{Open, run_program};
 use sim_io::{MemSink, MemSource};
-use std::alloc::{AllocGlobal, Global};
+use std::alloc::AllocGlobal;
 use std::process::Abort;
 use std::test::Fail;
 use std::thread::Threads;
-use test_texts::words_of;
+use test_texts::{Ended, sink_of, source_of, words_of};
 
 /// A model, the text of its run, and what that shows.
 struct Run {
     shows: &'static str,
     model: &'static str,
     text: &'static str,
-}
-
-/// How a run ended, what it wrote and what it noted.
-#[derive(Drop)]
-struct Ended {
-    status: u8,
-    text: String,
-    notes: String,
-}
-
-impl Ended {
-    /// The run ended so.
-    fn assert<R: Abort>(&self, rt: &R, status: u8, text: &str, notes: &str, what: &str) {
-        assert!(rt; self.text.as_str() == text, "{what}");
-        assert!(rt; self.notes.as_str() == notes, "{what}");
-        assert!(rt; self.status == status, "{what}");
-    }
-}
-
-/// A source that gives 16 bytes a read, and fails at these calls.
-fn source_of(alloc: Global, input: &str, fails: &[u64]) -> Result<MemSource, Fail> {
-    let bytes = input.as_bytes().to_vec(alloc)?;
-    Ok(MemSource::new(bytes, fails.to_vec(alloc)?, 16))
-}
-
-/// A sink that takes 10 bytes a write, and fails at these calls.
-fn sink_of(alloc: Global, fails: &[u64]) -> Result<MemSink, Fail> {
-    let fails = fails.to_vec(alloc)?;
-    Ok(MemSink::new(alloc, 200_000, fails, Vec::new(alloc), 10)?)
-}
-
-/// What a sink has taken.
-fn text_of(alloc: Global, sink: &MemSink) -> Result<String, Fail> {
-    let text = std::str::from_utf8(sink.bytes())?;
-    Ok(String::from_str(alloc, text)?)
 }
 
 /// How a run of these words ends over these streams.
@@ -66,13 +31,9 @@ fn ended_by<R: AllocGlobal + Threads + Sync>(
 ) -> Result<Ended, Fail> {
     let alloc = rt.alloc();
     let words = words_of(alloc, words)?;
-    let mut notes = sink_of(alloc, &[])?;
+    let mut notes = sink_of(alloc, &[], &[])?;
     let status = run_program(rt, Ok(words), &mut source, &mut out, &mut notes, &Open);
-    Ok(Ended {
-        status,
-        text: text_of(alloc, &out)?,
-        notes: text_of(alloc, &notes)?,
-    })
+    Ended::of(alloc, status, &out, &notes)
 }
 
 /// How a run of these words ends that reads this input.
@@ -82,8 +43,8 @@ fn told_by<R: AllocGlobal + Threads + Sync>(
     input: &str,
 ) -> Result<Ended, Fail> {
     let alloc = rt.alloc();
-    let source = source_of(alloc, input, &[])?;
-    ended_by(rt, words, source, sink_of(alloc, &[])?)
+    let source = source_of(alloc, input.as_bytes(), &[])?;
+    ended_by(rt, words, source, sink_of(alloc, &[], &[])?)
 }
 
 /// One thread, nodes, and nodes that work side by side.

@@ -1,8 +1,10 @@
-//! What the tests of several crates read: texts of models, of a saved state, and the words of a line. Each stands here once.
+//! What the tests of several crates read: texts of models, of a saved state, and the words of a line; and what whole runs read from
+//! and write to. Each stands here once.
 #![tactic(auto)]
 
 mod hops;
 mod networks;
+mod runs;
 pub mod wanted;
 
 pub use hops::{DRAWN, ENDLESS, LONG_TIE, LONGER_TIE, SHORT_DRAWN, SHORT_TIE, TIE};
@@ -11,6 +13,7 @@ pub use networks::{
     SHOP_OF_ELEVEN, SHOP_OF_TEN, SHOP_OF_TWELVE, SHORT_BANK, SHORT_ROUTER_LOOP, STRICT_LINE,
     STRICT_STATION, TWO_JOBS,
 };
+pub use runs::{Ended, sink_of, source_of, text_of};
 use std::alloc::{AllocError, Global};
 
 /// An input, its opposite a tick later, and a gate that is 1 where both are.

@@ -4,9 +4,7 @@ ghost use Rattle.std.specs.Prelude.{◌≡◌, ◌<◌, IfOk};
 use super::one_event;
 use event_chain::Chain;
 use model_core::Event;
-use release_lanes::{
-    Lanes, NodeEnd, OutOfMemory, Parcel, PlainEnd, PlainLanes, RingEnd, RingLanes,
-};
+use release_lanes::{Lanes, NodeEnd, OutOfMemory, Parcel, PlainLanes, RingEnd, RingLanes};
 use std::alloc::Global;
 use std::process::Abort;
 use std::test::Fail;
@@ -128,13 +126,4 @@ fn a_thread_finds_what_another_posts(rt: HostRuntime) -> Result<(), Fail> {
     let came = post_and_poll(&rt, &mut left[0], &mut right[0], parcel);
     assert!(rt; came.is_some_and(|parcel| is_one_of_kind(&parcel, 9)));
     Ok(())
-}
-
-/// Holds for what may move to another thread.
-fn may_move<T: Send>() {}
-
-#[test]
-fn ends_may_move() {
-    may_move::<PlainEnd>();
-    may_move::<RingEnd>();
 }

@@ -1,10 +1,11 @@
 //! Tables of replications: those that an independent simulator wrote, workers, and reads and writes that fail.
 use super::models::{JUMP, MILL, MILL_FROM_4, MILL_FROM_21};
-use super::{Answer, Ended, ended_by, sink_of, source_of, told_by};
+use super::{Answer, ended_by, told_by};
 use std::alloc::AllocGlobal;
 use std::process::Abort;
 use std::test::Fail;
 use std::thread::Threads;
+use test_texts::{Ended, sink_of, source_of};
 
 /// Two classes, whose arrivals and services are drawn.
 const DRAWS: &str = "format = 1
@@ -79,15 +80,15 @@ fn one_worker_and_64_write_the_same_bytes(rt: HostRuntime) -> Result<(), Fail> {
 /// A table of which the read with this number fails.
 fn unread<R: AllocGlobal + Threads + Sync>(rt: &R, call: u64) -> Result<Ended, Fail> {
     let alloc = rt.alloc();
-    let source = source_of(alloc, MILL, &[call])?;
-    ended_by(rt, "replicate 2", source, sink_of(alloc, &[])?)
+    let source = source_of(alloc, MILL.as_bytes(), &[call])?;
+    ended_by(rt, "replicate 2", source, sink_of(alloc, &[], &[])?)
 }
 
 /// A table of which the write with this number fails.
 fn unwritten<R: AllocGlobal + Threads + Sync>(rt: &R, call: u64) -> Result<Ended, Fail> {
     let alloc = rt.alloc();
-    let source = source_of(alloc, MILL, &[])?;
-    ended_by(rt, "replicate 2", source, sink_of(alloc, &[call])?)
+    let source = source_of(alloc, MILL.as_bytes(), &[])?;
+    ended_by(rt, "replicate 2", source, sink_of(alloc, &[call], &[])?)
 }
 
 #[test]

@@ -1,12 +1,11 @@
 //! Whole runs of the program over sources and sinks in memory: tables that were worked out by hand, failures and threads.
-use super::{HOPS_OF_THE_LAST, HOPS_OF_THREE, sink_of};
+use super::{HOPS_OF_THE_LAST, HOPS_OF_THREE};
 use replicate_program::replicate;
 use sim_io::{MemSink, MemSource};
-use std::alloc::{AllocGlobal, Global};
-use std::process::Abort;
+use std::alloc::AllocGlobal;
 use std::test::Fail;
 use std::thread::Threads;
-use test_texts::{LOSING, SHOP, STRICT_LINE, words_of};
+use test_texts::{Ended, LOSING, SHOP, STRICT_LINE, sink_of, source_of, words_of};
 
 /// One object that draws its delays.
 const HOPS: &str = "format = 1
@@ -20,29 +19,6 @@ to = \"uniform\"
 start = [ { time = 0, at = 0 } ]
 ";
 
-/// How a run ended, what it wrote and what it noted.
-#[derive(Drop)]
-struct Ended {
-    status: u8,
-    out: MemSink,
-    notes: MemSink,
-}
-
-impl Ended {
-    /// The run ended so.
-    fn assert<R: Abort>(&self, rt: &R, status: u8, text: &str, notes: &str) {
-        assert!(rt; self.out.bytes() == text.as_bytes());
-        assert!(rt; self.notes.bytes() == notes.as_bytes());
-        assert!(rt; self.status == status);
-    }
-}
-
-/// A source that gives 16 bytes a read, and fails at these calls.
-fn source_of(alloc: Global, model: &str, fails: &[u64]) -> Result<MemSource, Fail> {
-    let bytes = model.as_bytes().to_vec(alloc)?;
-    Ok(MemSource::new(bytes, fails.to_vec(alloc)?, 16))
-}
-
 /// How a run of these words ends over these streams.
 fn ended_by<R: AllocGlobal + Threads + Sync>(
     rt: &R,
@@ -51,9 +27,9 @@ fn ended_by<R: AllocGlobal + Threads + Sync>(
     mut out: MemSink,
 ) -> Result<Ended, Fail> {
     let words = words_of(rt.alloc(), words)?;
-    let mut notes = sink_of(rt.alloc(), 10, &[])?;
+    let mut notes = sink_of(rt.alloc(), &[], &[])?;
     let status = replicate(rt, Ok(words), &mut source, &mut out, &mut notes);
-    Ok(Ended { status, out, notes })
+    Ended::of(rt.alloc(), status, &out, &notes)
 }
 
 /// How a run of these words ends that reads this model, where these reads and these writes fail. A write takes 10 bytes.
@@ -64,8 +40,8 @@ fn told_by<R: AllocGlobal + Threads + Sync>(
     unread: &[u64],
     unwritten: &[u64],
 ) -> Result<Ended, Fail> {
-    let source = source_of(rt.alloc(), model, unread)?;
-    ended_by(rt, words, source, sink_of(rt.alloc(), 10, unwritten)?)
+    let source = source_of(rt.alloc(), model.as_bytes(), unread)?;
+    ended_by(rt, words, source, sink_of(rt.alloc(), unwritten, &[])?)
 }
 
 /// What these words write of a model, with which status.
@@ -143,7 +119,7 @@ const RUNS: [Run; 7] = [
 fn rows_that_were_worked_out(rt: HostRuntime) -> Result<(), Fail> {
     for run in &RUNS {
         let ended = told_by(&rt, run.words, run.model, &[], &[])?;
-        ended.assert(&rt, run.status, run.table, "");
+        ended.assert(&rt, run.status, run.table, "", run.words);
     }
     Ok(())
 }
@@ -154,14 +130,15 @@ fn one_worker_and_64_write_the_same_bytes(rt: HostRuntime) -> Result<(), Fail> {
     let many = told_by(&rt, "200 --workers 64", HOPS, &[], &[])?;
     assert!(rt; one.status == 0);
     assert!(rt; many.status == 0);
-    assert!(rt; one.out.bytes() == many.out.bytes());
+    assert!(rt; one.text == many.text);
     Ok(())
 }
 
 #[test]
 fn a_read_fails_at_each_call(rt: HostRuntime) -> Result<(), Fail> {
     for call in 1..8u64 {
-        told_by(&rt, "2", HOPS, &[call], &[])?.assert(&rt, 4, "", "read failed\n");
+        let ended = told_by(&rt, "2", HOPS, &[call], &[])?;
+        ended.assert(&rt, 4, "", "read failed\n", "a read fails");
     }
     Ok(())
 }
@@ -171,14 +148,15 @@ fn a_write_fails_at_each_call(rt: HostRuntime) -> Result<(), Fail> {
     for call in 1..8u64 {
         let ended = told_by(&rt, "2", HOPS, &[], &[call])?;
         assert!(rt; ended.status == 5);
-        assert!(rt; ended.out.bytes().len() == 10 * (call as usize - 1));
-        assert!(rt; ended.notes.bytes() == b"write failed\n".as_slice());
+        assert!(rt; ended.text.len() == 10 * (call as usize - 1));
+        assert!(rt; ended.notes.as_str() == "write failed\n");
     }
     Ok(())
 }
 
 #[test]
 fn a_refused_model_is_noted(rt: HostRuntime) -> Result<(), Fail> {
-    told_by(&rt, "1", "format = 3", &[], &[])?.assert(&rt, 3, "", "model: 5 BadValue item 0\n");
+    let ended = told_by(&rt, "1", "format = 3", &[], &[])?;
+    ended.assert(&rt, 3, "", "model: 5 BadValue item 0\n", "another format");
     Ok(())
 }

@@ -1,7 +1,7 @@
 //! Tables of a model of one's own: that they are written, and what a failed write leaves.
 ghost use Rattle.std.specs.Prelude.{◌≡◌};
 
-use super::{HOPS_OF_THE_LAST, HOPS_OF_THREE, sink_of};
+use super::{HOPS_OF_THE_LAST, HOPS_OF_THREE};
 use event_key::Key;
 use model_core::model::Model as SimulationModel;
 use model_core::{OutOfMemory, Part};
@@ -129,6 +129,12 @@ fn write<R: Abort + Threads + Sync>(
 struct Outcome {
     stop: Result<Stop, Unfinished>,
     out: MemSink,
+}
+
+/// A sink that takes at most so many bytes of a write, and fails at these calls.
+fn sink_of(alloc: Global, most: usize, fails: &[u64]) -> Result<MemSink, Fail> {
+    let fails = fails.to_vec(alloc)?;
+    Ok(MemSink::new(alloc, 100_000, fails, Vec::new(alloc), most.max(1))?)
 }
 
 /// Writes the table to a sink that takes at most so many bytes of a write, and fails at these calls.

@@ -1,14 +1,14 @@
 //! Long texts: a tick up to its last step, a thousand customers, and a model of many pieces.
 ghost use Rattle.std.specs.Prelude.{◌≤◌};
 
-use super::{Ended, assert_by_all, ended_by, sink_of, told_by};
+use super::{assert_by_all, ended_by, told_by};
 use model_program::Open;
 use sim_io::MemSource;
 use std::alloc::{AllocGlobal, Global};
 use std::process::Abort;
 use std::test::Fail;
 use std::thread::Threads;
-use test_texts::{BANK, ENDLESS, GATE_RING, LONG_ROUTER_LOOP, network};
+use test_texts::{BANK, ENDLESS, Ended, GATE_RING, LONG_ROUTER_LOOP, network, sink_of};
 
 /// The text of what goes on without delay and tells these lines in turn, up to the step that has no next one.
 fn text_of_tick(alloc: Global, even: &str, odd: &str, object: &str) -> Result<String, Fail> {
@@ -67,7 +67,8 @@ fn two_nodes_come_to_the_last_step_at_any_depth(rt: HostRuntime) -> Result<(), F
     assert_to_and_fro(&rt, &all)
 }
 
-// More cycles than events that are pending at once, with draws at each.
+// More cycles than events that are pending at once, with draws at each. An independent simulator in Python has the same first and
+// last line.
 #[test]
 fn a_bank_has_one_text(rt: HostRuntime) -> Result<(), Fail> {
     let one = told_by(&rt, "one", BANK)?;

@@ -1,10 +1,10 @@
 //! A saved state that is as long as one may be, and one that is a byte longer.
-use super::{ended_by, sink_of};
+use super::ended_by;
 use model_program::Open;
 use sim_io::MemSource;
 use std::alloc::Global;
 use std::test::Fail;
-use test_texts::TWO_JOBS;
+use test_texts::{TWO_JOBS, sink_of};
 
 /// How many bytes the text of a state has at most.
 const MOST: usize = 67_108_864;

@@ -1,5 +1,4 @@
 //! The program over any reader, at the reader of `btb`: what `btb` does but for demos.
-use super::{sink_of, source_of, text_of};
 use model_program::{ModelProgram, Open, run_program};
 use model_text::ModelTexts;
 use std::alloc::AllocGlobal;
@@ -7,7 +6,7 @@ use std::process::Abort;
 use std::test::Fail;
 use std::thread::Threads;
 use test_texts::wanted::TIE_TEXT;
-use test_texts::{SAVED_TWO_JOBS, TIE, TWO_JOBS, words_of};
+use test_texts::{SAVED_TWO_JOBS, TIE, TWO_JOBS, sink_of, source_of, text_of, words_of};
 
 /// With these words and this input the program ends so.
 fn assert_told<R: Abort + AllocGlobal + Threads + Sync>(

@@ -1,5 +1,5 @@
 //! Words and models that are refused, and words that can't be read.
-use super::{ended_by, sink_of, source_of, text_of};
+use super::ended_by;
 use btb_program::run_program;
 use model_program::Open;
 use sim_io::MemSource;
@@ -9,7 +9,7 @@ use std::process::Abort;
 use std::test::Fail;
 use std::thread::Threads;
 use test_texts::wanted::TIE_TEXT;
-use test_texts::{DRAWN, ROUTER_LOOP, SHOP, TIE, circuit, words_of};
+use test_texts::{DRAWN, ROUTER_LOOP, SHOP, TIE, circuit, sink_of, source_of, text_of, words_of};
 
 /// Words that are refused, and what is noted of them.
 const REFUSED_WORDS: [(&str, &str); 27] = [

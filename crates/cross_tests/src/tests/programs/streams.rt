@@ -1,13 +1,13 @@
 //! Reads and writes that fail at any call, and streams that go byte by byte.
-use super::{ended_by, sink_of, source_of, status_of, text_of, told_by};
+use super::{ended_by, status_of, told_by};
 use model_program::Open;
 use sim_io::{CleanSink, CleanSource, MemSink, MemSource};
 use std::alloc::AllocGlobal;
 use std::process::Abort;
 use std::test::Fail;
 use std::thread::Threads;
-use test_texts::SHOP;
 use test_texts::wanted::SHOP_TEXT;
+use test_texts::{SHOP, sink_of, source_of, text_of};
 
 #[test]
 fn a_read_that_fails_at_any_call(rt: HostRuntime) -> Result<(), Fail> {

@@ -1,8 +1,10 @@
 //! Sums over a run, and demos.
-use super::{ended_by, sink_of, source_of, told_by};
+use super::{ended_by, told_by};
 use model_program::Open;
 use std::test::Fail;
-use test_texts::{DRAWN, FALSE_FAULT, LOSING, NOTHING, SHOP, SHOP_OF_TEN, STRICT_LINE};
+use test_texts::{
+    DRAWN, FALSE_FAULT, LOSING, NOTHING, SHOP, SHOP_OF_TEN, STRICT_LINE, sink_of, source_of,
+};
 
 /// Models, the status of each, and its totals.
 const TOTALS: [(&str, u8, &str); 7] = [

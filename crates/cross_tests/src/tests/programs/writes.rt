@@ -1,12 +1,12 @@
 //! When the text is written, and what a failing end of it answers.
-use super::{Ended, ended_by, source_of, status_of, text_of};
+use super::{ended_by, status_of};
 use model_program::Open;
 use sim_io::{GatheringSink, MemSink};
 use std::alloc::AllocGlobal;
 use std::process::Abort;
 use std::test::Fail;
 use std::thread::Threads;
-use test_texts::LONG_TIE;
+use test_texts::{Ended, LONG_TIE, source_of, text_of};
 
 /// What each bucket of three tells, and why the simulation stopped.
 const PIECES: [&str; 4] = [
