@@ -53,7 +53,7 @@ const MACHINES: [&str; 3] = ["one", "run", "run --nodes 3 --workers 2"];
 /// By each of them a model has its text.
 fn assert_run<R: Abort + AllocGlobal + Threads + Sync>(rt: &R, run: &Run) -> Result<(), Fail> {
     for words in &MACHINES {
-        told_by(rt, words, run.model)?.assert(rt, 0, run.text, "", run.shows);
+        told_by(rt, words, run.model)?.expect(0, run.text, "", run.shows)?;
     }
     Ok(())
 }
@@ -67,7 +67,7 @@ fn assert_answers<R: Abort + AllocGlobal + Threads + Sync>(
     answers: &[Answer],
 ) -> Result<(), Fail> {
     for (words, input, status, text) in answers {
-        told_by(rt, words, input)?.assert(rt, *status, text, "", words);
+        told_by(rt, words, input)?.expect(*status, text, "", words)?;
     }
     Ok(())
 }

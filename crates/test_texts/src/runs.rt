@@ -1,7 +1,6 @@
 //! Whole runs over sources and sinks in memory.
 use sim_io::{MemSink, MemSource};
 use std::alloc::Global;
-use std::process::Abort;
 use std::test::Fail;
 
 /// More bytes than any run writes.
@@ -25,11 +24,18 @@ impl Ended {
         })
     }
 
-    /// The run ended so.
-    pub fn assert<R: Abort>(&self, rt: &R, status: u8, text: &str, notes: &str, what: &str) {
-        assert!(rt; self.text.as_str() == text, "{what}");
-        assert!(rt; self.notes.as_str() == notes, "{what}");
-        assert!(rt; self.status == status, "{what}");
+    /// Fails unless the run ended so.
+    pub fn expect(&self, status: u8, text: &str, notes: &str, what: &str) -> Result<(), Fail> {
+        if self.text.as_str() != text {
+            return Err(Fail::new(format_args!("{what}: another text:\n{}", self.text)));
+        }
+        if self.notes.as_str() != notes {
+            return Err(Fail::new(format_args!("{what}: other notes: {}", self.notes)));
+        }
+        if self.status != status {
+            return Err(Fail::new(format_args!("{what}: status {}", self.status)));
+        }
+        Ok(())
     }
 }
 

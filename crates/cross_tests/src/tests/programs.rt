@@ -79,7 +79,7 @@ fn assert_by_all<R: Abort + AllocGlobal + Threads + Sync>(
     text: &str,
 ) -> Result<(), Fail> {
     for words in all {
-        told_by(rt, words, model)?.assert(rt, status, text, "", words);
+        told_by(rt, words, model)?.expect(status, text, "", words)?;
     }
     Ok(())
 }

@@ -73,7 +73,7 @@ fn one_worker_and_64_write_the_same_bytes(rt: HostRuntime) -> Result<(), Fail> {
     let one = told_by(&rt, "replicate 50 --workers 1", DRAWS)?;
     let many = told_by(&rt, "replicate 50 --workers 64", DRAWS)?;
     assert!(rt; one.status == 0);
-    many.assert(&rt, 0, one.text.as_str(), "", "64 workers");
+    many.expect(0, one.text.as_str(), "", "64 workers")?;
     Ok(())
 }
 
@@ -94,7 +94,7 @@ fn unwritten<R: AllocGlobal + Threads + Sync>(rt: &R, call: u64) -> Result<Ended
 #[test]
 fn reads_and_writes_fail_at_each_call(rt: HostRuntime) -> Result<(), Fail> {
     for call in 1..8u64 {
-        unread(&rt, call)?.assert(&rt, 4, "", "read failed\n", "a read");
+        unread(&rt, call)?.expect(4, "", "read failed\n", "a read")?;
         let ended = unwritten(&rt, call)?;
         assert!(rt; ended.status == 5);
         assert!(rt; ended.text.len() == 10 * (call as usize - 1));

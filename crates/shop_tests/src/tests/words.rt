@@ -38,7 +38,7 @@ const REFUSED: [(&str, &str, u8, &str); 20] = [
 #[test]
 fn refused_words_and_models_are_noted(rt: HostRuntime) -> Result<(), Fail> {
     for (words, input, status, notes) in &REFUSED {
-        told_by(&rt, words, input)?.assert(&rt, *status, "", notes, words);
+        told_by(&rt, words, input)?.expect(*status, "", notes, words)?;
     }
     Ok(())
 }
@@ -123,7 +123,7 @@ const CHANGES: [(&str, &str, &str); 21] = [
 fn changed_models_are_refused(rt: HostRuntime) -> Result<(), Fail> {
     for (old, new, notes) in &CHANGES {
         let model = MILL.replace(rt.alloc(), old, new)?;
-        told_by(&rt, "run", model.as_str())?.assert(&rt, 3, "", notes, new);
+        told_by(&rt, "run", model.as_str())?.expect(3, "", notes, new)?;
     }
     Ok(())
 }

@@ -119,7 +119,7 @@ const RUNS: [Run; 7] = [
 fn rows_that_were_worked_out(rt: HostRuntime) -> Result<(), Fail> {
     for run in &RUNS {
         let ended = told_by(&rt, run.words, run.model, &[], &[])?;
-        ended.assert(&rt, run.status, run.table, "", run.words);
+        ended.expect(run.status, run.table, "", run.words)?;
     }
     Ok(())
 }
@@ -138,7 +138,7 @@ fn one_worker_and_64_write_the_same_bytes(rt: HostRuntime) -> Result<(), Fail> {
 fn a_read_fails_at_each_call(rt: HostRuntime) -> Result<(), Fail> {
     for call in 1..8u64 {
         let ended = told_by(&rt, "2", HOPS, &[call], &[])?;
-        ended.assert(&rt, 4, "", "read failed\n", "a read fails");
+        ended.expect(4, "", "read failed\n", "a read fails")?;
     }
     Ok(())
 }
@@ -157,6 +157,6 @@ fn a_write_fails_at_each_call(rt: HostRuntime) -> Result<(), Fail> {
 #[test]
 fn a_refused_model_is_noted(rt: HostRuntime) -> Result<(), Fail> {
     let ended = told_by(&rt, "1", "format = 3", &[], &[])?;
-    ended.assert(&rt, 3, "", "model: 5 BadValue item 0\n", "another format");
+    ended.expect(3, "", "model: 5 BadValue item 0\n", "another format")?;
     Ok(())
 }

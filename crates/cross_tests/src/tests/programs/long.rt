@@ -80,7 +80,7 @@ fn a_bank_has_one_text(rt: HostRuntime) -> Result<(), Fail> {
         "run --nodes 1 --ahead 0",
         "run --nodes 16 --ahead 1024 --placement block",
     ] {
-        told_by(&rt, words, BANK)?.assert(&rt, 0, one.text.as_str(), "", words);
+        told_by(&rt, words, BANK)?.expect(0, one.text.as_str(), "", words)?;
     }
     Ok(())
 }
@@ -127,7 +127,7 @@ fn a_model_of_many_pieces_is_read_and_run(rt: HostRuntime) -> Result<(), Fail> {
     assert!(rt; text.len() > 65_536);
     let wanted = "0.0 d hold 1 4\n4.0 o1999 leave 1 4\nend 10 events 2\n";
     for (piece, name) in [(100, "small"), (65_536, "large"), (1_048_576, "whole")] {
-        told_of_pieces(&rt, text.as_str(), piece)?.assert(&rt, 0, wanted, "", name);
+        told_of_pieces(&rt, text.as_str(), piece)?.expect(0, wanted, "", name)?;
     }
     Ok(())
 }

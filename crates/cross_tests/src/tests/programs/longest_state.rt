@@ -54,7 +54,7 @@ fn a_state_of_64_mebibytes_goes_on_and_a_longer_one_is_refused(
         assert!(rt; state.len() == MOST + usize::from(more));
         let source = MemSource::new(state.into_bytes(), Vec::new(alloc), 65_536);
         let out = sink_of(alloc, &[], &[])?;
-        ended_by(&rt, "resume", source, out, &Open)?.assert(&rt, status, text, notes, "resume");
+        ended_by(&rt, "resume", source, out, &Open)?.expect(status, text, notes, "resume")?;
     }
     Ok(())
 }

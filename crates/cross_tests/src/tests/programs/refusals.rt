@@ -49,7 +49,7 @@ fn refused_words_read_nothing(rt: HostRuntime) -> Result<(), Fail> {
         let source = source_of(alloc, TIE.as_bytes(), &[1])?;
         let run = ended_by(&rt, words, source, sink_of(alloc, &[1], &[])?, &Open)?;
         let line = ["words: ", fault, "\n"].concat(alloc)?;
-        run.assert(&rt, 2, "", line.as_str(), words);
+        run.expect(2, "", line.as_str(), words)?;
     }
     Ok(())
 }
@@ -95,7 +95,7 @@ fn assert_no_model<R: Abort + AllocGlobal + Threads + Sync>(
     for words in ["one", "run", "totals", "save 1"] {
         let source = source_of(alloc, model, &[])?;
         let run = ended_by(rt, words, source, sink_of(alloc, &[1], &[])?, &Open)?;
-        run.assert(rt, 3, "", line.as_str(), words);
+        run.expect(3, "", line.as_str(), words)?;
     }
     Ok(())
 }
@@ -130,7 +130,7 @@ fn a_text_of_spaces_is_too_long_or_has_no_format(rt: HostRuntime) -> Result<(), 
         let spaces = vec![in alloc; b' '; length]?;
         let source = MemSource::new(spaces, Vec::new(alloc), 65_536);
         let run = ended_by(&rt, "run", source, sink_of(alloc, &[1], &[])?, &Open)?;
-        run.assert(&rt, 3, "", line, "spaces");
+        run.expect(3, "", line, "spaces")?;
     }
     Ok(())
 }

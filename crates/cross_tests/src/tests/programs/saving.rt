@@ -32,13 +32,12 @@ fn a_state_is_saved_behind_the_records_of_its_cycles(rt: HostRuntime) -> Result<
     let (records, state) = saved(&rt, TWO_JOBS, 1)?;
     assert!(rt; records.as_str() == "4.0 s take 1 0\n4.0 s wait 2 1\n");
     assert!(rt; state.as_str() == SAVED_TWO_JOBS);
-    told_by(&rt, "resume", state.as_str())?.assert(
-        &rt,
+    told_by(&rt, "resume", state.as_str())?.expect(
         0,
         "6.0 s done 1 0\n6.1 out leave 1 2\n8.0 s done 2 0\n8.1 out leave 2 4\nend 10 events 6\n",
         "",
         "resume",
-    );
+    )?;
     Ok(())
 }
 
@@ -65,7 +64,7 @@ const CHANGES: [(&str, &str, &str); 5] = [
 fn a_state_that_no_simulation_meets_is_refused(rt: HostRuntime) -> Result<(), Fail> {
     for (old, new, line) in &CHANGES {
         let text = SAVED_TWO_JOBS.replacen(rt.alloc(), old, new, 1)?;
-        told_by(&rt, "resume", text.as_str())?.assert(&rt, 8, "", line, new);
+        told_by(&rt, "resume", text.as_str())?.expect(8, "", line, new)?;
     }
     Ok(())
 }
@@ -77,7 +76,7 @@ fn a_fault_is_told_by_what_goes_on(rt: HostRuntime) -> Result<(), Fail> {
     assert!(rt; state.as_str().starts_with("state 1\ncount 2\n"));
     assert!(rt; state.as_str().contains("\nevents 2\nevent 7.0 "));
     assert!(rt; state.as_str().contains("\nevent 105.0 "));
-    told_by(&rt, "resume", state.as_str())?.assert(&rt, 1, "fault 7.0 s line-full\n", "", "resume");
+    told_by(&rt, "resume", state.as_str())?.expect(1, "fault 7.0 s line-full\n", "", "resume")?;
     Ok(())
 }
 

@@ -22,7 +22,7 @@ fn a_read_that_fails_at_any_call(rt: HostRuntime) -> Result<(), Fail> {
         } else {
             (0, SHOP_TEXT, "")
         };
-        run.assert(&rt, status, text, line, "a read that fails");
+        run.expect(status, text, line, "a read that fails")?;
     }
     Ok(())
 }
@@ -44,7 +44,7 @@ fn assert_written<R: Abort + AllocGlobal + Threads + Sync>(
     let source = source_of(rt.alloc(), SHOP.as_bytes(), &[])?;
     let out = sink_of(rt.alloc(), fails, idle)?;
     let run = ended_by(rt, "run", source, out, &Open)?;
-    run.assert(rt, wanted.0, wanted.1, wanted.2, "a write that fails");
+    run.expect(wanted.0, wanted.1, wanted.2, "a write that fails")?;
     Ok(())
 }
 
@@ -67,7 +67,7 @@ fn bytes_may_come_and_go_one_by_one(rt: HostRuntime) -> Result<(), Fail> {
     let source = MemSource::new(SHOP.as_bytes().to_vec(alloc)?, Vec::new(alloc), 1);
     let out = MemSink::new(alloc, 4096, Vec::new(alloc), Vec::new(alloc), 1)?;
     let run = ended_by(&rt, "run", source, out, &Open)?;
-    run.assert(&rt, 0, SHOP_TEXT, "", "one by one");
+    run.expect(0, SHOP_TEXT, "", "one by one")?;
     Ok(())
 }
 

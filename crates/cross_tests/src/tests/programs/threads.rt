@@ -84,7 +84,7 @@ fn two_nodes_run_at_once_each_with_its_own_objects(rt: HostRuntime) -> Result<()
     for (words, object) in &PLACED {
         let gate = Meet::new(*object);
         let run = told_at(&rt, words, SHOP, &gate)?;
-        run.assert(&rt, 0, SHOP_TEXT, "", words);
+        run.expect(0, SHOP_TEXT, "", words)?;
         assert!(rt; gate.zero_met.load(Ordering::SeqCst));
         assert!(rt; gate.one_met.load(Ordering::SeqCst));
         assert!(rt; gate.told.load(Ordering::SeqCst) >= 12);
@@ -157,7 +157,7 @@ fn assert_traced<R: Abort + AllocGlobal + Threads + Sync>(
     let alloc = rt.alloc();
     let gate = Trace::new(alloc, traced.node)?;
     let run = told_at(rt, traced.words, traced.model, &gate)?;
-    run.assert(rt, 0, traced.text, "", traced.words);
+    run.expect(0, traced.text, "", traced.words)?;
     assert!(rt;
         gate.told(alloc)?.as_slice() == traced.stamps,
         "{}",
@@ -329,7 +329,7 @@ start = [ { time = 0, at = 0 }, { time = 2, at = 1 }, { time = 6, at = 1 } ]
     };
     let words = "run --nodes 2 --ahead 0";
     let text = "0.0 p0 hop 5 1\n2.0 p1 hop 5 0\n5.0 p1 hop 5 0\n6.0 p1 hop 5 0\nend 6 events 4\n";
-    told_at(&rt, words, model, &gate)?.assert(&rt, 0, text, "", words);
+    told_at(&rt, words, model, &gate)?.expect(0, text, "", words)?;
     assert!(rt; gate.zero.told(alloc)?.as_slice() == [(0, 0)].as_slice());
     assert!(rt; gate.one.told(alloc)?.as_slice() == [(2, 0), (5, 0), (6, 0)].as_slice());
     Ok(())
@@ -371,7 +371,7 @@ impl Gate for Stick {
 fn a_turn_that_waits_behind_another_is_stolen(rt: HostRuntime) -> Result<(), Fail> {
     let gate = Stick::new();
     let words = "run --nodes 4 --workers 2";
-    told_at(&rt, words, SHOP, &gate)?.assert(&rt, 0, SHOP_TEXT, "", words);
+    told_at(&rt, words, SHOP, &gate)?.expect(0, SHOP_TEXT, "", words)?;
     assert!(rt; gate.seen.load(Ordering::SeqCst));
     Ok(())
 }

@@ -63,7 +63,7 @@ limit 10
 #[test]
 fn totals_are_sums_up_to_the_last_record_of_each_object(rt: HostRuntime) -> Result<(), Fail> {
     for (model, status, text) in &TOTALS {
-        told_by(&rt, "totals", model)?.assert(&rt, *status, text, "", model);
+        told_by(&rt, "totals", model)?.expect(*status, text, "", model)?;
     }
     Ok(())
 }
@@ -94,7 +94,7 @@ fn a_demo_is_summed_up_and_reads_nothing(rt: HostRuntime) -> Result<(), Fail> {
     for (words, text) in &DEMOS {
         let source = source_of(alloc, b"no model", &[1])?;
         let run = ended_by(&rt, words, source, sink_of(alloc, &[], &[])?, &Open)?;
-        run.assert(&rt, 0, text, "", words);
+        run.expect(0, text, "", words)?;
     }
     Ok(())
 }

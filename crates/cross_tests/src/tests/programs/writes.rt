@@ -39,11 +39,11 @@ fn each_bucket_is_written_after_its_cycle(rt: HostRuntime) -> Result<(), Fail> {
         let mut written = String::new(rt.alloc());
         for (call, piece) in (1..).zip(PIECES) {
             let run = run_failing(&rt, words, call)?;
-            run.assert(&rt, 5, written.as_str(), "write failed\n", words);
+            run.expect(5, written.as_str(), "write failed\n", words)?;
             written.push_str(piece)?;
         }
         let run = run_failing(&rt, words, 5)?;
-        run.assert(&rt, 0, written.as_str(), "", words);
+        run.expect(0, written.as_str(), "", words)?;
     }
     Ok(())
 }
