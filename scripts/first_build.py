@@ -6,9 +6,11 @@
 On copies of the repository in which nothing is built: rt is given the crates of the program and nothing else; a second run
 builds nothing, nor does a copy of the built tree; a failed build names its log; what a failed or an interrupted build has
 proved is used by the next one, and by that of another program; a signal ends a build and nothing beside it; of two builds
-at once the second waits; and without rt, or where nothing can be written, the script says so. It stands outside the gate: it
-takes a minute or two.
+at once the second waits; and without rt, or where nothing can be written, the script says so. Besides it tries how `rt_ci.py`
+hands out processors. It stands outside the gate: it takes a minute or two.
 """
+import functools
+import importlib.util
 import os
 import pathlib
 import shutil
@@ -74,7 +76,7 @@ class Tree:
         for name in ("btb", "replicate", "crates.txt", "HANDLES"):
             shutil.copy2(TOP / name, self.top)
         (self.top / "scripts").mkdir()
-        for name in ("build", "launch"):
+        for name in ("build", "launch", "rt_ci.py"):
             shutil.copy2(TOP / "scripts" / name, self.top / "scripts")
         for crate in (TOP / "crates").iterdir():
             for part in PARTS:
@@ -262,6 +264,37 @@ def read_only_tree(tree):
     (tree.top / "crates/btb").chmod(0o755)
 
 
+def handed_out(tree):
+    """The tasks of five crates: `top` stands on all others, `long` and `last` are a chain, and `tried` alone has tests and edits."""
+    module = loaded(tree.top / "scripts/rt_ci.py")
+    below = {"base": [], "long": ["base"], "short": ["base"], "tried": ["base"], "last": ["base", "long"], "top": ["base", "long", "short", "tried", "last"]}
+    lines = {"base": 10, "long": 300, "short": 50, "tried": 50, "last": 400, "top": 10}
+    begun, tasks = [], {}
+    for crate, uses in below.items():
+        waits, has_more = [(it, "proof") for it in uses], crate == "tried"
+        for part, on, size in (("proof", waits, lines[crate]), ("tests", waits, has_more), ("edits", [(crate, "proof"), (crate, "tests")], has_more)):
+            tasks[crate, part] = (on, int(size), 1e9, functools.partial(noted_task, begun, (crate, part), on))
+    given = module.Lanes([module.Task(key, said) for key, said in tasks.items()], 4, 4e9).run()
+    check(set(given) == set(tasks) and all(given.values()), "each task is done once, after those for which it waits")
+    jobs = dict(begun)
+    check(all(jobs[it, "proof"] >= 2 for it in ("base", "long", "last", "top")), "a crate of the longest chain is proved by two processes or more")
+    check(jobs["tried", "edits"] == 1, "and an edit by one")
+
+
+def loaded(path):
+    spec = importlib.util.spec_from_file_location(path.stem, path)
+    module = importlib.util.module_from_spec(spec)
+    spec.loader.exec_module(module)
+    return module
+
+
+def noted_task(begun, key, waits, given, jobs):
+    """A task that takes a moment, and tells whether it could begin."""
+    begun.append((key, jobs))
+    time.sleep(0.01)
+    return all(it in given for it in waits)
+
+
 def nothing_is_left(tree):
     """Whether soon no process works in the tree or runs a file of it."""
     for _ in range(50):
@@ -280,7 +313,7 @@ def works_in(process, folder):
 
 def main():
     for cases in (
-        (no_toolchain, read_only_tree, whole_build, second_run, by_a_link, copied_tree, another_program, changed_source), (failed_build,),
+        (handed_out, no_toolchain, read_only_tree, whole_build, second_run, by_a_link, copied_tree, another_program, changed_source), (failed_build,),
         (kept_work,), (interrupted_build,), (ended_by_its_parent, killed_build), (two_builds,),
     ):
         with tempfile.TemporaryDirectory() as room:
