@@ -1,5 +1,5 @@
 //! The state of an object: words, and lines of values.
-ghost use Rattle.std.specs.Prelude.{◌≡◌, ◌<◌, ◌≤◌, ◌^◌, ℕ, true, List, length, slice_index};
+ghost use Rattle.std.specs.Prelude.{◌≡◌, ◌<◌, ◌≤◌, ◌^◌, ℕ, true, List, [], length, slice_index};
 ghost use Rattle.std.specs.Prelude.{map, take, drop, reverse, IfOk, OnOk};
 ghost use Rattle.delta_exchange.specs.Changes.{line_of, Fits, cells_after, inverse_of};
 ghost use Rattle.delta_exchange.specs.Changes.{AllFit, cells_after_all, inverses_of};
@@ -53,6 +53,19 @@ impl Cells {
         Ok(Cells {
             words: Words::new(words),
             lines,
+        })
+    }
+
+    /// These words, and no lines. No memory is taken for up to four words.
+    pub fn of_words(alloc: Global, words: &[u64]) -> Result<Cells, OutOfMemory>
+        requires { length words.now < 2 ^ 32 }
+        ensures contents { IfOk result (λ cells. cells.contents ≡ record { words = words.now; lines = [] }) }
+        ensures spare { IfOk result (λ cells. cells.spare ≡ []) }
+        ensures spares { IfOk result HasSpares }
+    {
+        Ok(Cells {
+            words: Words::of(alloc, words)?,
+            lines: Vec::new(alloc),
         })
     }
 

@@ -1,5 +1,5 @@
 //! The words of an object.
-ghost use Rattle.std.specs.Prelude.{◌≡◌, ◌<◌, ◌^◌, length, slice_index, slice_set, IfOk};
+ghost use Rattle.std.specs.Prelude.{◌≡◌, ◌<◌, ◌≤◌, ◌^◌, length, slice_index, slice_set, IfOk};
 
 use std::alloc::{AllocError, Global};
 use std::marker::Model;
@@ -39,14 +39,33 @@ impl Words {
     pub fn new(list: Vec<u64>) -> Words
         ensures { result ≡ list.items }
     {
-        let count = list.len();
-        if count > FEW {
+        if list.len() > FEW {
             return Words {
                 kept: Kept::Apart(list),
             };
         }
+        Words::in_place(&list)
+    }
+
+    /// These words. No memory is taken for a few.
+    pub fn of(alloc: Global, list: &[u64]) -> Result<Words, AllocError>
+        ensures { IfOk result (λ words. words ≡ list.now) }
+    {
+        if list.len() > FEW {
+            let kept = Kept::Apart(Vec::from_slice(alloc, list)?);
+            return Ok(Words { kept });
+        }
+        Ok(Words::in_place(list))
+    }
+
+    /// These few words.
+    fn in_place(list: &[u64]) -> Words
+        requires { length list.now ≤ FEW }
+        ensures { result ≡ list.now }
+    {
+        let count = list.len();
         let mut words = [0; FEW];
-        words[..count].copy_from_slice(&list);
+        words[..count].copy_from_slice(list);
         Words {
             kept: Kept::InPlace {
                 count: count as u32,

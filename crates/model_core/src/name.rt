@@ -1,8 +1,9 @@
 //! Names of objects.
-ghost use Rattle.std.specs.Prelude.{◌≡◌, ◌+◌, ◌≤◌, length, IfSome, IfNone};
+ghost use Rattle.std.specs.Prelude.{◌≡◌, ◌+◌, ◌≤◌, length, IfOk, IfSome, IfNone};
 ghost use Rattle.model_core.specs.Writing.{WritesAt};
 
 use crate::writing::write_first;
+use std::alloc::{AllocError, Global};
 use std::marker::Model;
 
 /// How many bytes a name has that stands in place.
@@ -39,14 +40,33 @@ impl Name {
     pub fn new(bytes: Vec<u8>) -> Name
         ensures { result ≡ bytes.items }
     {
-        let count = bytes.len();
-        if count > SHORT_NAME {
+        if bytes.len() > SHORT_NAME {
             return Name {
                 kept: Kept::Apart(bytes),
             };
         }
+        Name::in_place(&bytes)
+    }
+
+    /// The name with these bytes. No memory is taken for a short one.
+    pub fn of(alloc: Global, bytes: &[u8]) -> Result<Name, AllocError>
+        ensures { IfOk result (λ name. name ≡ bytes.now) }
+    {
+        if bytes.len() > SHORT_NAME {
+            let kept = Kept::Apart(Vec::from_slice(alloc, bytes)?);
+            return Ok(Name { kept });
+        }
+        Ok(Name::in_place(bytes))
+    }
+
+    /// A short name.
+    fn in_place(bytes: &[u8]) -> Name
+        requires { length bytes.now ≤ SHORT_NAME }
+        ensures { result ≡ bytes.now }
+    {
+        let count = bytes.len();
         let mut short = [0; SHORT_NAME];
-        short[..count].copy_from_slice(&bytes);
+        short[..count].copy_from_slice(bytes);
         Name {
             kept: Kept::InPlace {
                 count: count as u8,

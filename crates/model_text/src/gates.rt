@@ -11,8 +11,9 @@ ghost use Rattle.model_text.specs.NamedGates.{IsNamedGate, flip_count, gate_plac
 
 use crate::gate_fields::{fed_gate, input, required_kind};
 use crate::named::NamedGate;
+use model_core::Name;
 use std::alloc::Global;
-use text_fields::{Directory, Place, Refusal, name_of, required_name, table_of};
+use text_fields::{Directory, Place, Refusal, required_name, table_of};
 use toml::Value;
 
 /// The gate with this number, counted from 0, which may have none of the names in the directory and is taken in there, where
@@ -35,16 +36,13 @@ fn gate<'a>(
 {
     let item = number + 1;
     let table = table_of(value, item)?;
-    let name = required_name(table, directory, item)?;
+    let place = Place {
+        number,
+        takes_links: true,
+    };
+    let name = required_name(table, directory, place, item)?;
     let kind = required_kind(table, item)?;
-    directory.add(
-        name.as_bytes(),
-        Place {
-            number,
-            takes_links: true,
-        },
-    )?;
-    let name = name_of(alloc, name)?;
+    let name = Name::of(alloc, name.as_bytes())?;
     if kind.is_input() {
         input(alloc, table, name, flips_before, item)
     } else {

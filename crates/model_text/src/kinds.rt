@@ -21,8 +21,8 @@ use queue_models::{
 };
 use std::alloc::Global;
 use text_fields::{
-    Cause, Directory, Refusal, link, links, name_of, number_or, optional_number, optional_weights,
-    required, required_law, required_number, required_text, truth_or, ways,
+    Cause, Directory, Refusal, link, links, number_or, optional_number, optional_weights, required,
+    required_law, required_number, required_text, truth_or, ways,
 };
 use toml::Table;
 
@@ -31,7 +31,7 @@ fn next_name(alloc: Global, table: &Table, item: u32) -> Result<Name, Refusal>
     ensures { Gives (λ name. name) result (required_text item (codes "next") (table_view table.now)) }
 {
     let next = required_text(table, "next", item)?;
-    Ok(name_of(alloc, next)?)
+    Ok(Name::of(alloc, next.as_bytes())?)
 }
 
 /// A source.

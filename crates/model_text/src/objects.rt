@@ -15,10 +15,9 @@ use crate::additions::{flag, rank, trace};
 use crate::formats::Format;
 use crate::kinds::{known_keys, named_kind};
 use crate::named::{NamedItem, NamedKind};
+use model_core::Name;
 use std::alloc::Global;
-use text_fields::{
-    Directory, Place, Refusal, name_of, only, required_name, required_text, table_of,
-};
+use text_fields::{Directory, Place, Refusal, only, required_name, required_text, table_of};
 use toml::{Table, Value};
 
 /// What objects of all kinds have.
@@ -63,7 +62,7 @@ fn object_named(
     ensures name { IfOk result (λ object. object.name ≡ name.now) }
 {
     let word = required_text(table, "kind", item)?;
-    let name = name_of(alloc, name)?;
+    let name = Name::of(alloc, name.as_bytes())?;
     let kind = named_kind(alloc, table, word, item)?;
     let fields = common_fields(table, &kind, format, item)?;
     Ok(NamedItem {
@@ -92,11 +91,19 @@ fn object<'a>(
 {
     let item = number + 1;
     let table = table_of(value, item)?;
-    let name = required_name(table, directory, item)?;
-    let object = object_named(alloc, table, name, format, item)?;
     let place = Place {
         number,
-        takes_links: !object.kind.is_source(),
+        takes_links: true,
+    };
+    let name = required_name(table, directory, place, item)?;
+    let object = object_named(alloc, table, name, format, item)?;
+    if !object.kind.is_source() {
+        return Ok(object);
+    }
+    // nothing may be sent to a source
+    let place = Place {
+        number,
+        takes_links: false,
     };
     directory.add(name.as_bytes(), place)?;
     Ok(object)

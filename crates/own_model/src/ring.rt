@@ -54,7 +54,7 @@ impl SimulationModel for Ring {
     }
 
     fn first_cells(&self, alloc: Global, _object: u32) -> Result<Cells, OutOfMemory> {
-        Cells::new(alloc, vec![in alloc; 0, 0]?, Vec::new(alloc))
+        Cells::of_words(alloc, &[0, 0])
     }
 
     fn is_lawful(&self, _object: u32, cells: &Cells) -> bool {

@@ -14,7 +14,7 @@ fn at_the_last(rt: &HostRuntime, patience: u64) -> Result<Outcome, Fail> {
         hold: Law::Fixed { value: 5 },
         patience,
     };
-    let cells = Cells::new(rt.alloc(), vec![in rt.alloc(); 0, 4]?, Vec::new(rt.alloc()))?;
+    let cells = Cells::of_words(rt.alloc(), &[0, 4])?;
     let key = Key {
         stamp: stamp_of(12, 0),
         rank: 0,

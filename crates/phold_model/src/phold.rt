@@ -181,8 +181,7 @@ impl SimulationModel for Phold {
     }
 
     fn first_cells(&self, alloc: Global, _object: u32) -> Result<Cells, OutOfMemory> {
-        let words = vec![in alloc; 0]?;
-        Cells::new(alloc, words, Vec::new(alloc))
+        Cells::of_words(alloc, &[0])
     }
 
     fn is_lawful(&self, _object: u32, cells: &Cells) -> bool {

@@ -38,8 +38,7 @@ pub struct ObjectEvent<'a> {
 pub fn first_cells(alloc: Global) -> Result<Cells, OutOfMemory>
     ensures { IfOk result (λ cells. cells.contents ≡ plain_cells) }
 {
-    let words = vec![in alloc; 0]?;
-    Cells::new(alloc, words, Vec::new(alloc))
+    Cells::of_words(alloc, &[0])
 }
 
 /// Whether the cells are a random place alone.

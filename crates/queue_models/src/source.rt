@@ -45,8 +45,7 @@ impl Source<u32> {
     pub(crate) fn first_cells(&self, alloc: Global) -> Result<Cells, OutOfMemory>
         ensures { IfOk result (λ cells. cells.contents ≡ first_source_cells self.now.count) }
     {
-        let words = vec![in alloc; 0, 0, u64::from(self.count)]?;
-        Cells::new(alloc, words, Vec::new(alloc))
+        Cells::of_words(alloc, &[0, 0, u64::from(self.count)])
     }
 
     /// Whether the jobs that are made and those that are left are all.

@@ -18,8 +18,7 @@ use std::alloc::{AllocError, Global};
 pub(crate) fn first_class_cells(alloc: Global) -> Result<Cells, OutOfMemory>
     ensures { IfOk result (λ cells. cells.contents ≡ first_class_cells) }
 {
-    let words = vec![in alloc; 0, 0, 0]?;
-    Cells::new(alloc, words, Vec::new(alloc))
+    Cells::of_words(alloc, &[0, 0, 0])
 }
 
 impl Class {

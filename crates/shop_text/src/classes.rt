@@ -17,8 +17,7 @@ use model_core::{Name, Sequence};
 use shop_model::{Class, MOST_DUE, MOST_PRIORITY};
 use std::alloc::Global;
 use text_fields::{
-    Directory, Place, Refusal, name_of, number_or, only, optional_number, required, required_name,
-    table_of,
+    Directory, Place, Refusal, number_or, only, optional_number, required, required_name, table_of,
 };
 use toml::{Table, Value};
 
@@ -81,7 +80,7 @@ fn class_fields(
     ensures in_range { IfOk result HasClassFields }
     ensures few { IfOk result (λ class. times + length class.times ≤ MOST_TIMES) }
 {
-    let name = name_of(alloc, name)?;
+    let name = Name::of(alloc, name.as_bytes())?;
     let arrivals = read_arrivals(alloc, table, times, item)?;
     let urgency = read_urgency(table, item)?;
     Ok(class_with(alloc, name, arrivals, urgency))
@@ -151,12 +150,11 @@ fn class<'a>(
     ensures links { (most : ℕ) → LinksBelow most (finder directory.old) → IfOk result (λ _. LinksBelow most (finder directory.new)) }
 {
     let table = table_of(value, item)?;
-    let name = required_name(table, directory, item)?;
     let place = Place {
         number: item - 1,
         takes_links: false,
     };
-    directory.add(name.as_bytes(), place)?;
+    let name = required_name(table, directory, place, item)?;
     class_named(alloc, table, name, times, item)
 }
 

@@ -1,11 +1,10 @@
 //! A route: its steps, and their labels.
-ghost use Rattle.std.specs.Prelude.{◌≡◌, ◌≤◌, ◌+◌, All, IfOk, OnOk, codes, length};
+ghost use Rattle.std.specs.Prelude.{◌≡◌, ◌≤◌, ◌+◌, All, IfOk, codes, length};
 ghost use Rattle.toml.specs.Data.{get_member};
 ghost use Rattle.toml.specs.View.{view, items_view, table_view};
 ghost use Rattle.shop_model.specs.declared.class.TheConstants.{MOST_STEPS};
 ghost use Rattle.text_fields.specs.Checks.{Gives};
 ghost use Rattle.text_fields.specs.Directories.{finder};
-ghost use Rattle.text_fields.specs.Names.{taken_in};
 ghost use Rattle.shop_text.specs.Ranges.{IsNamedStep, IsRoute, LinksBelow};
 ghost use Rattle.shop_text.specs.StepTexts.{label, step, step_place, route_ends, steps, route};
 
@@ -18,15 +17,14 @@ use text_fields::{
 };
 use toml::{Table, Value};
 
-/// A label stands for the step with this number.
-fn take_in<'a>(labels: &mut Directory<'a>, label: &'a [u8], number: u32) -> Result<(), AllocError>
-    ensures { OnOk result (finder labels.new ≡ taken_in (finder labels.old) label.now (step_place number)) }
+/// What the label of the step with this number stands for.
+fn step_place(number: u32) -> Place
+    ensures { result ≡ step_place number }
 {
-    let place = Place {
+    Place {
         number,
         takes_links: true,
-    };
-    labels.add(label, place)
+    }
 }
 
 /// Takes in the label of the step with this number, if it has one.
@@ -40,8 +38,8 @@ fn label<'a>(
 {
     match field(table, "label") {
         Some(value) => {
-            let name = new_name(value, labels, item)?;
-            Ok(take_in(labels, name.as_bytes(), number)?)
+            new_name(value, labels, step_place(number), item)?;
+            Ok(())
         }
         None => Ok(()),
     }
@@ -70,8 +68,8 @@ fn route_ends<'a>(alloc: Global, steps: u32) -> Result<Directory<'a>, AllocError
     ensures { IfOk result (λ labels. finder labels ≡ route_ends steps) }
 {
     let mut labels = Directory::new(alloc);
-    take_in(&mut labels, b"out", steps)?;
-    take_in(&mut labels, b"drop", steps + 1)?;
+    labels.add(b"out", step_place(steps))?;
+    labels.add(b"drop", step_place(steps + 1))?;
     Ok(labels)
 }
 

@@ -17,8 +17,7 @@ use model_core::Name;
 use shop_model::{Breakdowns, MOST_LINE, MOST_OPEN, Order, Station};
 use std::alloc::Global;
 use text_fields::{
-    Cause, Directory, Place, Refusal, field, name_of, number_or, only, required_name, table_of,
-    text,
+    Cause, Directory, Place, Refusal, field, number_or, only, required_name, table_of, text,
 };
 use toml::{Table, Value};
 
@@ -107,7 +106,7 @@ fn station_named(alloc: Global, table: &Table, name: &str, item: u32) -> Result<
     ensures read { Gives (λ station. station) result (station_named item name.now (table_view table.now)) }
     ensures in_range { IfOk result IsStationText }
 {
-    let name = name_of(alloc, name)?;
+    let name = Name::of(alloc, name.as_bytes())?;
     let desk = read_desk(table, item)?;
     let timetable = read_timetable(alloc, table, item)?;
     let breakdowns = breakdowns(alloc, table, item)?;
@@ -135,12 +134,11 @@ fn station<'a>(
     ensures links { LinksBelow (item - 1) (finder directory.old) → IfOk result (λ _. LinksBelow item (finder directory.new)) }
 {
     let table = table_of(value, item)?;
-    let name = required_name(table, directory, item)?;
     let place = Place {
         number: item - 1,
         takes_links: true,
     };
-    directory.add(name.as_bytes(), place)?;
+    let name = required_name(table, directory, place, item)?;
     station_named(alloc, table, name, item)
 }
 

@@ -11,10 +11,11 @@ ghost use Rattle.shop_text.specs.StepTexts.{visit_names, visit, service, hold, f
 
 use crate::laws::{optional_law, required_law};
 use crate::named::{NamedStep, NamedVisit, VisitNames};
+use model_core::Name;
 use random_streams::DelayLaw;
 use std::alloc::Global;
 use text_fields::{
-    Cause, Refusal, field, name_of, only, optional_weights, required, required_text, text_or, ways,
+    Cause, Refusal, field, only, optional_weights, required, required_text, text_or, ways,
 };
 use toml::Table;
 
@@ -33,9 +34,9 @@ fn visit_names(
 {
     let away = text_or(table, "away", item, UNSERVED)?;
     let full = text_or(table, "full", item, UNSERVED)?;
-    let station = name_of(alloc, station)?;
-    let away = name_of(alloc, away)?;
-    let full = name_of(alloc, full)?;
+    let station = Name::of(alloc, station.as_bytes())?;
+    let away = Name::of(alloc, away.as_bytes())?;
+    let full = Name::of(alloc, full.as_bytes())?;
     Ok(VisitNames {
         station,
         away,
@@ -115,7 +116,7 @@ fn free(alloc: Global, table: &Table, item: u32) -> Result<NamedStep, Refusal>
 {
     let station = required_text(table, "free", item)?;
     only(table, &["label", "free"], item)?;
-    let station = name_of(alloc, station)?;
+    let station = Name::of(alloc, station.as_bytes())?;
     Ok(NamedStep::Free { station })
 }
 

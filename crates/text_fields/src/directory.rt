@@ -1,5 +1,5 @@
 //! Finding objects and gates by their names.
-ghost use Rattle.std.specs.Prelude.{◌≡◌, OnOk};
+ghost use Rattle.std.specs.Prelude.{◌≡◌, IfOk, OnOk};
 
 use std::alloc::{AllocError, Global};
 use std::collections::HashMap;
@@ -21,7 +21,7 @@ pub struct Directory<'a> {
 
 impl<'a> Directory<'a> {
     ghost use Rattle.text_fields.specs.Directories.{finder};
-    ghost use Rattle.text_fields.specs.Names.{TakesIn, nothing, taken_in};
+    ghost use Rattle.text_fields.specs.Names.{nothing, taken_in};
 
     /// A directory of nothing.
     pub fn new(alloc: Global) -> Directory<'a>
@@ -39,12 +39,11 @@ impl<'a> Directory<'a> {
         self.places.get(name).copied()
     }
 
-    /// Takes in what has a name that it doesn't have yet.
-    pub fn add(&mut self, name: &'a [u8], place: Place) -> Result<(), AllocError>
-        ensures others { OnOk result (TakesIn (finder self.old) (finder self.new) name.now place) }
+    /// Takes in what has a name, and answers what had it before.
+    pub fn add(&mut self, name: &'a [u8], place: Place) -> Result<Option<Place>, AllocError>
+        ensures before { IfOk result (λ before. before ≡ finder self.old name.now) }
         ensures taken_in { OnOk result (finder self.new ≡ taken_in (finder self.old) name.now place) }
     {
-        self.places.insert(name, place)?;
-        Ok(())
+        Ok(self.places.insert(name, place)?)
     }
 }

@@ -22,7 +22,7 @@ pub use fields::{
 };
 pub use laws::{fixed_law, law, required_law, uniform_law};
 pub use linking::{link, links};
-pub use names::{name_of, names_of, new_name, required_name};
+pub use names::{names_of, new_name, required_name};
 pub use numbers::numbers_of;
 pub use refusal::{Cause, Refusal, code_name};
 pub use terms::terms_of;

@@ -6,13 +6,13 @@ ghost use Rattle.queue_models.specs.Parts.{is_name_byte};
 ghost use Rattle.text_fields.specs.Checks.{Gives};
 ghost use Rattle.text_fields.specs.Directories.{finder};
 ghost use Rattle.text_fields.specs.Fields.{each, text};
-ghost use Rattle.text_fields.specs.Names.{is_name, new_name, required_name};
+ghost use Rattle.text_fields.specs.Names.{is_name, new_name, required_name, taken_in};
 
-use crate::directory::Directory;
+use crate::directory::{Directory, Place};
 use crate::fields::{required, text};
 use crate::refusal::{Cause, Refusal};
 use model_core::Name;
-use std::alloc::{AllocError, Global};
+use std::alloc::Global;
 use toml::{Table, Value};
 
 /// How many bytes a name has at most.
@@ -39,14 +39,6 @@ fn is_name(name: &str) -> bool
     !name.is_empty() && name.len() <= MOST_NAME_BYTES && has_name_bytes(name)
 }
 
-/// The name with this text.
-pub fn name_of(alloc: Global, text: &str) -> Result<Name, AllocError>
-    ensures { IfOk result (λ name. name ≡ text.now) }
-{
-    let text = String::from_str(alloc, text)?;
-    Ok(Name::new(text.into_bytes()))
-}
-
 /// The texts of an array, each as the name of an object.
 pub fn names_of(alloc: Global, values: &[Value], item: u32) -> Result<Vec<Name>, Refusal>
     ensures read { Gives (λ names. names.items) result (each (text item) (items_view values.now)) }
@@ -54,37 +46,46 @@ pub fn names_of(alloc: Global, values: &[Value], item: u32) -> Result<Vec<Name>,
 {
     let mut names = Vec::new(alloc);
     for value in values {
-        names.push(name_of(alloc, text(value, item)?)?)?;
+        let name = text(value, item)?;
+        names.push(Name::of(alloc, name.as_bytes())?)?;
     }
     Ok(names)
 }
 
-/// A name that no object before has.
+/// A name that nothing in the directory has, which takes in what has it.
 #[tactic(auto, unfolding(crate::specs::Names::new_name))]
-pub fn new_name<'a>(value: &'a Value, directory: &Directory, item: u32) -> Result<&'a str, Refusal>
-    ensures read { Gives (λ name. name.now) result (new_name (finder directory.now) item (view value.now)) }
+pub fn new_name<'a>(
+    value: &'a Value,
+    directory: &mut Directory<'a>,
+    place: Place,
+    item: u32,
+) -> Result<&'a str, Refusal>
+    ensures read { Gives (λ name. name.now) result (new_name (finder directory.old) item (view value.now)) }
     ensures named { IfOk result (λ name. IsTrue (is_name name.now)) }
-    ensures new { IfOk result (λ name. finder directory.now name.now ≡ None) }
+    ensures new { IfOk result (λ name. finder directory.old name.now ≡ None) }
+    ensures taken_in { IfOk result (λ name. finder directory.new ≡ taken_in (finder directory.old) name.now place) }
 {
     let name = text(value, item)?;
     if !is_name(name) {
         return Err(Cause::BadValue.at(item));
     }
-    if directory.find(name.as_bytes()).is_some() {
-        return Err(Cause::BadValue.at(item));
+    match directory.add(name.as_bytes(), place)? {
+        Some(_) => Err(Cause::BadValue.at(item)),
+        None => Ok(name),
     }
-    Ok(name)
 }
 
-/// The name that a table gives, which no object before has.
+/// The name that a table gives, which nothing in the directory has. It takes in what has it.
 pub fn required_name<'a>(
     table: &'a Table,
-    directory: &Directory,
+    directory: &mut Directory<'a>,
+    place: Place,
     item: u32,
 ) -> Result<&'a str, Refusal>
-    ensures read { Gives (λ name. name.now) result (required_name (finder directory.now) item (table_view table.now)) }
+    ensures read { Gives (λ name. name.now) result (required_name (finder directory.old) item (table_view table.now)) }
     ensures named { IfOk result (λ name. IsTrue (is_name name.now)) }
-    ensures new { IfOk result (λ name. finder directory.now name.now ≡ None) }
+    ensures new { IfOk result (λ name. finder directory.old name.now ≡ None) }
+    ensures taken_in { IfOk result (λ name. finder directory.new ≡ taken_in (finder directory.old) name.now place) }
 {
-    new_name(required(table, "name", item)?, directory, item)
+    new_name(required(table, "name", item)?, directory, place, item)
 }

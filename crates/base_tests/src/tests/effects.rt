@@ -27,7 +27,7 @@ fn a_note_tells_its_parts_in_order(rt: HostRuntime) {
 
 #[test]
 fn a_name_is_its_bytes(rt: HostRuntime) -> Result<(), Fail> {
-    let name = Name::new(b"desk".to_vec(rt.alloc())?);
+    let name = Name::of(rt.alloc(), b"desk")?;
     assert!(rt; name.bytes() == b"desk".as_slice());
     Ok(())
 }

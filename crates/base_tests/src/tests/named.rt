@@ -50,7 +50,7 @@ impl SimulationModel for Named {
     }
 
     fn first_cells(&self, alloc: Global, _object: u32) -> Result<Cells, OutOfMemory> {
-        Cells::new(alloc, Vec::new(alloc), Vec::new(alloc))
+        Cells::of_words(alloc, &[])
     }
 
     fn is_lawful(&self, _object: u32, _cells: &Cells) -> bool {

@@ -38,7 +38,7 @@ fn cells_of<M: SimulationModel>(alloc: Global, model: &M, hop: &Hop) -> Result<C
     requires { hop.now.object < (M.meaning model.now).objects }
 {
     match hop.place {
-        Some(place) => Cells::new(alloc, vec![in alloc; place]?, Vec::new(alloc)),
+        Some(place) => Cells::of_words(alloc, &[place]),
         None => model.first_cells(alloc, hop.object),
     }
 }

@@ -29,11 +29,11 @@ returns-clause-read c =
     let known : Known = record { find = finder c.args.directory.now; times = c.args.times } in
     let name = c.in_ok-name.name.now in
     let ms = table_view c.in_ok-table.table.now in
-    rw (name-read c.args.item known (view c.args.value.now) ms name c.in_ok-table.ensures c.in_ok-name.ensures.read, c.in_ok-add.ensures.taken_in, c.as_bytes.ensures.value)
+    rw (name-read c.args.item known (view c.args.value.now) ms name c.in_ok-table.ensures c.in_ok-name.ensures.read, c.in_ok-name.ensures.taken_in)
     (gives_more class_text (and_known c.args.item known name) c.class_named.result (class_named c.args.item c.args.times name ms) c.class_named.ensures.read)
 
 pub returns-clause-links : goal.returns-clause-links
 returns-clause-links c = λ most below.
-    let after = subst (λ (more : Finder). LinksBelow most more) (sym c.in_ok-add.ensures.taken_in)
+    let after = subst (λ (more : Finder). LinksBelow most more) (sym c.in_ok-name.ensures.taken_in)
     (below_taken most (finder c.args.directory.now) _ (class_place c.args.item) below (λ takes. cc)) in
     IfOk-weaker c.class_named.result (λ (named : NamedClass). IsClassText (class_text named)) _ (λ named is. after) c.class_named.ensures.in_range

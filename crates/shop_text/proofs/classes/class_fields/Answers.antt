@@ -4,7 +4,7 @@ use Rattle.shop_text.proofs.classes.class_fields.Goals as goal
 
 pub returns-clause-read : goal.returns-clause-read
 unfolding class_fields
-returns-clause-read c = rw (c.in_ok-arrivals.ensures.read, c.in_ok-urgency.ensures.read, c.class_with.ensures, c.in_ok-name.ensures) refl
+returns-clause-read c = rw (c.in_ok-arrivals.ensures.read, c.in_ok-urgency.ensures.read, c.class_with.ensures, c.in_ok-name.ensures, c.as_bytes.ensures.value) refl
 
 pub returns-clause-in_range : goal.returns-clause-in_range
 returns-clause-in_range c =

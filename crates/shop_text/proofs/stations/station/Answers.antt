@@ -24,7 +24,7 @@ returns-clause-read c =
     let find = finder c.args.directory.now in
     let name = c.in_ok-name.name.now in
     let ms = table_view c.in_ok-table.table.now in
-    rw (name-read c.args.item find (view c.args.value.now) ms name c.in_ok-table.ensures c.in_ok-name.ensures.read, c.in_ok-add.ensures.taken_in, c.as_bytes.ensures.value)
+    rw (name-read c.args.item find (view c.args.value.now) ms name c.in_ok-table.ensures c.in_ok-name.ensures.read, c.in_ok-name.ensures.taken_in)
     (gives_more (λ (station : Station). station) (λ (station : Station). (station, taken_in find name (station_place c.args.item)))
     c.station_named.result (station_named c.args.item name ms) c.station_named.ensures.read)
 
@@ -33,6 +33,6 @@ returns-clause-links c = λ below.
     let find = finder c.args.directory.now in
     let before : LinksBelow c.args.item find = below_more (c.args.item - 1) c.args.item find (omega arith) below in
     let below_it : c.args.item - 1 < c.args.item = omega (arith, c.requires) in
-    let after = subst (λ (more : Finder). LinksBelow c.args.item more) (sym c.in_ok-add.ensures.taken_in)
+    let after = subst (λ (more : Finder). LinksBelow c.args.item more) (sym c.in_ok-name.ensures.taken_in)
     (below_taken c.args.item find _ (station_place c.args.item) before (λ takes. below_it)) in
     IfOk-weaker c.station_named.result IsStationText _ (λ station is. after) c.station_named.ensures.in_range

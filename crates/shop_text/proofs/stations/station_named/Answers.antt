@@ -8,7 +8,7 @@ pub returns-clause-read : goal.returns-clause-read
 unfolding station_named
 returns-clause-read c =
     let known : only c.args.item station_keys (table_view c.args.table.now) ≡ Ok tt = c.in_ok-only.ensures in
-    rw (c.in_ok-desk.ensures.read, c.in_ok-timetable.ensures.read, c.in_ok-breakdowns.ensures.read, known, c.station_with.ensures, c.in_ok-name.ensures) refl
+    rw (c.in_ok-desk.ensures.read, c.in_ok-timetable.ensures.read, c.in_ok-breakdowns.ensures.read, known, c.station_with.ensures, c.in_ok-name.ensures, c.as_bytes.ensures.value) refl
 
 pub returns-clause-in_range : goal.returns-clause-in_range
 returns-clause-in_range c =
