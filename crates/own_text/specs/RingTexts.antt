@@ -14,8 +14,8 @@ use Rattle.sim_spec.specs.declared.terms.Terms.{Terms}
 use Rattle.own_text.specs.RingTotals.{ring_totals}
 use Rattle.text_fields.specs.Causes.{code_name}
 use Rattle.text_fields.specs.Documents.{tree}
-use Rattle.text_fields.specs.Fields.{number, only, required}
-use Rattle.text_fields.specs.LawTexts.{law}
+use Rattle.text_fields.specs.Fields.{only, required_number}
+use Rattle.text_fields.specs.LawTexts.{required_law}
 use Rattle.text_fields.specs.TermsOf.{terms_of}
 
 -- a ring with its terms and its totals
@@ -25,11 +25,11 @@ ring_read meaning terms = record { meaning = meaning; terms = terms; totals = ri
 -- the fields in their order, and then unknown keys
 unfoldable pub ring_of : Members → Checked ModelOf
 ring_of ms = do
-  stations ← required 0 (codes "stations") ms >>= number 0 1 MOST_OBJECTS
-  hold ← required 0 (codes "hold") ms >>= law 0
-  patience ← required 0 (codes "patience") ms >>= number 0 0 LAST_TICK
-  end ← required 0 (codes "end") ms >>= number 0 0 LAST_TICK
-  seed ← required 0 (codes "seed") ms >>= number 0 0 9223372036854775807
+  stations ← required_number 0 1 MOST_OBJECTS (codes "stations") ms
+  hold ← required_law 0 (codes "hold") ms
+  patience ← required_number 0 0 LAST_TICK (codes "patience") ms
+  end ← required_number 0 0 LAST_TICK (codes "end") ms
+  seed ← required_number 0 0 9223372036854775807 (codes "seed") ms
   known ← only 0 (codes "stations" ∷ codes "hold" ∷ codes "patience" ∷ codes "end" ∷ codes "seed" ∷ []) ms
   Ok (ring_read (ring_meaning seed stations hold patience) (terms_of end MOST_EVENTS))
 

@@ -12,8 +12,11 @@ use model_reader::{ModelReader, Refusal};
 use own_model::Ring;
 use sim_spec::Terms;
 use std::alloc::Global;
-use text_fields::{code_name, document, law, number, only, required, terms_of};
+use text_fields::{code_name, document, only, required_law, required_number, terms_of};
 use toml::Table;
+
+/// The greatest seed, 2^63 - 1: a whole number of TOML is no greater.
+const MOST_SEED: u64 = 9_223_372_036_854_775_807;
 
 /// The reader of token rings.
 #[derive(Clone, Copy)]
@@ -24,12 +27,11 @@ pub struct RingTexts;
 fn ring_of(table: &Table) -> Result<(Ring, Terms), Refusal>
     ensures { Gives (λ read. ring_read (⟦<Ring as SimulationModel>⟧.meaning read.0) read.1) result (ring_of (table_view table.now)) }
 {
-    let stations = required(table, "stations", 0)?;
-    let stations = number(stations, 0, 1, u64::from(MOST_OBJECTS))? as u32;
-    let hold = law(required(table, "hold", 0)?, 0)?;
-    let patience = number(required(table, "patience", 0)?, 0, 0, LAST_TICK)?;
-    let end = number(required(table, "end", 0)?, 0, 0, LAST_TICK)?;
-    let seed = number(required(table, "seed", 0)?, 0, 0, 9_223_372_036_854_775_807)?;
+    let stations = required_number(table, "stations", 0, 1, u64::from(MOST_OBJECTS))? as u32;
+    let hold = required_law(table, "hold", 0)?;
+    let patience = required_number(table, "patience", 0, 0, LAST_TICK)?;
+    let end = required_number(table, "end", 0, 0, LAST_TICK)?;
+    let seed = required_number(table, "seed", 0, 0, MOST_SEED)?;
     only(table, &["stations", "hold", "patience", "end", "seed"], 0)?;
     let ring = Ring {
         seed,
