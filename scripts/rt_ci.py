@@ -159,6 +159,8 @@ def main():
         os.execv(path, [path, "ci"])
     sys.dont_write_bytecode = True
     rt = load(path)
+    if not hasattr(rt.rtlib.Crate, "stamp"):
+        os.execv(path, [path, "ci"])
     rt.in_lanes = in_lanes(rt)
     rt.rtlib.Crate.stamp = once_for_each(rt.rtlib.Crate.stamp)
     sys.exit(rt.main(["ci"]))
