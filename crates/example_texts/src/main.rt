@@ -5,12 +5,12 @@
 ghost use Rattle.std.specs.Prelude.{◌≡◌, false, IfOk, IfSome};
 ghost use Rattle.model_text.specs.Meanings.{meaning_of};
 ghost use Rattle.model_text.specs.ModelTexts.{model_of};
-ghost use Rattle.model_runs.specs.Machines.{IsMachine};
+ghost use Rattle.model_program.specs.Machines.{IsMachine};
 ghost use Rattle.run_tally.specs.Tallies.{no_totals};
 ghost use Rattle.sim_text.specs.WholeTexts.{text_from_start};
 ghost use Rattle.sim_text.specs.declared.telling.Telling.TheVariants.{Lines};
 
-use model_runs::{DEFAULT_SPREAD, Job, Machine, Stage, run_model};
+use model_program::{DEFAULT_SPREAD, Job, Machine, Stage, run_model};
 use model_text::{AnyModel, read_model};
 use node_team::Open;
 use run_tally::NoTally;

@@ -10,7 +10,7 @@ use Rattle.sim_text.specs.declared.telling.Telling.{Telling}
 use Rattle.sim_text.specs.declared.unfinished.Unfinished.{Unfinished}
 use Rattle.sim_text.specs.WholeTexts.{text_from}
 use Rattle.sim_text.specs.Written.{HasSimulated}
-use Rattle.model_runs.specs.Handed.{HandsOn}
+use Rattle.model_program.specs.Handed.{HandsOn}
 use Rattle.program_answers.specs.declared.ending.Ending.{Ending}
 use Rattle.program_answers.specs.declared.ending.Ending.TheVariants.{Stopped}
 use Rattle.program_answers.specs.Answer.{status_of_stop}

@@ -1,7 +1,10 @@
 pub mod CommandLemmas
 pub mod EndingLemmas
+pub mod HandedLemmas
 pub mod InputLemmas
 pub mod ReadingLemmas
 pub mod RecordLines
+pub mod RunLemmas
 pub mod SavedRunsLaw
+pub mod SavingLemmas
 pub mod StateAnswers

@@ -12,8 +12,8 @@ use Rattle.sim_io.specs.Causes.{Rose}
 use Rattle.sim_io.proofs.TransferLemmas.{AppendsPrefix-next, prefix_longer}
 use Rattle.sim_text.specs.declared.unfinished.Unfinished.{Unfinished}
 use Rattle.sim_text.specs.WholeTexts.{first_lines}
-use Rattle.model_runs.specs.Handed.{HandsOn}
-use Rattle.model_runs.specs.Saved.{HasSaved}
+use Rattle.model_program.specs.Handed.{HandsOn}
+use Rattle.model_program.specs.Saved.{HasSaved}
 use Rattle.run_save.specs.StateTexts.{state_text}
 use Rattle.run_save.specs.declared.reading.TheConstants.{MOST_STATE_BYTES}
 use Rattle.program_answers.specs.declared.ending.Ending.{Ending}

@@ -1,4 +1,8 @@
-pub use Rattle.model_runs.specs.Machines
 pub mod Answer
+pub mod Handed
+pub mod Machines
+pub mod Plans
+pub mod RunStandings
+pub mod Saved
 pub mod SavedRuns
 pub mod Setting

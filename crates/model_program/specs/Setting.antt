@@ -1,7 +1,7 @@
 -- What runs the simulation that the words ask for.
-use Rattle.model_runs.specs.declared.machine.Machine.{Machine}
-use Rattle.model_runs.specs.declared.machine.Spread.{Spread}
-use Rattle.model_runs.specs.Machines.{default_spread}
+use Rattle.model_program.specs.declared.run.machine.Machine.{Machine}
+use Rattle.model_program.specs.declared.run.machine.Spread.{Spread}
+use Rattle.model_program.specs.Machines.{default_spread}
 use Rattle.sim_io.specs.declared.words.Settings.{Settings}
 
 -- how nodes are used: a run says it, and all others use them as by default

@@ -10,7 +10,7 @@ ghost use Rattle.model_program.specs.SavedRuns.{IsSavedSo};
 
 use crate::program::{ModelProgram, run_program};
 use model_reader::ModelReader;
-use model_runs::Open;
+use node_team::Open;
 use program_answers::{ProcessEnd, StdStreams, program_words};
 use std::alloc::{AllocGlobal, Global};
 use std::env::Env;

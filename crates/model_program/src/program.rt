@@ -5,9 +5,10 @@ ghost use Rattle.program_answers.specs.Answered.{Answers, AnswersNoWords, stream
 ghost use Rattle.model_program.specs.Answer.{asked_by};
 ghost use Rattle.model_program.specs.SavedRuns.{IsSavedSo};
 
+use crate::run::Stage;
 use crate::running::run_words;
 use model_reader::ModelReader;
-use model_runs::{Gate, Stage};
+use node_team::Gate;
 use program_answers::{conclude, unread_words};
 use sim_io::{Sink, Source};
 use std::alloc::AllocGlobal;

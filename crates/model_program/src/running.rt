@@ -9,10 +9,11 @@ ghost use Rattle.model_reader.specs.Readings.{as_read};
 ghost use Rattle.model_program.specs.Answer.{answer_of_command, answer_of_model, answer_to_model, asked_by, most_taken};
 ghost use Rattle.model_program.specs.SavedRuns.{IsSavedSo};
 
+use crate::run::{Job, Stage, run_model};
 use crate::saving::{resume_command, save_to_the_end};
 use crate::setting::{machine_of, telling_of};
 use model_reader::{ModelReader, Refusal};
-use model_runs::{Gate, Job, Stage, run_model};
+use node_team::Gate;
 use program_answers::{Ending, ending_of, refused};
 use sim_io::{ReadEnd, Settings, Sink, Source, read_all, read_model_words};
 use sim_spec::Terms;

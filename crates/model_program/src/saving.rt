@@ -16,10 +16,11 @@ ghost use Rattle.model_program.specs.Answer.{answer_of_save, answer_of_state, an
 ghost use Rattle.model_program.specs.SavedRuns.{IsSaved};
 
 use crate::laws::law_saved_runs;
+use crate::run::{Stage, resume_model, save_model};
 use crate::setting::spread_of;
 use crate::state_refusal::refused_state;
 use model_reader::ModelReader;
-use model_runs::{Gate, Stage, resume_model, save_model};
+use node_team::Gate;
 use program_answers::{Ending, ending_of};
 use run_save::{MOST_STATE_BYTES, Saved, StateCause, StateRefusal, put_state, read_state};
 use sim_io::{Failed, ReadEnd, Settings, Sink, Source, read_some, write_all};

@@ -1,11 +1,11 @@
 //! What the words set: what runs the simulation, and what is told of it.
 ghost use Rattle.std.specs.Prelude.{◌≡◌};
 ghost use Rattle.sim_io.specs.Words.{AreInBounds};
-ghost use Rattle.model_runs.specs.Machines.{IsMachine, IsSpread};
+ghost use Rattle.model_program.specs.Machines.{IsMachine, IsSpread};
 ghost use Rattle.model_program.specs.Answer.{telling_of};
 ghost use Rattle.model_program.specs.Setting.{machine_of, spread_of};
 
-use model_runs::{DEFAULT_SPREAD, Machine, Spread};
+use crate::run::{DEFAULT_SPREAD, Machine, Spread};
 use sim_io::Settings;
 use sim_text::Telling;
 

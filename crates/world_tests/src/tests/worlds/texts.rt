@@ -3,7 +3,7 @@ use super::PLACEMENTS;
 use super::world_run::run_world;
 use crate::tests::model_of;
 use model_core::model::Model as SimulationModel;
-use model_runs::{Job, Machine, Stage, run_model};
+use model_program::{Job, Machine, Stage, run_model};
 use model_text::AnyModel;
 use node_team::Open;
 use run_tally::{NoTally, Tally};

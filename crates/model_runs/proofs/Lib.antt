@@ -1,3 +1,0 @@
-pub mod HandedLemmas
-pub mod RunLemmas
-pub mod SavingLemmas

@@ -1,5 +1,0 @@
-pub mod Handed
-pub mod Machines
-pub mod Plans
-pub mod RunStandings
-pub mod Saved
