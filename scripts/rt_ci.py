@@ -1,6 +1,6 @@
 #!/usr/bin/env python3
-"""Runs the toolchain's `rt ci` in this folder, by its own code but for two parts, which decide when a crate is proved and not what
-is proved of it.
+"""Runs the toolchain's `rt ci` in this folder, by its own code but for three parts, which decide when a crate is proved and what else
+is looked for, and not what is proved of it.
 
     scripts/rt_ci.py
 
@@ -10,6 +10,8 @@ is proved of it.
   chain is proved by one process, even while three processors are idle. Here it gets two at least, and all that nothing else waits for.
 - Before and after it proves a library `rt` sums up the sources of those below, anew for each path that leads to it, and there are
   thousands of paths. Here each is summed up once.
+- Once a crate is proved `rt` has the prover look for contracts that no call can meet, of which it would warn: no verdict hangs on
+  that. The gate has it look; here it isn't asked to.
 
 With RT_JOBS, as under `rt ci`, so many processors are handed out, and no look is taken at memory. A toolchain that hasn't these parts is
 run as it is. The gate runs `rt ci` itself.
@@ -29,6 +31,7 @@ PARTS = (
     "def processors():", "def free():", "rtlib = load()", 'if __name__ == "__main__":',
 )
 PROOF, EDITS = "proof", "edits"
+WARNS_OF_EMPTY_CONTRACTS = "--empty-contracts"
 CHAIN_JOBS, MOST_JOBS = 2, 4
 # As rt reckons: what it may use of the free memory, and what a further process takes of what a proof needs.
 USED, FURTHER = 0.85, 0.6
@@ -153,16 +156,22 @@ def once_for_each(stamp):
     return kept
 
 
+def without_warnings(help_of):
+    """Makes the help by which `rt` learns what the prover can do, without the warning."""
+    return lambda verb: help_of(verb).replace(WARNS_OF_EMPTY_CONTRACTS, "")
+
+
 def main():
     path = os.path.realpath(shutil.which("rt"))
     if not has_parts(path):
         os.execv(path, [path, "ci"])
     sys.dont_write_bytecode = True
     rt = load(path)
-    if not hasattr(rt.rtlib.Crate, "stamp"):
+    if not hasattr(rt.rtlib.Crate, "stamp") or not hasattr(rt.rtlib, "help_of"):
         os.execv(path, [path, "ci"])
     rt.in_lanes = in_lanes(rt)
     rt.rtlib.Crate.stamp = once_for_each(rt.rtlib.Crate.stamp)
+    rt.rtlib.help_of = without_warnings(rt.rtlib.help_of)
     sys.exit(rt.main(["ci"]))
 
 
