@@ -15,5 +15,5 @@ pub use node_team::{Gate, Open};
 pub use process::{run_process, run_streams};
 pub use program::{ModelProgram, run_program};
 pub use run::{DEFAULT_SPREAD, Job, Machine, Spread, Stage, resume_model, run_model, save_model};
-pub use running::run_command;
+pub use running::{run_command, run_words};
 pub use setting::{machine_of, telling_of};

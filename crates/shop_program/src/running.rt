@@ -3,17 +3,15 @@ ghost use Rattle.std.specs.Prelude.{◌≡◌, IfSome, option_map};
 ghost use Rattle.sim_io.specs.Words.{model_settings, texts_of};
 ghost use Rattle.program_answers.specs.Answered.{EndsAsked};
 ghost use Rattle.program_answers.specs.Endings.{status_of_ending};
-ghost use Rattle.model_program.specs.Answer.{accepts_input, answer_of_command, asked};
 ghost use Rattle.model_program.specs.SavedRuns.{IsSavedSo};
-ghost use Rattle.shop_text.specs.Readers.{shop_texts};
 ghost use Rattle.shop_text.specs.ShopTexts.{shop_text};
 ghost use Rattle.shop_program.specs.Answer.{after_replicate, asked_by};
 
 use crate::reader::ShopTables;
-use model_program::{Gate, Stage, run_command};
+use model_program::{Gate, Stage};
 use program_answers::Ending;
 use shop_text::ShopTexts;
-use sim_io::{Sink, Source, read_model_words};
+use sim_io::{Sink, Source};
 use std::thread::Threads;
 
 /// The words that follow `replicate` as the first one.
@@ -31,23 +29,6 @@ fn after_replicate(words: &[String]) -> Option<&[String]>
     }
 }
 
-/// Does what words other than those of `replicate` ask for.
-fn run_model_words<R: Threads + Sync, G: Gate, S: Source, K: Sink>(
-    stage: Stage<R, G>,
-    words: &Vec<String>,
-    source: &mut S,
-    out: &mut K,
-) -> Ending
-    ensures ends { EndsAsked S.Source K.Sink source.old source.new out.old out.new result
-        (asked (accepts_input shop_texts) (answer_of_command shop_texts) (model_settings (texts_of words.now.items))) }
-    ensures saved { IfSome (S.left source.old) (IsSavedSo shop_text (model_settings (texts_of words.now.items)) (status_of_ending result)) }
-{
-    match read_model_words(words) {
-        Ok(settings) => run_command(stage, &ShopTexts, settings, source, out),
-        Err(fault) => Ending::RefusedWords(fault),
-    }
-}
-
 /// Does what the words ask for, and answers how that ends. Nothing is read where they are refused.
 pub fn run_words<R: Threads + Sync, G: Gate, S: Source, K: Sink>(
     stage: Stage<R, G>,
@@ -62,6 +43,6 @@ pub fn run_words<R: Threads + Sync, G: Gate, S: Source, K: Sink>(
         Some(rest) => {
             table_program::run_words(stage.rt, stage.alloc, &ShopTables, rest, source, out)
         }
-        None => run_model_words(stage, words, source, out),
+        None => model_program::run_words(stage, &ShopTexts, words, source, out),
     }
 }
