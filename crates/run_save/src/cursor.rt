@@ -4,8 +4,9 @@ ghost use Rattle.std.specs.Prelude.{◌+◌, ◌<◌, ◌^◌, length};
 use crate::digits::{decimal_value, digit_count};
 use crate::refusal::{StateCause, StateRefusal};
 
-/// What is left of a text, and the number of the line in which it begins.
-#[derive(Clone, Copy)]
+/// What is left of a text, and the number of the line in which it begins. Each read moves it past what was read. Where a
+/// read is refused, the whole text is, and what is left then means nothing.
+#[derive(Drop)]
 pub(crate) struct Cursor<'a> {
     pub bytes: &'a [u8],
     pub line: u64,
@@ -30,58 +31,48 @@ impl<'a> Cursor<'a> {
     }
 
     /// The refusal of what is left.
-    pub fn bad_line(self) -> StateRefusal
-        ensures { result ≡ At (cause_code BadLine) self.entry.line }
+    pub fn bad_line(&self) -> StateRefusal
+        ensures { result ≡ At (cause_code BadLine) self.now.line }
     {
         StateCause::BadLine.at(self.line)
     }
 
-    /// What is left after a word.
+    /// Goes past a word.
     #[tactic(auto, unfolding(crate::specs::Rests::after))]
-    pub fn after(self, word: &[u8]) -> Result<Cursor<'a>, StateRefusal>
-        ensures read { Gives (λ next. rest_of next) result (after word.now (rest_of self.entry)) }
-        ensures shorter { IfOk result (λ next. length next.bytes.now + length word.now ≡ length self.entry.bytes.now) }
+    pub fn skip(&mut self, word: &[u8]) -> Result<(), StateRefusal>
+        ensures read { Gives (λ _. rest_of self.new) result (after word.now (rest_of self.old)) }
+        ensures shorter { IfOk result (λ _. length self.new.bytes.now + length word.now ≡ length self.old.bytes.now) }
     {
         if !self.bytes.starts_with(word) {
             return Err(self.bad_line());
         }
-        let (_, bytes) = self.bytes.split_at(word.len());
-        Ok(Cursor {
-            bytes,
-            line: self.line,
-        })
+        let (_, rest) = self.bytes.split_at(word.len());
+        self.bytes = rest;
+        Ok(())
     }
 
-    /// What is left after the end of the line.
+    /// Goes past the end of the line.
     #[tactic(auto, unfolding(crate::specs::Rests::after, crate::specs::Rests::next_line))]
-    pub fn next_line(self) -> Result<Cursor<'a>, StateRefusal>
-        ensures { Gives (λ next. rest_of next) result (next_line (rest_of self.entry)) }
+    pub fn next_line(&mut self) -> Result<(), StateRefusal>
+        ensures { Gives (λ _. rest_of self.new) result (next_line (rest_of self.old)) }
     {
-        if !self.bytes.starts_with(b"\n") {
-            return Err(self.bad_line());
-        }
-        let (_, bytes) = self.bytes.split_at(1);
-        Ok(Cursor {
-            bytes,
-            line: self.line + 1,
-        })
+        self.skip(b"\n")?;
+        self.line += 1;
+        Ok(())
     }
 
     /// A number that isn't above the greatest.
     #[tactic(auto, unfolding(crate::specs::Rests::number))]
-    pub fn number(self, most: u64) -> Result<(u64, Cursor<'a>), StateRefusal>
-        ensures read { Gives (λ x. (x.0, rest_of x.1)) result (number most (rest_of self.entry)) }
-        ensures within { IfOk result (λ x. x.0 ≤ most) }
-        ensures shorter { IfOk result (λ x. length x.1.bytes.now ≤ length self.entry.bytes.now) }
+    pub fn number(&mut self, most: u64) -> Result<u64, StateRefusal>
+        ensures read { Gives (λ x. (x, rest_of self.new)) result (number most (rest_of self.old)) }
+        ensures within { IfOk result (λ x. x ≤ most) }
+        ensures shorter { IfOk result (λ _. length self.new.bytes.now ≤ length self.old.bytes.now) }
     {
-        let (digits, bytes) = self.bytes.split_at(digit_count(self.bytes));
+        let (digits, rest) = self.bytes.split_at(digit_count(self.bytes));
         match decimal_value(digits) {
             Some(value) if value <= most => {
-                let next = Cursor {
-                    bytes,
-                    line: self.line,
-                };
-                Ok((value, next))
+                self.bytes = rest;
+                Ok(value)
             }
             _ => Err(self.bad_line()),
         }
@@ -89,19 +80,20 @@ impl<'a> Cursor<'a> {
 
     /// A space and a number.
     #[tactic(auto, unfolding(crate::specs::Rests::field))]
-    pub fn field(self, most: u64) -> Result<(u64, Cursor<'a>), StateRefusal>
-        ensures read { Gives (λ x. (x.0, rest_of x.1)) result (field most (rest_of self.entry)) }
-        ensures within { IfOk result (λ x. x.0 ≤ most) }
-        ensures shorter { IfOk result (λ x. length x.1.bytes.now < length self.entry.bytes.now) }
+    pub fn field(&mut self, most: u64) -> Result<u64, StateRefusal>
+        ensures read { Gives (λ x. (x, rest_of self.new)) result (field most (rest_of self.old)) }
+        ensures within { IfOk result (λ x. x ≤ most) }
+        ensures shorter { IfOk result (λ _. length self.new.bytes.now < length self.old.bytes.now) }
     {
-        self.after(b" ")?.number(most)
+        self.skip(b" ")?;
+        self.number(most)
     }
 
     /// A space and a number of 32 bits.
-    pub fn small_field(self) -> Result<(u32, Cursor<'a>), StateRefusal>
-        ensures { Gives (λ x. (x.0, rest_of x.1)) result (field u32.MAX (rest_of self.entry)) }
+    pub fn small_field(&mut self) -> Result<u32, StateRefusal>
+        ensures { Gives (λ x. (x, rest_of self.new)) result (field u32.MAX (rest_of self.old)) }
     {
-        let (number, rest) = self.field(u64::from(u32::MAX))?;
-        Ok((number as u32, rest))
+        let number = self.field(u64::from(u32::MAX))?;
+        Ok(number as u32)
     }
 }

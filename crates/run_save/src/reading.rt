@@ -12,7 +12,6 @@ ghost use Rattle.run_save.specs.Views.{draft_of, rest_of, saved_of};
 use crate::cursor::Cursor;
 use crate::draft::Draft;
 use crate::reading_checks::check_lawful;
-use crate::reading_lines::{events, named, objects};
 use crate::refusal::{StateCause, StateRefusal};
 use crate::saved::Saved;
 use model_core::{MOST_OBJECTS, MOST_TEXT_BYTES};
@@ -23,37 +22,42 @@ use std::alloc::Global;
 /// How many bytes a state text has at most.
 pub const MOST_STATE_BYTES: usize = 67_108_864;
 
-/// The line of the model's length, and the model's bytes, which are all that is left.
-#[tactic(auto, unfolding(crate::specs::Lines::model_bytes))]
-fn model_bytes(cursor: Cursor<'_>) -> Result<&[u8], StateRefusal>
-    ensures { Gives (λ bytes. bytes.now) result (model_bytes (rest_of cursor.entry)) }
-{
-    let (size, rest) = named(b"model", MOST_TEXT_BYTES as u64, cursor)?;
-    if size == 0 || size != rest.bytes.len() as u64 {
-        return Err(cursor.bad_line());
+impl<'a> Cursor<'a> {
+    /// The line of the model's length, and the model's bytes, which are all that is left.
+    #[tactic(auto, unfolding(crate::specs::Lines::model_bytes))]
+    fn model_bytes(&mut self) -> Result<&'a [u8], StateRefusal>
+        ensures { Gives (λ bytes. bytes.now) result (model_bytes (rest_of self.old)) }
+    {
+        let line = self.line;
+        let size = self.named(b"model", MOST_TEXT_BYTES as u64)?;
+        if size == 0 || size != self.bytes.len() as u64 {
+            return Err(StateCause::BadLine.at(line));
+        }
+        Ok(self.bytes)
     }
-    Ok(rest.bytes)
-}
 
-/// All lines, from the first to the last.
-#[tactic(auto, unfolding(crate::specs::Lines::whole_text))]
-fn whole_text(alloc: Global, cursor: Cursor<'_>) -> Result<Draft<'_>, StateRefusal>
-    ensures { Gives (λ draft. draft_of draft) result (whole_text (rest_of cursor.entry)) }
-{
-    let rest = cursor.after(b"state 1")?.next_line()?;
-    let (count, rest) = named(b"count", u64::MAX, rest)?;
-    let (many, rest) = named(b"objects", u64::from(MOST_OBJECTS), rest)?;
-    let (objects, rest) = objects(alloc, many, rest)?;
-    let (waiting, rest) = named(b"events", u64::MAX, rest)?;
-    let (pending, rest) = events(alloc, waiting, rest)?;
-    let model = model_bytes(rest)?;
-    Ok(Draft {
-        objects,
-        pending,
-        count,
-        model,
-        line: rest.line,
-    })
+    /// All lines, from the first to the last.
+    #[tactic(auto, unfolding(crate::specs::Lines::whole_text))]
+    fn whole_text(&mut self, alloc: Global) -> Result<Draft<'a>, StateRefusal>
+        ensures { Gives (λ draft. draft_of draft) result (whole_text (rest_of self.old)) }
+    {
+        self.skip(b"state 1")?;
+        self.next_line()?;
+        let count = self.named(b"count", u64::MAX)?;
+        let many = self.named(b"objects", u64::from(MOST_OBJECTS))?;
+        let objects = self.objects(alloc, many)?;
+        let waiting = self.named(b"events", u64::MAX)?;
+        let pending = self.events(alloc, waiting)?;
+        let line = self.line;
+        let model = self.model_bytes()?;
+        Ok(Draft {
+            objects,
+            pending,
+            count,
+            model,
+            line,
+        })
+    }
 }
 
 /// The model that the bytes at a line say.
@@ -84,7 +88,8 @@ fn saved_state<T: ModelReader>(
     if bytes.len() > MOST_STATE_BYTES {
         return Err(StateCause::TooLong.at(0));
     }
-    let draft = whole_text(alloc, Cursor::new(bytes))?;
+    let mut cursor = Cursor::new(bytes);
+    let draft = cursor.whole_text(alloc)?;
     let (model, terms) = read_at(reader, alloc, draft.line, draft.model)?;
     check_lawful(&model, &terms, draft.count, &draft.objects, &draft.pending)?;
     let state = State {

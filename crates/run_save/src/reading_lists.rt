@@ -8,54 +8,44 @@ use crate::cursor::Cursor;
 use crate::refusal::StateRefusal;
 use std::alloc::Global;
 
-/// So many numbers. It asks for no more memory than the text that is left can fill, since a number takes two bytes of it.
-fn numbers(
-    alloc: Global,
-    count: u64,
-    cursor: Cursor<'_>,
-) -> Result<(Vec<u64>, Cursor<'_>), StateRefusal>
-    ensures read { Gives (λ x. (x.0.items, rest_of x.1)) result (each any_field count (rest_of cursor.entry)) }
-    ensures few { IfOk result (λ x. vec_len x.0 + length x.1.bytes.now ≤ length cursor.entry.bytes.now) }
-{
-    let room = count.min(cursor.bytes.len() as u64 / 2);
-    let mut numbers = Vec::with_capacity(alloc, room as usize)?;
-    let mut rest = cursor;
-    for _ in 0..count {
-        let (number, next) = rest.field(u64::MAX)?;
-        numbers.push(number)?;
-        rest = next;
-    }
-    Ok((numbers, rest))
-}
+/// How many bytes a number takes at least: a space and a digit.
+const LEAST_NUMBER: u64 = 2;
 
-/// How many numbers there are, and the numbers.
-#[tactic(auto, unfolding(crate::specs::Rests::counted))]
-pub(crate) fn counted(
-    alloc: Global,
-    cursor: Cursor<'_>,
-) -> Result<(Vec<u64>, Cursor<'_>), StateRefusal>
-    ensures read { Gives (λ x. (x.0.items, rest_of x.1)) result (counted (rest_of cursor.entry)) }
-    ensures few { IfOk result (λ x. vec_len x.0 + length x.1.bytes.now < length cursor.entry.bytes.now) }
-{
-    let (count, rest) = cursor.field(u64::MAX)?;
-    numbers(alloc, count, rest)
-}
-
-/// So many lists of numbers.
-pub(crate) fn lines(
-    alloc: Global,
-    count: u64,
-    cursor: Cursor<'_>,
-) -> Result<(Vec<Vec<u64>>, Cursor<'_>), StateRefusal>
-    ensures read { Gives (λ x. (lines_of x.0.items, rest_of x.1)) result (each counted count (rest_of cursor.entry)) }
-    ensures few { IfOk result (λ x. vec_len x.0 + length x.1.bytes.now ≤ length cursor.entry.bytes.now) }
-{
-    let mut lines = Vec::new(alloc);
-    let mut rest = cursor;
-    for _ in 0..count {
-        let (line, next) = counted(alloc, rest)?;
-        lines.push(line)?;
-        rest = next;
+impl Cursor<'_> {
+    /// So many numbers. It asks for no more memory than the text that is left can fill.
+    fn numbers(&mut self, alloc: Global, count: u64) -> Result<Vec<u64>, StateRefusal>
+        ensures read { Gives (λ x. (x.items, rest_of self.new)) result (each any_field count (rest_of self.old)) }
+        ensures few { IfOk result (λ x. vec_len x + length self.new.bytes.now ≤ length self.old.bytes.now) }
+    {
+        let room = count.min(self.bytes.len() as u64 / LEAST_NUMBER);
+        let mut numbers = Vec::with_capacity(alloc, room as usize)?;
+        for _ in 0..count {
+            let number = self.field(u64::MAX)?;
+            numbers.push(number)?;
+        }
+        Ok(numbers)
     }
-    Ok((lines, rest))
+
+    /// How many numbers there are, and the numbers.
+    #[tactic(auto, unfolding(crate::specs::Rests::counted))]
+    pub fn counted(&mut self, alloc: Global) -> Result<Vec<u64>, StateRefusal>
+        ensures read { Gives (λ x. (x.items, rest_of self.new)) result (counted (rest_of self.old)) }
+        ensures few { IfOk result (λ x. vec_len x + length self.new.bytes.now < length self.old.bytes.now) }
+    {
+        let count = self.field(u64::MAX)?;
+        self.numbers(alloc, count)
+    }
+
+    /// So many lists of numbers.
+    pub fn lines(&mut self, alloc: Global, count: u64) -> Result<Vec<Vec<u64>>, StateRefusal>
+        ensures read { Gives (λ x. (lines_of x.items, rest_of self.new)) result (each counted count (rest_of self.old)) }
+        ensures few { IfOk result (λ x. vec_len x + length self.new.bytes.now ≤ length self.old.bytes.now) }
+    {
+        let mut lines = Vec::new(alloc);
+        for _ in 0..count {
+            let line = self.counted(alloc)?;
+            lines.push(line)?;
+        }
+        Ok(lines)
+    }
 }
