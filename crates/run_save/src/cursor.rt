@@ -4,11 +4,13 @@ ghost use Rattle.std.specs.Prelude.{◌+◌, ◌<◌, ◌^◌, length};
 use crate::digits::{decimal_value, digit_count};
 use crate::refusal::{StateCause, StateRefusal};
 
-/// What is left of a text, and the number of the line in which it begins. Each read moves it past what was read. Where a
-/// read is refused, the whole text is, and what is left then means nothing.
+/// A place in a text: what is left of it, and in which line. Each read moves it past what was read. A text is refused
+/// with the first read that is, so after a refusal the place means nothing.
 #[derive(Drop)]
 pub(crate) struct Cursor<'a> {
+    /// What is left.
     pub bytes: &'a [u8],
+    /// The line in which it begins, counted from 1.
     pub line: u64,
     ghost few: { line + length bytes.now < 2 ^ 32 },
 }
@@ -31,7 +33,7 @@ impl<'a> Cursor<'a> {
     }
 
     /// The refusal of what is left.
-    pub fn bad_line(&self) -> StateRefusal
+    fn bad_line(&self) -> StateRefusal
         ensures { result ≡ At (cause_code BadLine) self.now.line }
     {
         StateCause::BadLine.at(self.line)
@@ -61,7 +63,7 @@ impl<'a> Cursor<'a> {
         Ok(())
     }
 
-    /// A number that isn't above the greatest.
+    /// A number from 0 to the greatest.
     #[tactic(auto, unfolding(crate::specs::Rests::number))]
     pub fn number(&mut self, most: u64) -> Result<u64, StateRefusal>
         ensures read { Gives (λ x. (x, rest_of self.new)) result (number most (rest_of self.old)) }
@@ -78,7 +80,7 @@ impl<'a> Cursor<'a> {
         }
     }
 
-    /// A space and a number.
+    /// A space and a number from 0 to the greatest.
     #[tactic(auto, unfolding(crate::specs::Rests::field))]
     pub fn field(&mut self, most: u64) -> Result<u64, StateRefusal>
         ensures read { Gives (λ x. (x, rest_of self.new)) result (field most (rest_of self.old)) }

@@ -19,7 +19,7 @@ use model_reader::{ModelReader, Refusal};
 use sim_spec::{State, Terms};
 use std::alloc::Global;
 
-/// How many bytes a state text has at most.
+/// How many bytes a state text has at most: 64 MiB.
 pub const MOST_STATE_BYTES: usize = 67_108_864;
 
 impl<'a> Cursor<'a> {
@@ -104,8 +104,9 @@ fn saved_state<T: ModelReader>(
     })
 }
 
-/// The state that a text says, with the model and the terms that its last bytes say, or the code and the line of the first
-/// check that fails. It takes time in proportion to the length of the text.
+/// The state that a text says, with the model and the terms that its last bytes say. A text that says none is refused with
+/// the code and the line of the first check that fails, and nothing is read where memory runs out. It takes time in proportion to
+/// the length of the text.
 pub fn read_state<T: ModelReader>(
     reader: &T,
     alloc: Global,

@@ -7,16 +7,16 @@ ghost use Rattle.run_save.specs.Views.{rest_of};
 
 use crate::cursor::Cursor;
 use crate::refusal::{StateCause, StateRefusal};
-use event_key::{Key, stamp_of};
+use event_key::{Key, STEPS, stamp_of};
 use model_core::{Cells, Event};
 use sim_spec::ObjectState;
 use std::alloc::Global;
 
-/// The greatest time of a pending event: 2^47 - 1.
-const MOST_TIME: u64 = 140_737_488_355_327;
+/// The last tick in which an event may be pending.
+const MOST_TIME: u64 = (1 << 47) - 1;
 
 /// The greatest step of a tick.
-const MOST_STEP: u64 = 65_535;
+const MOST_STEP: u64 = STEPS - 1;
 
 /// How many bytes the line of an event has at least.
 const LEAST_LINE: u64 = 24;
@@ -32,7 +32,7 @@ fn is_above(before: Option<&Event>, key: &Key) -> bool
 }
 
 impl Cursor<'_> {
-    /// The line of a word and a number.
+    /// The line of a word and a number from 0 to the greatest.
     #[tactic(auto, unfolding(crate::specs::Lines::named))]
     pub fn named(&mut self, word: &[u8], most: u64) -> Result<u64, StateRefusal>
         ensures read { Gives (λ x. (x, rest_of self.new)) result (named word.now most (rest_of self.old)) }

@@ -10,7 +10,7 @@ use thiserror::Error;
 /// What the first check that fails found.
 #[derive(Clone, Copy)]
 pub enum StateCause {
-    /// The text has more than 67,108,864 bytes.
+    /// The text has more bytes than `MOST_STATE_BYTES`.
     TooLong,
     /// A line isn't of its form.
     BadLine,
@@ -27,6 +27,7 @@ pub enum StateRefusal {
     /// and line 0 is the text as a whole.
     #[error("refused with code {code} at line {line}")]
     At { code: u8, line: u64 },
+    /// Memory ran out while it was read.
     #[error("out of memory")]
     OutOfMemory,
 }
@@ -83,7 +84,7 @@ impl StateCause {
     }
 }
 
-/// What a code is called, or nothing if no refusal has it.
+/// What a code from 1 to 4 is called. Any other code has no name, and gives an empty text.
 pub fn state_code_name(code: u8) -> &'static str
     ensures { result.now ≡ state_code_name code }
 {

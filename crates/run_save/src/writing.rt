@@ -39,8 +39,8 @@ fn put_parts(
     put_model(model, into)
 }
 
-/// Appends the text of a state with the bytes of its model. A refusal leaves what was there. It takes time in proportion
-/// to the length of the text.
+/// Appends the text of a state with the bytes of its model. Where memory runs out, it leaves what was there. It takes time
+/// in proportion to the length of the text.
 pub fn put_state(state: &State, model: &[u8], into: &mut Vec<u8>) -> Result<(), OutOfMemory>
     ensures ok { OnOk result (into.new.items ≡ into.old.items ++ state_text state.now model.now) }
     ensures fits { OnOk result (FitsTypes state.now) }
