@@ -1,5 +1,6 @@
 -- Reading from the front of what is left of a text. What isn't of its form is refused at its line.
-use Rattle.std.specs.Prelude.{ℕ, zero, suc, ◌+◌, ◌-◌, ◌^◌, Bool, ◌&&◌, nat_eq, nat_le, List, [], ◌∷◌, length, take, drop, codes, Option, Some, None, Ok}
+use Rattle.std.specs.Prelude.{ℕ, zero, suc, ◌+◌, ◌-◌, ◌^◌, Bool, ◌&&◌, nat_eq, nat_le, List, [], ◌∷◌, length, take, drop}
+use Rattle.std.specs.Prelude.{codes, Option, Some, None, Ok}
 use Rattle.std.specs.Char.{is_ascii_digit}
 use Rattle.std.specs.List.{prefix_len, starts_with}
 use Rattle.std.specs.Str.Parse.{digits_value}

@@ -64,7 +64,9 @@ module _ (model_of : List ℕ → models.Checked ModelOf) where
 
   -- the text of such a state is read as that state, with its model and terms
   abbrev pub WrittenIsRead : Type 0
-  WrittenIsRead = (s : State) (model : List ℕ) (read : ModelOf) → IsSavable s model read → state_of model_of (state_text s model) ≡ Ok (saved_with read s)
+  WrittenIsRead =
+      (s : State) (model : List ℕ) (read : ModelOf) → IsSavable s model read
+      → state_of model_of (state_text s model) ≡ Ok (saved_with read s)
 
   -- the bytes are the text of a state, with the bytes of a model
   pub record IsTextOf (bytes : List ℕ) (saved : SavedState) : Type 0 where

@@ -105,8 +105,8 @@ fn saved_state<T: ModelReader>(
 }
 
 /// The state that a text says, with the model and the terms that its last bytes say. A text that says none is refused with
-/// the code and the line of the first check that fails, and nothing is read where memory runs out. It takes time in proportion to
-/// the length of the text.
+/// the code and the line of the first check that fails, and nothing is read where memory runs out. It takes time in
+/// proportion to the length of the text.
 pub fn read_state<T: ModelReader>(
     reader: &T,
     alloc: Global,
