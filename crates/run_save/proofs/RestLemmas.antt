@@ -2,10 +2,12 @@
 use Rattle.std.proofs.Common.{◌≡◌, ℕ, zero, suc, ◌+◌, ◌-◌, ◌*◌, ◌^◌, ◌<◌, ◌≤◌, Bool, true, false, cond, List, [], ◌∷◌, ◌++◌, length, take, drop, get_or, Ok, refl, sym, ap, subst, ◌∙◌, append_assoc, arith}
 use Rattle.std.specs.Prelude.{codes, decimal, nat_le, nat_eq, ◌&&◌}
 use Rattle.std.specs.Char.{is_ascii_digit}
+use Rattle.std.specs.Cmp.Lexicographic.{pointwise}
 use Rattle.std.specs.List.{starts_with, take_while}
 use Rattle.std.specs.Str.Parse.{AllDigits, digits_value}
 use Rattle.std.proofs.lemmas.Bool.{and_from, and_parts, leb-true, le-leb}
 use Rattle.std.proofs.lemmas.Bool.Decides.{Decides-eqb}
+use Rattle.std.proofs.lemmas.Cmp.{nat_list_eq_equiv}
 use Rattle.std.proofs.lemmas.Fmt.{decimal-digits_value, decimal_is_IsNumeral, first_decimal, decimal_digit}
 use Rattle.std.proofs.lemmas.Grind.{common_steps}
 use Rattle.std.proofs.lemmas.List.{take_at, drop_at, take-append-drop}
@@ -26,6 +28,10 @@ abbrev pub at : List ℕ → ℕ → Rest
 at bytes line = record { bytes = bytes; line = line }
 
 -- ---- words
+
+-- whether a word stands in front, asked from either side
+pub stripped_is_starts_with : (bytes word : List ℕ) → pointwise nat_eq (take (length word) bytes) word ≡ starts_with nat_eq bytes word
+stripped_is_starts_with bytes word = nat_list_eq_equiv.symm (take (length word) bytes) word
 
 pub after-takes : (word : List ℕ) (rest next : Rest) → after word rest ≡ Ok next → rest.bytes ≡ word ++ next.bytes
 unfolding after

@@ -40,15 +40,14 @@ impl<'a> Cursor<'a> {
     }
 
     /// Goes past a word.
-    #[tactic(auto, unfolding(crate::specs::Rests::after))]
+    #[tactic(auto, using(crate::proofs::RestLemmas::stripped_is_starts_with), unfolding(crate::specs::Rests::after))]
     pub fn skip(&mut self, word: &[u8]) -> Result<(), StateRefusal>
         ensures read { Gives (λ _. rest_of self.new) result (after word.now (rest_of self.old)) }
         ensures shorter { IfOk result (λ _. length self.new.bytes.now + length word.now ≡ length self.old.bytes.now) }
     {
-        if !self.bytes.starts_with(word) {
+        let Some(rest) = self.bytes.strip_prefix(word) else {
             return Err(self.bad_line());
-        }
-        let (_, rest) = self.bytes.split_at(word.len());
+        };
         self.bytes = rest;
         Ok(())
     }
