@@ -8,7 +8,7 @@ use Rattle.model_core.specs.declared.limits.TheConstants.{MOST_OBJECTS, MOST_TEX
 use Rattle.sim_spec.specs.Firing.{ObjectState}
 use Rattle.sim_spec.specs.State.{State}
 use Rattle.run_save.specs.Checks.{Checked, ◌>>=◌}
-use Rattle.run_save.specs.Rests.{Rest, formed, after, next_line, number, field, in_turn, each, any_field, counted}
+use Rattle.run_save.specs.Rests.{Rest, formed, after, next_line, number, field, small_field, any_field, in_turn, each, counted}
 
 -- a line of a word and a number
 unfoldable pub named : List ℕ → ℕ → Rest → Checked (ℕ × Rest)
@@ -40,9 +40,9 @@ stamp rest = do
 unfoldable pub key : Rest → Checked (Key × Rest)
 key rest = do
   stamp ← stamp rest
-  rank ← field (2 ^ 32 - 1) stamp.1
-  dest ← field (2 ^ 32 - 1) rank.1
-  src ← field (2 ^ 32 - 1) dest.1
+  rank ← small_field stamp.1
+  dest ← small_field rank.1
+  src ← small_field dest.1
   serial ← any_field src.1
   Ok (record { stamp = stamp.0; rank = rank.0; dest = dest.0; src = src.0; serial = serial.0 }, serial.1)
 
@@ -51,7 +51,7 @@ unfoldable pub event_line : Rest → Checked (Event × Rest)
 event_line rest = do
   behind ← after (codes "event ") rest
   key ← key behind
-  kind ← field (2 ^ 32 - 1) key.1
+  kind ← small_field key.1
   a ← any_field kind.1
   b ← any_field a.1
   next ← next_line b.1

@@ -63,6 +63,10 @@ module _ {X : Type 0} (one : Option X → Rest → Checked (X × Rest)) where
 abbrev pub each : {X : Type 0} → (Rest → Checked (X × Rest)) → ℕ → Rest → Checked (List X × Rest)
 each one n rest = in_turn (λ _. one) None n rest
 
+-- a space and a number of 32 bits
+abbrev pub small_field : Rest → Checked (ℕ × Rest)
+small_field rest = field (2 ^ 32 - 1) rest
+
 -- a space and a number of 64 bits
 abbrev pub any_field : Rest → Checked (ℕ × Rest)
 any_field rest = field (2 ^ 64 - 1) rest

@@ -21,7 +21,7 @@ impl<'a> Cursor<'a> {
     ghost use Rattle.run_save.specs.declared.refusal.StateRefusal.TheVariants.{At};
     ghost use Rattle.run_save.specs.Causes.{cause_code};
     ghost use Rattle.run_save.specs.Checks.{Gives};
-    ghost use Rattle.run_save.specs.Rests.{after, next_line, number, field};
+    ghost use Rattle.run_save.specs.Rests.{after, next_line, number, field, small_field, any_field};
     ghost use Rattle.run_save.specs.Views.{rest_of};
 
     /// At the first line of a text.
@@ -92,9 +92,17 @@ impl<'a> Cursor<'a> {
 
     /// A space and a number of 32 bits.
     pub fn small_field(&mut self) -> Result<u32, StateRefusal>
-        ensures { Gives (λ x. (x, rest_of self.new)) result (field u32.MAX (rest_of self.old)) }
+        ensures { Gives (λ x. (x, rest_of self.new)) result (small_field (rest_of self.old)) }
     {
         let number = self.field(u64::from(u32::MAX))?;
         Ok(number as u32)
+    }
+
+    /// A space and a number of 64 bits.
+    pub fn any_field(&mut self) -> Result<u64, StateRefusal>
+        ensures read { Gives (λ x. (x, rest_of self.new)) result (any_field (rest_of self.old)) }
+        ensures shorter { IfOk result (λ _. length self.new.bytes.now < length self.old.bytes.now) }
+    {
+        self.field(u64::MAX)
     }
 }

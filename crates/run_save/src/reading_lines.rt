@@ -50,9 +50,9 @@ impl Cursor<'_> {
         ensures { Gives (λ x. (x, rest_of self.new)) result (object (rest_of self.old)) }
     {
         self.skip(b"object")?;
-        let sent = self.field(u64::MAX)?;
+        let sent = self.any_field()?;
         let words = self.counted(alloc)?;
-        let many = self.field(u64::MAX)?;
+        let many = self.any_field()?;
         let lines = self.lines(alloc, many)?;
         self.next_line()?;
         let cells = Cells::new(alloc, words, lines)?;
@@ -92,7 +92,7 @@ impl Cursor<'_> {
             rank: self.small_field()?,
             dest: self.small_field()?,
             src: self.small_field()?,
-            serial: self.field(u64::MAX)?,
+            serial: self.any_field()?,
         })
     }
 
@@ -105,8 +105,8 @@ impl Cursor<'_> {
         let event = Event {
             key: self.key()?,
             kind: self.small_field()?,
-            a: self.field(u64::MAX)?,
-            b: self.field(u64::MAX)?,
+            a: self.any_field()?,
+            b: self.any_field()?,
         };
         self.next_line()?;
         Ok(event)

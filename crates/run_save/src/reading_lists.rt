@@ -20,7 +20,7 @@ impl Cursor<'_> {
         let room = count.min(self.bytes.len() as u64 / LEAST_NUMBER);
         let mut numbers = Vec::with_capacity(alloc, room as usize)?;
         for _ in 0..count {
-            let number = self.field(u64::MAX)?;
+            let number = self.any_field()?;
             numbers.push(number)?;
         }
         Ok(numbers)
@@ -32,7 +32,7 @@ impl Cursor<'_> {
         ensures read { Gives (λ x. (x.items, rest_of self.new)) result (counted (rest_of self.old)) }
         ensures few { IfOk result (λ x. vec_len x + length self.new.bytes.now < length self.old.bytes.now) }
     {
-        let count = self.field(u64::MAX)?;
+        let count = self.any_field()?;
         self.numbers(alloc, count)
     }
 

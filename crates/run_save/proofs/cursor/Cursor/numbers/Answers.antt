@@ -14,7 +14,7 @@ returns-in_err-number-clause-read c =
 pub loop-preserved : goal.loop-preserved
 loop-preserved c =
     let grown : c.push.new.self.items ≡ c.loop.numbers.items ++ c.in_ok-number.number ∷ [] = c.in_ok-push.ensures.items in
-    record { read = rw grown (goes_on (λ _. any_field) c.loop.numbers.items c.args.count c.loop.counter (rest_of c.loop.self) c.in_ok-number.number (rest_of c.field.new.self) (in_turn (λ _. any_field) None c.args.count (rest_of c.args.self.now)) c.loop-test.true c.in_ok-number.ensures.read c.loop.invariant.read); few = omega (arith, c.in_ok-push.ensures.len, c.in_ok-number.ensures.shorter, c.loop.invariant.few) }
+    record { read = rw grown (goes_on (λ _. any_field) c.loop.numbers.items c.args.count c.loop.counter (rest_of c.loop.self) c.in_ok-number.number (rest_of c.any_field.new.self) (in_turn (λ _. any_field) None c.args.count (rest_of c.args.self.now)) c.loop-test.true c.in_ok-number.ensures.read c.loop.invariant.read); few = omega (arith, c.in_ok-push.ensures.len, c.in_ok-number.ensures.shorter, c.loop.invariant.few) }
 
 pub returns-clause-read : goal.returns-clause-read
 returns-clause-read c = is_done (λ _. any_field) c.loop.numbers.items c.args.count c.loop.counter (rest_of c.loop.self) (in_turn (λ _. any_field) None c.args.count (rest_of c.args.self.now)) c.loop-test.false c.loop.invariant.read
