@@ -15,7 +15,7 @@ use Rattle.sim_spec.specs.Run.{next}
 use Rattle.sim_spec.specs.Cut.{cut, after}
 use Rattle.sim_spec.specs.Standing.{Standing, stands, spent, end_or_limit, ended, IsLawfulStanding, CycleGives}
 use Rattle.one_thread.specs.declared.bucket_end.BucketEnd.{BucketEnd}
-use Rattle.one_thread.specs.Ends.{end_of, HasTold}
+use Rattle.one_thread.specs.Ends.{bucket_of, fault_of, HasEnd, HasTold}
 use Rattle.one_thread.specs.Engines.{Course, EngineView, state_of, standing_of}
 
 -- the engine with these parts
@@ -78,31 +78,28 @@ cycle_given {M} meaning value model read terms place fault c new bucket is is_pl
 pub told_given : {M T : Type 0} (meaning : M → Meaning) (Holds : Meaning → T → List (Key × Note) → Type 0) (value : EngineView M) (model read : M) (terms : Terms) (place : Option Course) (fault : Option (Key × ℕ))
     (c new : Course) (before told : T) (end : BucketEnd)
     → engine_of model terms place fault ≡ value → place ≡ Some c → read ≡ model → ended (meaning value.model) value.terms value.standing ≡ None
-    → end ≡ end_of (cut (meaning read) terms (state_of c))
+    → HasEnd (cut (meaning read) terms (state_of c)) end
     → ((records : List (Key × Note)) → Holds (meaning read) before records → Holds (meaning read) told (records ++ (cut (meaning read) terms (state_of c)).done))
     → state_of new ≡ after (meaning read) terms (state_of c)
-    → HasTold (Holds (meaning value.model)) (meaning value.model) value.terms value.standing before end told (stands (state_of new) end.fault)
+    → HasTold (Holds (meaning value.model)) (meaning value.model) value.terms value.standing before end told (stands (state_of new) (fault_of end))
 told_given {M} {T} meaning Holds value model read terms place fault c new before told end is is_place is_read begins is_end all is_after =
-    let bucket : Bucket = cut (meaning read) terms (state_of c) in
+    let done = (cut (meaning read) terms (state_of c)).done in
     let same : read ≡ value.model = is_read ∙ ap (λ (v : EngineView M). v.model) is in
-    let P : M → Type 0 = λ x. (records : List (Key × Note)) → Holds (meaning x) before records → Holds (meaning x) told (records ++ bucket.done) in
-    let Q : Option (Key × ℕ) → Type 0 = λ f. CycleGives (meaning value.model) value.terms value.standing (Ok bucket) (stands (state_of new) f) in
+    let P : M → Type 0 = λ x. (records : List (Key × Note)) → Holds (meaning x) before records → Holds (meaning x) told (records ++ done) in
     record {
-      bucket = bucket;
-      end_is = is_end;
+      done = done;
       told = subst P same all;
-      gives = subst Q (ap (λ (e : BucketEnd). e.fault) (sym is_end)) (cycle_given meaning value model read terms place fault c new bucket is is_place is_read begins refl is_after);
+      gives = cycle_given meaning value model read terms place fault c new (bucket_of done end) is is_place is_read begins (sym is_end) is_after;
     }
 
 -- and its records are all
 pub bucket_given : (m : Meaning) (t : Terms) (old new : Standing) (before after : RecordsView) (end : BucketEnd) (bucket : Bucket) → before.items ≡ []
     → HasTold (λ (buffer : RecordsView) (records : List (Key × Note)). buffer.items ≡ records) m t old before end after new
-    → bucket ≡ record { done = after.items; horizon = end.horizon; fault = end.fault; limited = end.limited } → CycleGives m t old (Ok bucket) new
+    → bucket ≡ bucket_of after.items end → CycleGives m t old (Ok bucket) new
 bucket_given m t old new before after end bucket empty has is =
-    let all : after.items ≡ has.bucket.done = has.told [] empty in
-    let same : bucket ≡ has.bucket = is ∙ (λ i. record { done = all i; horizon = (has.end_is i).horizon; fault = (has.end_is i).fault; limited = (has.end_is i).limited }) in
+    let all : after.items ≡ has.done = has.told [] empty in
     let P : Bucket → Type 0 = λ b. CycleGives m t old (Ok b) new in
-    subst P (sym same) has.gives
+    subst P (sym (is ∙ ap (λ done. bucket_of done end) all)) has.gives
 
 -- a refused bucket leaves a spent engine
 pub cycle_refused : (m : Meaning) (t : Terms) (old new : Standing) (P : OutOfMemory → Type 0) (answer : Result Bucket OutOfMemory) → IsErrAnd answer P → new ≡ spent → CycleGives m t old answer new

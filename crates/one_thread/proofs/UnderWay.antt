@@ -1,5 +1,5 @@
 -- A bucket under way, over a simulation that keeps its events in one list.
-use Rattle.std.proofs.Common.{◌≡◌, ℕ, true, false, List, [], ◌∷◌, ◌++◌, sym, refl, ◌∙◌, subst}
+use Rattle.std.proofs.Common.{◌≡◌, ℕ, true, false, List, [], ◌∷◌, ◌++◌, sym, refl, ap, ◌∙◌, subst}
 use Rattle.std.specs.Prelude.{Some, None}
 use Rattle.event_key.specs.declared.key.Key.{Key}
 use Rattle.event_key.specs.declared.stamp.TheConstants.{NO_STAMP}
@@ -10,6 +10,8 @@ use Rattle.sim_spec.specs.declared.terms.Terms.{Terms}
 use Rattle.sim_spec.specs.Cut.{cut, after}
 use Rattle.sim_spec.specs.State.{State, Lawful}
 use Rattle.tick_queue.specs.Queues.{IsSettled}
+use Rattle.one_thread.specs.declared.bucket_end.BucketEnd.{BucketEnd}
+use Rattle.one_thread.specs.Ends.{bucket_of, HasEnd}
 use Rattle.one_thread.specs.Engines.{Course, state_of}
 use Rattle.one_thread.specs.Turns.{horizon_of, NoneDue, IsDone, IsFailed, IsFull}
 use Rattle.one_thread.proofs.BucketLemmas.{InBucket, starts, goes_on}
@@ -78,3 +80,7 @@ pub record HasEnded (m : Meaning) (t : Terms) (s : State) (bucket : Bucket) (c :
 -- by a turn that leaves all as it was
 pub has_ended : (m : Meaning) (t : Terms) (s : State) (bucket : Bucket) (c new : Course) → Leaves m t s bucket c → IsSettled c.queue → new ≡ c → HasEnded m t s bucket new
 has_ended m t s bucket c new leaves settled same = let P : Course → Type 0 = HasEnded m t s bucket in subst P (sym same) (record { leaves = leaves; settled = settled })
+
+-- the cut is the bucket that ended so
+pub cut_ended : (m : Meaning) (t : Terms) (s : State) (told : List (Key × Note)) (end : BucketEnd) (c : Course) → HasEnded m t s (bucket_of told end) c → HasEnd (cut m t s) end
+cut_ended m t s told end c ended = sym ended.leaves.is_cut ∙ ap (λ (b : Bucket). bucket_of b.done end) ended.leaves.is_cut

@@ -6,7 +6,7 @@ ghost use Rattle.sim_spec.specs.Cut.{cut, after};
 ghost use Rattle.sim_spec.specs.State.{Lawful};
 ghost use Rattle.tick_queue.specs.Queues.{IsSettled};
 ghost use Rattle.one_thread.specs.Engines.{state_of};
-ghost use Rattle.one_thread.specs.Ends.{end_of};
+ghost use Rattle.one_thread.specs.Ends.{HasEnd};
 
 use crate::bucket_end::BucketEnd;
 use crate::course::Course;
@@ -35,7 +35,7 @@ pub fn fire_bucket<
     requires does { (t : _) (key : _) (note : _) (r : _) (f : _) → F.post tell.now t model key note r f
         → (before : List (Key × Note)) → T.holds (M.meaning model.now) t.now before
         → OnOk r (T.holds (M.meaning model.now) f.now (before ++ (key.now, note.now) ∷ [])) }
-    ensures end { IfOk result (λ end. end ≡ end_of (cut (M.meaning model.now) terms.now (state_of course.old))) }
+    ensures end { IfOk result (λ end. HasEnd (cut (M.meaning model.now) terms.now (state_of course.old)) end) }
     ensures told { OnOk result ((before : List (Key × Note)) → T.holds (M.meaning model.now) into.old before
         → T.holds (M.meaning model.now) into.new (before ++ (cut (M.meaning model.now) terms.now (state_of course.old)).done)) }
     ensures lawful { OnOk result (Lawful (M.meaning model.now) terms.now (state_of course.new)) }
@@ -48,9 +48,9 @@ pub fn fire_bucket<
         course.settle()?;
         match course.turn(model, terms, sheet)? {
             Turn::Does(key) => tell(into, model, &key, &sheet.note)?,
-            Turn::Ends(horizon) => return Ok(BucketEnd::whole(horizon)),
-            Turn::Limit => return Ok(BucketEnd::limit()),
-            Turn::Fault(key, code) => return Ok(BucketEnd::fault(key, code)),
+            Turn::Ends(horizon) => return Ok(BucketEnd::Whole { horizon }),
+            Turn::Limit => return Ok(BucketEnd::Limit),
+            Turn::Fault(key, code) => return Ok(BucketEnd::Fault { key, code }),
         }
     }
 }

@@ -1,64 +1,52 @@
 //! How a bucket ended.
-ghost use Rattle.std.specs.Prelude.{◌≡◌, None, Some, true, false};
+ghost use Rattle.std.specs.Prelude.{◌≡◌};
+ghost use Rattle.one_thread.specs.Ends.{bucket_of, fault_of, told_horizon};
 
 use event_key::Key;
 use model_core::Records;
 use sim_spec::Bucket;
 
-/// How a bucket ended: at its horizon, at the limit, or at a fault.
+/// How a bucket ended.
 #[derive(Clone, Copy, Debug, PartialEq, Eq)]
-pub struct BucketEnd {
-    /// The horizon of a whole bucket, and else 0.
-    pub horizon: u64,
-    /// The event at which the bucket ended, and the code with which it failed.
-    pub fault: Option<(Key, u32)>,
-    /// Whether the limit cut the bucket.
-    pub limited: bool,
+pub enum BucketEnd {
+    /// No event is left below this horizon, a stamp.
+    Whole { horizon: u64 },
+    /// An event is left below the horizon, but as many are done as may be.
+    Limit,
+    /// The event of this key failed with this code.
+    Fault { key: Key, code: u32 },
 }
 
 impl BucketEnd {
-    /// No event is left below this horizon.
-    pub fn whole(horizon: u64) -> BucketEnd
-        ensures { result ≡ record { horizon = horizon; fault = None; limited = false } }
+    /// The event that failed, and its code.
+    pub fn fault(self) -> Option<(Key, u32)>
+        ensures { result ≡ fault_of self }
     {
-        BucketEnd {
-            horizon,
-            fault: None,
-            limited: false,
+        match self {
+            BucketEnd::Fault { key, code } => Some((key, code)),
+            BucketEnd::Whole { .. } | BucketEnd::Limit => None,
         }
     }
 
-    /// The limit cut the bucket.
-    pub fn limit() -> BucketEnd
-        ensures { result ≡ record { horizon = 0; fault = None; limited = true } }
+    /// The horizon that is told of the bucket: 0, unless the bucket is whole.
+    fn told_horizon(self) -> u64
+        ensures { result ≡ told_horizon self }
     {
-        BucketEnd {
-            horizon: 0,
-            fault: None,
-            limited: true,
-        }
-    }
-
-    /// An event failed with this code.
-    pub fn fault(key: Key, code: u32) -> BucketEnd
-        ensures { result ≡ record { horizon = 0; fault = Some (key, code); limited = false } }
-    {
-        BucketEnd {
-            horizon: 0,
-            fault: Some((key, code)),
-            limited: false,
+        match self {
+            BucketEnd::Whole { horizon } => horizon,
+            BucketEnd::Limit | BucketEnd::Fault { .. } => 0,
         }
     }
 
     /// The bucket with these records that ended so.
-    pub fn of(self, done: Records) -> Bucket
-        ensures { result ≡ record { done = done; horizon = self.horizon; fault = self.fault; limited = self.limited } }
+    pub fn bucket(self, done: Records) -> Bucket
+        ensures { result ≡ bucket_of done self }
     {
         Bucket {
             done,
-            horizon: self.horizon,
-            fault: self.fault,
-            limited: self.limited,
+            horizon: self.told_horizon(),
+            fault: self.fault(),
+            limited: matches!(self, BucketEnd::Limit),
         }
     }
 }

@@ -144,7 +144,7 @@ impl<M: SimulationModel> OneThread<M> {
             tell,
         ) {
             Ok(end) => {
-                self.fault = end.fault;
+                self.fault = end.fault();
                 Ok(end)
             }
             Err(refused) => {
@@ -220,7 +220,7 @@ impl<M: SimulationModel> OneThread<M> {
             ensures { OnOk result (done.new.items ≡ done.old.items ++ (key.now, note.now) ∷ []) }
         { done.push(key, note) };
         let end = self.tell_bucket(&mut done, &put)?;
-        Ok(end.of(Records::new(done)))
+        Ok(end.bucket(Records::new(done)))
     }
 
     /// Takes back the records of a bucket that nobody reads any more: those of the next one are put where they stood.

@@ -1,18 +1,19 @@
 -- The bucket grows event by event, and ends as the definition ends it.
-use Rattle.std.proofs.Common.{◌++◌, ◌∷◌, [], Some, None, true, false, ◌∙◌, refl, ap, subst, sym, arith, append-nil, append_assoc}
+use Rattle.std.proofs.Common.{◌++◌, ◌∷◌, [], refl, ap, subst, sym, arith, append-nil, append_assoc}
 use Rattle.std.specs.Prelude.{Result, OnOk}
 use Rattle.event_key.specs.declared.key.Key.{Key}
 use Rattle.delta_exchange.specs.declared.memory.OutOfMemory.{OutOfMemory}
 use Rattle.model_core.specs.declared.note.Note.{Note}
 use Rattle.sim_spec.specs.declared.bucket.Bucket.{Bucket}
 use Rattle.sim_spec.specs.State.{State}
-use Rattle.one_thread.specs.Ends.{end_of}
+use Rattle.one_thread.specs.Ends.{bucket_of}
+use Rattle.one_thread.specs.declared.bucket_end.BucketEnd.TheVariants.{Whole, Limit as AtLimit, Fault as AtFault}
 use Rattle.one_thread.specs.Engines.{state_of}
 use Rattle.one_thread.specs.Turns.{IsTurn}
 use Rattle.one_thread.specs.declared.turn.Turn.{Turn}
 use Rattle.one_thread.specs.declared.turn.Turn.TheVariants.{Does, Ends, Limit, Fault}
 use Rattle.one_thread.proofs.FireLemmas.{done_below}
-use Rattle.one_thread.proofs.UnderWay.{UnderWay, HasEnded, has_ended, begins, stays, lawful_in, goes, leaves_whole, leaves_limited, leaves_faulted}
+use Rattle.one_thread.proofs.UnderWay.{UnderWay, HasEnded, has_ended, cut_ended, begins, stays, lawful_in, goes, leaves_whole, leaves_limited, leaves_faulted}
 use Rattle.one_thread.proofs.bucket.fire_bucket.Given.{Over}
 use Rattle.one_thread.proofs.bucket.fire_bucket.Goals as goal
 use Rattle.one_thread.proofs.bucket.fire_bucket.Goals.{After-turn, In-Ends, In-Limit, In-Fault}
@@ -76,7 +77,7 @@ loop-course-smaller g c =
     omega (arith, same, count, free)
 
 -- the bucket as it ends: with no event due, at the limit, or at a fault
-whole : (g : Over) (c : In-Ends g) → HasEnded (g.M.Model.meaning c.args.model.now) c.args.terms.now (state_of c.args.course.now) (record { done = c.loop-course.invariant.so_far; horizon = c.in-Ends.horizon; fault = None; limited = false }) c.turn.new.self
+whole : (g : Over) (c : In-Ends g) → HasEnded (g.M.Model.meaning c.args.model.now) c.args.terms.now (state_of c.args.course.now) (bucket_of c.loop-course.invariant.so_far (Whole c.in-Ends.horizon)) c.turn.new.self
 whole g c =
     let m = g.M.Model.meaning c.args.model.now in
     let here = settled g (goal.at.In-Ends g c).After-turn in
@@ -84,7 +85,7 @@ whole g c =
     let turn : P (Ends c.in-Ends.horizon) = subst P c.in-Ends.is c.in_ok-key.ensures in
     has_ended m c.args.terms.now (state_of c.args.course.now) _ c.settle.new.self c.turn.new.self (leaves_whole m c.args.terms.now (state_of c.args.course.now) c.loop-course.invariant.so_far c.settle.new.self c.in-Ends.horizon _ here turn.0 turn.1 refl) c.in_ok-settle.ensures.settled turn.2
 
-limited : (g : Over) (c : In-Limit g) → HasEnded (g.M.Model.meaning c.args.model.now) c.args.terms.now (state_of c.args.course.now) (record { done = c.loop-course.invariant.so_far; horizon = 0; fault = None; limited = true }) c.turn.new.self
+limited : (g : Over) (c : In-Limit g) → HasEnded (g.M.Model.meaning c.args.model.now) c.args.terms.now (state_of c.args.course.now) (bucket_of c.loop-course.invariant.so_far AtLimit) c.turn.new.self
 limited g c =
     let m = g.M.Model.meaning c.args.model.now in
     let here = settled g (goal.at.In-Limit g c).After-turn in
@@ -92,7 +93,7 @@ limited g c =
     let turn : P (Limit) = subst P c.in-Limit.is c.in_ok-key.ensures in
     has_ended m c.args.terms.now (state_of c.args.course.now) _ c.settle.new.self c.turn.new.self (leaves_limited m c.args.terms.now (state_of c.args.course.now) c.loop-course.invariant.so_far c.settle.new.self _ here turn.0 refl) c.in_ok-settle.ensures.settled turn.1
 
-faulted : (g : Over) (c : In-Fault g) → HasEnded (g.M.Model.meaning c.args.model.now) c.args.terms.now (state_of c.args.course.now) (record { done = c.loop-course.invariant.so_far; horizon = 0; fault = Some (c.in-Fault.key, c.in-Fault.code); limited = false }) c.turn.new.self
+faulted : (g : Over) (c : In-Fault g) → HasEnded (g.M.Model.meaning c.args.model.now) c.args.terms.now (state_of c.args.course.now) (bucket_of c.loop-course.invariant.so_far (AtFault c.in-Fault.key c.in-Fault.code)) c.turn.new.self
 faulted g c =
     let m = g.M.Model.meaning c.args.model.now in
     let here = settled g (goal.at.In-Fault g c).After-turn in
@@ -101,7 +102,7 @@ faulted g c =
     has_ended m c.args.terms.now (state_of c.args.course.now) _ c.settle.new.self c.turn.new.self (leaves_faulted m c.args.terms.now (state_of c.args.course.now) c.loop-course.invariant.so_far c.settle.new.self c.in-Fault.key c.in-Fault.code _ here turn.0 refl) c.in_ok-settle.ensures.settled turn.1
 
 pub returns-in-Ends-clause-end : goal.returns-in-Ends-clause-end
-returns-in-Ends-clause-end g c = c.whole.ensures ∙ ap end_of (whole g (goal.at.returns-in-Ends-clause-end g c).In-Ends).leaves.is_cut
+returns-in-Ends-clause-end g c = cut_ended _ _ _ _ (Whole c.in-Ends.horizon) _ (whole g (goal.at.returns-in-Ends-clause-end g c).In-Ends)
 
 pub returns-in-Ends-clause-told : goal.returns-in-Ends-clause-told
 returns-in-Ends-clause-told g c = λ before holds. subst (λ (b : Bucket). g.T.Recorder.holds (g.M.Model.meaning c.args.model.now) c.loop-course.into (before ++ b.done)) (whole g (goal.at.returns-in-Ends-clause-told g c).In-Ends).leaves.is_cut (c.loop-course.invariant.told before holds)
@@ -116,7 +117,7 @@ pub returns-in-Ends-clause-settled : goal.returns-in-Ends-clause-settled
 returns-in-Ends-clause-settled g c = (whole g (goal.at.returns-in-Ends-clause-settled g c).In-Ends).settled
 
 pub returns-in-Limit-clause-end : goal.returns-in-Limit-clause-end
-returns-in-Limit-clause-end g c = c.limit.ensures ∙ ap end_of (limited g (goal.at.returns-in-Limit-clause-end g c).In-Limit).leaves.is_cut
+returns-in-Limit-clause-end g c = cut_ended _ _ _ _ AtLimit _ (limited g (goal.at.returns-in-Limit-clause-end g c).In-Limit)
 
 pub returns-in-Limit-clause-told : goal.returns-in-Limit-clause-told
 returns-in-Limit-clause-told g c = λ before holds. subst (λ (b : Bucket). g.T.Recorder.holds (g.M.Model.meaning c.args.model.now) c.loop-course.into (before ++ b.done)) (limited g (goal.at.returns-in-Limit-clause-told g c).In-Limit).leaves.is_cut (c.loop-course.invariant.told before holds)
@@ -131,7 +132,7 @@ pub returns-in-Limit-clause-settled : goal.returns-in-Limit-clause-settled
 returns-in-Limit-clause-settled g c = (limited g (goal.at.returns-in-Limit-clause-settled g c).In-Limit).settled
 
 pub returns-in-Fault-clause-end : goal.returns-in-Fault-clause-end
-returns-in-Fault-clause-end g c = c.fault.ensures ∙ ap end_of (faulted g (goal.at.returns-in-Fault-clause-end g c).In-Fault).leaves.is_cut
+returns-in-Fault-clause-end g c = cut_ended _ _ _ _ (AtFault c.in-Fault.key c.in-Fault.code) _ (faulted g (goal.at.returns-in-Fault-clause-end g c).In-Fault)
 
 pub returns-in-Fault-clause-told : goal.returns-in-Fault-clause-told
 returns-in-Fault-clause-told g c = λ before holds. subst (λ (b : Bucket). g.T.Recorder.holds (g.M.Model.meaning c.args.model.now) c.loop-course.into (before ++ b.done)) (faulted g (goal.at.returns-in-Fault-clause-told g c).In-Fault).leaves.is_cut (c.loop-course.invariant.told before holds)

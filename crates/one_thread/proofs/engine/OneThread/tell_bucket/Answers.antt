@@ -1,8 +1,10 @@
 -- A cycle of the engine is a bucket of its simulation, of which all is told.
-use Rattle.std.proofs.Common.{◌<◌, ◌++◌, ◌∷◌, [], Option, ap, subst, sym, ◌∙◌}
+use Rattle.std.proofs.Common.{ℕ, ◌<◌, ◌++◌, ◌∷◌, [], Option, ap, subst, sym, ◌∙◌}
 use Rattle.std.specs.Arc.{arc_value}
 use Rattle.std.specs.Prelude.{OnOk}
-use Rattle.sim_spec.specs.Standing.{IsLawfulStanding}
+use Rattle.event_key.specs.declared.key.Key.{Key}
+use Rattle.sim_spec.specs.Standing.{IsLawfulStanding, stands}
+use Rattle.one_thread.specs.Ends.{HasTold}
 use Rattle.one_thread.specs.Engines.{Course, EngineView, IsReady, standing_of, state_of}
 use Rattle.one_thread.proofs.EngineLemmas.{told_given, lawful_at, spent_lawful, stands_lawful}
 use Rattle.one_thread.proofs.engine.OneThread.tell_bucket.Goals as goal
@@ -29,7 +31,7 @@ fire_bucket-requires-clause-does g c lives lasts = λ t key note r f post before
 
 pub invariant_of-self-in-Ok : goal.invariant_of-self-in-Ok
 invariant_of-self-in-Ok g c = (
-  stands_lawful (g.M.Model.meaning (arc_value c.self.inside.model)) _ c.self.inside.terms (state_of c.fire_bucket.new.course) c.in-Ok.end.fault (ap g.M.Model.meaning c.deref.ensures) c.in-Ok.ensures.lawful,
+  stands_lawful (g.M.Model.meaning (arc_value c.self.inside.model)) _ c.self.inside.terms (state_of c.fire_bucket.new.course) c.fault-self-inside.result (ap g.M.Model.meaning c.deref.ensures) c.in-Ok.ensures.lawful,
   c.in-Ok.ensures.settled,
 )
 
@@ -41,8 +43,12 @@ invariant_of-self-in-Err g c =
 
 pub returns-in-Ok-clause-told : goal.returns-in-Ok-clause-told
 returns-in-Ok-clause-told g c =
-    told_given g.M.Model.meaning g.T.Recorder.holds c.args.self.now (arc_value c.self.inside.model) c.deref.result.now c.self.inside.terms c.self.inside.course c.self.inside.fault c.in-Some.course c.fire_bucket.new.course
-    c.args.into.now c.fire_bucket.new.into c.in-Ok.end c.self.view_is c.in-Some.is c.deref.ensures c.requires.goes_on c.in-Ok.ensures.end c.in-Ok.ensures.told c.in-Ok.ensures.after
+    let meaning = g.M.Model.meaning c.args.self.now.model in
+    let P : Option (Key × ℕ) → Type 0 = λ fault. HasTold (g.T.Recorder.holds meaning) meaning c.args.self.now.terms c.args.self.now.standing c.args.into.now c.in-Ok.end c.fire_bucket.new.into
+    (stands (state_of c.fire_bucket.new.course) fault) in
+    subst P (sym c.fault-self-inside.ensures)
+    (told_given g.M.Model.meaning g.T.Recorder.holds c.args.self.now (arc_value c.self.inside.model) c.deref.result.now c.self.inside.terms c.self.inside.course c.self.inside.fault c.in-Some.course c.fire_bucket.new.course
+    c.args.into.now c.fire_bucket.new.into c.in-Ok.end c.self.view_is c.in-Some.is c.deref.ensures c.requires.goes_on c.in-Ok.ensures.end c.in-Ok.ensures.told c.in-Ok.ensures.after)
 
 pub returns-in-Err-clause-refused : goal.returns-in-Err-clause-refused
 returns-in-Err-clause-refused g c = ap (λ place. standing_of place c.self.inside.fault) c.spend.ensures
