@@ -13,9 +13,11 @@ use Rattle.sim_spec.specs.Run.{stops, does, next, next_fired, Leads}
 use Rattle.sim_spec.specs.Standing.{Standing, stands, ended, end_or_limit}
 use Rattle.sim_spec.specs.State.{State}
 use Rattle.sim_spec.proofs.RunLemmas.{next-none, next-late, next-full, next-fires}
-use Rattle.one_thread.specs.Ends.{HasToldStretch}
+use Rattle.one_thread.specs.declared.bucket_end.BucketEnd.{BucketEnd}
+use Rattle.one_thread.specs.declared.bucket_end.BucketEnd.TheVariants.{Whole, Limit as AtLimit, Fault as AtFault}
+use Rattle.one_thread.specs.Ends.{fault_of, HasToldStretch}
 use Rattle.one_thread.specs.Engines.{Course, EngineView, state_of, standing_of}
-use Rattle.one_thread.specs.Turns.{horizon_of, NoneDue, IsOpen, IsDone, IsFailed, IsFull}
+use Rattle.one_thread.specs.Turns.{horizon_of, NoneDue, IsOpen, IsDone, IsFailed, IsFull, EndsSo}
 use Rattle.one_thread.proofs.EngineLemmas.{engine_of, begins_at}
 
 -- the event that goes is the next one
@@ -95,6 +97,18 @@ stretch_ends Holds m t from mid last done before after fault leads same told fai
     some = λ goes. some (ap (λ s. ended m t (stands s fault)) (sym same) ∙ goes);
   };
 }
+
+-- so one ends where its bucket does
+pub stretch_ends_so : {T : Type 0} (Holds : T → List (Key × Note) → Type 0) (m : Meaning) (t : Terms) (from : State) (c new : Course) (done : List (Key × Note)) (before after : T) (end : BucketEnd)
+    → Leads m t from done (state_of c) → new ≡ c → ((records : List (Key × Note)) → Holds before records → Holds after (records ++ done)) → EndsSo m t c end → (done ≡ [] → IsOpen c)
+    → HasToldStretch Holds m t (stands from None) before after (stands (state_of new) (fault_of end))
+stretch_ends_so Holds m t from c new done before after (Whole horizon) leads same told so begun =
+    stretch_ends Holds m t from (state_of c) (state_of new) done before after None leads (ap state_of same) told (λ f is. cc) (some_or_ended m t c done horizon so.0 so.1 begun)
+stretch_ends_so Holds m t from c new done before after AtLimit leads same told so begun =
+    stretch_ends Holds m t from (state_of c) (state_of new) done before after None leads (ap state_of same) told (λ f is. cc) (λ goes. absurd (ended_limited m t _ (next_limited m t c so) goes))
+stretch_ends_so Holds m t from c new done before after (AtFault key code) leads same told so begun =
+    stretch_ends Holds m t from (state_of c) (state_of new) done before after (Some (key, code)) leads (ap state_of same) told
+    (failed_so m t _ _ (next_failed m t c key code so)) (λ goes. absurd (ended_failed m t _ _ goes))
 
 -- the engine has done the stretch of its simulation
 pub stretch_given : {M T : Type 0} (meaning : M → Meaning) (Holds : Meaning → T → List (Key × Note) → Type 0) (value : EngineView M) (model read : M) (terms : Terms) (place : Option Course) (fault : Option (Key × ℕ))

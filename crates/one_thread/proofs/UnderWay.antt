@@ -11,9 +11,10 @@ use Rattle.sim_spec.specs.Cut.{cut, after}
 use Rattle.sim_spec.specs.State.{State, Lawful}
 use Rattle.tick_queue.specs.Queues.{IsSettled}
 use Rattle.one_thread.specs.declared.bucket_end.BucketEnd.{BucketEnd}
+use Rattle.one_thread.specs.declared.bucket_end.BucketEnd.TheVariants.{Whole, Limit, Fault}
 use Rattle.one_thread.specs.Ends.{bucket_of, HasEnd}
 use Rattle.one_thread.specs.Engines.{Course, state_of}
-use Rattle.one_thread.specs.Turns.{horizon_of, NoneDue, IsDone, IsFailed, IsFull}
+use Rattle.one_thread.specs.Turns.{horizon_of, NoneDue, EndsSo, IsDone, IsFailed, IsFull}
 use Rattle.one_thread.proofs.BucketLemmas.{InBucket, starts, goes_on}
 use Rattle.one_thread.proofs.EndLemmas.{Ends, ends_whole, ends_faulted, ends_limited}
 use Rattle.one_thread.proofs.Parts.{Parts, HasParts, none_due, done_parts, failed_parts, full_parts, parts_begin, parts_stay}
@@ -78,8 +79,16 @@ pub record HasEnded (m : Meaning) (t : Terms) (s : State) (bucket : Bucket) (c :
   pub settled : IsSettled c.queue
 
 -- by a turn that leaves all as it was
-pub has_ended : (m : Meaning) (t : Terms) (s : State) (bucket : Bucket) (c new : Course) → Leaves m t s bucket c → IsSettled c.queue → new ≡ c → HasEnded m t s bucket new
-has_ended m t s bucket c new leaves settled same = let P : Course → Type 0 = HasEnded m t s bucket in subst P (sym same) (record { leaves = leaves; settled = settled })
+pub has_ended : (m : Meaning) (t : Terms) (s : State) (told : List (Key × Note)) (c new : Course) (end : BucketEnd) → UnderWay m t s told c → IsSettled c.queue → EndsSo m t c end → new ≡ c
+    → HasEnded m t s (bucket_of told end) new
+has_ended m t s told c new end u settled so same =
+    let P : Course → Type 0 = HasEnded m t s (bucket_of told end) in
+    subst P (sym same) (record { leaves = by_end end so; settled = settled })
+  where
+    by_end : (end : BucketEnd) → EndsSo m t c end → Leaves m t s (bucket_of told end) c
+    by_end (Whole horizon) so = leaves_whole m t s told c horizon _ u so.0 so.1 refl
+    by_end Limit so = leaves_limited m t s told c _ u so refl
+    by_end (Fault key code) so = leaves_faulted m t s told c key code _ u so refl
 
 -- the cut is the bucket that ended so
 pub cut_ended : (m : Meaning) (t : Terms) (s : State) (told : List (Key × Note)) (end : BucketEnd) (c : Course) → HasEnded m t s (bucket_of told end) c → HasEnd (cut m t s) end

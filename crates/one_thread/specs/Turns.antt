@@ -11,8 +11,10 @@ use Rattle.sim_spec.specs.State.{object_at}
 use Rattle.key_order.specs.Pending.{enqueue_all}
 use Rattle.key_order.specs.Stamps.{least_stamp}
 use Rattle.one_thread.specs.Engines.{Course}
+use Rattle.one_thread.specs.declared.bucket_end.BucketEnd.{BucketEnd}
+use Rattle.one_thread.specs.declared.bucket_end.BucketEnd.TheVariants.{Whole, Limit, Fault}
 use Rattle.one_thread.specs.declared.turn.Turn.{Turn}
-use Rattle.one_thread.specs.declared.turn.Turn.TheVariants.{Does, Ends, Limit, Fault}
+use Rattle.one_thread.specs.declared.turn.Turn.TheVariants.{Does, Ends}
 
 -- the horizon: the least stamp of what was sent in this bucket, or the end
 abbrev pub horizon_of : Terms → Course → ℕ
@@ -67,9 +69,13 @@ pub record IsFull (t : Terms) (c : Course) : Type 0 where
   pub due : IsDue t c event rest
   pub full : c.count ≡ t.limit
 
+-- the bucket ends here, and so
+abbrev pub EndsSo : Meaning → Terms → Course → BucketEnd → Type 0
+EndsSo m t c (Whole horizon) = (horizon ≡ horizon_of t c) × NoneDue horizon c.queue.pending
+EndsSo m t c Limit = IsFull t c
+EndsSo m t c (Fault key code) = IsFailed m t c key code
+
 -- what a turn says, tells and leaves
 abbrev pub IsTurn : Meaning → Terms → Course → Turn → Note → Course → Type 0
 IsTurn m t old (Does key) note new = IsDone m t old key note new
-IsTurn m t old (Ends horizon) note new = (horizon ≡ horizon_of t old) × NoneDue horizon old.queue.pending × (new ≡ old)
-IsTurn m t old Limit note new = IsFull t old × (new ≡ old)
-IsTurn m t old (Fault key code) note new = IsFailed m t old key code × (new ≡ old)
+IsTurn m t old (Ends end) note new = EndsSo m t old end × (new ≡ old)

@@ -48,9 +48,7 @@ pub fn fire_bucket<
         course.settle()?;
         match course.turn(model, terms, sheet)? {
             Turn::Does(key) => tell(into, model, &key, &sheet.note)?,
-            Turn::Ends(horizon) => return Ok(BucketEnd::Whole { horizon }),
-            Turn::Limit => return Ok(BucketEnd::Limit),
-            Turn::Fault(key, code) => return Ok(BucketEnd::Fault { key, code }),
+            Turn::Ends(end) => return Ok(end),
         }
     }
 }

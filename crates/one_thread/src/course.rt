@@ -10,6 +10,7 @@ ghost use Rattle.one_thread.specs.Turns.{IsOpen, IsTurn, HasDue};
 
 use crate::ahead::ReadAhead;
 use crate::beginning::first_events;
+use crate::bucket_end::BucketEnd;
 use crate::sending::send_all;
 use crate::turn::Turn;
 use event_firing::{Object, first_objects};
@@ -133,13 +134,13 @@ impl Course {
     {
         let horizon = self.queue.fresh_least().min(end_bound(terms.end));
         let Some(event) = self.queue.first() else {
-            return Ok(Turn::Ends(horizon));
+            return Ok(Turn::Ends(BucketEnd::Whole { horizon }));
         };
         if event.key.stamp >= horizon {
-            return Ok(Turn::Ends(horizon));
+            return Ok(Turn::Ends(BucketEnd::Whole { horizon }));
         }
         if self.count == terms.limit {
-            return Ok(Turn::Limit);
+            return Ok(Turn::Ends(BucketEnd::Limit));
         }
         self.fire(model, terms, sheet)
     }
@@ -172,7 +173,7 @@ impl Course {
                 self.count += 1;
                 Ok(Turn::Does(key))
             }
-            Ending::Fails(code) => Ok(Turn::Fault(key, code)),
+            Ending::Fails(code) => Ok(Turn::Ends(BucketEnd::Fault { key, code })),
         }
     }
 }

@@ -49,9 +49,7 @@ pub fn fire_stretch<
     loop {
         match course.turn(model, terms, sheet)? {
             Turn::Does(key) => tell(into, model, &key, &sheet.note)?,
-            Turn::Ends(_) => return Ok(None),
-            Turn::Limit => return Ok(None),
-            Turn::Fault(key, code) => return Ok(Some((key, code))),
+            Turn::Ends(end) => return Ok(end.fault()),
         }
         if course.settle()? && course.count() >= upto {
             return Ok(None);

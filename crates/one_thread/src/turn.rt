@@ -1,4 +1,5 @@
 //! What an engine does next within a bucket.
+use crate::bucket_end::BucketEnd;
 use event_key::Key;
 
 /// What an engine does next within a bucket.
@@ -6,10 +7,6 @@ use event_key::Key;
 pub enum Turn {
     /// The event of this key was done, and the sheet tells of it.
     Does(Key),
-    /// No event is below this horizon.
-    Ends(u64),
-    /// An event is below the horizon, but as many are done as may be.
-    Limit,
-    /// The first event failed with this code, and nothing changed.
-    Fault(Key, u32),
+    /// The bucket ends so, and nothing changed.
+    Ends(BucketEnd),
 }

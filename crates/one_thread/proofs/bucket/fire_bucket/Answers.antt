@@ -7,16 +7,15 @@ use Rattle.model_core.specs.declared.note.Note.{Note}
 use Rattle.sim_spec.specs.declared.bucket.Bucket.{Bucket}
 use Rattle.sim_spec.specs.State.{State}
 use Rattle.one_thread.specs.Ends.{bucket_of}
-use Rattle.one_thread.specs.declared.bucket_end.BucketEnd.TheVariants.{Whole, Limit as AtLimit, Fault as AtFault}
 use Rattle.one_thread.specs.Engines.{state_of}
 use Rattle.one_thread.specs.Turns.{IsTurn}
 use Rattle.one_thread.specs.declared.turn.Turn.{Turn}
-use Rattle.one_thread.specs.declared.turn.Turn.TheVariants.{Does, Ends, Limit, Fault}
+use Rattle.one_thread.specs.declared.turn.Turn.TheVariants.{Does, Ends}
 use Rattle.one_thread.proofs.FireLemmas.{done_below}
-use Rattle.one_thread.proofs.UnderWay.{UnderWay, HasEnded, has_ended, cut_ended, begins, stays, lawful_in, goes, leaves_whole, leaves_limited, leaves_faulted}
+use Rattle.one_thread.proofs.UnderWay.{UnderWay, HasEnded, has_ended, cut_ended, begins, stays, lawful_in, goes}
 use Rattle.one_thread.proofs.bucket.fire_bucket.Given.{Over}
 use Rattle.one_thread.proofs.bucket.fire_bucket.Goals as goal
-use Rattle.one_thread.proofs.bucket.fire_bucket.Goals.{After-turn, In-Ends, In-Limit, In-Fault}
+use Rattle.one_thread.proofs.bucket.fire_bucket.Goals.{After-turn, In-Ends}
 
 pub loop-course-init : goal.loop-course-init
 loop-course-init g c =
@@ -76,72 +75,26 @@ loop-course-smaller g c =
     let free = done.free in
     omega (arith, same, count, free)
 
--- the bucket as it ends: with no event due, at the limit, or at a fault
-whole : (g : Over) (c : In-Ends g) → HasEnded (g.M.Model.meaning c.args.model.now) c.args.terms.now (state_of c.args.course.now) (bucket_of c.loop-course.invariant.so_far (Whole c.in-Ends.horizon)) c.turn.new.self
-whole g c =
+-- the bucket as it ends
+ended : (g : Over) (c : In-Ends g) → HasEnded (g.M.Model.meaning c.args.model.now) c.args.terms.now (state_of c.args.course.now) (bucket_of c.loop-course.invariant.so_far c.in-Ends.end) c.turn.new.self
+ended g c =
     let m = g.M.Model.meaning c.args.model.now in
     let here = settled g (goal.at.In-Ends g c).After-turn in
     let P : Turn → Type 0 = λ turn. IsTurn m c.args.terms.now c.settle.new.self turn c.turn.new.sheet.note c.turn.new.self in
-    let turn : P (Ends c.in-Ends.horizon) = subst P c.in-Ends.is c.in_ok-key.ensures in
-    has_ended m c.args.terms.now (state_of c.args.course.now) _ c.settle.new.self c.turn.new.self (leaves_whole m c.args.terms.now (state_of c.args.course.now) c.loop-course.invariant.so_far c.settle.new.self c.in-Ends.horizon _ here turn.0 turn.1 refl) c.in_ok-settle.ensures.settled turn.2
-
-limited : (g : Over) (c : In-Limit g) → HasEnded (g.M.Model.meaning c.args.model.now) c.args.terms.now (state_of c.args.course.now) (bucket_of c.loop-course.invariant.so_far AtLimit) c.turn.new.self
-limited g c =
-    let m = g.M.Model.meaning c.args.model.now in
-    let here = settled g (goal.at.In-Limit g c).After-turn in
-    let P : Turn → Type 0 = λ turn. IsTurn m c.args.terms.now c.settle.new.self turn c.turn.new.sheet.note c.turn.new.self in
-    let turn : P (Limit) = subst P c.in-Limit.is c.in_ok-key.ensures in
-    has_ended m c.args.terms.now (state_of c.args.course.now) _ c.settle.new.self c.turn.new.self (leaves_limited m c.args.terms.now (state_of c.args.course.now) c.loop-course.invariant.so_far c.settle.new.self _ here turn.0 refl) c.in_ok-settle.ensures.settled turn.1
-
-faulted : (g : Over) (c : In-Fault g) → HasEnded (g.M.Model.meaning c.args.model.now) c.args.terms.now (state_of c.args.course.now) (bucket_of c.loop-course.invariant.so_far (AtFault c.in-Fault.key c.in-Fault.code)) c.turn.new.self
-faulted g c =
-    let m = g.M.Model.meaning c.args.model.now in
-    let here = settled g (goal.at.In-Fault g c).After-turn in
-    let P : Turn → Type 0 = λ turn. IsTurn m c.args.terms.now c.settle.new.self turn c.turn.new.sheet.note c.turn.new.self in
-    let turn : P (Fault c.in-Fault.key c.in-Fault.code) = subst P c.in-Fault.is c.in_ok-key.ensures in
-    has_ended m c.args.terms.now (state_of c.args.course.now) _ c.settle.new.self c.turn.new.self (leaves_faulted m c.args.terms.now (state_of c.args.course.now) c.loop-course.invariant.so_far c.settle.new.self c.in-Fault.key c.in-Fault.code _ here turn.0 refl) c.in_ok-settle.ensures.settled turn.1
+    let turn : P (Ends c.in-Ends.end) = subst P c.in-Ends.is c.in_ok-key.ensures in
+    has_ended m c.args.terms.now (state_of c.args.course.now) c.loop-course.invariant.so_far c.settle.new.self c.turn.new.self c.in-Ends.end here c.in_ok-settle.ensures.settled turn.0 turn.1
 
 pub returns-in-Ends-clause-end : goal.returns-in-Ends-clause-end
-returns-in-Ends-clause-end g c = cut_ended _ _ _ _ (Whole c.in-Ends.horizon) _ (whole g (goal.at.returns-in-Ends-clause-end g c).In-Ends)
+returns-in-Ends-clause-end g c = cut_ended _ _ _ _ c.in-Ends.end _ (ended g (goal.at.returns-in-Ends-clause-end g c).In-Ends)
 
 pub returns-in-Ends-clause-told : goal.returns-in-Ends-clause-told
-returns-in-Ends-clause-told g c = λ before holds. subst (λ (b : Bucket). g.T.Recorder.holds (g.M.Model.meaning c.args.model.now) c.loop-course.into (before ++ b.done)) (whole g (goal.at.returns-in-Ends-clause-told g c).In-Ends).leaves.is_cut (c.loop-course.invariant.told before holds)
+returns-in-Ends-clause-told g c = λ before holds. subst (λ (b : Bucket). g.T.Recorder.holds (g.M.Model.meaning c.args.model.now) c.loop-course.into (before ++ b.done)) (ended g (goal.at.returns-in-Ends-clause-told g c).In-Ends).leaves.is_cut (c.loop-course.invariant.told before holds)
 
 pub returns-in-Ends-clause-after : goal.returns-in-Ends-clause-after
-returns-in-Ends-clause-after g c = (whole g (goal.at.returns-in-Ends-clause-after g c).In-Ends).leaves.is_after
+returns-in-Ends-clause-after g c = (ended g (goal.at.returns-in-Ends-clause-after g c).In-Ends).leaves.is_after
 
 pub returns-in-Ends-clause-lawful : goal.returns-in-Ends-clause-lawful
-returns-in-Ends-clause-lawful g c = (whole g (goal.at.returns-in-Ends-clause-lawful g c).In-Ends).leaves.lawful
+returns-in-Ends-clause-lawful g c = (ended g (goal.at.returns-in-Ends-clause-lawful g c).In-Ends).leaves.lawful
 
 pub returns-in-Ends-clause-settled : goal.returns-in-Ends-clause-settled
-returns-in-Ends-clause-settled g c = (whole g (goal.at.returns-in-Ends-clause-settled g c).In-Ends).settled
-
-pub returns-in-Limit-clause-end : goal.returns-in-Limit-clause-end
-returns-in-Limit-clause-end g c = cut_ended _ _ _ _ AtLimit _ (limited g (goal.at.returns-in-Limit-clause-end g c).In-Limit)
-
-pub returns-in-Limit-clause-told : goal.returns-in-Limit-clause-told
-returns-in-Limit-clause-told g c = λ before holds. subst (λ (b : Bucket). g.T.Recorder.holds (g.M.Model.meaning c.args.model.now) c.loop-course.into (before ++ b.done)) (limited g (goal.at.returns-in-Limit-clause-told g c).In-Limit).leaves.is_cut (c.loop-course.invariant.told before holds)
-
-pub returns-in-Limit-clause-after : goal.returns-in-Limit-clause-after
-returns-in-Limit-clause-after g c = (limited g (goal.at.returns-in-Limit-clause-after g c).In-Limit).leaves.is_after
-
-pub returns-in-Limit-clause-lawful : goal.returns-in-Limit-clause-lawful
-returns-in-Limit-clause-lawful g c = (limited g (goal.at.returns-in-Limit-clause-lawful g c).In-Limit).leaves.lawful
-
-pub returns-in-Limit-clause-settled : goal.returns-in-Limit-clause-settled
-returns-in-Limit-clause-settled g c = (limited g (goal.at.returns-in-Limit-clause-settled g c).In-Limit).settled
-
-pub returns-in-Fault-clause-end : goal.returns-in-Fault-clause-end
-returns-in-Fault-clause-end g c = cut_ended _ _ _ _ (AtFault c.in-Fault.key c.in-Fault.code) _ (faulted g (goal.at.returns-in-Fault-clause-end g c).In-Fault)
-
-pub returns-in-Fault-clause-told : goal.returns-in-Fault-clause-told
-returns-in-Fault-clause-told g c = λ before holds. subst (λ (b : Bucket). g.T.Recorder.holds (g.M.Model.meaning c.args.model.now) c.loop-course.into (before ++ b.done)) (faulted g (goal.at.returns-in-Fault-clause-told g c).In-Fault).leaves.is_cut (c.loop-course.invariant.told before holds)
-
-pub returns-in-Fault-clause-after : goal.returns-in-Fault-clause-after
-returns-in-Fault-clause-after g c = (faulted g (goal.at.returns-in-Fault-clause-after g c).In-Fault).leaves.is_after
-
-pub returns-in-Fault-clause-lawful : goal.returns-in-Fault-clause-lawful
-returns-in-Fault-clause-lawful g c = (faulted g (goal.at.returns-in-Fault-clause-lawful g c).In-Fault).leaves.lawful
-
-pub returns-in-Fault-clause-settled : goal.returns-in-Fault-clause-settled
-returns-in-Fault-clause-settled g c = (faulted g (goal.at.returns-in-Fault-clause-settled g c).In-Fault).settled
+returns-in-Ends-clause-settled g c = (ended g (goal.at.returns-in-Ends-clause-settled g c).In-Ends).settled

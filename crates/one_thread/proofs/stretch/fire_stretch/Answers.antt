@@ -1,5 +1,5 @@
 -- Each event of a stretch is the next one of the run.
-use Rattle.std.proofs.Common.{◌≡◌, ◌++◌, ◌∷◌, List, [], Some, None, length, length-append, refl, subst, sym, ap, arith, append-nil, append_assoc}
+use Rattle.std.proofs.Common.{◌≡◌, ℕ, ◌++◌, ◌∷◌, List, [], Option, None, length, length-append, refl, subst, sym, ap, arith, append-nil, append_assoc}
 use Rattle.std.specs.Prelude.{Result, OnOk}
 use Rattle.event_key.specs.declared.key.Key.{Key}
 use Rattle.delta_exchange.specs.declared.memory.OutOfMemory.{OutOfMemory}
@@ -8,12 +8,14 @@ use Rattle.run_recorder.proofs.StretchLemmas.{leads-more}
 use Rattle.sim_spec.specs.Run.{Leads}
 use Rattle.sim_spec.specs.State.{State, Lawful}
 use Rattle.sim_spec.proofs.LawfulLemmas.{leads-lawful}
+use Rattle.sim_spec.specs.Standing.{stands}
+use Rattle.one_thread.specs.Ends.{HasToldStretch}
 use Rattle.one_thread.specs.Engines.{state_of}
 use Rattle.one_thread.specs.Turns.{IsTurn}
 use Rattle.one_thread.specs.declared.turn.Turn.{Turn}
-use Rattle.one_thread.specs.declared.turn.Turn.TheVariants.{Does, Ends, Limit, Fault}
+use Rattle.one_thread.specs.declared.turn.Turn.TheVariants.{Does, Ends}
 use Rattle.one_thread.proofs.FireLemmas.{done_below}
-use Rattle.one_thread.proofs.StretchLemmas.{next_done, next_failed, next_limited, some_or_ended, ended_limited, ended_failed, failed_so, stretch_ends}
+use Rattle.one_thread.proofs.StretchLemmas.{next_done, stretch_ends, stretch_ends_so}
 use Rattle.one_thread.proofs.stretch.fire_stretch.Given.{Over}
 use Rattle.one_thread.proofs.stretch.fire_stretch.Goals as goal
 use Rattle.one_thread.proofs.stretch.fire_stretch.Goals.{After-settle}
@@ -44,31 +46,9 @@ returns-in-Ends-clause-told g c =
     let t = c.args.terms.now in
     let i = c.loop-key.invariant in
     let P : Turn → Type 0 = λ turn. IsTurn m t c.loop-key.course turn c.turn.new.sheet.note c.turn.new.self in
-    let turn : P (Ends c.in-Ends.field-0) = subst P c.in-Ends.is c.in_ok-key.ensures in
-    stretch_ends (g.T.Recorder.holds m) m t (state_of c.args.course.now) (state_of c.loop-key.course) (state_of c.turn.new.self) i.so_far c.args.into.now c.loop-key.into (None)
-    i.leads (ap state_of turn.2) i.told (λ f is. cc) (some_or_ended m t c.loop-key.course i.so_far c.in-Ends.field-0 turn.0 turn.1 i.begun)
-
-pub returns-in-Limit-clause-told : goal.returns-in-Limit-clause-told
-returns-in-Limit-clause-told g c =
-    let m = g.M.Model.meaning c.args.model.now in
-    let t = c.args.terms.now in
-    let i = c.loop-key.invariant in
-    let P : Turn → Type 0 = λ turn. IsTurn m t c.loop-key.course turn c.turn.new.sheet.note c.turn.new.self in
-    let turn : P (Limit) = subst P c.in-Limit.is c.in_ok-key.ensures in
-    let is_next = next_limited m t c.loop-key.course turn.0 in
-    stretch_ends (g.T.Recorder.holds m) m t (state_of c.args.course.now) (state_of c.loop-key.course) (state_of c.turn.new.self) i.so_far c.args.into.now c.loop-key.into (None)
-    i.leads (ap state_of turn.1) i.told (λ f is. cc) (λ goes. absurd (ended_limited m t _ is_next goes))
-
-pub returns-in-Fault-clause-told : goal.returns-in-Fault-clause-told
-returns-in-Fault-clause-told g c =
-    let m = g.M.Model.meaning c.args.model.now in
-    let t = c.args.terms.now in
-    let i = c.loop-key.invariant in
-    let P : Turn → Type 0 = λ turn. IsTurn m t c.loop-key.course turn c.turn.new.sheet.note c.turn.new.self in
-    let turn : P (Fault c.in-Fault.key c.in-Fault.code) = subst P c.in-Fault.is c.in_ok-key.ensures in
-    let is_next = next_failed m t c.loop-key.course c.in-Fault.key c.in-Fault.code turn.0 in
-    stretch_ends (g.T.Recorder.holds m) m t (state_of c.args.course.now) (state_of c.loop-key.course) (state_of c.turn.new.self) i.so_far c.args.into.now c.loop-key.into (Some (c.in-Fault.key, c.in-Fault.code))
-    i.leads (ap state_of turn.1) i.told (failed_so m t _ _ is_next) (λ goes. absurd (ended_failed m t _ _ goes))
+    let turn : P (Ends c.in-Ends.end) = subst P c.in-Ends.is c.in_ok-key.ensures in
+    let Q : Option (Key × ℕ) → Type 0 = λ fault. HasToldStretch (g.T.Recorder.holds m) m t (stands (state_of c.args.course.now) None) c.args.into.now c.loop-key.into (stands (state_of c.turn.new.self) fault) in
+    subst Q (sym c.fault.ensures) (stretch_ends_so (g.T.Recorder.holds m) m t (state_of c.args.course.now) c.loop-key.course c.turn.new.self i.so_far c.args.into.now c.loop-key.into c.in-Ends.end i.leads turn.1 i.told turn.0 i.begun)
 
 -- the events with the one that was done
 led : (g : Over) (c : After-settle g) (last : State) → last ≡ state_of c.turn.new.self → Leads (g.M.Model.meaning c.args.model.now) c.args.terms.now (state_of c.args.course.now) (c.loop-key.invariant.so_far ++ (c.in-Does.key, c.turn.new.sheet.note) ∷ []) last

@@ -6,17 +6,21 @@ use Rattle.one_thread.proofs.course.Course.turn.Goals as goal
 
 pub returns-in_default : goal.returns-in_default
 returns-in_default g c = (
-  horizon_read c.args.terms.now c.args.self.now c.self.inside.objects.items c.self.inside.queue c.self.inside.count _ _ _ c.self.view_is c.min-horizon.ensures c.fresh_least.ensures c.end_bound.ensures,
-  nothing_due c.min-horizon.result c.args.self.now.queue.pending
-      (none_read c.args.self.now c.self.inside.objects.items c.self.inside.queue c.self.inside.count c.self.view_is c.in_default.ensures.none c.requires.settled),
+  (
+    horizon_read c.args.terms.now c.args.self.now c.self.inside.objects.items c.self.inside.queue c.self.inside.count _ _ _ c.self.view_is c.min-horizon.ensures c.fresh_least.ensures c.end_bound.ensures,
+    nothing_due c.min-horizon.result c.args.self.now.queue.pending
+        (none_read c.args.self.now c.self.inside.objects.items c.self.inside.queue c.self.inside.count c.self.view_is c.in_default.ensures.none c.requires.settled),
+  ),
   refl,
 )
 
 pub returns-then-event-horizon : goal.returns-then-event-horizon
 returns-then-event-horizon g c = (
-  horizon_read c.args.terms.now c.args.self.now c.self.inside.objects.items c.self.inside.queue c.self.inside.count _ _ _ c.self.view_is c.min-horizon.ensures c.fresh_least.ensures c.end_bound.ensures,
-  late_due c.min-horizon.result c.args.self.now.queue.pending c.in-Some.event.now
-      (starts_read c.args.self.now c.self.inside.objects.items c.self.inside.queue c.self.inside.count c.in-Some.event.now c.self.view_is c.in-Some.ensures.some) c.if-event-horizon.true,
+  (
+    horizon_read c.args.terms.now c.args.self.now c.self.inside.objects.items c.self.inside.queue c.self.inside.count _ _ _ c.self.view_is c.min-horizon.ensures c.fresh_least.ensures c.end_bound.ensures,
+    late_due c.min-horizon.result c.args.self.now.queue.pending c.in-Some.event.now
+        (starts_read c.args.self.now c.self.inside.objects.items c.self.inside.queue c.self.inside.count c.in-Some.event.now c.self.view_is c.in-Some.ensures.some) c.if-event-horizon.true,
+  ),
   refl,
 )
 
