@@ -1,5 +1,5 @@
 -- Where the engine stands.
-use Rattle.std.proofs.Common.{◌≡◌, ℕ, List, [], ◌++◌, sym, refl, ap, ◌∙◌, subst}
+use Rattle.std.proofs.Common.{◌≡◌, ℕ, List, [], sym, refl, ap, ◌∙◌, subst}
 use Rattle.std.specs.Prelude.{Option, Some, None, Result, Ok, Err, IsErrAnd}
 use Rattle.event_key.specs.declared.key.Key.{Key}
 use Rattle.delta_exchange.specs.declared.memory.OutOfMemory.{OutOfMemory}
@@ -16,6 +16,7 @@ use Rattle.sim_spec.specs.Cut.{cut, after}
 use Rattle.sim_spec.specs.Standing.{Standing, stands, spent, end_or_limit, ended, IsLawfulStanding, CycleGives}
 use Rattle.one_thread.specs.declared.bucket_end.BucketEnd.{BucketEnd}
 use Rattle.one_thread.specs.Ends.{bucket_of, fault_of, HasEnd, HasTold}
+use Rattle.one_thread.specs.Telling.{TellsAll}
 use Rattle.one_thread.specs.Engines.{Course, EngineView, state_of, standing_of}
 
 -- the engine with these parts
@@ -79,13 +80,13 @@ pub told_given : {M T : Type 0} (meaning : M → Meaning) (Holds : Meaning → T
     (c new : Course) (before told : T) (end : BucketEnd)
     → engine_of model terms place fault ≡ value → place ≡ Some c → read ≡ model → ended (meaning value.model) value.terms value.standing ≡ None
     → HasEnd (cut (meaning read) terms (state_of c)) end
-    → ((records : List (Key × Note)) → Holds (meaning read) before records → Holds (meaning read) told (records ++ (cut (meaning read) terms (state_of c)).done))
+    → TellsAll (Holds (meaning read)) before (cut (meaning read) terms (state_of c)).done told
     → state_of new ≡ after (meaning read) terms (state_of c)
     → HasTold (Holds (meaning value.model)) (meaning value.model) value.terms value.standing before end told (stands (state_of new) (fault_of end))
 told_given {M} {T} meaning Holds value model read terms place fault c new before told end is is_place is_read begins is_end all is_after =
     let done = (cut (meaning read) terms (state_of c)).done in
     let same : read ≡ value.model = is_read ∙ ap (λ (v : EngineView M). v.model) is in
-    let P : M → Type 0 = λ x. (records : List (Key × Note)) → Holds (meaning x) before records → Holds (meaning x) told (records ++ done) in
+    let P : M → Type 0 = λ x. TellsAll (Holds (meaning x)) before done told in
     record {
       done = done;
       told = subst P same all;

@@ -5,5 +5,6 @@ pub mod FireLemmas
 pub mod Parts
 pub mod QueueLemmas
 pub mod StretchLemmas
+pub mod TellingLemmas
 pub mod TurnLemmas
 pub mod UnderWay

@@ -1,5 +1,5 @@
 -- An event of a stretch is the next one of the run.
-use Rattle.std.proofs.Common.{◌≡◌, ℕ, ◌<◌, List, [], ◌∷◌, ◌++◌, length, Option, inl, inr, sym, refl, ap, ◌∙◌, subst, arith}
+use Rattle.std.proofs.Common.{◌≡◌, ℕ, ◌<◌, List, [], ◌∷◌, length, Option, inl, inr, sym, refl, ap, ◌∙◌, subst, arith}
 use Rattle.std.specs.Prelude.{Some, None}
 use Rattle.std.proofs.lemmas.Bool.{cases_lt}
 use Rattle.event_key.specs.declared.key.Key.{Key}
@@ -17,6 +17,7 @@ use Rattle.one_thread.specs.declared.bucket_end.BucketEnd.{BucketEnd}
 use Rattle.one_thread.specs.declared.bucket_end.BucketEnd.TheVariants.{Whole, Limit as AtLimit, Fault as AtFault}
 use Rattle.one_thread.specs.Ends.{fault_of, HasToldStretch}
 use Rattle.one_thread.specs.Engines.{Course, EngineView, state_of, standing_of}
+use Rattle.one_thread.specs.Telling.{TellsAll}
 use Rattle.one_thread.specs.Turns.{horizon_of, NoneDue, IsOpen, IsDone, IsFailed, IsFull, EndsSo}
 use Rattle.one_thread.proofs.EngineLemmas.{engine_of, begins_at}
 
@@ -80,7 +81,7 @@ failed_so m t s fault is_next f is =
 
 -- a stretch ends where no more is done
 pub stretch_ends : {T : Type 0} (Holds : T → List (Key × Note) → Type 0) (m : Meaning) (t : Terms) (from mid last : State) (done : List (Key × Note)) (before after : T) (fault : Option (Key × ℕ))
-    → Leads m t from done mid → last ≡ mid → ((records : List (Key × Note)) → Holds before records → Holds after (records ++ done))
+    → Leads m t from done mid → last ≡ mid → TellsAll Holds before done after
     → ((f : Key × ℕ) → fault ≡ Some f → next m t mid ≡ stops (Fault f.0 f.1)) → (ended m t (stands mid fault) ≡ None → 0 < length done)
     → HasToldStretch Holds m t (stands from None) before after (stands last fault)
 stretch_ends Holds m t from mid last done before after fault leads same told failed some = record {
@@ -100,7 +101,7 @@ stretch_ends Holds m t from mid last done before after fault leads same told fai
 
 -- so one ends where its bucket does
 pub stretch_ends_so : {T : Type 0} (Holds : T → List (Key × Note) → Type 0) (m : Meaning) (t : Terms) (from : State) (c new : Course) (done : List (Key × Note)) (before after : T) (end : BucketEnd)
-    → Leads m t from done (state_of c) → new ≡ c → ((records : List (Key × Note)) → Holds before records → Holds after (records ++ done)) → EndsSo m t c end → (done ≡ [] → IsOpen c)
+    → Leads m t from done (state_of c) → new ≡ c → TellsAll Holds before done after → EndsSo m t c end → (done ≡ [] → IsOpen c)
     → HasToldStretch Holds m t (stands from None) before after (stands (state_of new) (fault_of end))
 stretch_ends_so Holds m t from c new done before after (Whole horizon) leads same told so begun =
     stretch_ends Holds m t from (state_of c) (state_of new) done before after None leads (ap state_of same) told (λ f is. cc) (some_or_ended m t c done horizon so.0 so.1 begun)

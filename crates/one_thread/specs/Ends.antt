@@ -1,5 +1,5 @@
 -- How a bucket ended, and what was told of it, or of a stretch of a run.
-use Rattle.std.specs.Prelude.{◌≡◌, ℕ, Bool, true, false, List, ◌++◌, Option, Some, None, Ok}
+use Rattle.std.specs.Prelude.{◌≡◌, ℕ, Bool, true, false, List, Option, Some, None, Ok}
 use Rattle.event_key.specs.declared.key.Key.{Key}
 use Rattle.model_core.specs.declared.note.Note.{Note}
 use Rattle.model_core.specs.Meaning.{Meaning}
@@ -7,6 +7,7 @@ use Rattle.sim_spec.specs.declared.bucket.Bucket.{Bucket}
 use Rattle.sim_spec.specs.declared.terms.Terms.{Terms}
 use Rattle.sim_spec.specs.Standing.{Standing, CycleGives}
 use Rattle.run_recorder.specs.Stretches.{IsStretch}
+use Rattle.one_thread.specs.Telling.{TellsAll}
 use Rattle.one_thread.specs.declared.bucket_end.BucketEnd.{BucketEnd}
 use Rattle.one_thread.specs.declared.bucket_end.BucketEnd.TheVariants.{Whole, Limit, Fault}
 
@@ -40,11 +41,11 @@ module _ {T : Type 0} (Holds : T → List (Key × Note) → Type 0) (m : Meaning
   -- a cycle of an engine has a bucket that ended so, whose records are all told
   pub record HasTold (end : BucketEnd) (after : T) (new : Standing) : Type 0 where
     pub done : List (Key × Note)
-    pub told : (records : List (Key × Note)) → Holds before records → Holds after (records ++ done)
+    pub told : TellsAll Holds before done after
     pub gives : CycleGives m t old (Ok (bucket_of done end)) new
 
   -- an engine has done a stretch of its run, of which all is told
   pub record HasToldStretch (after : T) (new : Standing) : Type 0 where
     pub done : List (Key × Note)
-    pub told : (records : List (Key × Note)) → Holds before records → Holds after (records ++ done)
+    pub told : TellsAll Holds before done after
     pub stretch : IsStretch m t old done new

@@ -1,3 +1,4 @@
 pub mod Ends
 pub mod Engines
+pub mod Telling
 pub mod Turns

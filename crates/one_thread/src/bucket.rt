@@ -1,12 +1,11 @@
 //! A bucket: the events below one event horizon.
-ghost use Rattle.std.specs.Prelude.{◌≡◌, ◌<◌, ◌++◌, ◌∷◌, [], List, IfOk, OnOk};
-ghost use Rattle.event_key.specs.declared.key.Key.{Key};
-ghost use Rattle.model_core.specs.declared.note.Note.{Note};
+ghost use Rattle.std.specs.Prelude.{◌≡◌, ◌<◌, IfOk, OnOk};
 ghost use Rattle.sim_spec.specs.Cut.{cut, after};
 ghost use Rattle.sim_spec.specs.State.{Lawful};
 ghost use Rattle.tick_queue.specs.Queues.{IsSettled};
 ghost use Rattle.one_thread.specs.Engines.{state_of};
 ghost use Rattle.one_thread.specs.Ends.{HasEnd};
+ghost use Rattle.one_thread.specs.Telling.{TellsAll, TellsOne};
 
 use crate::bucket_end::BucketEnd;
 use crate::course::Course;
@@ -33,11 +32,10 @@ pub fn fire_bucket<
     requires lawful { Lawful (M.meaning model.now) terms.now (state_of course.old) }
     requires may { (t : _) (key : _) (note : _) → key.now.dest < (M.meaning model.now).objects → F.pre tell.now t model key note }
     requires does { (t : _) (key : _) (note : _) (r : _) (f : _) → F.post tell.now t model key note r f
-        → (before : List (Key × Note)) → T.holds (M.meaning model.now) t.now before
-        → OnOk r (T.holds (M.meaning model.now) f.now (before ++ (key.now, note.now) ∷ [])) }
+        → TellsOne (T.holds (M.meaning model.now)) t.now key.now note.now r f.now }
     ensures end { IfOk result (λ end. HasEnd (cut (M.meaning model.now) terms.now (state_of course.old)) end) }
-    ensures told { OnOk result ((before : List (Key × Note)) → T.holds (M.meaning model.now) into.old before
-        → T.holds (M.meaning model.now) into.new (before ++ (cut (M.meaning model.now) terms.now (state_of course.old)).done)) }
+    ensures told { OnOk result (TellsAll (T.holds (M.meaning model.now)) into.old
+        (cut (M.meaning model.now) terms.now (state_of course.old)).done into.new) }
     ensures lawful { OnOk result (Lawful (M.meaning model.now) terms.now (state_of course.new)) }
     ensures settled { OnOk result (IsSettled course.new.queue) }
     ensures after { OnOk result (state_of course.new ≡ after (M.meaning model.now) terms.now (state_of course.old)) }

@@ -1,11 +1,11 @@
 //! The engine, as its callers see it.
-ghost use Rattle.std.specs.Prelude.{◌≡◌, ◌<◌, ◌++◌, ◌∷◌, [], ℕ, List, Option, None, IfOk, OnOk, OnErr};
+ghost use Rattle.std.specs.Prelude.{◌≡◌, ◌<◌, ◌++◌, ◌∷◌, [], ℕ, Option, None, IfOk, OnOk, OnErr};
 ghost use Rattle.std.specs.Arc.{arc_value};
 ghost use Rattle.event_key.specs.declared.key.Key.{Key};
-ghost use Rattle.model_core.specs.declared.note.Note.{Note};
 ghost use Rattle.sim_spec.specs.State.{State, initial_state};
 ghost use Rattle.sim_spec.specs.Standing.{stands, spent, ended, CycleGives};
 ghost use Rattle.one_thread.specs.Ends.{HasTold, HasToldStretch};
+ghost use Rattle.one_thread.specs.Telling.{TellsOne};
 
 use crate::bucket::fire_bucket;
 use crate::bucket_end::BucketEnd;
@@ -123,9 +123,8 @@ impl<M: SimulationModel> OneThread<M> {
         requires goes_on { ended (M.meaning self.old.model) self.old.terms self.old.standing ≡ None }
         requires may { (t : _) (model : _) (key : _) (note : _) → model.now ≡ self.old.model → key.now.dest < (M.meaning self.old.model).objects
             → F.pre tell.now t model key note }
-        requires does { (t : _) (model : _) (key : _) (note : _) (r : _) (f : _) → model.now ≡ self.old.model → F.post tell.now t model key note r f
-            → (before : List (Key × Note)) → T.holds (M.meaning self.old.model) t.now before
-            → OnOk r (T.holds (M.meaning self.old.model) f.now (before ++ (key.now, note.now) ∷ [])) }
+        requires does { (t : _) (model : _) (key : _) (note : _) (r : _) (f : _) → model.now ≡ self.old.model
+            → F.post tell.now t model key note r f → TellsOne (T.holds (M.meaning self.old.model)) t.now key.now note.now r f.now }
         ensures told { IfOk result (λ end. HasTold (T.holds (M.meaning self.old.model)) (M.meaning self.old.model) self.old.terms
             self.old.standing into.old end into.new self.new.standing) }
         ensures refused { OnErr result (self.new.standing ≡ spent) }
@@ -166,9 +165,8 @@ impl<M: SimulationModel> OneThread<M> {
         requires goes_on { ended (M.meaning self.old.model) self.old.terms self.old.standing ≡ None }
         requires may { (t : _) (model : _) (key : _) (note : _) → model.now ≡ self.old.model → key.now.dest < (M.meaning self.old.model).objects
             → F.pre tell.now t model key note }
-        requires does { (t : _) (model : _) (key : _) (note : _) (r : _) (f : _) → model.now ≡ self.old.model → F.post tell.now t model key note r f
-            → (before : List (Key × Note)) → T.holds (M.meaning self.old.model) t.now before
-            → OnOk r (T.holds (M.meaning self.old.model) f.now (before ++ (key.now, note.now) ∷ [])) }
+        requires does { (t : _) (model : _) (key : _) (note : _) (r : _) (f : _) → model.now ≡ self.old.model
+            → F.post tell.now t model key note r f → TellsOne (T.holds (M.meaning self.old.model)) t.now key.now note.now r f.now }
         ensures told { OnOk result (HasToldStretch (T.holds (M.meaning self.old.model)) (M.meaning self.old.model) self.old.terms
             self.old.standing into.old into.new self.new.standing) }
         ensures refused { OnErr result (self.new.standing ≡ spent) }

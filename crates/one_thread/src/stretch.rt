@@ -1,12 +1,11 @@
 //! A stretch of a run: events one after another, of a whole bucket or a part of one.
-ghost use Rattle.std.specs.Prelude.{◌≡◌, ◌<◌, ◌++◌, ◌∷◌, [], List, IfOk, OnOk, None};
-ghost use Rattle.event_key.specs.declared.key.Key.{Key};
-ghost use Rattle.model_core.specs.declared.note.Note.{Note};
+ghost use Rattle.std.specs.Prelude.{◌<◌, IfOk, OnOk, None};
 ghost use Rattle.sim_spec.specs.Standing.{stands};
 ghost use Rattle.sim_spec.specs.State.{Lawful};
 ghost use Rattle.tick_queue.specs.Queues.{IsSettled};
 ghost use Rattle.one_thread.specs.Engines.{state_of};
 ghost use Rattle.one_thread.specs.Ends.{HasToldStretch};
+ghost use Rattle.one_thread.specs.Telling.{TellsOne};
 
 use crate::course::Course;
 use crate::turn::Turn;
@@ -36,8 +35,7 @@ pub fn fire_stretch<
     requires settled { IsSettled course.old.queue }
     requires may { (t : _) (key : _) (note : _) → key.now.dest < (M.meaning model.now).objects → F.pre tell.now t model key note }
     requires does { (t : _) (key : _) (note : _) (r : _) (f : _) → F.post tell.now t model key note r f
-        → (before : List (Key × Note)) → T.holds (M.meaning model.now) t.now before
-        → OnOk r (T.holds (M.meaning model.now) f.now (before ++ (key.now, note.now) ∷ [])) }
+        → TellsOne (T.holds (M.meaning model.now)) t.now key.now note.now r f.now }
     ensures told { IfOk result (λ fault. HasToldStretch (T.holds (M.meaning model.now)) (M.meaning model.now) terms.now
         (stands (state_of course.old) None) into.old into.new (stands (state_of course.new) fault)) }
     ensures lawful { OnOk result (Lawful (M.meaning model.now) terms.now (state_of course.new)) }

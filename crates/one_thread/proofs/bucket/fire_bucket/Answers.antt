@@ -1,17 +1,17 @@
 -- The bucket grows event by event, and ends as the definition ends it.
-use Rattle.std.proofs.Common.{◌++◌, ◌∷◌, [], refl, ap, subst, sym, arith, append-nil, append_assoc}
-use Rattle.std.specs.Prelude.{Result, OnOk}
+use Rattle.std.proofs.Common.{◌++◌, ◌∷◌, List, [], refl, ap, subst, arith}
 use Rattle.event_key.specs.declared.key.Key.{Key}
-use Rattle.delta_exchange.specs.declared.memory.OutOfMemory.{OutOfMemory}
 use Rattle.model_core.specs.declared.note.Note.{Note}
 use Rattle.sim_spec.specs.declared.bucket.Bucket.{Bucket}
 use Rattle.sim_spec.specs.State.{State}
 use Rattle.one_thread.specs.Ends.{bucket_of}
 use Rattle.one_thread.specs.Engines.{state_of}
+use Rattle.one_thread.specs.Telling.{TellsAll}
 use Rattle.one_thread.specs.Turns.{IsTurn}
 use Rattle.one_thread.specs.declared.turn.Turn.{Turn}
 use Rattle.one_thread.specs.declared.turn.Turn.TheVariants.{Does, Ends}
 use Rattle.one_thread.proofs.FireLemmas.{done_below}
+use Rattle.one_thread.proofs.TellingLemmas.{tells_none, tells_more}
 use Rattle.one_thread.proofs.UnderWay.{UnderWay, HasEnded, has_ended, cut_ended, begins, stays, lawful_in, goes}
 use Rattle.one_thread.proofs.bucket.fire_bucket.Given.{Over}
 use Rattle.one_thread.proofs.bucket.fire_bucket.Goals as goal
@@ -23,7 +23,7 @@ loop-course-init g c =
     record {
       so_far = [];
       way = begins m c.args.terms.now (state_of c.args.course.now) [] c.merge.new.self refl c.merge.ensures.state c.merge.ensures.fresh c.requires.lawful;
-      told = λ before holds. subst (g.T.Recorder.holds m c.args.into.now) (sym (append-nil before)) holds;
+      told = tells_none (g.T.Recorder.holds m) c.args.into.now;
     }
 
 -- the course, once it is settled, is under way
@@ -55,14 +55,11 @@ loop-course-preserved g c =
     let here = settled g (goal.at.loop-course-preserved g c).After-turn in
     let P : Turn → Type 0 = λ turn. IsTurn m c.args.terms.now c.settle.new.self turn c.turn.new.sheet.note c.turn.new.self in
     let done : P (Does c.in-Does.key) = subst P c.in-Does.is c.in_ok-key.ensures in
-    let told : Key × Note = (c.in-Does.key, c.turn.new.sheet.note) in
+    let now : List (Key × Note) = i.so_far ++ (c.in-Does.key, c.turn.new.sheet.note) ∷ [] in
     record {
-      so_far = i.so_far ++ told ∷ [];
-      way = goes m c.args.terms.now (state_of c.args.course.now) i.so_far (i.so_far ++ told ∷ []) c.settle.new.self c.turn.new.self c.in-Does.key c.turn.new.sheet.note c.keeps_laws.ensures here done refl;
-      told = λ before holds.
-          let Q : Result (Unit {0}) OutOfMemory → Type 0 = λ r. OnOk r (g.T.Recorder.holds m c.tell.new.arg2 ((before ++ i.so_far) ++ told ∷ [])) in
-          let one : Q c.tell.result = c.requires.does _ _ _ _ _ c.tell.ensures (before ++ i.so_far) (i.told before holds) in
-          subst (g.T.Recorder.holds m c.tell.new.arg2) (append_assoc before i.so_far (told ∷ [])) (subst Q c.in_ok-tell-in-Does.was one);
+      so_far = now;
+      way = goes m c.args.terms.now (state_of c.args.course.now) i.so_far now c.settle.new.self c.turn.new.self c.in-Does.key c.turn.new.sheet.note c.keeps_laws.ensures here done refl;
+      told = tells_more (g.T.Recorder.holds m) c.args.into.now c.loop-course.into c.tell.new.arg2 i.so_far c.in-Does.key c.turn.new.sheet.note c.tell.result i.told (c.requires.does _ _ _ _ _ c.tell.ensures) c.in_ok-tell-in-Does.was;
     }
 
 pub loop-course-smaller : goal.loop-course-smaller
@@ -88,7 +85,8 @@ pub returns-in-Ends-clause-end : goal.returns-in-Ends-clause-end
 returns-in-Ends-clause-end g c = cut_ended _ _ _ _ c.in-Ends.end _ (ended g (goal.at.returns-in-Ends-clause-end g c).In-Ends)
 
 pub returns-in-Ends-clause-told : goal.returns-in-Ends-clause-told
-returns-in-Ends-clause-told g c = λ before holds. subst (λ (b : Bucket). g.T.Recorder.holds (g.M.Model.meaning c.args.model.now) c.loop-course.into (before ++ b.done)) (ended g (goal.at.returns-in-Ends-clause-told g c).In-Ends).leaves.is_cut (c.loop-course.invariant.told before holds)
+returns-in-Ends-clause-told g c =
+    subst (λ (b : Bucket). TellsAll (g.T.Recorder.holds (g.M.Model.meaning c.args.model.now)) c.args.into.now b.done c.loop-course.into) (ended g (goal.at.returns-in-Ends-clause-told g c).In-Ends).leaves.is_cut c.loop-course.invariant.told
 
 pub returns-in-Ends-clause-after : goal.returns-in-Ends-clause-after
 returns-in-Ends-clause-after g c = (ended g (goal.at.returns-in-Ends-clause-after g c).In-Ends).leaves.is_after

@@ -1,8 +1,6 @@
 -- Each event of a stretch is the next one of the run.
-use Rattle.std.proofs.Common.{◌≡◌, ℕ, ◌++◌, ◌∷◌, List, [], Option, None, length, length-append, refl, subst, sym, ap, arith, append-nil, append_assoc}
-use Rattle.std.specs.Prelude.{Result, OnOk}
+use Rattle.std.proofs.Common.{◌≡◌, ℕ, ◌++◌, ◌∷◌, List, [], Option, None, length, length-append, refl, subst, sym, ap, arith}
 use Rattle.event_key.specs.declared.key.Key.{Key}
-use Rattle.delta_exchange.specs.declared.memory.OutOfMemory.{OutOfMemory}
 use Rattle.model_core.specs.declared.note.Note.{Note}
 use Rattle.run_recorder.proofs.StretchLemmas.{leads-more}
 use Rattle.sim_spec.specs.Run.{Leads}
@@ -11,10 +9,12 @@ use Rattle.sim_spec.proofs.LawfulLemmas.{leads-lawful}
 use Rattle.sim_spec.specs.Standing.{stands}
 use Rattle.one_thread.specs.Ends.{HasToldStretch}
 use Rattle.one_thread.specs.Engines.{state_of}
+use Rattle.one_thread.specs.Telling.{TellsAll}
 use Rattle.one_thread.specs.Turns.{IsTurn}
 use Rattle.one_thread.specs.declared.turn.Turn.{Turn}
 use Rattle.one_thread.specs.declared.turn.Turn.TheVariants.{Does, Ends}
 use Rattle.one_thread.proofs.FireLemmas.{done_below}
+use Rattle.one_thread.proofs.TellingLemmas.{tells_none, tells_more}
 use Rattle.one_thread.proofs.StretchLemmas.{next_done, stretch_ends, stretch_ends_so}
 use Rattle.one_thread.proofs.stretch.fire_stretch.Given.{Over}
 use Rattle.one_thread.proofs.stretch.fire_stretch.Goals as goal
@@ -27,7 +27,7 @@ loop-key-init g c =
     record {
       so_far = [];
       leads = sym c.begin_next.ensures.state;
-      told = λ before holds. subst (g.T.Recorder.holds m c.args.into.now) (sym (append-nil before)) holds;
+      told = tells_none (g.T.Recorder.holds m) c.args.into.now;
       lawful = let P : State → Type 0 = Lawful m c.args.terms.now in subst P (sym c.begin_next.ensures.state) c.requires.lawful;
       settled = c.begin_next.ensures.settled;
       begun = λ none. c.begin_next.ensures.due;
@@ -64,15 +64,10 @@ led g c last same =
     subst L (sym same) (leads-more m t i.so_far (state_of c.args.course.now) (state_of c.loop-key.course) (state_of c.turn.new.self) told i.leads is_next)
 
 -- are all told
-all_told : (g : Over) (c : After-settle g) (before : List (Key × Note)) → g.T.Recorder.holds (g.M.Model.meaning c.args.model.now) c.args.into.now before
-    → g.T.Recorder.holds (g.M.Model.meaning c.args.model.now) c.tell.new.arg2 (before ++ (c.loop-key.invariant.so_far ++ (c.in-Does.key, c.turn.new.sheet.note) ∷ []))
-all_told g c before holds =
-    let m = g.M.Model.meaning c.args.model.now in
+all_told : (g : Over) (c : After-settle g) → TellsAll (g.T.Recorder.holds (g.M.Model.meaning c.args.model.now)) c.args.into.now (c.loop-key.invariant.so_far ++ (c.in-Does.key, c.turn.new.sheet.note) ∷ []) c.tell.new.arg2
+all_told g c =
     let i = c.loop-key.invariant in
-    let told : Key × Note = (c.in-Does.key, c.turn.new.sheet.note) in
-    let Q : Result (Unit {0}) OutOfMemory → Type 0 = λ r. OnOk r (g.T.Recorder.holds m c.tell.new.arg2 ((before ++ i.so_far) ++ told ∷ [])) in
-    let one : Q c.tell.result = c.requires.does _ _ _ _ _ c.tell.ensures (before ++ i.so_far) (i.told before holds) in
-    subst (g.T.Recorder.holds m c.tell.new.arg2) (append_assoc before i.so_far (told ∷ [])) (subst Q c.in_ok-tell-in-Does.was one)
+    tells_more (g.T.Recorder.holds (g.M.Model.meaning c.args.model.now)) c.args.into.now c.loop-key.into c.tell.new.arg2 i.so_far c.in-Does.key c.turn.new.sheet.note c.tell.result i.told (c.requires.does _ _ _ _ _ c.tell.ensures) c.in_ok-tell-in-Does.was
 
 pub returns-then-count-upto-clause-told : goal.returns-then-count-upto-clause-told
 returns-then-count-upto-clause-told g c =

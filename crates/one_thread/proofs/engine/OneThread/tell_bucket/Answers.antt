@@ -1,11 +1,11 @@
 -- A cycle of the engine is a bucket of its simulation, of which all is told.
-use Rattle.std.proofs.Common.{ℕ, ◌<◌, ◌++◌, ◌∷◌, [], Option, ap, subst, sym, ◌∙◌}
+use Rattle.std.proofs.Common.{ℕ, ◌<◌, Option, ap, subst, sym, ◌∙◌}
 use Rattle.std.specs.Arc.{arc_value}
-use Rattle.std.specs.Prelude.{OnOk}
 use Rattle.event_key.specs.declared.key.Key.{Key}
 use Rattle.sim_spec.specs.Standing.{IsLawfulStanding, stands}
 use Rattle.one_thread.specs.Ends.{HasTold}
 use Rattle.one_thread.specs.Engines.{Course, EngineView, IsReady, standing_of, state_of}
+use Rattle.one_thread.specs.Telling.{TellsOne}
 use Rattle.one_thread.proofs.EngineLemmas.{told_given, lawful_at, spent_lawful, stands_lawful}
 use Rattle.one_thread.proofs.engine.OneThread.tell_bucket.Goals as goal
 
@@ -23,11 +23,10 @@ fire_bucket-requires-clause-may g c lives lasts = λ t key note below.
     c.requires.may t _ key note same (subst P same below)
 
 pub fire_bucket-requires-clause-does : goal.fire_bucket-requires-clause-does
-fire_bucket-requires-clause-does g c lives lasts = λ t key note r f post before holds.
+fire_bucket-requires-clause-does g c lives lasts = λ t key note r f post.
     let same = c.deref.ensures ∙ ap (λ (v : EngineView g.row.M.Denot). v.model) c.self.view_is in
-    let P : g.row.M.Denot → Type 0 = λ x. g.T.Recorder.holds (g.M.Model.meaning x) t.now before in
-    let Q : g.row.M.Denot → Type 0 = λ x. OnOk r (g.T.Recorder.holds (g.M.Model.meaning x) f.now (before ++ (key.now, note.now) ∷ [])) in
-    subst Q (sym same) (c.requires.does t _ key note r f same post before (subst P same holds))
+    let P : g.row.M.Denot → Type 0 = λ x. TellsOne (g.T.Recorder.holds (g.M.Model.meaning x)) t.now key.now note.now r f.now in
+    subst P (sym same) (c.requires.does t _ key note r f same post)
 
 pub invariant_of-self-in-Ok : goal.invariant_of-self-in-Ok
 invariant_of-self-in-Ok g c = (
