@@ -27,7 +27,8 @@ NoneDue h (e ∷ rest) = h ≤ e.key.stamp
 
 -- the first event is below the horizon, unless the end comes before it
 abbrev pub IsOpen : Course → Type 0
-IsOpen c = (t : Terms) (e : Event) (rest : List Event) → c.queue.pending ≡ e ∷ rest → e.key.stamp < end_stamp t.end → e.key.stamp < horizon_of t c
+IsOpen c =
+    (t : Terms) (e : Event) (rest : List Event) → c.queue.pending ≡ e ∷ rest → e.key.stamp < end_stamp t.end → e.key.stamp < horizon_of t c
 
 -- an event is due: the first one, below the horizon
 pub record IsDue (t : Terms) (c : Course) (e : Event) (rest : List Event) : Type 0 where

@@ -11,10 +11,11 @@ use model_core::model::Model as SimulationModel;
 use std::alloc::Global;
 use tick_queue::TickQueue;
 
-/// A queue of the initial events.
+/// A queue of the initial events. It is refused where memory runs out.
 pub fn first_events<M: SimulationModel>(alloc: Global, model: &M) -> Result<TickQueue, OutOfMemory>
     requires { MeaningLaws (M.meaning model.now) }
-    ensures pending { IfOk result (λ queue. queue.pending ≡ in_order (map (start_event (M.meaning model.now)) (range_with_len 0 (M.meaning model.now).starts))) }
+    ensures pending { IfOk result (λ queue. queue.pending
+        ≡ in_order (map (start_event (M.meaning model.now)) (range_with_len 0 (M.meaning model.now).starts))) }
 {
     let mut queue = TickQueue::new(alloc)?;
     let starts = model.starts();

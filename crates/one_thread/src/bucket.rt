@@ -16,7 +16,8 @@ use model_core::{Effect, Note, OutOfMemory};
 use run_recorder::Recorder;
 use sim_spec::Terms;
 
-/// Fires the events of one bucket in their order, each over the same sheet, and tells of each as it is done.
+/// Fires the events of one bucket in their order, each over the same sheet, and tells of each as it is done. Answers how the
+/// bucket ended.
 pub fn fire_bucket<
     M: Model,
     T: Recorder,

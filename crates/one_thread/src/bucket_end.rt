@@ -9,9 +9,9 @@ use sim_spec::Bucket;
 /// How a bucket ended.
 #[derive(Clone, Copy, Debug, PartialEq, Eq)]
 pub enum BucketEnd {
-    /// No event is left below this horizon, a stamp.
+    /// No event is left below this horizon: the least stamp that was sent in the bucket, or the bound of the terms' end.
     Whole { horizon: u64 },
-    /// An event is left below the horizon, but as many are done as may be.
+    /// An event is left below the horizon, but as many are done as the terms let happen.
     Limit,
     /// The event of this key failed with this code.
     Fault { key: Key, code: u32 },
@@ -38,7 +38,7 @@ impl BucketEnd {
         }
     }
 
-    /// The bucket with these records that ended so.
+    /// The bucket that ended so, and has these records.
     pub fn bucket(self, done: Records) -> Bucket
         ensures { result ≡ bucket_of done self }
     {

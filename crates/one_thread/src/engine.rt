@@ -57,7 +57,7 @@ fn spend(course: &mut Option<Course>)
 }
 
 impl<M: SimulationModel> OneThread<M> {
-    /// The engine at the start of a simulation.
+    /// The engine at the start of a simulation. It is refused where memory runs out.
     pub fn new(alloc: Global, model: Arc<M>, terms: Terms) -> Result<OneThread<M>, OutOfMemory>
         ensures model { IfOk result (λ engine. engine.model ≡ arc_value model) }
         ensures terms { IfOk result (λ engine. engine.terms ≡ terms) }
@@ -113,8 +113,8 @@ impl<M: SimulationModel> OneThread<M> {
         }
     }
 
-    /// Fires the events of one bucket, and tells of each as it is done: `tell` puts it into what takes records. After a
-    /// refusal the engine is spent: each later call is refused too.
+    /// Fires the events of one bucket, and tells of each as it is done: `tell` puts it into what takes records. Answers how
+    /// the bucket ended. Where memory runs out, here or in `tell`, the engine is spent: each later call is refused too.
     pub fn tell_bucket<T: Recorder, F: Fn(&mut T, &M, &Key, &Note) -> Result<(), OutOfMemory>>(
         &mut self,
         into: &mut T,
@@ -153,9 +153,9 @@ impl<M: SimulationModel> OneThread<M> {
         }
     }
 
-    /// Fires the next events of a bucket, and tells of each as it is done: all that are left, or, where objects are many, so many
-    /// and a few more. Where no event of the last bucket is left, another one begins. After a refusal the engine is spent: each
-    /// later call is refused too.
+    /// Fires the next events of a bucket, and tells of each as it is done: all that are left, or, where objects are many,
+    /// `enough` of them and a few more. Where no event of the last bucket is left, another one begins. Where memory runs
+    /// out, here or in `tell`, the engine is spent: each later call is refused too.
     pub fn tell_stretch<T: Recorder, F: Fn(&mut T, &M, &Key, &Note) -> Result<(), OutOfMemory>>(
         &mut self,
         enough: u32,
@@ -206,7 +206,8 @@ impl<M: SimulationModel> OneThread<M> {
         spare
     }
 
-    /// Fires the events of one bucket. After a refusal the engine is spent: each later call is refused too.
+    /// Fires the events of one bucket, and answers what it came to. Where memory runs out, the engine is spent: each later
+    /// call is refused too.
     pub fn bucket(&mut self, alloc: Global) -> Result<Bucket, OutOfMemory>
         requires { ended (M.meaning self.old.model) self.old.terms self.old.standing ≡ None }
         ensures gives { CycleGives (M.meaning self.old.model) self.old.terms self.old.standing result self.new.standing }

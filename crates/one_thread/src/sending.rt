@@ -26,8 +26,10 @@ pub fn send_all(
     requires serials { serial + length sends.now < 2 ^ 64 }
     requires pending { SerialsBelow cause.now.dest serial queue.old.pending }
     requires room { length queue.old.pending + length sends.now < 2 ^ 60 }
-    ensures pending { OnOk result (queue.new.pending ≡ enqueue_all (emissions cause.now.stamp cause.now.dest serial sends.now) queue.old.pending) }
-    ensures fresh_least { OnOk result (queue.new.fresh_least ≡ least_stamp queue.old.fresh_least (emissions cause.now.stamp cause.now.dest serial sends.now)) }
+    ensures pending { OnOk result (queue.new.pending
+        ≡ enqueue_all (emissions cause.now.stamp cause.now.dest serial sends.now) queue.old.pending) }
+    ensures fresh_least { OnOk result (queue.new.fresh_least
+        ≡ least_stamp queue.old.fresh_least (emissions cause.now.stamp cause.now.dest serial sends.now)) }
 {
     let mut next_serial = serial;
     for send in sends {

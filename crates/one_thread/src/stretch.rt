@@ -15,9 +15,9 @@ use model_core::{Effect, Note, OutOfMemory};
 use run_recorder::Recorder;
 use sim_spec::Terms;
 
-/// Fires the next events of a bucket in their order, each over the same sheet, and tells of each as it is done. Answers the fault
-/// that comes next, where one does. Where no event of the last bucket is left, another one begins. Where objects are many it ends
-/// once so many events are done, at a pause of the queue, so that no event has a test for that.
+/// Fires the next events of a bucket in their order, each over the same sheet, and tells of each as it is done. Answers the
+/// fault that comes next, where one does. Where no event of the last bucket is left, another one begins. Where objects are
+/// many it ends once `enough` events are done, at a pause of the queue, so that no event has a test for that.
 pub fn fire_stretch<
     M: Model,
     T: Recorder,
