@@ -20,10 +20,10 @@ impl Rows<Seeded> for WindowRows {
 
     ghost rows_of = { λ model. window_rows (⟦<Seeded as SimulationModel>⟧.meaning model) };
 
-    ghost sums_up = { λ model first kept records. kept.windows ≡ windows_of first (⟦<Seeded as SimulationModel>⟧.meaning model).objects records };
+    ghost sums_up = { λ model first_tick kept records. kept.windows ≡ windows_of first_tick (⟦<Seeded as SimulationModel>⟧.meaning model).objects records };
 
-    fn new(alloc: Global, model: &Seeded, first: u64) -> Result<WindowRows, OutOfMemory> {
-        let windows = Windows::new(alloc, model.objects(), first)?;
+    fn new(alloc: Global, model: &Seeded, first_tick: u64) -> Result<WindowRows, OutOfMemory> {
+        let windows = Windows::new(alloc, model.objects(), first_tick)?;
         Ok(WindowRows { windows })
     }
 

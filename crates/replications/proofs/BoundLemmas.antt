@@ -8,7 +8,7 @@ use Rattle.sim_io.specs.declared.words.WordFault.{WordFault}
 use Rattle.sim_io.specs.declared.words.WordFault.TheVariants.{BadValue}
 use Rattle.sim_io.specs.Words.{and_then, is_number, number_within}
 use Rattle.replications.specs.declared.words.Choice.{Choice}
-use Rattle.replications.specs.declared.words.Choice.TheVariants.{First, From, Workers}
+use Rattle.replications.specs.declared.words.Choice.TheVariants.{FirstSeed, FirstTick, Workers}
 use Rattle.replications.specs.declared.words.Given.{Given}
 use Rattle.replications.specs.declared.words.WindowStart.{WindowStart}
 use Rattle.replications.specs.declared.words.TheConstants.{LAST_SEED, MOST_WORKERS}
@@ -30,19 +30,19 @@ number_within-bounds least most word n is = by (is_number word && nat_le least (
 
 -- the bounds of an option's number
 abbrev IsNumberOf : Choice → ℕ → Type 0
-IsNumberOf First n = (0 ≤ n) × (n ≤ LAST_SEED)
-IsNumberOf From n = (0 ≤ n) × (n ≤ LAST_TICK)
+IsNumberOf FirstSeed n = (0 ≤ n) × (n ≤ LAST_SEED)
+IsNumberOf FirstTick n = (0 ≤ n) × (n ≤ LAST_TICK)
 IsNumberOf Workers n = (1 ≤ n) × (n ≤ MOST_WORKERS)
 
 value-bounds : (choice : Choice) (word : List ℕ) (n : ℕ) → value_of choice word ≡ Ok n → IsNumberOf choice n
-value-bounds First word n read = number_within-bounds 0 LAST_SEED word n read
-value-bounds From word n read = number_within-bounds 0 LAST_TICK word n read
+value-bounds FirstSeed word n read = number_within-bounds 0 LAST_SEED word n read
+value-bounds FirstTick word n read = number_within-bounds 0 LAST_TICK word n read
 value-bounds Workers word n read = number_within-bounds 1 MOST_WORKERS word n read
 
 with-bounds : (given : Given) (choice : Choice) (n : ℕ) → AreGivenInBounds given → IsNumberOf choice n → AreGivenInBounds (with_number given choice n)
-with-bounds given First n fine is = record { first = is; from = fine.from; workers = fine.workers }
-with-bounds given From n fine is = record { first = fine.first; from = is; workers = fine.workers }
-with-bounds given Workers n fine is = record { first = fine.first; from = fine.from; workers = is }
+with-bounds given FirstSeed n fine is = record { first_seed = is; first_tick = fine.first_tick; workers = fine.workers }
+with-bounds given FirstTick n fine is = record { first_seed = fine.first_seed; first_tick = is; workers = fine.workers }
+with-bounds given Workers n fine is = record { first_seed = fine.first_seed; first_tick = fine.first_tick; workers = is }
 
 -- one option more
 given-bounds : (given next : Given) (choice : Choice) (word : List ℕ) → given_with given choice word ≡ Ok next → AreGivenInBounds given → AreGivenInBounds next

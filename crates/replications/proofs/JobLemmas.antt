@@ -6,11 +6,11 @@ use Rattle.sim_spec.specs.declared.stop.Stop.{Stop}
 use Rattle.replications.specs.declared.job.Job.{Job}
 use Rattle.replications.specs.Studies.{StudyOf, seed_at, rows_at, rows_under, stop_at, stop_under, IsDone, AreDone, IsToDo, AreToDo, Does}
 
-pub AreToDo-push : (first number : ℕ) (jobs : List Job) (job : Job) → AreToDo first number jobs → IsToDo (seed_at first (number + length jobs)) job → AreToDo first number (jobs ++ job ∷ [])
+pub AreToDo-push : (first_seed number : ℕ) (jobs : List Job) (job : Job) → AreToDo first_seed number jobs → IsToDo (seed_at first_seed (number + length jobs)) job → AreToDo first_seed number (jobs ++ job ∷ [])
 unfolding AreToDo
-AreToDo-push first number [] job all one = (subst (λ n. IsToDo (seed_at first n) job) (omega arith) one, tt)
-AreToDo-push first number (other ∷ rest) job all one =
-    (all.0, AreToDo-push first (number + 1) rest job all.1 (subst (λ n. IsToDo (seed_at first n) job) (omega arith) one))
+AreToDo-push first_seed number [] job all one = (subst (λ n. IsToDo (seed_at first_seed n) job) (omega arith) one, tt)
+AreToDo-push first_seed number (other ∷ rest) job all one =
+    (all.0, AreToDo-push first_seed (number + 1) rest job all.1 (subst (λ n. IsToDo (seed_at first_seed n) job) (omega arith) one))
 
 -- jobs that were to be done are done
 pub all_done : (s : StudyOf) (number : ℕ) (jobs done : List Job) → AreToDo s.first_seed number jobs → AllZip (Does s) jobs done → AreDone s number done
@@ -22,12 +22,12 @@ all_done s number (job ∷ jobs) (now ∷ done) all does =
     (subst (λ seed. IsDone s seed now) all.0.seed (does.0.done all.0.rows), all_done s (number + 1) jobs done all.1 does.1)
 
 -- a job that is to be done has its seed, and no stop
-pub to_do-at : (first number : ℕ) (jobs : List Job) (i : ℕ) (none : Job) → AreToDo first number jobs → i < length jobs → IsToDo (seed_at first (number + i)) (get_or jobs i none)
+pub to_do-at : (first_seed number : ℕ) (jobs : List Job) (i : ℕ) (none : Job) → AreToDo first_seed number jobs → i < length jobs → IsToDo (seed_at first_seed (number + i)) (get_or jobs i none)
 unfolding AreToDo
-to_do-at first number [] i none all within = absurd (omega arith)
-to_do-at first number (job ∷ rest) Prim.Native.Nat.zero none all within = subst (λ n. IsToDo (seed_at first n) job) (omega arith) all.0
-to_do-at first number (job ∷ rest) (Prim.Native.Nat.suc i) none all within =
-    subst (λ n. IsToDo (seed_at first n) (get_or rest i none)) (omega arith) (to_do-at first (number + 1) rest i none all.1 (omega arith))
+to_do-at first_seed number [] i none all within = absurd (omega arith)
+to_do-at first_seed number (job ∷ rest) Prim.Native.Nat.zero none all within = subst (λ n. IsToDo (seed_at first_seed n) job) (omega arith) all.0
+to_do-at first_seed number (job ∷ rest) (Prim.Native.Nat.suc i) none all within =
+    subst (λ n. IsToDo (seed_at first_seed n) (get_or rest i none)) (omega arith) (to_do-at first_seed (number + 1) rest i none all.1 (omega arith))
 
 pub done-at : (s : StudyOf) (number : ℕ) (jobs : List Job) (i : ℕ) (none : Job) → AreDone s number jobs → i < length jobs → IsDone s (seed_at s.first_seed (number + i)) (get_or jobs i none)
 unfolding AreDone

@@ -23,58 +23,58 @@ use Rattle.replications.specs.Tables.{WindowsView, windows_of}
 use Rattle.replications.proofs.WindowLemmas.{IsWithin-more}
 
 window_at : ℕ → List (Key × Note) → ℕ → Window
-window_at first records object = window_of first (parts_told object records)
+window_at first_tick records object = window_of first_tick (parts_told object records)
 
-pub windows_of-more : (first objects : ℕ) (records : List (Key × Note)) (told : Key × Note) (now : Window) → now ≡ window_of first (parts_told told.0.dest records ++ timed_parts told)
-    → record { objects = set (windows_of first objects records).objects told.0.dest now; first = first; records = (windows_of first objects records).records + 1; last = time_part told.0.stamp }
-    ≡ windows_of first objects (records ++ told ∷ [])
+pub windows_of-more : (first_tick objects : ℕ) (records : List (Key × Note)) (told : Key × Note) (now : Window) → now ≡ window_of first_tick (parts_told told.0.dest records ++ timed_parts told)
+    → record { objects = set (windows_of first_tick objects records).objects told.0.dest now; first_tick = first_tick; records = (windows_of first_tick objects records).records + 1; last_time = time_part told.0.stamp }
+    ≡ windows_of first_tick objects (records ++ told ∷ [])
 unfolding windows_of window_at parts_told
-windows_of-more first objects records told now here =
-    let changed : set (map (window_at first records) (range_with_len 0 objects)) told.0.dest now ≡ map (window_at first (records ++ told ∷ [])) (range_with_len 0 objects) =
-    map-range-set (window_at first records) (window_at first (records ++ told ∷ [])) objects told.0.dest now
-    (here ∙ ap (window_of first) (sym (told-here timed_parts records told)))
-    (λ i apart. ap (window_of first) (told-elsewhere timed_parts i records told apart)) in
+windows_of-more first_tick objects records told now here =
+    let changed : set (map (window_at first_tick records) (range_with_len 0 objects)) told.0.dest now ≡ map (window_at first_tick (records ++ told ∷ [])) (range_with_len 0 objects) =
+    map-range-set (window_at first_tick records) (window_at first_tick (records ++ told ∷ [])) objects told.0.dest now
+    (here ∙ ap (window_of first_tick) (sym (told-here timed_parts records told)))
+    (λ i apart. ap (window_of first_tick) (told-elsewhere timed_parts i records told apart)) in
     let count : length records + 1 ≡ length (records ++ told ∷ []) = sym (length-append records (told ∷ [])) in
     let last : time_part told.0.stamp ≡ last_time 0 (records ++ told ∷ []) = sym (last_time-more 0 records told) in
-    let with_last : List Window → ℕ → ℕ → WindowsView = λ objects records last. record { objects = objects; first = first; records = records; last = last } in
+    let with_last : List Window → ℕ → ℕ → WindowsView = λ objects records last. record { objects = objects; first_tick = first_tick; records = records; last_time = last } in
     ap (λ objects. with_last objects (length records + 1) (time_part told.0.stamp)) changed
-    ∙ ap (λ n. with_last (map (window_at first (records ++ told ∷ [])) (range_with_len 0 objects)) n (time_part told.0.stamp)) count
-    ∙ ap (with_last (map (window_at first (records ++ told ∷ [])) (range_with_len 0 objects)) (length (records ++ told ∷ []))) last
+    ∙ ap (λ n. with_last (map (window_at first_tick (records ++ told ∷ [])) (range_with_len 0 objects)) n (time_part told.0.stamp)) count
+    ∙ ap (with_last (map (window_at first_tick (records ++ told ∷ [])) (range_with_len 0 objects)) (length (records ++ told ∷ []))) last
 
 -- what is known of an object that there is
-pub windows_of-at : (first objects : ℕ) (records : List (Key × Note)) (object : ℕ) (none : Window) → object < objects
-    → get_or (windows_of first objects records).objects object none ≡ window_of first (parts_told object records)
+pub windows_of-at : (first_tick objects : ℕ) (records : List (Key × Note)) (object : ℕ) (none : Window) → object < objects
+    → get_or (windows_of first_tick objects records).objects object none ≡ window_of first_tick (parts_told object records)
 unfolding windows_of window_at
-windows_of-at first objects records object none exists = get_or-map-range_with_len (window_at first records) 0 objects object object none exists (omega arith)
+windows_of-at first_tick objects records object none exists = get_or-map-range_with_len (window_at first_tick records) 0 objects object object none exists (omega arith)
 
-pub windows_of-length : (first objects : ℕ) (records : List (Key × Note)) → length (windows_of first objects records).objects ≡ objects
+pub windows_of-length : (first_tick objects : ℕ) (records : List (Key × Note)) → length (windows_of first_tick objects records).objects ≡ objects
 unfolding windows_of window_at
-windows_of-length first objects records = length-map-range_with_len (window_at first records) 0 objects
+windows_of-length first_tick objects records = length-map-range_with_len (window_at first_tick records) 0 objects
 
-pub windows_of-first : (first objects : ℕ) (records : List (Key × Note)) → (windows_of first objects records).first ≡ first
+pub windows_of-first_tick : (first_tick objects : ℕ) (records : List (Key × Note)) → (windows_of first_tick objects records).first_tick ≡ first_tick
 unfolding windows_of
-windows_of-first first objects records = refl
+windows_of-first_tick first_tick objects records = refl
 
-pub windows_of-records : (first objects : ℕ) (records : List (Key × Note)) → (windows_of first objects records).records ≡ length records
+pub windows_of-records : (first_tick objects : ℕ) (records : List (Key × Note)) → (windows_of first_tick objects records).records ≡ length records
 unfolding windows_of
-windows_of-records first objects records = refl
+windows_of-records first_tick objects records = refl
 
-pub windows_of-last : (first objects : ℕ) (records : List (Key × Note)) → (windows_of first objects records).last ≡ last_time 0 records
+pub windows_of-last_time : (first_tick objects : ℕ) (records : List (Key × Note)) → (windows_of first_tick objects records).last_time ≡ last_time 0 records
 unfolding windows_of
-windows_of-last first objects records = refl
+windows_of-last_time first_tick objects records = refl
 
-pub windows_of-none : (first objects : ℕ) → windows_of first objects [] ≡ record { objects = replicate objects (window_of first []); first = first; records = 0; last = 0 }
+pub windows_of-none : (first_tick objects : ℕ) → windows_of first_tick objects [] ≡ record { objects = replicate objects (window_of first_tick []); first_tick = first_tick; records = 0; last_time = 0 }
 unfolding windows_of parts_told last_time
-windows_of-none first objects =
-    let none : ℕ → Window = λ _. window_of first [] in
+windows_of-none first_tick objects =
+    let none : ℕ → Window = λ _. window_of first_tick [] in
     let long : length (map none (range_with_len 0 objects)) ≡ objects = length-map-range_with_len none 0 objects in
-    ap (λ (windows : List Window). record { objects = windows; first = first; records = 0; last = 0 })
-    (ext_get_or (window_of first []) (map none (range_with_len 0 objects)) (replicate objects (window_of first [])) (long ∙ sym (length-replicate objects (window_of first [])))
-    (λ i within. get_or-map-range_with_len none 0 objects i i (window_of first []) (omega (arith, long)) (omega arith) ∙ sym (get_or-replicate objects i (window_of first []) (window_of first []) (omega (arith, long)))))
+    ap (λ (windows : List Window). record { objects = windows; first_tick = first_tick; records = 0; last_time = 0 })
+    (ext_get_or (window_of first_tick []) (map none (range_with_len 0 objects)) (replicate objects (window_of first_tick [])) (long ∙ sym (length-replicate objects (window_of first_tick [])))
+    (λ i within. get_or-map-range_with_len none 0 objects i i (window_of first_tick []) (omega (arith, long)) (omega arith) ∙ sym (get_or-replicate objects i (window_of first_tick []) (window_of first_tick []) (omega (arith, long)))))
 
-none_is_small : (first : ℕ) → IsWithin 0 (window_of first [])
+none_is_small : (first_tick : ℕ) → IsWithin 0 (window_of first_tick [])
 unfolding from_tick lefts_after last_left stays spent line_before greatest longest_from window_of
-none_is_small first = record {
+none_is_small first_tick = record {
   arrivals = omega arith;
   served = omega arith;
   lost = omega arith;
@@ -85,9 +85,9 @@ none_is_small first = record {
   age = omega arith;
 }
 
-pub none_are_small : (first objects : ℕ) (windows : List Window) → windows ≡ replicate objects (window_of first []) → All (λ (window : Window). IsWithin 0 window) windows
-none_are_small first objects windows are k d within =
-    subst (IsWithin 0) (sym (ap (λ (windows : List Window). get_or windows k d) are ∙ get_or-replicate objects k (window_of first []) d (omega (arith, ap length are, length-replicate objects (window_of first []))))) (none_is_small first)
+pub none_are_small : (first_tick objects : ℕ) (windows : List Window) → windows ≡ replicate objects (window_of first_tick []) → All (λ (window : Window). IsWithin 0 window) windows
+none_are_small first_tick objects windows are k d within =
+    subst (IsWithin 0) (sym (ap (λ (windows : List Window). get_or windows k d) are ∙ get_or-replicate objects k (window_of first_tick []) d (omega (arith, ap length are, length-replicate objects (window_of first_tick []))))) (none_is_small first_tick)
 
 -- one object with a record more, and the others as they were
 pub keeps_within : (windows : List Window) (records place : ℕ) (none now : Window) → place < length windows → none ≡ get_or windows place none → All (λ (window : Window). IsWithin (4 * records) window) windows

@@ -48,11 +48,11 @@ module _ (of : Occupancy → ℕ) where
       → spent of 0 (last_left a (lefts_after a.occupancy rest)).since (a ∷ lefts_after a.occupancy rest) ≡ sum_by of_interval (intervals_from a.occupancy a.since (words_of rest))
   unfolding lefts_after last_left intervals_from words_of of_interval
   ticks-from a [] =
-      let first = spent-cons of 0 a.since a [] in
+      let whole = spent-cons of 0 a.since a [] in
       let empty = spent-none of 0 a.since in
       let none : a.since - max a.since 0 ≡ 0 = omega arith in
       let nothing = ap (λ n. n * of a.occupancy) none in
-      omega (arith, first, empty, nothing)
+      omega (arith, whole, empty, nothing)
   ticks-from a (one ∷ rest) =
       let b : Left = left_by a.occupancy one in
       let last : ℕ = (last_left b (lefts_after b.occupancy rest)).since in

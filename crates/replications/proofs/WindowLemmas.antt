@@ -18,52 +18,52 @@ use Rattle.replications.specs.Stays.{left_at_first, left_by, lefts, last_left, s
 use Rattle.replications.specs.Windows.{busy_servers, waiting_jobs, count_parts, line_before, greatest, longest_from, no_sums, sums_from, window_sums, window_of, IsWithin}
 use Rattle.replications.proofs.StayLemmas.{lefts-more, last_left-more, spent-more, spent-to}
 
-from_tick-more : (first : ℕ) (told : List TimedPart) (one : TimedPart) → from_tick first (told ++ one ∷ []) ≡ from_tick first told ++ cond (nat_le first one.time) (one ∷ []) []
+from_tick-more : (first_tick : ℕ) (told : List TimedPart) (one : TimedPart) → from_tick first_tick (told ++ one ∷ []) ≡ from_tick first_tick told ++ cond (nat_le first_tick one.time) (one ∷ []) []
 unfolding from_tick
-from_tick-more first told one = filter-append (λ (one : TimedPart). nat_le first one.time) told (one ∷ [])
+from_tick-more first_tick told one = filter-append (λ (one : TimedPart). nat_le first_tick one.time) told (one ∷ [])
 
 greatest-more : (ns : List ℕ) (n : ℕ) → greatest (ns ++ n ∷ []) ≡ max (greatest ns) n
 unfolding greatest
 greatest-more [] n = omega arith
 greatest-more (m ∷ ns) n = ap (max m) (greatest-more ns n) ∙ omega arith
 
-module _ (first : ℕ) (told : List TimedPart) (one : TimedPart) where
+module _ (first_tick : ℕ) (told : List TimedPart) (one : TimedPart) where
   -- a sum over the parts within a window, with one more where that is within it
-  sum-more : (f : TimedPart → ℕ) → sum_by f (from_tick first (told ++ one ∷ [])) ≡ sum_by f (from_tick first told) + cond (nat_le first one.time) (f one) 0
+  sum-more : (f : TimedPart → ℕ) → sum_by f (from_tick first_tick (told ++ one ∷ [])) ≡ sum_by f (from_tick first_tick told) + cond (nat_le first_tick one.time) (f one) 0
   sum-more f =
-      ap (sum_by f) (from_tick-more first told one)
-      ∙ sum_by-append f (from_tick first told) (cond (nat_le first one.time) (one ∷ []) [])
-      ∙ ap (λ n. sum_by f (from_tick first told) + n) (by (nat_le first one.time))
+      ap (sum_by f) (from_tick-more first_tick told one)
+      ∙ sum_by-append f (from_tick first_tick told) (cond (nat_le first_tick one.time) (one ∷ []) [])
+      ∙ ap (λ n. sum_by f (from_tick first_tick told) + n) (by (nat_le first_tick one.time))
     where
       by : (within : Bool) → sum_by f (cond within (one ∷ []) []) ≡ cond within (f one) 0
       by true = omega arith
       by false = refl
 
-  count-more : (is_one : ℕ → Bool) → count_parts is_one (from_tick first (told ++ one ∷ [])) ≡ count_parts is_one (from_tick first told) + cond (nat_le first one.time) (from_bool (is_one one.part.word)) 0
+  count-more : (is_one : ℕ → Bool) → count_parts is_one (from_tick first_tick (told ++ one ∷ [])) ≡ count_parts is_one (from_tick first_tick told) + cond (nat_le first_tick one.time) (from_bool (is_one one.part.word)) 0
   count-more is_one =
       sum-more (λ (one : TimedPart). cond (is_one one.part.word) 1 0)
-      ∙ ap (λ n. count_parts is_one (from_tick first told) + cond (nat_le first one.time) n 0) (by (is_one one.part.word))
+      ∙ ap (λ n. count_parts is_one (from_tick first_tick told) + cond (nat_le first_tick one.time) n 0) (by (is_one one.part.word))
     where
       by : (b : Bool) → cond b 1 0 ≡ from_bool b
       by true = refl
       by false = refl
 
-module _ (first : ℕ) (left : List Left) (one : Left) where
-  line_before-more : line_before first (left ++ one ∷ []) ≡ cond (nat_lt one.since first) one.occupancy.waiting (line_before first left)
+module _ (first_tick : ℕ) (left : List Left) (one : Left) where
+  line_before-more : line_before first_tick (left ++ one ∷ []) ≡ cond (nat_lt one.since first_tick) one.occupancy.waiting (line_before first_tick left)
   unfolding line_before
   line_before-more =
-      let early : Left → Bool = λ one. nat_lt one.since first in
-      ap (λ (left : List Left). (last_left left_at_first left).occupancy.waiting) (filter-append early left (one ∷ [])) ∙ by (filter early left) (nat_lt one.since first)
+      let early : Left → Bool = λ one. nat_lt one.since first_tick in
+      ap (λ (left : List Left). (last_left left_at_first left).occupancy.waiting) (filter-append early left (one ∷ [])) ∙ by (filter early left) (nat_lt one.since first_tick)
     where
       by : (left : List Left) (b : Bool) → (last_left left_at_first (left ++ cond b (one ∷ []) [])).occupancy.waiting ≡ cond b one.occupancy.waiting (last_left left_at_first left).occupancy.waiting
       by left true = ap (λ (left : Left). left.occupancy.waiting) (last_left-more left_at_first left one)
       by left false = ap (λ (left : List Left). (last_left left_at_first left).occupancy.waiting) (append-nil left)
 
-  longest_from-more : longest_from first (left ++ one ∷ []) ≡ cond (nat_le first one.since) (max (longest_from first left) one.occupancy.waiting) (longest_from first left)
+  longest_from-more : longest_from first_tick (left ++ one ∷ []) ≡ cond (nat_le first_tick one.since) (max (longest_from first_tick left) one.occupancy.waiting) (longest_from first_tick left)
   unfolding longest_from
   longest_from-more =
-      let late : Left → Bool = λ one. nat_le first one.since in
-      ap (λ (left : List Left). greatest (map (λ (one : Left). one.occupancy.waiting) left)) (filter-append late left (one ∷ [])) ∙ by (filter late left) (nat_le first one.since)
+      let late : Left → Bool = λ one. nat_le first_tick one.since in
+      ap (λ (left : List Left). greatest (map (λ (one : Left). one.occupancy.waiting) left)) (filter-append late left (one ∷ [])) ∙ by (filter late left) (nat_le first_tick one.since)
     where
       by : (left : List Left) (b : Bool)
           → greatest (map (λ (one : Left). one.occupancy.waiting) (left ++ cond b (one ∷ []) []))
@@ -73,9 +73,9 @@ module _ (first : ℕ) (left : List Left) (one : Left) where
 
 -- what is known with a part more, from what was known before it
 abbrev pub with_part : ℕ → Window → TimedPart → Window
-with_part first w one =
-    let within = nat_le first one.time in
-    let ticks = one.time - max w.left.since first in
+with_part first_tick w one =
+    let within = nat_le first_tick one.time in
+    let ticks = one.time - max w.left.since first_tick in
     let now = after_word w.left.occupancy one.part.word in
     record {
       arrivals = w.arrivals + cond within (from_bool (is_arrival one.part.word)) 0;
@@ -84,20 +84,20 @@ with_part first w one =
       busy = w.busy + ticks * w.left.occupancy.busy;
       waiting = w.waiting + ticks * w.left.occupancy.waiting;
       age = w.age + cond within (age_told one) 0;
-      begins = cond (nat_lt one.time first) now.waiting w.begins;
+      begins = cond (nat_lt one.time first_tick) now.waiting w.begins;
       longest = cond within (max w.longest now.waiting) w.longest;
       left = record { since = one.time; occupancy = now };
     }
 
-module _ (of : Occupancy → ℕ) (none : of nobody ≡ 0) (first : ℕ) (told : List TimedPart) (one : TimedPart) where
-  spent-part : spent of first (last_left left_at_first (lefts (told ++ one ∷ []))).since (lefts (told ++ one ∷ []))
-      ≡ spent of first (last_left left_at_first (lefts told)).since (lefts told)
-      + (one.time - max (last_left left_at_first (lefts told)).since first) * of (last_left left_at_first (lefts told)).occupancy
+module _ (of : Occupancy → ℕ) (none : of nobody ≡ 0) (first_tick : ℕ) (told : List TimedPart) (one : TimedPart) where
+  spent-part : spent of first_tick (last_left left_at_first (lefts (told ++ one ∷ []))).since (lefts (told ++ one ∷ []))
+      ≡ spent of first_tick (last_left left_at_first (lefts told)).since (lefts told)
+      + (one.time - max (last_left left_at_first (lefts told)).since first_tick) * of (last_left left_at_first (lefts told)).occupancy
   spent-part =
       let new : Left = left_by (last_left left_at_first (lefts told)).occupancy one in
-      ap (λ (left : List Left). spent of first (last_left left_at_first left).since left) (lefts-more told one)
-      ∙ ap (λ (last : Left). spent of first last.since (lefts told ++ new ∷ [])) (last_left-more left_at_first (lefts told) new)
-      ∙ spent-more of none first (lefts told) new
+      ap (λ (left : List Left). spent of first_tick (last_left left_at_first left).since left) (lefts-more told one)
+      ∙ ap (λ (last : Left). spent of first_tick last.since (lefts told ++ new ∷ [])) (last_left-more left_at_first (lefts told) new)
+      ∙ spent-more of none first_tick (lefts told) new
 
 -- windows are the same part by part
 same_window : (a a' b b' c c' d d' e e' f f' g g' h h' : ℕ) (l l' : Left) → a ≡ a' → b ≡ b' → c ≡ c' → d ≡ d' → e ≡ e' → f ≡ f' → g ≡ g' → h ≡ h' → l ≡ l'
@@ -105,72 +105,72 @@ same_window : (a a' b b' c c' d d' e e' f f' g g' h h' : ℕ) (l l' : Left) → 
     (record { arrivals = a'; served = b'; lost = c'; busy = d'; waiting = e'; age = f'; begins = g'; longest = h'; left = l' })
 same_window a a' b b' c c' d d' e e' f f' g g' h h' l l' ae be ce de ee fe ge he le = cc
 
-pub window_of-more : (first : ℕ) (told : List TimedPart) (one : TimedPart) → window_of first (told ++ one ∷ []) ≡ with_part first (window_of first told) one
+pub window_of-more : (first_tick : ℕ) (told : List TimedPart) (one : TimedPart) → window_of first_tick (told ++ one ∷ []) ≡ with_part first_tick (window_of first_tick told) one
 unfolding window_of
-window_of-more first told one =
+window_of-more first_tick told one =
     let new : Left = left_by (last_left left_at_first (lefts told)).occupancy one in
     same_window _ _ _ _ _ _ _ _ _ _ _ _ _ _ _ _ _ _
-    (count-more first told one is_arrival)
-    (count-more first told one is_service)
-    (count-more first told one is_loss)
-    (spent-part busy_servers refl first told one)
-    (spent-part waiting_jobs refl first told one)
-    (sum-more first told one age_told)
-    (ap (line_before first) (lefts-more told one) ∙ line_before-more first (lefts told) new)
-    (ap (longest_from first) (lefts-more told one) ∙ longest_from-more first (lefts told) new)
+    (count-more first_tick told one is_arrival)
+    (count-more first_tick told one is_service)
+    (count-more first_tick told one is_loss)
+    (spent-part busy_servers refl first_tick told one)
+    (spent-part waiting_jobs refl first_tick told one)
+    (sum-more first_tick told one age_told)
+    (ap (line_before first_tick) (lefts-more told one) ∙ line_before-more first_tick (lefts told) new)
+    (ap (longest_from first_tick) (lefts-more told one) ∙ longest_from-more first_tick (lefts told) new)
     (ap (last_left left_at_first) (lefts-more told one) ∙ last_left-more left_at_first (lefts told) new)
 
 -- a part before the window
-pub adds_before : (first : ℕ) (told : List TimedPart) (one : TimedPart) (old new : Window) → one.time < first → old ≡ window_of first told
+pub adds_before : (first_tick : ℕ) (told : List TimedPart) (one : TimedPart) (old new : Window) → one.time < first_tick → old ≡ window_of first_tick told
     → new ≡ record old {
-      busy = old.busy + (one.time - max old.left.since first) * old.left.occupancy.busy;
-      waiting = old.waiting + (one.time - max old.left.since first) * old.left.occupancy.waiting;
+      busy = old.busy + (one.time - max old.left.since first_tick) * old.left.occupancy.busy;
+      waiting = old.waiting + (one.time - max old.left.since first_tick) * old.left.occupancy.waiting;
       begins = (after_word old.left.occupancy one.part.word).waiting;
       left = left_by old.left.occupancy one;
-    } → new ≡ window_of first (told ++ one ∷ [])
-adds_before first told one old new early summed is =
+    } → new ≡ window_of first_tick (told ++ one ∷ [])
+adds_before first_tick told one old new early summed is =
     let none : (n : ℕ) → n ≡ n + 0 = λ n. omega arith in
-    let step : new ≡ with_part first old one =
-    is ∙ rw (lt-leb first one.time early, lt-ltb one.time first early) (same_window _ _ _ _ _ _ _ _ _ _ _ _ _ _ _ _ _ _ (none old.arrivals) (none old.served) (none old.lost) refl refl (none old.age) refl refl refl) in
-    step ∙ ap (λ (w : Window). with_part first w one) summed ∙ sym (window_of-more first told one)
+    let step : new ≡ with_part first_tick old one =
+    is ∙ rw (lt-leb first_tick one.time early, lt-ltb one.time first_tick early) (same_window _ _ _ _ _ _ _ _ _ _ _ _ _ _ _ _ _ _ (none old.arrivals) (none old.served) (none old.lost) refl refl (none old.age) refl refl refl) in
+    step ∙ ap (λ (w : Window). with_part first_tick w one) summed ∙ sym (window_of-more first_tick told one)
 
 -- a part within the window
-pub adds_within : (first : ℕ) (told : List TimedPart) (one : TimedPart) (old new : Window) → first ≤ one.time → old ≡ window_of first told
+pub adds_within : (first_tick : ℕ) (told : List TimedPart) (one : TimedPart) (old new : Window) → first_tick ≤ one.time → old ≡ window_of first_tick told
     → new ≡ record {
       arrivals = old.arrivals + from_bool (is_arrival one.part.word);
       served = old.served + from_bool (is_service one.part.word);
       lost = old.lost + from_bool (is_loss one.part.word);
-      busy = old.busy + (one.time - max old.left.since first) * old.left.occupancy.busy;
-      waiting = old.waiting + (one.time - max old.left.since first) * old.left.occupancy.waiting;
+      busy = old.busy + (one.time - max old.left.since first_tick) * old.left.occupancy.busy;
+      waiting = old.waiting + (one.time - max old.left.since first_tick) * old.left.occupancy.waiting;
       age = old.age + age_told one;
       begins = old.begins;
       longest = max old.longest (after_word old.left.occupancy one.part.word).waiting;
       left = left_by old.left.occupancy one;
-    } → new ≡ window_of first (told ++ one ∷ [])
-adds_within first told one old new late summed is =
-    let step : new ≡ with_part first old one = is ∙ rw (le-leb first one.time late, le-ltb one.time first late) refl in
-    step ∙ ap (λ (w : Window). with_part first w one) summed ∙ sym (window_of-more first told one)
+    } → new ≡ window_of first_tick (told ++ one ∷ [])
+adds_within first_tick told one old new late summed is =
+    let step : new ≡ with_part first_tick old one = is ∙ rw (le-leb first_tick one.time late, le-ltb one.time first_tick late) refl in
+    step ∙ ap (λ (w : Window). with_part first_tick w one) summed ∙ sym (window_of-more first_tick told one)
 
-module _ (first : ℕ) (told : List TimedPart) (one : TimedPart) (old mid : Window) (now : Occupancy) (summed : old ≡ window_of first told)
+module _ (first_tick : ℕ) (told : List TimedPart) (one : TimedPart) (old mid : Window) (now : Occupancy) (summed : old ≡ window_of first_tick told)
     (passed : mid ≡ record old {
-      busy = old.busy + (one.time - max old.left.since first) * old.left.occupancy.busy;
-      waiting = old.waiting + (one.time - max old.left.since first) * old.left.occupancy.waiting;
+      busy = old.busy + (one.time - max old.left.since first_tick) * old.left.occupancy.busy;
+      waiting = old.waiting + (one.time - max old.left.since first_tick) * old.left.occupancy.waiting;
     })
     (leaves : now ≡ after_word mid.left.occupancy one.part.word) where
   leaves_so : now ≡ after_word old.left.occupancy one.part.word
   leaves_so = leaves ∙ ap (λ (w : Window). after_word w.left.occupancy one.part.word) passed
 
-  pub comes_before : one.time < first → record mid { begins = now.waiting; left = record { since = one.time; occupancy = now } } ≡ window_of first (told ++ one ∷ [])
+  pub comes_before : one.time < first_tick → record mid { begins = now.waiting; left = record { since = one.time; occupancy = now } } ≡ window_of first_tick (told ++ one ∷ [])
   comes_before early =
       let step : Window → Occupancy → Window = λ w now. record w { begins = now.waiting; left = record { since = one.time; occupancy = now } } in
-      adds_before first told one old (step mid now) early summed
+      adds_before first_tick told one old (step mid now) early summed
       (ap (λ (w : Window). step w now) passed
       ∙ ap (step (record old {
-        busy = old.busy + (one.time - max old.left.since first) * old.left.occupancy.busy;
-        waiting = old.waiting + (one.time - max old.left.since first) * old.left.occupancy.waiting;
+        busy = old.busy + (one.time - max old.left.since first_tick) * old.left.occupancy.busy;
+        waiting = old.waiting + (one.time - max old.left.since first_tick) * old.left.occupancy.waiting;
       })) leaves_so)
 
-  pub comes_within : (new : Window) → first ≤ one.time
+  pub comes_within : (new : Window) → first_tick ≤ one.time
       → new ≡ record mid {
         arrivals = mid.arrivals + from_bool (is_arrival one.part.word);
         served = mid.served + from_bool (is_service one.part.word);
@@ -178,7 +178,7 @@ module _ (first : ℕ) (told : List TimedPart) (one : TimedPart) (old mid : Wind
         age = mid.age + age_told one;
         longest = max mid.longest now.waiting;
         left = record { since = one.time; occupancy = now };
-      } → new ≡ window_of first (told ++ one ∷ [])
+      } → new ≡ window_of first_tick (told ++ one ∷ [])
   comes_within new late counted =
       let step : Window → Occupancy → Window = λ w now. record w {
         arrivals = w.arrivals + from_bool (is_arrival one.part.word);
@@ -188,12 +188,12 @@ module _ (first : ℕ) (told : List TimedPart) (one : TimedPart) (old mid : Wind
         longest = max w.longest now.waiting;
         left = record { since = one.time; occupancy = now };
       } in
-      adds_within first told one old new late summed
+      adds_within first_tick told one old new late summed
       (counted
       ∙ ap (λ (w : Window). step w now) passed
       ∙ ap (step (record old {
-        busy = old.busy + (one.time - max old.left.since first) * old.left.occupancy.busy;
-        waiting = old.waiting + (one.time - max old.left.since first) * old.left.occupancy.waiting;
+        busy = old.busy + (one.time - max old.left.since first_tick) * old.left.occupancy.busy;
+        waiting = old.waiting + (one.time - max old.left.since first_tick) * old.left.occupancy.waiting;
       })) leaves_so)
 
 -- sums are the same part by part
@@ -205,38 +205,38 @@ same_columns a a' b b' c c' d d' e e' f f' g g' ae be ce de ee fe ge = cc
 columns_of : Window → Columns
 columns_of w = record { arrivals = w.arrivals; served = w.served; lost = w.lost; busy = w.busy; waiting = w.waiting; age = w.age; longest = max w.begins w.longest }
 
-window-ends : (first last : ℕ) (told : List TimedPart) (w : Window) → w ≡ window_of first told
+window-ends : (first_tick last : ℕ) (told : List TimedPart) (w : Window) → w ≡ window_of first_tick told
     → columns_of (record w {
-      busy = w.busy + (last - max w.left.since first) * w.left.occupancy.busy;
-      waiting = w.waiting + (last - max w.left.since first) * w.left.occupancy.waiting;
-    }) ≡ sums_from first last told
+      busy = w.busy + (last - max w.left.since first_tick) * w.left.occupancy.busy;
+      waiting = w.waiting + (last - max w.left.since first_tick) * w.left.occupancy.waiting;
+    }) ≡ sums_from first_tick last told
 unfolding columns_of sums_from window_of
-window-ends first last told w summed =
+window-ends first_tick last told w summed =
     ap (λ (w : Window). columns_of (record w {
-      busy = w.busy + (last - max w.left.since first) * w.left.occupancy.busy;
-      waiting = w.waiting + (last - max w.left.since first) * w.left.occupancy.waiting;
+      busy = w.busy + (last - max w.left.since first_tick) * w.left.occupancy.busy;
+      waiting = w.waiting + (last - max w.left.since first_tick) * w.left.occupancy.waiting;
     })) summed
     ∙ same_columns _ _ _ _ _ _ _ _ _ _ _ _ _ _ refl refl refl
-    (sym (spent-to busy_servers refl first last (lefts told)))
-    (sym (spent-to waiting_jobs refl first last (lefts told)))
+    (sym (spent-to busy_servers refl first_tick last (lefts told)))
+    (sym (spent-to waiting_jobs refl first_tick last (lefts told)))
     refl refl
 
 -- a window that ends at a tick
-pub closes : (first last : ℕ) (told : List TimedPart) (old mid : Window) (longest : ℕ) → first ≤ last → old ≡ window_of first told
+pub closes : (first_tick last : ℕ) (told : List TimedPart) (old mid : Window) (longest : ℕ) → first_tick ≤ last → old ≡ window_of first_tick told
     → mid ≡ record old {
-      busy = old.busy + (last - max old.left.since first) * old.left.occupancy.busy;
-      waiting = old.waiting + (last - max old.left.since first) * old.left.occupancy.waiting;
+      busy = old.busy + (last - max old.left.since first_tick) * old.left.occupancy.busy;
+      waiting = old.waiting + (last - max old.left.since first_tick) * old.left.occupancy.waiting;
     } → longest ≡ max mid.begins mid.longest
-    → ◌≡◌ {A = Columns} (record { arrivals = mid.arrivals; served = mid.served; lost = mid.lost; busy = mid.busy; waiting = mid.waiting; age = mid.age; longest = longest }) (window_sums first last told)
+    → ◌≡◌ {A = Columns} (record { arrivals = mid.arrivals; served = mid.served; lost = mid.lost; busy = mid.busy; waiting = mid.waiting; age = mid.age; longest = longest }) (window_sums first_tick last told)
 unfolding columns_of window_sums
-closes first last told old mid longest some summed passed is_longest =
+closes first_tick last told old mid longest some summed passed is_longest =
     let mine : ◌≡◌ {A = Columns} (record { arrivals = mid.arrivals; served = mid.served; lost = mid.lost; busy = mid.busy; waiting = mid.waiting; age = mid.age; longest = longest }) (columns_of mid) =
     ap (λ n. record { arrivals = mid.arrivals; served = mid.served; lost = mid.lost; busy = mid.busy; waiting = mid.waiting; age = mid.age; longest = n }) is_longest in
-    mine ∙ ap columns_of passed ∙ window-ends first last told old summed ∙ ap (λ b. cond b no_sums (sums_from first last told)) (sym (le-ltb last first some))
+    mine ∙ ap columns_of passed ∙ window-ends first_tick last told old summed ∙ ap (λ b. cond b no_sums (sums_from first_tick last told)) (sym (le-ltb last first_tick some))
 
-pub has_no_tick : (first last : ℕ) (told : List TimedPart) (sums : Columns) → last < first → sums ≡ no_sums → sums ≡ window_sums first last told
+pub has_no_tick : (first_tick last : ℕ) (told : List TimedPart) (sums : Columns) → last < first_tick → sums ≡ no_sums → sums ≡ window_sums first_tick last told
 unfolding window_sums
-has_no_tick first last told sums none are = are ∙ ap (λ b. cond b no_sums (sums_from first last told)) (sym (lt-ltb last first none))
+has_no_tick first_tick last told sums none are = are ∙ ap (λ b. cond b no_sums (sums_from first_tick last told)) (sym (lt-ltb last first_tick none))
 
 pub IsWithin-more : (parts more : ℕ) (window : Window) → parts ≤ more → IsWithin parts window → IsWithin more window
 IsWithin-more parts more window le within = record {

@@ -17,4 +17,4 @@ end_of seed r = record { seed = seed; events = r.last.count; stop = r.stop }
 
 -- the rows of the run of a model from its start, under this seed
 unfoldable pub rows_of_run : RowsOf → Meaning → Terms → ℕ → ℕ → List ℕ
-rows_of_run rows m t first seed = let r = run m t (initial_state m) in rows first t (end_of seed r) r.records
+rows_of_run rows m t first_tick seed = let r = run m t (initial_state m) in rows first_tick t (end_of seed r) r.records

@@ -13,6 +13,6 @@ module _ {S : Type 0} (with_seed : S → ℕ → Meaning) (rows : S → ℕ → 
     rows = rows study.models;
     head = study.head.now;
     terms = study.terms;
-    from = study.from;
+    first_tick = study.first_tick;
     first_seed = study.first_seed;
   }

@@ -27,7 +27,7 @@ parts_told object records = told_of_object timed_parts object records
 
 -- those at this tick or later
 unfoldable pub from_tick : ℕ → List TimedPart → List TimedPart
-from_tick first told = filter (λ (one : TimedPart). nat_le first one.time) told
+from_tick first_tick told = filter (λ (one : TimedPart). nat_le first_tick one.time) told
 
 -- the age that a part tells where a job leaves
 abbrev pub age_told : TimedPart → ℕ

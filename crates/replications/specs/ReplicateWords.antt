@@ -5,7 +5,7 @@ use Rattle.sim_io.specs.declared.words.WordFault.{WordFault}
 use Rattle.sim_io.specs.declared.words.WordFault.TheVariants.{RepeatedOption, MissingValue}
 use Rattle.sim_io.specs.Words.{and_then, number_within, stray_word}
 use Rattle.replications.specs.declared.words.Choice.{Choice}
-use Rattle.replications.specs.declared.words.Choice.TheVariants.{First, From, Workers}
+use Rattle.replications.specs.declared.words.Choice.TheVariants.{FirstSeed, FirstTick, Workers}
 use Rattle.replications.specs.declared.words.Given.{Given}
 use Rattle.replications.specs.declared.words.Replicate.{Replicate}
 use Rattle.replications.specs.declared.words.WindowStart.{WindowStart}
@@ -18,25 +18,25 @@ is_in_words WindowStart.Model = false
 
 abbrev pub choice_named : WindowStart → List ℕ → Option Choice
 choice_named start word =
-    if bytes_eq word (codes "--first") then Some First
-    else if is_in_words start && bytes_eq word (codes "--from") then Some From
+    if bytes_eq word (codes "--first") then Some FirstSeed
+    else if is_in_words start && bytes_eq word (codes "--from") then Some FirstTick
     else if bytes_eq word (codes "--workers") then Some Workers
     else None
 
 abbrev pub value_of : Choice → List ℕ → Result ℕ WordFault
-value_of First word = number_within 0 LAST_SEED word
-value_of From word = number_within 0 LAST_TICK word
+value_of FirstSeed word = number_within 0 LAST_SEED word
+value_of FirstTick word = number_within 0 LAST_TICK word
 value_of Workers word = number_within 1 MOST_WORKERS word
 
 abbrev pub has_value : Given → Choice → Bool
-has_value given First = is_some given.first
-has_value given From = is_some given.from
+has_value given FirstSeed = is_some given.first_seed
+has_value given FirstTick = is_some given.first_tick
 has_value given Workers = is_some given.workers
 
 abbrev pub with_number : Given → Choice → ℕ → Given
-with_number given First n = record { first = Some n; from = given.from; workers = given.workers }
-with_number given From n = record { first = given.first; from = Some n; workers = given.workers }
-with_number given Workers n = record { first = given.first; from = given.from; workers = Some n }
+with_number given FirstSeed n = record { first_seed = Some n; first_tick = given.first_tick; workers = given.workers }
+with_number given FirstTick n = record { first_seed = given.first_seed; first_tick = Some n; workers = given.workers }
+with_number given Workers n = record { first_seed = given.first_seed; first_tick = given.first_tick; workers = Some n }
 
 -- the option that a word names, where it wasn't given before
 abbrev pub chosen_if : Given → List ℕ → Option Choice → Result Choice WordFault
@@ -57,13 +57,13 @@ walked start given (word ∷ []) = and_then (chosen start given word) (λ _. Err
 walked start given (word ∷ value ∷ rest) = and_then (chosen start given word) (λ choice. and_then (given_with given choice value) (λ next. walked start next rest))
 
 abbrev pub no_options : Given
-no_options = record { first = None; from = None; workers = None }
+no_options = record { first_seed = None; first_tick = None; workers = None }
 
 abbrev pub settings_of : ℕ → Given → Replicate
 settings_of count given = record {
   count = count;
-  first_seed = given.first;
-  from = unwrap_or given.from 0;
+  first_seed = given.first_seed;
+  first_tick = unwrap_or given.first_tick 0;
   workers = unwrap_or given.workers DEFAULT_WORKERS;
 }
 
@@ -79,13 +79,13 @@ IsGivenWithin least most given = IfSome given (λ n. (least ≤ n) × (n ≤ mos
 
 -- what options gave lies within its bounds
 pub record AreGivenInBounds (given : Given) : Type 0 where
-  pub first : IsGivenWithin 0 LAST_SEED given.first
-  pub from : IsGivenWithin 0 LAST_TICK given.from
+  pub first_seed : IsGivenWithin 0 LAST_SEED given.first_seed
+  pub first_tick : IsGivenWithin 0 LAST_TICK given.first_tick
   pub workers : IsGivenWithin 1 MOST_WORKERS given.workers
 
 -- what is asked for lies within its bounds
 pub record AreInBounds (asked : Replicate) : Type 0 where
   pub count : (1 ≤ asked.count) × (asked.count ≤ MOST_REPLICATIONS)
   pub first_seed : IsGivenWithin 0 LAST_SEED asked.first_seed
-  pub from : asked.from ≤ LAST_TICK
+  pub first_tick : asked.first_tick ≤ LAST_TICK
   pub workers : (1 ≤ asked.workers) × (asked.workers ≤ MOST_WORKERS)

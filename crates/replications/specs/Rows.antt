@@ -47,22 +47,22 @@ end_text ticks end = field ticks ++ (field end.events ++ (stop_name end.stop ++ 
 
 -- the row of an object with these sums, from the first tick of the window to its last one
 unfoldable pub row : Meaning → ℕ → ℕ → RunEnd → ℕ → Columns → List ℕ
-row m first last end object sums = seed_text end.seed ++ (m.label object ++ (columns_text sums ++ end_text (last - first) end))
+row m first_tick last end object sums = seed_text end.seed ++ (m.label object ++ (columns_text sums ++ end_text (last - first_tick) end))
 
 -- a row for each object, numbered from this one on
 unfoldable pub rows_from : Meaning → ℕ → ℕ → RunEnd → ℕ → List Columns → List ℕ
-rows_from m first last end object [] = []
-rows_from m first last end object (sums ∷ rest) = row m first last end object sums ++ rows_from m first last end (object + 1) rest
+rows_from m first_tick last end object [] = []
+rows_from m first_tick last end object (sums ∷ rest) = row m first_tick last end object sums ++ rows_from m first_tick last end (object + 1) rest
 
 -- the sums of each object over these records
 unfoldable pub table_of : ℕ → ℕ → ℕ → List (Key × Note) → List Columns
-table_of first last objects records = map (λ object. window_sums first last (parts_told object records)) (range_with_len 0 objects)
+table_of first_tick last objects records = map (λ object. window_sums first_tick last (parts_told object records)) (range_with_len 0 objects)
 
 -- the rows of a run with these records, that ended so
 unfoldable pub rows_of_records : Meaning → Terms → ℕ → RunEnd → List (Key × Note) → List ℕ
-rows_of_records m t first end records =
-    let last = last_tick t records end.stop in rows_from m first last end 0 (table_of first last m.objects records)
+rows_of_records m t first_tick end records =
+    let last = last_tick t records end.stop in rows_from m first_tick last end 0 (table_of first_tick last m.objects records)
 
 -- what a table of windows says of a run of a model
 abbrev pub window_rows : Meaning → RowsOf
-window_rows m first t end records = rows_of_records m t first end records
+window_rows m first_tick t end records = rows_of_records m t first_tick end records

@@ -43,8 +43,8 @@ stays last (left ∷ rest) = record { left = left; until = next_since last rest 
 
 -- for how many ticks from the first one on: no stay goes on past the last tick
 abbrev pub ticks_within : ℕ → Stay → ℕ
-ticks_within first stay = stay.until - max stay.left.since first
+ticks_within first_tick stay = stay.until - max stay.left.since first_tick
 
 -- the sum over all stays of how many there are of something, times the ticks between the first and the last for which they are there
 unfoldable pub spent : (Occupancy → ℕ) → ℕ → ℕ → List Left → ℕ
-spent of first last left = sum_by (λ (stay : Stay). ticks_within first stay * of stay.left.occupancy) (stays last left)
+spent of first_tick last left = sum_by (λ (stay : Stay). ticks_within first_tick stay * of stay.left.occupancy) (stays last left)

@@ -17,16 +17,16 @@ pub record StudyOf : Type 0 where
   pub rows : ℕ → RowsOf
   pub head : List ℕ
   pub terms : Terms
-  pub from : ℕ
+  pub first_tick : ℕ
   pub first_seed : ℕ
 
 -- the seed of a replication, counted from 0: 0 comes after the last one, 2^63 - 1
 abbrev pub seed_at : ℕ → ℕ → ℕ
-seed_at first number = (first + number) % 2 ^ 63
+seed_at first_seed number = (first_seed + number) % 2 ^ 63
 
 -- the rows of the run under a seed, and why it stops
 abbrev pub rows_under : StudyOf → ℕ → List ℕ
-rows_under s seed = rows_of_run (s.rows seed) (s.with_seed seed) s.terms s.from seed
+rows_under s seed = rows_of_run (s.rows seed) (s.with_seed seed) s.terms s.first_tick seed
 
 abbrev pub stop_under : StudyOf → ℕ → Stop
 stop_under s seed = (run (s.with_seed seed) s.terms (initial_state (s.with_seed seed))).stop
@@ -77,8 +77,8 @@ pub record IsToDo (own : ℕ) (job : Job) : Type 0 where
   pub stop : job.stop ≡ None
 
 unfoldable pub AreToDo : ℕ → ℕ → List Job → Type 0
-AreToDo first number [] = Unit {0}
-AreToDo first number (job ∷ rest) = IsToDo (seed_at first number) job × AreToDo first (number + 1) rest
+AreToDo first_seed number [] = Unit {0}
+AreToDo first_seed number (job ∷ rest) = IsToDo (seed_at first_seed number) job × AreToDo first_seed (number + 1) rest
 
 -- a job of the seed that it had, done
 pub record Does (s : StudyOf) (old new : Job) : Type 0 where

@@ -11,14 +11,14 @@ use Rattle.replications.specs.Windows.{window_of}
 -- what is known of each object, the first tick of the window, how many records were told, and the time of the last one
 pub record WindowsView : Type 0 where
   pub objects : List Window
-  pub first : ℕ
+  pub first_tick : ℕ
   pub records : ℕ
-  pub last : ℕ
+  pub last_time : ℕ
 
 unfoldable pub windows_of : ℕ → ℕ → List (Key × Note) → WindowsView
-windows_of first objects records = record {
-  objects = map (λ object. window_of first (parts_told object records)) (range_with_len 0 objects);
-  first = first;
+windows_of first_tick objects records = record {
+  objects = map (λ object. window_of first_tick (parts_told object records)) (range_with_len 0 objects);
+  first_tick = first_tick;
   records = length records;
-  last = last_time 0 records;
+  last_time = last_time 0 records;
 }

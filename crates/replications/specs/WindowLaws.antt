@@ -34,13 +34,13 @@ InOrder (one ∷ []) = Unit {0}
 InOrder (one ∷ next ∷ rest) = (one.time ≤ next.time) × InOrder (next ∷ rest)
 
 -- the sums of a window are those up to a tick within it, over what is told before that tick, and those from there on
-pub record IsCutAt (first middle last : ℕ) (told : List TimedPart) : Type 0 where
-  pub arrivals : (window_sums first last told).arrivals ≡ (window_sums first middle (before_tick middle told)).arrivals + (window_sums middle last told).arrivals
-  pub served : (window_sums first last told).served ≡ (window_sums first middle (before_tick middle told)).served + (window_sums middle last told).served
-  pub lost : (window_sums first last told).lost ≡ (window_sums first middle (before_tick middle told)).lost + (window_sums middle last told).lost
-  pub busy : (window_sums first last told).busy ≡ (window_sums first middle (before_tick middle told)).busy + (window_sums middle last told).busy
-  pub waiting : (window_sums first last told).waiting ≡ (window_sums first middle (before_tick middle told)).waiting + (window_sums middle last told).waiting
-  pub age : (window_sums first last told).age ≡ (window_sums first middle (before_tick middle told)).age + (window_sums middle last told).age
+pub record IsCutAt (first_tick middle last : ℕ) (told : List TimedPart) : Type 0 where
+  pub arrivals : (window_sums first_tick last told).arrivals ≡ (window_sums first_tick middle (before_tick middle told)).arrivals + (window_sums middle last told).arrivals
+  pub served : (window_sums first_tick last told).served ≡ (window_sums first_tick middle (before_tick middle told)).served + (window_sums middle last told).served
+  pub lost : (window_sums first_tick last told).lost ≡ (window_sums first_tick middle (before_tick middle told)).lost + (window_sums middle last told).lost
+  pub busy : (window_sums first_tick last told).busy ≡ (window_sums first_tick middle (before_tick middle told)).busy + (window_sums middle last told).busy
+  pub waiting : (window_sums first_tick last told).waiting ≡ (window_sums first_tick middle (before_tick middle told)).waiting + (window_sums middle last told).waiting
+  pub age : (window_sums first_tick last told).age ≡ (window_sums first_tick middle (before_tick middle told)).age + (window_sums middle last told).age
 
 abbrev pub WindowsAdd : Type 0
-WindowsAdd = (first middle last : ℕ) (told : List TimedPart) → first < middle → middle ≤ last → InOrder told → IsCutAt first middle last told
+WindowsAdd = (first_tick middle last : ℕ) (told : List TimedPart) → first_tick < middle → middle ≤ last → InOrder told → IsCutAt first_tick middle last told

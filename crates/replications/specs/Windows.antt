@@ -20,7 +20,7 @@ count_parts is_one told = count_by (λ (one : TimedPart). is_one one.part.word) 
 
 -- the jobs that wait as a tick begins: as the last part before it leaves them
 unfoldable pub line_before : ℕ → List Left → ℕ
-line_before first left = (last_left left_at_first (filter (λ (one : Left). nat_lt one.since first) left)).occupancy.waiting
+line_before first_tick left = (last_left left_at_first (filter (λ (one : Left). nat_lt one.since first_tick) left)).occupancy.waiting
 
 -- the greatest of some numbers, or 0
 unfoldable pub greatest : List ℕ → ℕ
@@ -29,18 +29,18 @@ greatest (n ∷ rest) = max n (greatest rest)
 
 -- the most jobs that a part from this tick on leaves waiting
 unfoldable pub longest_from : ℕ → List Left → ℕ
-longest_from first left = greatest (map (λ (one : Left). one.occupancy.waiting) (filter (λ (one : Left). nat_le first one.since) left))
+longest_from first_tick left = greatest (map (λ (one : Left). one.occupancy.waiting) (filter (λ (one : Left). nat_le first_tick one.since) left))
 
 -- the sums from this tick to the last one
 unfoldable pub sums_from : ℕ → ℕ → List TimedPart → Columns
-sums_from first last told = record {
-  arrivals = count_parts is_arrival (from_tick first told);
-  served = count_parts is_service (from_tick first told);
-  lost = count_parts is_loss (from_tick first told);
-  busy = spent busy_servers first last (lefts told);
-  waiting = spent waiting_jobs first last (lefts told);
-  age = sum_by age_told (from_tick first told);
-  longest = max (line_before first (lefts told)) (longest_from first (lefts told));
+sums_from first_tick last told = record {
+  arrivals = count_parts is_arrival (from_tick first_tick told);
+  served = count_parts is_service (from_tick first_tick told);
+  lost = count_parts is_loss (from_tick first_tick told);
+  busy = spent busy_servers first_tick last (lefts told);
+  waiting = spent waiting_jobs first_tick last (lefts told);
+  age = sum_by age_told (from_tick first_tick told);
+  longest = max (line_before first_tick (lefts told)) (longest_from first_tick (lefts told));
 }
 
 abbrev pub no_sums : Columns
@@ -48,19 +48,19 @@ no_sums = record { arrivals = 0; served = 0; lost = 0; busy = 0; waiting = 0; ag
 
 -- the sums of the ticks from the first to the last: all are 0 where the first comes after the last
 unfoldable pub window_sums : ℕ → ℕ → List TimedPart → Columns
-window_sums first last told = if nat_lt last first then no_sums else sums_from first last told
+window_sums first_tick last told = if nat_lt last first_tick then no_sums else sums_from first_tick last told
 
 -- what is known of an object once these parts are told: the sums up to the last of them, and what that one left
 unfoldable pub window_of : ℕ → List TimedPart → Window
-window_of first told = record {
-  arrivals = count_parts is_arrival (from_tick first told);
-  served = count_parts is_service (from_tick first told);
-  lost = count_parts is_loss (from_tick first told);
-  busy = spent busy_servers first (last_left left_at_first (lefts told)).since (lefts told);
-  waiting = spent waiting_jobs first (last_left left_at_first (lefts told)).since (lefts told);
-  age = sum_by age_told (from_tick first told);
-  begins = line_before first (lefts told);
-  longest = longest_from first (lefts told);
+window_of first_tick told = record {
+  arrivals = count_parts is_arrival (from_tick first_tick told);
+  served = count_parts is_service (from_tick first_tick told);
+  lost = count_parts is_loss (from_tick first_tick told);
+  busy = spent busy_servers first_tick (last_left left_at_first (lefts told)).since (lefts told);
+  waiting = spent waiting_jobs first_tick (last_left left_at_first (lefts told)).since (lefts told);
+  age = sum_by age_told (from_tick first_tick told);
+  begins = line_before first_tick (lefts told);
+  longest = longest_from first_tick (lefts told);
   left = last_left left_at_first (lefts told);
 }
 

@@ -22,13 +22,13 @@ use steal_pool::run_each;
 const SEEDS: u64 = 9_223_372_036_854_775_808;
 
 /// The seed of a replication, counted from 0.
-fn seed_at(first: u64, number: u64) -> u64
-    requires first { first < 2 ^ 63 }
+fn seed_at(first_seed: u64, number: u64) -> u64
+    requires first_seed { first_seed < 2 ^ 63 }
     requires number { number < 2 ^ 63 }
-    ensures seed { result ≡ seed_at first number }
+    ensures seed { result ≡ seed_at first_seed number }
     ensures below { result < 2 ^ 63 }
 {
-    (first + number) % SEEDS
+    (first_seed + number) % SEEDS
 }
 
 /// Runs a model under a seed, and appends its rows.
@@ -43,7 +43,7 @@ fn run_seed<M: SimulationModel, W: Rows<M>, S: Seeds<M, W>>(
     ensures stop { IfOk result (λ stop. stop ≡ stop_under (study_of S.seeded S.rows study.now) seed) }
 {
     let model = study.models.with_seed(alloc, seed)?;
-    let stop = replicate_once::<M, W>(alloc, model, study.terms, study.from, seed, into)?;
+    let stop = replicate_once::<M, W>(alloc, model, study.terms, study.first_tick, seed, into)?;
     Ok(stop)
 }
 
@@ -69,7 +69,7 @@ fn jobs_between(
     from: u64,
     until: u64,
 ) -> Result<Vec<Job>, OutOfMemory>
-    requires first { first_seed < 2 ^ 63 }
+    requires first_seed { first_seed < 2 ^ 63 }
     requires order { from ≤ until }
     requires below { until < 2 ^ 63 }
     ensures jobs { IfOk result (λ jobs. AreToDo first_seed from jobs.items) }
@@ -96,7 +96,7 @@ pub fn run_batch<R: Threads + Sync, M: SimulationModel, W: Rows<M>, S: Seeds<M, 
     from: u64,
     until: u64,
 ) -> Result<Vec<Job>, OutOfMemory>
-    requires first { study.now.first_seed < 2 ^ 63 }
+    requires first_seed { study.now.first_seed < 2 ^ 63 }
     requires order { from ≤ until }
     requires below { until < 2 ^ 63 }
     requires workers { (1 ≤ workers) × (workers ≤ MOST_WORKERS) }

@@ -21,7 +21,7 @@ use std::sync::Arc;
 #[derive(Clone, Copy)]
 struct Replication {
     terms: Terms,
-    first: u64,
+    first_tick: u64,
     seed: u64,
 }
 
@@ -36,9 +36,9 @@ fn run_to_stop<M: SimulationModel, W: Rows<M>>(
     requires model { engine.old.model ≡ model.now }
     requires terms { engine.old.terms ≡ replication.now.terms }
     requires begins { engine.old.standing ≡ stands (initial_state (M.meaning model.now)) None }
-    requires rows { (first : ℕ) × W.sums_up model.now first rows.old [] }
-    ensures rows { OnOk result ((first : ℕ) → W.sums_up model.now first rows.old []
-        → W.sums_up model.now first rows.new (run (M.meaning model.now) replication.now.terms (initial_state (M.meaning model.now))).records) }
+    requires rows { (first_tick : ℕ) × W.sums_up model.now first_tick rows.old [] }
+    ensures rows { OnOk result ((first_tick : ℕ) → W.sums_up model.now first_tick rows.old []
+        → W.sums_up model.now first_tick rows.new (run (M.meaning model.now) replication.now.terms (initial_state (M.meaning model.now))).records) }
     ensures end { IfOk result (λ end.
         end ≡ end_of replication.now.seed (run (M.meaning model.now) replication.now.terms (initial_state (M.meaning model.now)))) }
 {
@@ -76,29 +76,33 @@ fn put_run<M: SimulationModel, W: Rows<M>>(
     requires terms { engine.old.terms ≡ replication.now.terms }
     requires begins { engine.old.standing ≡ stands (initial_state (M.meaning model.now)) None }
     ensures rows { OnOk result (into.new.items ≡ into.old.items
-        ++ rows_of_run (W.rows_of model.now) (M.meaning model.now) replication.now.terms replication.now.first replication.now.seed) }
+        ++ rows_of_run (W.rows_of model.now) (M.meaning model.now) replication.now.terms replication.now.first_tick replication.now.seed) }
     ensures stop { IfOk result (λ stop. stop ≡ (run (M.meaning model.now) replication.now.terms (initial_state (M.meaning model.now))).stop) }
 {
-    let mut rows = W::new(alloc, model, replication.first)?;
+    let mut rows = W::new(alloc, model, replication.first_tick)?;
     let end = run_to_stop(alloc, model, replication, engine, &mut rows)?;
     rows.put(alloc, model, &replication.terms, &end, into)?;
     Ok(end.stop)
 }
 
-/// Runs a model from its start on the engine for one thread, and appends its rows: what was done from tick `first` to the end
+/// Runs a model from its start on the engine for one thread, and appends its rows: what was done from tick `first_tick` to the end
 /// of the run, under this seed. Where memory runs out, it may have appended some of them.
 pub fn replicate_once<M: SimulationModel, W: Rows<M>>(
     alloc: Global,
     model: Arc<M>,
     terms: Terms,
-    first: u64,
+    first_tick: u64,
     seed: u64,
     into: &mut Vec<u8>,
 ) -> Result<Stop, OutOfMemory>
-    ensures rows { OnOk result (into.new.items ≡ into.old.items ++ rows_of_run (W.rows_of (arc_value model)) (M.meaning (arc_value model)) terms first seed) }
+    ensures rows { OnOk result (into.new.items ≡ into.old.items ++ rows_of_run (W.rows_of (arc_value model)) (M.meaning (arc_value model)) terms first_tick seed) }
     ensures stop { IfOk result (λ stop. stop ≡ (run (M.meaning (arc_value model)) terms (initial_state (M.meaning (arc_value model)))).stop) }
 {
     let mut engine = OneThread::new(alloc, model.clone()?, terms)?;
-    let replication = Replication { terms, first, seed };
+    let replication = Replication {
+        terms,
+        first_tick,
+        seed,
+    };
     put_run::<M, W>(alloc, &*model, &replication, &mut engine, into)
 }

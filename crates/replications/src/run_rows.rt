@@ -22,14 +22,14 @@ pub trait Rows<M: SimulationModel>: std::marker::Send + Sync + Drop {
     ghost sums_up: { M → ℕ → Self → List (Key × Note) → Type 0 };
 
     /// What is kept of no record, in a window that begins at a tick. This alone takes memory.
-    fn new(alloc: Global, model: &M, first: u64) -> Result<Self, OutOfMemory>
-        ensures { IfOk result (λ rows. sums_up model.now first rows []) };
+    fn new(alloc: Global, model: &M, first_tick: u64) -> Result<Self, OutOfMemory>
+        ensures { IfOk result (λ rows. sums_up model.now first_tick rows []) };
 
     /// One record more. It takes no memory, and should take time for its own parts alone.
     fn add(&mut self, model: &M, key: &Key, parts: &[Part])
-        requires { (first : ℕ) × (records : List (Key × Note)) × sums_up model.now first self.old records × CanCome (M.meaning model.now) records (key.now, parts.now) }
-        ensures { (first : ℕ) (records : List (Key × Note)) → sums_up model.now first self.old records → CanCome (M.meaning model.now) records (key.now, parts.now)
-            → sums_up model.now first self.new (records ++ (key.now, parts.now) ∷ []) };
+        requires { (first_tick : ℕ) × (records : List (Key × Note)) × sums_up model.now first_tick self.old records × CanCome (M.meaning model.now) records (key.now, parts.now) }
+        ensures { (first_tick : ℕ) (records : List (Key × Note)) → sums_up model.now first_tick self.old records → CanCome (M.meaning model.now) records (key.now, parts.now)
+            → sums_up model.now first_tick self.new (records ++ (key.now, parts.now) ∷ []) };
 
     /// Appends the rows, once the run has ended so. Where memory runs out, it may have appended some of them.
     fn put(
@@ -40,16 +40,16 @@ pub trait Rows<M: SimulationModel>: std::marker::Send + Sync + Drop {
         end: &RunEnd,
         into: &mut Vec<u8>,
     ) -> Result<(), OutOfMemory>
-        requires { (first : ℕ) × (records : List (Key × Note)) × sums_up model.now first self.now records × AreOfRun (M.meaning model.now) terms.now records end.now.stop }
-        ensures { OnOk result ((first : ℕ) (records : List (Key × Note)) → sums_up model.now first self.now records → AreOfRun (M.meaning model.now) terms.now records end.now.stop
-            → into.new.items ≡ into.old.items ++ rows_of model.now first terms.now end.now records) };
+        requires { (first_tick : ℕ) × (records : List (Key × Note)) × sums_up model.now first_tick self.now records × AreOfRun (M.meaning model.now) terms.now records end.now.stop }
+        ensures { OnOk result ((first_tick : ℕ) (records : List (Key × Note)) → sums_up model.now first_tick self.now records → AreOfRun (M.meaning model.now) terms.now records end.now.stop
+            → into.new.items ≡ into.old.items ++ rows_of model.now first_tick terms.now end.now records) };
 }
 
 /// Adds all these records, in order.
 pub fn add_all<M: SimulationModel, W: Rows<M>>(rows: &mut W, model: &M, records: &RecordBuffer)
-    requires { (first : ℕ) × (before : List (Key × Note)) × W.sums_up model.now first rows.old before × CanAllCome (M.meaning model.now) before records.now.items }
-    ensures { (first : ℕ) (before : List (Key × Note)) → W.sums_up model.now first rows.old before → CanAllCome (M.meaning model.now) before records.now.items
-        → W.sums_up model.now first rows.new (before ++ records.now.items) }
+    requires { (first_tick : ℕ) × (before : List (Key × Note)) × W.sums_up model.now first_tick rows.old before × CanAllCome (M.meaning model.now) before records.now.items }
+    ensures { (first_tick : ℕ) (before : List (Key × Note)) → W.sums_up model.now first_tick rows.old before → CanAllCome (M.meaning model.now) before records.now.items
+        → W.sums_up model.now first_tick rows.new (before ++ records.now.items) }
 {
     for i in 0..records.len() {
         let (key, parts) = records.at(i);

@@ -10,7 +10,7 @@ pub struct Study<S> {
     /// How many bytes the rows of a replication have at most, for the size of the batches: no text depends on it.
     pub row_bytes: u64,
     pub terms: Terms,
-    pub from: u64,
+    pub first_tick: u64,
     /// Below 2^63.
     pub first_seed: u64,
 }

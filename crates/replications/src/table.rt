@@ -125,7 +125,7 @@ pub fn write_table<R: Threads + Sync, M: SimulationModel, W: Rows<M>, S: Seeds<M
     workers: u32,
     out: &mut K,
 ) -> Result<Stop, Unfinished>
-    requires first { study.now.first_seed < 2 ^ 63 }
+    requires first_seed { study.now.first_seed < 2 ^ 63 }
     requires count { count < 2 ^ 32 }
     requires workers { (1 ≤ workers) × (workers ≤ MOST_WORKERS) }
     ensures text { WritesText K.Sink out.old out.new result (table_text (study_of S.seeded S.rows study.now) count) }

@@ -49,7 +49,7 @@ impl Window {
 
     /// Nothing was told yet.
     pub fn none() -> Window
-        ensures { (first : ℕ) → result ≡ window_of first [] }
+        ensures { (first_tick : ℕ) → result ≡ window_of first_tick [] }
     {
         Window {
             arrivals: 0,
@@ -68,15 +68,15 @@ impl Window {
     }
 
     /// Time goes on to a tick: who is there stays until then.
-    fn pass(&mut self, first: u64, time: u64)
+    fn pass(&mut self, first_tick: u64, time: u64)
         requires time { time ≤ 2 ^ 48 }
         requires room { IsWithin (2 ^ 34) self.old }
-        ensures passed { let ticks = time - max self.old.left.since first in
+        ensures passed { let ticks = time - max self.old.left.since first_tick in
             self.new ≡ record self.old { busy = self.old.busy + ticks * self.old.left.occupancy.busy; waiting = self.old.waiting + ticks * self.old.left.occupancy.waiting } }
         ensures busy { self.new.busy ≤ self.old.busy + 2 ^ 82 }
         ensures waiting { self.new.waiting ≤ self.old.waiting + 2 ^ 82 }
     {
-        let ticks = u128::from(time.saturating_sub(self.left.since.max(first)));
+        let ticks = u128::from(time.saturating_sub(self.left.since.max(first_tick)));
         self.busy += ticks * u128::from(self.left.occupancy.busy);
         self.waiting += ticks * u128::from(self.left.occupancy.waiting);
     }
@@ -104,51 +104,51 @@ impl Window {
         self.longest = self.longest.max(self.left.occupancy.waiting);
     }
 
-    /// One part more, told at this time, of a window that begins at `first`.
-    fn add_part(&mut self, first: u64, time: u64, part: &Part)
+    /// One part more, told at this time, of a window that begins at `first_tick`.
+    fn add_part(&mut self, first_tick: u64, time: u64, part: &Part)
         requires time { time ≤ 2 ^ 48 }
         requires room { IsWithin (2 ^ 33) self.old }
-        ensures sums { (told : List TimedPart) → self.old ≡ window_of first told
-            → self.new ≡ window_of first (told ++ record { time = time; part = part.now } ∷ []) }
+        ensures sums { (told : List TimedPart) → self.old ≡ window_of first_tick told
+            → self.new ≡ window_of first_tick (told ++ record { time = time; part = part.now } ∷ []) }
         ensures within { (parts : ℕ) → IsWithin parts self.old → IsWithin (parts + 1) self.new }
     {
-        self.pass(first, time);
+        self.pass(first_tick, time);
         let occupancy = self.left.occupancy.after(part.word);
         self.left = Left {
             since: time,
             occupancy,
         };
-        if time < first {
+        if time < first_tick {
             self.begins = occupancy.waiting;
         } else {
             self.count(part);
         }
     }
 
-    /// What a record at this time tells, of a window that begins at `first`.
-    pub fn add(&mut self, first: u64, time: u64, parts: &[Part])
+    /// What a record at this time tells, of a window that begins at `first_tick`.
+    pub fn add(&mut self, first_tick: u64, time: u64, parts: &[Part])
         requires few { length parts.now ≤ 4 }
         requires time { time ≤ 2 ^ 48 }
         requires room { IsWithin (2 ^ 32) self.old }
-        ensures sums { (told : List TimedPart) → self.old ≡ window_of first told → self.new ≡ window_of first (told ++ parts_at time parts.now) }
+        ensures sums { (told : List TimedPart) → self.old ≡ window_of first_tick told → self.new ≡ window_of first_tick (told ++ parts_at time parts.now) }
         ensures within { (parts : ℕ) → IsWithin parts self.old → IsWithin (parts + 4) self.new }
     {
         for part in parts {
-            self.add_part(first, time, part);
+            self.add_part(first_tick, time, part);
         }
     }
 
-    /// The sums of the window from tick `first` to tick `last`: all are 0 where it has no tick.
-    pub fn close(&self, first: u64, last: u64) -> Columns
-        requires last { last ≤ 2 ^ 48 }
+    /// The sums of the window from tick `first_tick` to tick `last_tick`: all are 0 where it has no tick.
+    pub fn close(&self, first_tick: u64, last_tick: u64) -> Columns
+        requires last_tick { last_tick ≤ 2 ^ 48 }
         requires room { IsWithin (2 ^ 33) self.now }
-        ensures { (told : List TimedPart) → self.now ≡ window_of first told → result ≡ window_sums first last told }
+        ensures { (told : List TimedPart) → self.now ≡ window_of first_tick told → result ≡ window_sums first_tick last_tick told }
     {
-        if last < first {
+        if last_tick < first_tick {
             return no_sums();
         }
         let mut all = *self;
-        all.pass(first, last);
+        all.pass(first_tick, last_tick);
         Columns {
             arrivals: all.arrivals,
             served: all.served,

@@ -17,7 +17,7 @@ use std::marker::Model;
 #[derive(Clone, Copy)]
 struct Row {
     object: u32,
-    last: u64,
+    last_tick: u64,
     end: RunEnd,
 }
 
@@ -25,9 +25,9 @@ struct Row {
 #[derive(Drop)]
 pub struct Windows {
     objects: Vec<Window>,
-    first: u64,
+    first_tick: u64,
     records: u64,
-    last: u64,
+    last_time: u64,
 }
 
 impl Model for Windows {
@@ -39,9 +39,9 @@ impl Model for Windows {
 
     ghost Value = { WindowsView };
 
-    ghost view = { λ windows. record { objects = windows.objects.items; first = windows.first; records = windows.records; last = windows.last } };
+    ghost view = { λ windows. record { objects = windows.objects.items; first_tick = windows.first_tick; records = windows.records; last_time = windows.last_time } };
 
-    ghost invariant = { λ windows. (windows.records ≤ MOST_EVENTS) × (windows.last ≤ 2 ^ 48) × All (λ (window : Window). IsWithin (4 * windows.records) window) windows.objects.items };
+    ghost invariant = { λ windows. (windows.records ≤ MOST_EVENTS) × (windows.last_time ≤ 2 ^ 48) × All (λ (window : Window). IsWithin (4 * windows.records) window) windows.objects.items };
 }
 
 impl Windows {
@@ -52,14 +52,14 @@ impl Windows {
     ghost use Rattle.model_core.specs.declared.limits.TheConstants.{MOST_EVENTS};
 
     /// No record yet, for a model with so many objects and a window that begins at this tick.
-    pub fn new(alloc: Global, objects: u32, first: u64) -> Result<Windows, OutOfMemory>
-        ensures { IfOk result (λ windows. windows ≡ windows_of first objects []) }
+    pub fn new(alloc: Global, objects: u32, first_tick: u64) -> Result<Windows, OutOfMemory>
+        ensures { IfOk result (λ windows. windows ≡ windows_of first_tick objects []) }
     {
         Ok(Windows {
             objects: vec![in alloc; Window::none(); objects as usize]?,
-            first,
+            first_tick,
             records: 0,
-            last: 0,
+            last_time: 0,
         })
     }
 
@@ -69,26 +69,26 @@ impl Windows {
         requires object { key.now.dest < length self.old.objects }
         requires few { length parts.now ≤ 4 }
         requires room { self.old.records < MOST_EVENTS }
-        ensures windows { (first objects : ℕ) (records : List (Key × Note)) → self.old ≡ windows_of first objects records
-            → self.new ≡ windows_of first objects (records ++ (key.now, parts.now) ∷ []) }
+        ensures windows { (first_tick objects : ℕ) (records : List (Key × Note)) → self.old ≡ windows_of first_tick objects records
+            → self.new ≡ windows_of first_tick objects (records ++ (key.now, parts.now) ∷ []) }
         ensures objects { length self.new.objects ≡ length self.old.objects }
         ensures records { self.new.records ≡ self.old.records + 1 }
     {
         let time = time_of(key.stamp);
         let window = &mut self.objects[key.dest as usize];
-        window.add(self.first, time, parts);
+        window.add(self.first_tick, time, parts);
         self.records += 1;
-        self.last = time;
+        self.last_time = time;
     }
 
     /// The last tick of a run of these records that stopped for this reason.
     fn last_tick(&self, terms: &Terms, stop: &Stop) -> u64
-        ensures tick { (first objects : ℕ) (records : List (Key × Note)) → self.now ≡ windows_of first objects records → result ≡ last_tick terms.now records stop.now }
+        ensures tick { (first_tick objects : ℕ) (records : List (Key × Note)) → self.now ≡ windows_of first_tick objects records → result ≡ last_tick terms.now records stop.now }
         ensures below { result ≤ 2 ^ 48 }
     {
         match stop {
             Stop::End => terms.end,
-            Stop::Limit => self.last,
+            Stop::Limit => self.last_time,
             Stop::Fault { key, .. } => time_of(key.stamp),
         }
     }
@@ -103,16 +103,20 @@ impl Windows {
     ) -> Result<(), OutOfMemory>
         requires object { which.object < (M.meaning model.now).objects }
         requires exists { which.object < length self.now.objects }
-        requires last { which.last ≤ 2 ^ 48 }
-        ensures { (first objects : ℕ) (records : List (Key × Note)) → self.now ≡ windows_of first objects records
+        requires last_tick { which.last_tick ≤ 2 ^ 48 }
+        ensures { (first_tick objects : ℕ) (records : List (Key × Note)) → self.now ≡ windows_of first_tick objects records
             → OnOk result (into.new.items ≡ into.old.items
-            ++ row (M.meaning model.now) first which.last which.end which.object (window_sums first which.last (parts_told which.object records))) }
+            ++ row (M.meaning model.now) first_tick which.last_tick which.end which.object (window_sums first_tick which.last_tick (parts_told which.object records))) }
     {
-        let sums = self.objects[which.object as usize].close(self.first, which.last);
+        let sums = self.objects[which.object as usize].close(self.first_tick, which.last_tick);
         put_seed(which.end.seed, into)?;
         model.put_name(alloc, which.object, into)?;
         put_columns(&sums, into)?;
-        put_end(which.last.saturating_sub(self.first), &which.end, into)?;
+        put_end(
+            which.last_tick.saturating_sub(self.first_tick),
+            &which.end,
+            into,
+        )?;
         Ok(())
     }
 
@@ -126,14 +130,14 @@ impl Windows {
         into: &mut Vec<u8>,
     ) -> Result<(), OutOfMemory>
         requires { length self.now.objects ≡ (M.meaning model.now).objects }
-        ensures { (first objects : ℕ) (records : List (Key × Note)) → self.now ≡ windows_of first objects records
-            → OnOk result (into.new.items ≡ into.old.items ++ rows_of_records (M.meaning model.now) terms.now first end.now records) }
+        ensures { (first_tick objects : ℕ) (records : List (Key × Note)) → self.now ≡ windows_of first_tick objects records
+            → OnOk result (into.new.items ≡ into.old.items ++ rows_of_records (M.meaning model.now) terms.now first_tick end.now records) }
     {
-        let last = self.last_tick(terms, &end.stop);
+        let last_tick = self.last_tick(terms, &end.stop);
         for object in 0..model.objects() {
             let row = Row {
                 object,
-                last,
+                last_tick,
                 end: *end,
             };
             self.put_row(alloc, model, row, into)?;

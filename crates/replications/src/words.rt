@@ -26,7 +26,7 @@ pub struct Replicate {
     /// The seed of the first one, at most `LAST_SEED`, where it isn't the model's own.
     pub first_seed: Option<u64>,
     /// The first tick of the window, at most `LAST_TICK`.
-    pub from: u64,
+    pub first_tick: u64,
     /// How many workers, 1 to `MOST_WORKERS`.
     pub workers: u64,
 }
@@ -52,16 +52,16 @@ impl WindowStart {
 /// An option.
 #[derive(Clone, Copy, Debug, PartialEq, Eq)]
 pub enum Choice {
-    First,
-    From,
+    FirstSeed,
+    FirstTick,
     Workers,
 }
 
 /// What options gave.
 #[derive(Clone, Copy, Debug, PartialEq, Eq)]
 pub struct Given {
-    pub first: Option<u64>,
-    pub from: Option<u64>,
+    pub first_seed: Option<u64>,
+    pub first_tick: Option<u64>,
     pub workers: Option<u64>,
 }
 
@@ -70,8 +70,8 @@ fn choice_named(start: WindowStart, word: &str) -> Option<Choice>
     ensures { result ≡ choice_named start word.now }
 {
     match word {
-        "--first" => Some(Choice::First),
-        "--from" if start.is_in_words() => Some(Choice::From),
+        "--first" => Some(Choice::FirstSeed),
+        "--from" if start.is_in_words() => Some(Choice::FirstTick),
         "--workers" => Some(Choice::Workers),
         _ => None,
     }
@@ -83,8 +83,8 @@ impl Choice {
         ensures { result ≡ value_of self word.now }
     {
         match self {
-            Choice::First => number_within(0, LAST_SEED, word),
-            Choice::From => number_within(0, LAST_TICK, word),
+            Choice::FirstSeed => number_within(0, LAST_SEED, word),
+            Choice::FirstTick => number_within(0, LAST_TICK, word),
             Choice::Workers => number_within(1, MOST_WORKERS, word),
         }
     }
@@ -96,8 +96,8 @@ impl Given {
         ensures { result ≡ has_value self.now choice }
     {
         match choice {
-            Choice::First => self.first.is_some(),
-            Choice::From => self.from.is_some(),
+            Choice::FirstSeed => self.first_seed.is_some(),
+            Choice::FirstTick => self.first_tick.is_some(),
             Choice::Workers => self.workers.is_some(),
         }
     }
@@ -107,12 +107,12 @@ impl Given {
         ensures { result ≡ with_number self choice number }
     {
         match choice {
-            Choice::First => Given {
-                first: Some(number),
+            Choice::FirstSeed => Given {
+                first_seed: Some(number),
                 ..self
             },
-            Choice::From => Given {
-                from: Some(number),
+            Choice::FirstTick => Given {
+                first_tick: Some(number),
                 ..self
             },
             Choice::Workers => Given {
@@ -174,15 +174,15 @@ pub fn read_replicate_words(start: WindowStart, words: &[String]) -> Result<Repl
     };
     let count = number_within(1, MOST_REPLICATIONS, count.as_str())?;
     let none = Given {
-        first: None,
-        from: None,
+        first_seed: None,
+        first_tick: None,
         workers: None,
     };
     let given = options(start, none, rest)?;
     Ok(Replicate {
         count,
-        first_seed: given.first,
-        from: given.from.unwrap_or(0),
+        first_seed: given.first_seed,
+        first_tick: given.first_tick.unwrap_or(0),
         workers: given.workers.unwrap_or(DEFAULT_WORKERS),
     })
 }

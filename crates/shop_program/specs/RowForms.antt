@@ -41,5 +41,5 @@ row_form ticks end = record {
 
 -- the rows of a shop whose totals count from a tick on, wherever the words would have a window begin
 abbrev pub shop_rows : ShopParts → ℕ → RowsOf
-shop_rows p from first t end records =
+shop_rows p from first_tick t end records =
     lines_by (row_form (clock_of t records end.stop - from) end) p from (clock_of t records end.stop) records

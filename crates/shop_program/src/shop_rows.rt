@@ -26,7 +26,7 @@ impl Rows<SeededShop> for ShopRows {
 
     ghost sums_up = { λ seeded _ kept records. SumsUpShop (parts_of (shop_seeded seeded)) (counted_from (shop_seeded seeded)) kept.totals records };
 
-    fn new(alloc: Global, model: &SeededShop, _first: u64) -> Result<ShopRows, OutOfMemory> {
+    fn new(alloc: Global, model: &SeededShop, _first_tick: u64) -> Result<ShopRows, OutOfMemory> {
         let totals = <ShopTotals as Tally<Shop>>::new(alloc, model.shop())?;
         Ok(ShopRows { totals })
     }

@@ -56,9 +56,9 @@ known_refusal status line ending (inl spent) low = (let is : status_of_ending en
 known_refusal status line ending (inr told) low = omega (arith, told.0, low)
 
 -- the seed of the first replication is one
-pub first-below : (o : Option ℕ) (own : ℕ) → IsGivenWithin 0 LAST_SEED o → own < 2 ^ 63 → unwrap_or o own < 2 ^ 63
-first-below None own fine below = below
-first-below (Some n) own fine below = omega (arith, fine.1)
+pub first_seed-below : (o : Option ℕ) (own : ℕ) → IsGivenWithin 0 LAST_SEED o → own < 2 ^ 63 → unwrap_or o own < 2 ^ 63
+first_seed-below None own fine below = below
+first_seed-below (Some n) own fine below = omega (arith, fine.1)
 
 module _ {K : Type 0} (sink : Sink K) (old new : K) (s : StudyOf) (count : ℕ) where
   -- how a table that was to be written ends

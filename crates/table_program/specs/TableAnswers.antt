@@ -36,7 +36,7 @@ study_asked head asked family = record {
   rows = family.rows;
   head = head;
   terms = family.terms;
-  from = asked.from;
+  first_tick = asked.first_tick;
   first_seed = unwrap_or asked.first_seed family.seed;
 }
 

@@ -37,7 +37,7 @@ fn tabulate<T: FamilyReader, R: Threads + Sync, K: Sink>(
         head,
         row_bytes: family.row_bytes,
         terms: family.terms,
-        from: asked.from,
+        first_tick: asked.first_tick,
         first_seed: asked.first_seed.unwrap_or(family.seed),
     };
     let workers = asked.workers as u32;

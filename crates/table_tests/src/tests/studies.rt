@@ -36,10 +36,10 @@ impl Rows<Phold> for HopRows {
 
     ghost rows_of = { λ model. window_rows (phold_meaning (parts_of model)) };
 
-    ghost sums_up = { λ model first kept records. kept.windows ≡ windows_of first (phold_meaning (parts_of model)).objects records };
+    ghost sums_up = { λ model first_tick kept records. kept.windows ≡ windows_of first_tick (phold_meaning (parts_of model)).objects records };
 
-    fn new(alloc: Global, model: &Phold, first: u64) -> Result<HopRows, OutOfMemory> {
-        let windows = Windows::new(alloc, model.objects(), first)?;
+    fn new(alloc: Global, model: &Phold, first_tick: u64) -> Result<HopRows, OutOfMemory> {
+        let windows = Windows::new(alloc, model.objects(), first_tick)?;
         Ok(HopRows { windows })
     }
 
@@ -80,11 +80,11 @@ impl Seeds<Phold, HopRows> for Hops {
     }
 }
 
-/// Hops from tick `from` to tick 8, of at most `limit` events, under `count` seeds, by so many workers: the table, and the gravest of
+/// Hops from tick `first_tick` to tick 8, of at most `limit` events, under `count` seeds, by so many workers: the table, and the gravest of
 /// the stops.
 #[derive(Drop)]
 struct Asked {
-    from: u64,
+    first_tick: u64,
     limit: u64,
     first_seed: u64,
     count: u64,
@@ -111,7 +111,7 @@ fn write<R: Abort + Threads + Sync>(
             end: 8,
             limit: asked.limit.clamp(1, 1_000),
         },
-        from: asked.from,
+        first_tick: asked.first_tick,
         first_seed: asked.first_seed,
     };
     write_table::<R, Phold, HopRows, Hops, MemSink>(
@@ -166,7 +166,7 @@ fn assert_tables<R: Abort + AllocGlobal + Threads + Sync>(
 /// By one worker, by two and by 64.
 const BY_WORKERS: [Asked; 3] = [
     Asked {
-        from: 0,
+        first_tick: 0,
         limit: 1_000,
         first_seed: 0,
         count: 3,
@@ -175,7 +175,7 @@ const BY_WORKERS: [Asked; 3] = [
         worst: Stop::End,
     },
     Asked {
-        from: 0,
+        first_tick: 0,
         limit: 1_000,
         first_seed: 0,
         count: 3,
@@ -184,7 +184,7 @@ const BY_WORKERS: [Asked; 3] = [
         worst: Stop::End,
     },
     Asked {
-        from: 0,
+        first_tick: 0,
         limit: 1_000,
         first_seed: 0,
         count: 3,
@@ -200,7 +200,7 @@ fn a_table_is_the_same_for_any_number_of_workers(rt: HostRuntime) -> Result<(), 
 }
 
 const FROM_THE_LAST: [Asked; 1] = [Asked {
-    from: 0,
+    first_tick: 0,
     limit: 1_000,
     first_seed: 9_223_372_036_854_775_807,
     count: 2,
@@ -216,7 +216,7 @@ fn seeds_go_on_from_0_behind_the_last_one(rt: HostRuntime) -> Result<(), Fail> {
 
 const CUT: [Asked; 2] = [
     Asked {
-        from: 4,
+        first_tick: 4,
         limit: 1_000,
         first_seed: 0,
         count: 2,
@@ -228,7 +228,7 @@ const CUT: [Asked; 2] = [
         worst: Stop::End,
     },
     Asked {
-        from: 0,
+        first_tick: 0,
         limit: 2,
         first_seed: 0,
         count: 2,
@@ -247,7 +247,7 @@ fn a_window_begins_late_and_a_limit_is_seen(rt: HostRuntime) -> Result<(), Fail>
 }
 
 const OF_TWO: Asked = Asked {
-    from: 0,
+    first_tick: 0,
     limit: 1_000,
     first_seed: 0,
     count: 2,

@@ -11,8 +11,8 @@ returns-clause-rows g c =
     let s = c.args.study.now in
     let before = c.args.into.now.items in
     c.in_ok-stop.ensures.rows
-    ∙ ap (λ (m : Meaning). before ++ rows_of_run (g.W.Rows.rows_of (arc_value c.in_ok-model.model)) m s.terms s.from c.args.seed) c.in_ok-model.ensures.meaning
-    ∙ ap (λ (rows : RowsOf). before ++ rows_of_run rows (g.S.Seeds.seeded s.models c.args.seed) s.terms s.from c.args.seed) c.in_ok-model.ensures.rows
+    ∙ ap (λ (m : Meaning). before ++ rows_of_run (g.W.Rows.rows_of (arc_value c.in_ok-model.model)) m s.terms s.first_tick c.args.seed) c.in_ok-model.ensures.meaning
+    ∙ ap (λ (rows : RowsOf). before ++ rows_of_run rows (g.S.Seeds.seeded s.models c.args.seed) s.terms s.first_tick c.args.seed) c.in_ok-model.ensures.rows
 
 pub returns-clause-stop : goal.returns-clause-stop
 returns-clause-stop g c = c.in_ok-stop.ensures.stop ∙ ap (λ (m : Meaning). (run m c.args.study.now.terms (initial_state m)).stop) c.in_ok-model.ensures.meaning

@@ -8,13 +8,13 @@ use Rattle.replications.specs.Ends.{rows_of_run}
 use Rattle.replications.proofs.replication.put_run.Goals as goal
 
 pub run_to_stop-requires-clause-rows : goal.run_to_stop-requires-clause-rows
-run_to_stop-requires-clause-rows g c κs within = (c.args.replication.now.first, c.in_ok-rows.ensures)
+run_to_stop-requires-clause-rows g c κs within = (c.args.replication.now.first_tick, c.in_ok-rows.ensures)
 
 pub put-requires : goal.put-requires
 put-requires g c = (
-  c.args.replication.now.first,
+  c.args.replication.now.first_tick,
   (run (g.M.Model.meaning c.args.model.now) c.args.replication.now.terms (initial_state (g.M.Model.meaning c.args.model.now))).records,
-  c.in_ok-end.ensures.rows c.args.replication.now.first c.in_ok-rows.ensures,
+  c.in_ok-end.ensures.rows c.args.replication.now.first_tick c.in_ok-rows.ensures,
   record { are_all = refl; stops_so = ap (λ (e : RunEnd). e.stop) c.in_ok-end.ensures.end },
 )
 
@@ -24,5 +24,5 @@ returns-clause-rows g c =
     let m = g.M.Model.meaning c.args.model.now in
     let records = (run m c.args.replication.now.terms (initial_state m)).records in
     let all : AreOfRun m c.args.replication.now.terms records c.in_ok-end.end.stop = record { are_all = refl; stops_so = ap (λ (e : RunEnd). e.stop) c.in_ok-end.ensures.end } in
-    c.in_ok-put.ensures c.args.replication.now.first records (c.in_ok-end.ensures.rows c.args.replication.now.first c.in_ok-rows.ensures) all
-    ∙ ap (λ (end : RunEnd). c.args.into.now.items ++ g.W.Rows.rows_of c.args.model.now c.args.replication.now.first c.args.replication.now.terms end records) c.in_ok-end.ensures.end
+    c.in_ok-put.ensures c.args.replication.now.first_tick records (c.in_ok-end.ensures.rows c.args.replication.now.first_tick c.in_ok-rows.ensures) all
+    ∙ ap (λ (end : RunEnd). c.args.into.now.items ++ g.W.Rows.rows_of c.args.model.now c.args.replication.now.first_tick c.args.replication.now.terms end records) c.in_ok-end.ensures.end

@@ -28,16 +28,16 @@ loop-stop-init g c =
       laws = simulation_laws m t (initial_state m) c.law_next.ensures c.law_bucket.ensures.next_of_run c.law_bucket.ensures.whole_run c.law_moves.ensures.moves c.law_moves.ensures.ends c.law_reached.ensures c.law_order.ensures c.law_initial.ensures;
       way = subst Way (sym c.requires.begins) (begins m t (initial_state m) c.law_initial.ensures);
       numbered = refl;
-      kept = λ first none. none;
+      kept = λ first_tick none. none;
     }
 
 pub returns-in-Some-clause-rows : goal.returns-in-Some-clause-rows
-returns-in-Some-clause-rows g c first none =
+returns-in-Some-clause-rows g c first_tick none =
     let i = c.loop-stop.invariant in
     let ended = ended-same _ _ _ _ _ _ (ap g.M.Model.meaning i.model) i.terms (sym c.in-Some.is ∙ c.ended.ensures) in
     let counted = c.count-events.ensures.standing i.way.state i.way.fault i.way.at_state in
     let ends = ends_so _ _ _ i.laws _ i.so_far i.way c.in-Some.stop c.count-events.result ended counted in
-    subst (g.W.Rows.sums_up c.args.model.now first c.loop-stop.rows) (sym ends.records) (i.kept first none)
+    subst (g.W.Rows.sums_up c.args.model.now first_tick c.loop-stop.rows) (sym ends.records) (i.kept first_tick none)
 
 pub returns-in-Some-clause-end : goal.returns-in-Some-clause-end
 returns-in-Some-clause-end g c =
@@ -55,14 +55,14 @@ pub add_all-requires-after_bounds : goal.add_all-requires-after_bounds
 add_all-requires-after_bounds g c κs within =
     let i = c.loop-stop.invariant in
     let m = g.M.Model.meaning c.args.model.now in
-    let first = c.requires.rows.0 in
+    let first_tick = c.requires.rows.0 in
     let same = ap g.M.Model.meaning i.model in
     let own_none = sym c.ended.ensures ∙ none_of _ c.in_default.not-Some in
     let not_ended = ended-same _ _ _ _ _ _ same i.terms (sym own_none) in
     let cycle = cycle-same _ _ _ _ _ _ c.in_ok-bucket.bucket same i.terms c.in_ok-bucket.ensures.gives in (
-      first,
+      first_tick,
       records_of_buckets i.so_far,
-      i.kept first c.requires.rows.1,
+      i.kept first_tick c.requires.rows.1,
       subst (CanAllCome m (records_of_buckets i.so_far)) (sym c.as_buffer.ensures) (bucket-can_come _ _ i.laws _ i.so_far i.way _ _ not_ended cycle),
     )
 
@@ -90,9 +90,9 @@ loop-stop-preserved g c =
       laws = i.laws;
       way = subst Way (sym (ap (λ (e : EngineView _). e.standing) c.give_back.ensures)) (goes_on _ _ _ i.laws _ i.so_far i.way b _ not_ended cycle);
       numbered = ap (λ n. n + 1) i.numbered ∙ sym (length-append i.so_far (b ∷ []));
-      kept = λ first none.
-          subst (g.W.Rows.sums_up c.args.model.now first c.add_all.new.rows)
+      kept = λ first_tick none.
+          subst (g.W.Rows.sums_up c.args.model.now first_tick c.add_all.new.rows)
           (ap (λ (done : List (Key × Note)). records_of_buckets i.so_far ++ done) c.as_buffer.ensures ∙ sym (records_of_buckets-more i.so_far b))
-          (c.add_all.ensures first (records_of_buckets i.so_far) (i.kept first none)
+          (c.add_all.ensures first_tick (records_of_buckets i.so_far) (i.kept first_tick none)
           (subst (CanAllCome m (records_of_buckets i.so_far)) (sym c.as_buffer.ensures) (bucket-can_come _ _ i.laws _ i.so_far i.way _ _ not_ended cycle)));
     }

@@ -15,7 +15,7 @@ invariant-loop-stop g l =
       laws : SimulationLaws m l.replication.terms (initial_state m);
       way : IsUnderWay m l.replication.terms (initial_state m) l.engine.standing so_far;
       numbered : l.cycles ≡ length so_far;
-      kept : (first : ℕ) → g.W.Rows.sums_up l.model first l.fn.rows [] → g.W.Rows.sums_up l.model first l.rows (records_of_buckets so_far);
+      kept : (first_tick : ℕ) → g.W.Rows.sums_up l.model first_tick l.fn.rows [] → g.W.Rows.sums_up l.model first_tick l.rows (records_of_buckets so_far);
     }
 
 abbrev pub decreases-loop-stop : goal.decreases-loop-stop

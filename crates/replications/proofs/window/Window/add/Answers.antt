@@ -18,7 +18,7 @@ loop-part-preserved c =
     record {
       sums = λ told summed.
           c.add_part.ensures.sums (told ++ parts_at c.args.time (take i c.args.parts.now)) (c.loop-part.invariant.sums told summed)
-          ∙ ap (window_of c.args.first) (told-further (timed_at c.args.time) told c.args.parts.now i _ c.loop-part-test.true);
+          ∙ ap (window_of c.args.first_tick) (told-further (timed_at c.args.time) told c.args.parts.now i _ c.loop-part-test.true);
       within = λ parts within. IsWithin-more (parts + i + 1) (parts + (i + 1)) c.add_part.new.self (omega arith) (c.add_part.ensures.within (parts + i) (c.loop-part.invariant.within parts within));
     }
 

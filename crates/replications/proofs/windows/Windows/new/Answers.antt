@@ -6,14 +6,14 @@ use Rattle.replications.proofs.windows.Windows.new.Goals as goal
 
 pub returns : goal.returns
 returns c =
-    let of : List Window → WindowsView = λ windows. record { objects = windows; first = c.args.first; records = 0; last = 0 } in
-    ap of (c.in_ok-vec.ensures.items_if_clones_equal (λ y same. same) ∙ ap (λ (one : Window). replicate c.args.objects one) (c.none.ensures c.args.first))
-    ∙ sym (windows_of-none c.args.first c.args.objects)
+    let of : List Window → WindowsView = λ windows. record { objects = windows; first_tick = c.args.first_tick; records = 0; last_time = 0 } in
+    ap of (c.in_ok-vec.ensures.items_if_clones_equal (λ y same. same) ∙ ap (λ (one : Window). replicate c.args.objects one) (c.none.ensures c.args.first_tick))
+    ∙ sym (windows_of-none c.args.first_tick c.args.objects)
 
 pub invariant_of-result : goal.invariant_of-result
 invariant_of-result c = (
   omega arith,
   omega arith,
-  none_are_small c.args.first c.args.objects c.in_ok-vec.field-0.items
-      (c.in_ok-vec.ensures.items_if_clones_equal (λ y same. same) ∙ ap (λ (one : Window). replicate c.args.objects one) (c.none.ensures c.args.first)),
+  none_are_small c.args.first_tick c.args.objects c.in_ok-vec.field-0.items
+      (c.in_ok-vec.ensures.items_if_clones_equal (λ y same. same) ∙ ap (λ (one : Window). replicate c.args.objects one) (c.none.ensures c.args.first_tick)),
 )

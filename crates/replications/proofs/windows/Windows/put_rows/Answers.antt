@@ -6,27 +6,27 @@ use Rattle.replications.proofs.RowLemmas.{rows_from-next, rows-written, rows-beg
 use Rattle.replications.proofs.windows.Windows.put_rows.Goals as goal
 
 pub loop-object-init : goal.loop-object-init
-loop-object-init g c = λ first objects records summed.
-    rows-begun (g.M.Model.meaning c.args.model.now) first c.last_tick-last.result c.args.end.now (table_of first c.last_tick-last.result (g.M.Model.meaning c.args.model.now).objects records) c.args.into.now.items
+loop-object-init g c = λ first_tick objects records summed.
+    rows-begun (g.M.Model.meaning c.args.model.now) first_tick c.last_tick-last_tick.result c.args.end.now (table_of first_tick c.last_tick-last_tick.result (g.M.Model.meaning c.args.model.now).objects records) c.args.into.now.items
 
 pub loop-object-preserved : goal.loop-object-preserved
-loop-object-preserved g c = λ first objects records summed.
+loop-object-preserved g c = λ first_tick objects records summed.
     let m = g.M.Model.meaning c.args.model.now in
-    let last = c.last_tick-last.result in
+    let last = c.last_tick-last_tick.result in
     let i = c.loop-object.object in
-    let one = window_sums first last (parts_told i records) in
-    let table = table_of first last m.objects records in
-    let exists = table_of-length first last m.objects records in
-    rows_from-next m first last c.args.end.now table i one c.args.into.now.items c.loop-object.into.items c.put_row.new.into.items
+    let one = window_sums first_tick last (parts_told i records) in
+    let table = table_of first_tick last m.objects records in
+    let exists = table_of-length first_tick last m.objects records in
+    rows_from-next m first_tick last c.args.end.now table i one c.args.into.now.items c.loop-object.into.items c.put_row.new.into.items
     (omega (arith, exists, c.objects-object-end.ensures, c.loop-object-test.true))
-    (sym (table_of-at first last m.objects records i one (omega (arith, c.objects-object-end.ensures, c.loop-object-test.true))))
-    (c.loop-object.invariant first objects records summed)
-    (c.in_ok-put_row.ensures first objects records summed)
+    (sym (table_of-at first_tick last m.objects records i one (omega (arith, c.objects-object-end.ensures, c.loop-object-test.true))))
+    (c.loop-object.invariant first_tick objects records summed)
+    (c.in_ok-put_row.ensures first_tick objects records summed)
 
 pub returns : goal.returns
-returns g c = λ first objects records summed.
+returns g c = λ first_tick objects records summed.
     let m = g.M.Model.meaning c.args.model.now in
-    rows-written m c.args.terms.now first c.last_tick-last.result c.args.end.now records c.loop-object.object c.args.into.now.items c.loop-object.into.items
-    (c.last_tick-last.ensures.tick first objects records summed)
+    rows-written m c.args.terms.now first_tick c.last_tick-last_tick.result c.args.end.now records c.loop-object.object c.args.into.now.items c.loop-object.into.items
+    (c.last_tick-last_tick.ensures.tick first_tick objects records summed)
     (omega (arith, c.objects-object-end.ensures, c.loop-object-test.false))
-    (c.loop-object.invariant first objects records summed)
+    (c.loop-object.invariant first_tick objects records summed)

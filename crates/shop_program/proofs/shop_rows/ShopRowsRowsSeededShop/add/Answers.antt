@@ -13,7 +13,7 @@ add-requires c =
     (c.requires.1, subst Up (sym c.shop.ensures) c.requires.2, can_come-seeded c.args.model.now c.shop.result.now c.requires.1 _ c.shop.ensures c.requires.3)
 
 pub returns : goal.returns
-returns c first records is can =
+returns c first_tick records is can =
     let told : Key × Note = (c.args.key.now, c.args.parts.now) in
     let Up : Shop → Type 0 = λ shop. SumsUpShop (parts_of shop) (counted_from shop) c.args.self.now.totals records in
     let More : Shop → Type 0 = λ shop. SumsUpShop (parts_of shop) (counted_from shop) c.add.new.self (records ++ told ∷ []) in

@@ -22,7 +22,7 @@ put_by-requires-clause-soon c =
     omega (arith, stands.1, c.clock-clock.ensures (parts_of shop) (counted_from shop) c.requires.1 c.requires.2, c.args.terms.now.end_in_range)
 
 pub returns : goal.returns
-returns c first records is all =
+returns c first_tick records is all =
     let before = c.args.into.now.items in
     let end = c.args.end.now in
     let own = shop_seeded c.args.model.now in

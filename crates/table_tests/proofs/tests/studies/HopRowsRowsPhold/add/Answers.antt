@@ -14,4 +14,4 @@ add-requires-clause-room c =
     omega (arith, counted, c.requires.3.room)
 
 pub returns : goal.returns
-returns c first records is can = c.add.ensures.windows first _ records is
+returns c first_tick records is can = c.add.ensures.windows first_tick _ records is

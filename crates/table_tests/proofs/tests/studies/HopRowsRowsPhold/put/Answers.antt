@@ -7,4 +7,4 @@ pub put_rows-requires-after_bounds : goal.put_rows-requires-after_bounds
 put_rows-requires-after_bounds c within = ap (λ (w : WindowsView). length w.objects) c.requires.2 ∙ windows_of-length c.requires.0 _ c.requires.1
 
 pub returns : goal.returns
-returns c first records is all = c.in_ok-put_rows.ensures first _ records is
+returns c first_tick records is all = c.in_ok-put_rows.ensures first_tick _ records is
