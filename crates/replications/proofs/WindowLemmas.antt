@@ -15,7 +15,7 @@ use Rattle.replications.specs.declared.window.Columns.{Columns}
 use Rattle.replications.specs.declared.window.Window.{Window}
 use Rattle.replications.specs.Parts.{TimedPart, from_tick, age_told}
 use Rattle.replications.specs.Stays.{left_at_first, left_by, lefts, last_left, spent}
-use Rattle.replications.specs.Windows.{busy_servers, waiting_jobs, count_parts, line_before, greatest, longest_from, no_sums, sums_from, window_sums, window_of, IsWithin}
+use Rattle.replications.specs.Windows.{busy_servers, waiting_jobs, count_parts, line_before, greatest, longest_from, no_sums, sums_from, window_sums, window_of, passed, counted, IsWithin}
 use Rattle.replications.proofs.StayLemmas.{lefts-more, last_left-more, spent-more, spent-to}
 
 from_tick-more : (first_tick : ℕ) (told : List TimedPart) (one : TimedPart) → from_tick first_tick (told ++ one ∷ []) ≡ from_tick first_tick told ++ cond (nat_le first_tick one.time) (one ∷ []) []
@@ -78,14 +78,16 @@ with_part first_tick w one =
     let ticks = one.time - max w.left.since first_tick in
     let now = after_word w.left.occupancy one.part.word in
     record {
-      arrivals = w.arrivals + cond within (from_bool (is_arrival one.part.word)) 0;
-      served = w.served + cond within (from_bool (is_service one.part.word)) 0;
-      lost = w.lost + cond within (from_bool (is_loss one.part.word)) 0;
-      busy = w.busy + ticks * w.left.occupancy.busy;
-      waiting = w.waiting + ticks * w.left.occupancy.waiting;
-      age = w.age + cond within (age_told one) 0;
+      sums = record {
+        arrivals = w.sums.arrivals + cond within (from_bool (is_arrival one.part.word)) 0;
+        served = w.sums.served + cond within (from_bool (is_service one.part.word)) 0;
+        lost = w.sums.lost + cond within (from_bool (is_loss one.part.word)) 0;
+        busy = w.sums.busy + ticks * w.left.occupancy.busy;
+        waiting = w.sums.waiting + ticks * w.left.occupancy.waiting;
+        age = w.sums.age + cond within (age_told one) 0;
+        longest = cond within (max w.sums.longest now.waiting) w.sums.longest;
+      };
       begins = cond (nat_lt one.time first_tick) now.waiting w.begins;
-      longest = cond within (max w.longest now.waiting) w.longest;
       left = record { since = one.time; occupancy = now };
     }
 
@@ -99,123 +101,80 @@ module _ (of : Occupancy → ℕ) (none : of nobody ≡ 0) (first_tick : ℕ) (t
       ∙ ap (λ (last : Left). spent of first_tick last.since (lefts told ++ new ∷ [])) (last_left-more left_at_first (lefts told) new)
       ∙ spent-more of none first_tick (lefts told) new
 
--- windows are the same part by part
-same_window : (a a' b b' c c' d d' e e' f f' g g' h h' : ℕ) (l l' : Left) → a ≡ a' → b ≡ b' → c ≡ c' → d ≡ d' → e ≡ e' → f ≡ f' → g ≡ g' → h ≡ h' → l ≡ l'
-    → ◌≡◌ {A = Window} (record { arrivals = a; served = b; lost = c; busy = d; waiting = e; age = f; begins = g; longest = h; left = l })
-    (record { arrivals = a'; served = b'; lost = c'; busy = d'; waiting = e'; age = f'; begins = g'; longest = h'; left = l' })
-same_window a a' b b' c c' d d' e e' f f' g g' h h' l l' ae be ce de ee fe ge he le = cc
+-- sums are the same column by column, and windows part by part
+same_columns : (a a' b b' c c' d d' e e' f f' g g' : ℕ) → a ≡ a' → b ≡ b' → c ≡ c' → d ≡ d' → e ≡ e' → f ≡ f' → g ≡ g'
+    → ◌≡◌ {A = Columns} (record { arrivals = a; served = b; lost = c; busy = d; waiting = e; age = f; longest = g })
+    (record { arrivals = a'; served = b'; lost = c'; busy = d'; waiting = e'; age = f'; longest = g' })
+same_columns a a' b b' c c' d d' e e' f f' g g' ae be ce de ee fe ge = cc
 
-pub window_of-more : (first_tick : ℕ) (told : List TimedPart) (one : TimedPart) → window_of first_tick (told ++ one ∷ []) ≡ with_part first_tick (window_of first_tick told) one
+same_window : (sums sums' : Columns) (begins begins' : ℕ) (left left' : Left) → sums ≡ sums' → begins ≡ begins' → left ≡ left'
+    → ◌≡◌ {A = Window} (record { sums = sums; begins = begins; left = left }) (record { sums = sums'; begins = begins'; left = left' })
+same_window sums sums' begins begins' left left' same_sums same_begins same_left = cc
+
+pub window_of-more : (first_tick : ℕ) (told : List TimedPart) (one : TimedPart)
+    → window_of first_tick (told ++ one ∷ []) ≡ with_part first_tick (window_of first_tick told) one
 unfolding window_of
 window_of-more first_tick told one =
     let new : Left = left_by (last_left left_at_first (lefts told)).occupancy one in
-    same_window _ _ _ _ _ _ _ _ _ _ _ _ _ _ _ _ _ _
+    same_window _ _ _ _ _ _
+    (same_columns _ _ _ _ _ _ _ _ _ _ _ _ _ _
     (count-more first_tick told one is_arrival)
     (count-more first_tick told one is_service)
     (count-more first_tick told one is_loss)
     (spent-part busy_servers refl first_tick told one)
     (spent-part waiting_jobs refl first_tick told one)
     (sum-more first_tick told one age_told)
+    (ap (longest_from first_tick) (lefts-more told one) ∙ longest_from-more first_tick (lefts told) new))
     (ap (line_before first_tick) (lefts-more told one) ∙ line_before-more first_tick (lefts told) new)
-    (ap (longest_from first_tick) (lefts-more told one) ∙ longest_from-more first_tick (lefts told) new)
     (ap (last_left left_at_first) (lefts-more told one) ∙ last_left-more left_at_first (lefts told) new)
 
 -- a part before the window
 pub adds_before : (first_tick : ℕ) (told : List TimedPart) (one : TimedPart) (old new : Window) → one.time < first_tick → old ≡ window_of first_tick told
-    → new ≡ record old {
-      busy = old.busy + (one.time - max old.left.since first_tick) * old.left.occupancy.busy;
-      waiting = old.waiting + (one.time - max old.left.since first_tick) * old.left.occupancy.waiting;
-      begins = (after_word old.left.occupancy one.part.word).waiting;
-      left = left_by old.left.occupancy one;
-    } → new ≡ window_of first_tick (told ++ one ∷ [])
+    → new ≡ record (passed first_tick one.time old) { begins = (after_word old.left.occupancy one.part.word).waiting; left = left_by old.left.occupancy one }
+    → new ≡ window_of first_tick (told ++ one ∷ [])
 adds_before first_tick told one old new early summed is =
     let none : (n : ℕ) → n ≡ n + 0 = λ n. omega arith in
+    let same_sums = same_columns _ _ _ _ _ _ _ _ _ _ _ _ _ _ (none old.sums.arrivals) (none old.sums.served) (none old.sums.lost) refl refl (none old.sums.age) refl in
     let step : new ≡ with_part first_tick old one =
-    is ∙ rw (lt-leb first_tick one.time early, lt-ltb one.time first_tick early) (same_window _ _ _ _ _ _ _ _ _ _ _ _ _ _ _ _ _ _ (none old.arrivals) (none old.served) (none old.lost) refl refl (none old.age) refl refl refl) in
+    is ∙ rw (lt-leb first_tick one.time early, lt-ltb one.time first_tick early) (same_window _ _ _ _ _ _ same_sums refl refl) in
     step ∙ ap (λ (w : Window). with_part first_tick w one) summed ∙ sym (window_of-more first_tick told one)
 
 -- a part within the window
 pub adds_within : (first_tick : ℕ) (told : List TimedPart) (one : TimedPart) (old new : Window) → first_tick ≤ one.time → old ≡ window_of first_tick told
-    → new ≡ record {
-      arrivals = old.arrivals + from_bool (is_arrival one.part.word);
-      served = old.served + from_bool (is_service one.part.word);
-      lost = old.lost + from_bool (is_loss one.part.word);
-      busy = old.busy + (one.time - max old.left.since first_tick) * old.left.occupancy.busy;
-      waiting = old.waiting + (one.time - max old.left.since first_tick) * old.left.occupancy.waiting;
-      age = old.age + age_told one;
-      begins = old.begins;
-      longest = max old.longest (after_word old.left.occupancy one.part.word).waiting;
-      left = left_by old.left.occupancy one;
-    } → new ≡ window_of first_tick (told ++ one ∷ [])
+    → new ≡ counted one.part (record (passed first_tick one.time old) { left = left_by old.left.occupancy one })
+    → new ≡ window_of first_tick (told ++ one ∷ [])
 adds_within first_tick told one old new late summed is =
     let step : new ≡ with_part first_tick old one = is ∙ rw (le-leb first_tick one.time late, le-ltb one.time first_tick late) refl in
     step ∙ ap (λ (w : Window). with_part first_tick w one) summed ∙ sym (window_of-more first_tick told one)
 
 module _ (first_tick : ℕ) (told : List TimedPart) (one : TimedPart) (old mid : Window) (now : Occupancy) (summed : old ≡ window_of first_tick told)
-    (passed : mid ≡ record old {
-      busy = old.busy + (one.time - max old.left.since first_tick) * old.left.occupancy.busy;
-      waiting = old.waiting + (one.time - max old.left.since first_tick) * old.left.occupancy.waiting;
-    })
-    (leaves : now ≡ after_word mid.left.occupancy one.part.word) where
+    (is_passed : mid ≡ passed first_tick one.time old) (leaves : now ≡ after_word mid.left.occupancy one.part.word) where
   leaves_so : now ≡ after_word old.left.occupancy one.part.word
-  leaves_so = leaves ∙ ap (λ (w : Window). after_word w.left.occupancy one.part.word) passed
+  leaves_so = leaves ∙ ap (λ (w : Window). after_word w.left.occupancy one.part.word) is_passed
 
-  pub comes_before : one.time < first_tick → record mid { begins = now.waiting; left = record { since = one.time; occupancy = now } } ≡ window_of first_tick (told ++ one ∷ [])
+  pub comes_before : one.time < first_tick
+      → record mid { begins = now.waiting; left = record { since = one.time; occupancy = now } } ≡ window_of first_tick (told ++ one ∷ [])
   comes_before early =
       let step : Window → Occupancy → Window = λ w now. record w { begins = now.waiting; left = record { since = one.time; occupancy = now } } in
       adds_before first_tick told one old (step mid now) early summed
-      (ap (λ (w : Window). step w now) passed
-      ∙ ap (step (record old {
-        busy = old.busy + (one.time - max old.left.since first_tick) * old.left.occupancy.busy;
-        waiting = old.waiting + (one.time - max old.left.since first_tick) * old.left.occupancy.waiting;
-      })) leaves_so)
+      (ap (λ (w : Window). step w now) is_passed ∙ ap (step (passed first_tick one.time old)) leaves_so)
 
-  pub comes_within : (new : Window) → first_tick ≤ one.time
-      → new ≡ record mid {
-        arrivals = mid.arrivals + from_bool (is_arrival one.part.word);
-        served = mid.served + from_bool (is_service one.part.word);
-        lost = mid.lost + from_bool (is_loss one.part.word);
-        age = mid.age + age_told one;
-        longest = max mid.longest now.waiting;
-        left = record { since = one.time; occupancy = now };
-      } → new ≡ window_of first_tick (told ++ one ∷ [])
-  comes_within new late counted =
-      let step : Window → Occupancy → Window = λ w now. record w {
-        arrivals = w.arrivals + from_bool (is_arrival one.part.word);
-        served = w.served + from_bool (is_service one.part.word);
-        lost = w.lost + from_bool (is_loss one.part.word);
-        age = w.age + age_told one;
-        longest = max w.longest now.waiting;
-        left = record { since = one.time; occupancy = now };
-      } in
+  pub comes_within : (new : Window) → first_tick ≤ one.time → new ≡ counted one.part (record mid { left = record { since = one.time; occupancy = now } })
+      → new ≡ window_of first_tick (told ++ one ∷ [])
+  comes_within new late is_counted =
+      let step : Window → Occupancy → Window = λ w now. counted one.part (record w { left = record { since = one.time; occupancy = now } }) in
       adds_within first_tick told one old new late summed
-      (counted
-      ∙ ap (λ (w : Window). step w now) passed
-      ∙ ap (step (record old {
-        busy = old.busy + (one.time - max old.left.since first_tick) * old.left.occupancy.busy;
-        waiting = old.waiting + (one.time - max old.left.since first_tick) * old.left.occupancy.waiting;
-      })) leaves_so)
+      (is_counted ∙ ap (λ (w : Window). step w now) is_passed ∙ ap (step (passed first_tick one.time old)) leaves_so)
 
--- sums are the same part by part
-same_columns : (a a' b b' c c' d d' e e' f f' g g' : ℕ) → a ≡ a' → b ≡ b' → c ≡ c' → d ≡ d' → e ≡ e' → f ≡ f' → g ≡ g'
-    → ◌≡◌ {A = Columns} (record { arrivals = a; served = b; lost = c; busy = d; waiting = e; age = f; longest = g })
-    (record { arrivals = a'; served = b'; lost = c'; busy = d'; waiting = e'; age = f'; longest = g' })
-same_columns a a' b b' c c' d d' e e' f f' g g' ae be ce de ee fe ge = cc
-
+-- the longest line of a window is also that with which it begins
 columns_of : Window → Columns
-columns_of w = record { arrivals = w.arrivals; served = w.served; lost = w.lost; busy = w.busy; waiting = w.waiting; age = w.age; longest = max w.begins w.longest }
+columns_of w = record w.sums { longest = max w.begins w.sums.longest }
 
 window-ends : (first_tick last : ℕ) (told : List TimedPart) (w : Window) → w ≡ window_of first_tick told
-    → columns_of (record w {
-      busy = w.busy + (last - max w.left.since first_tick) * w.left.occupancy.busy;
-      waiting = w.waiting + (last - max w.left.since first_tick) * w.left.occupancy.waiting;
-    }) ≡ sums_from first_tick last told
+    → columns_of (passed first_tick last w) ≡ sums_from first_tick last told
 unfolding columns_of sums_from window_of
 window-ends first_tick last told w summed =
-    ap (λ (w : Window). columns_of (record w {
-      busy = w.busy + (last - max w.left.since first_tick) * w.left.occupancy.busy;
-      waiting = w.waiting + (last - max w.left.since first_tick) * w.left.occupancy.waiting;
-    })) summed
+    ap (λ (w : Window). columns_of (passed first_tick last w)) summed
     ∙ same_columns _ _ _ _ _ _ _ _ _ _ _ _ _ _ refl refl refl
     (sym (spent-to busy_servers refl first_tick last (lefts told)))
     (sym (spent-to waiting_jobs refl first_tick last (lefts told)))
@@ -223,16 +182,13 @@ window-ends first_tick last told w summed =
 
 -- a window that ends at a tick
 pub closes : (first_tick last : ℕ) (told : List TimedPart) (old mid : Window) (longest : ℕ) → first_tick ≤ last → old ≡ window_of first_tick told
-    → mid ≡ record old {
-      busy = old.busy + (last - max old.left.since first_tick) * old.left.occupancy.busy;
-      waiting = old.waiting + (last - max old.left.since first_tick) * old.left.occupancy.waiting;
-    } → longest ≡ max mid.begins mid.longest
-    → ◌≡◌ {A = Columns} (record { arrivals = mid.arrivals; served = mid.served; lost = mid.lost; busy = mid.busy; waiting = mid.waiting; age = mid.age; longest = longest }) (window_sums first_tick last told)
+    → mid ≡ passed first_tick last old → longest ≡ max mid.begins mid.sums.longest
+    → record mid.sums { longest = longest } ≡ window_sums first_tick last told
 unfolding columns_of window_sums
-closes first_tick last told old mid longest some summed passed is_longest =
-    let mine : ◌≡◌ {A = Columns} (record { arrivals = mid.arrivals; served = mid.served; lost = mid.lost; busy = mid.busy; waiting = mid.waiting; age = mid.age; longest = longest }) (columns_of mid) =
-    ap (λ n. record { arrivals = mid.arrivals; served = mid.served; lost = mid.lost; busy = mid.busy; waiting = mid.waiting; age = mid.age; longest = n }) is_longest in
-    mine ∙ ap columns_of passed ∙ window-ends first_tick last told old summed ∙ ap (λ b. cond b no_sums (sums_from first_tick last told)) (sym (le-ltb last first_tick some))
+closes first_tick last told old mid longest some summed is_passed is_longest =
+    let mine : record mid.sums { longest = longest } ≡ columns_of mid = ap (λ n. record mid.sums { longest = n }) is_longest in
+    mine ∙ ap columns_of is_passed ∙ window-ends first_tick last told old summed
+    ∙ ap (λ b. cond b no_sums (sums_from first_tick last told)) (sym (le-ltb last first_tick some))
 
 pub has_no_tick : (first_tick last : ℕ) (told : List TimedPart) (sums : Columns) → last < first_tick → sums ≡ no_sums → sums ≡ window_sums first_tick last told
 unfolding window_sums

@@ -1,6 +1,5 @@
 //! The sums of one object within a window of time.
-ghost use Rattle.std.specs.Prelude.{◌≡◌, ◌≤◌, ◌<◌, ◌+◌, ◌-◌, ◌*◌, ◌^◌, ◌++◌, ◌∷◌, ◌==◌, [], ℕ, List, length, max, if◌then◌else◌};
-ghost use Rattle.std.specs.Int.{from_bool};
+ghost use Rattle.std.specs.Prelude.{◌≡◌, ◌≤◌, ◌+◌, ◌^◌, ◌++◌, ◌∷◌, [], ℕ, List, length};
 ghost use Rattle.replications.specs.Windows.{no_sums};
 
 use crate::left::Left;
@@ -24,42 +23,45 @@ pub struct Columns {
     pub longest: u64,
 }
 
-/// What is known of an object within a window of time, as far as it was told.
-#[derive(Clone, Copy, Debug, PartialEq, Eq)]
-pub struct Window {
-    pub arrivals: u64,
-    pub served: u64,
-    pub lost: u64,
-    pub busy: u128,
-    pub waiting: u128,
-    pub age: u128,
-    /// How many jobs wait as the window begins.
-    pub begins: u64,
-    /// The most jobs that a part within the window left waiting.
-    pub longest: u64,
-    /// Who is there, as the last part leaves it.
-    pub left: Left,
-}
-
-impl Window {
-    ghost use Rattle.sim_stats.specs.Words.{is_arrival, is_service, is_loss};
-    ghost use Rattle.model_core.specs.declared.words.TheConstants.{LEFT_WORD};
-    ghost use Rattle.replications.specs.Parts.{TimedPart, parts_at};
-    ghost use Rattle.replications.specs.Windows.{IsWithin, window_of, window_sums};
-
-    /// Nothing was told yet.
-    pub fn none() -> Window
-        ensures { (first_tick : ℕ) → result ≡ window_of first_tick [] }
+impl Columns {
+    /// The sums of no tick.
+    fn none() -> Columns
+        ensures { result ≡ no_sums }
     {
-        Window {
+        Columns {
             arrivals: 0,
             served: 0,
             lost: 0,
             busy: 0,
             waiting: 0,
             age: 0,
-            begins: 0,
             longest: 0,
+        }
+    }
+}
+
+/// What is known of an object within a window of time, as far as it was told.
+#[derive(Clone, Copy, Debug, PartialEq, Eq)]
+pub struct Window {
+    /// Up to the last part that was told. The longest line is here that of the parts within the window alone.
+    pub sums: Columns,
+    /// How many jobs wait as the window begins.
+    pub begins: u64,
+    /// Who is there, as the last part leaves it.
+    pub left: Left,
+}
+
+impl Window {
+    ghost use Rattle.replications.specs.Parts.{TimedPart, parts_at};
+    ghost use Rattle.replications.specs.Windows.{IsWithin, counted, passed, window_of, window_sums};
+
+    /// Nothing was told yet.
+    pub fn none() -> Window
+        ensures { (first_tick : ℕ) → result ≡ window_of first_tick [] }
+    {
+        Window {
+            sums: Columns::none(),
+            begins: 0,
             left: Left {
                 since: 0,
                 occupancy: Occupancy::nobody(),
@@ -71,37 +73,30 @@ impl Window {
     fn pass(&mut self, first_tick: u64, time: u64)
         requires time { time ≤ 2 ^ 48 }
         requires room { IsWithin (2 ^ 34) self.old }
-        ensures passed { let ticks = time - max self.old.left.since first_tick in
-            self.new ≡ record self.old { busy = self.old.busy + ticks * self.old.left.occupancy.busy; waiting = self.old.waiting + ticks * self.old.left.occupancy.waiting } }
-        ensures busy { self.new.busy ≤ self.old.busy + 2 ^ 82 }
-        ensures waiting { self.new.waiting ≤ self.old.waiting + 2 ^ 82 }
+        ensures passed { self.new ≡ passed first_tick time self.old }
+        ensures busy { self.new.sums.busy ≤ self.old.sums.busy + 2 ^ 82 }
+        ensures waiting { self.new.sums.waiting ≤ self.old.sums.waiting + 2 ^ 82 }
     {
         let ticks = u128::from(time.saturating_sub(self.left.since.max(first_tick)));
-        self.busy += ticks * u128::from(self.left.occupancy.busy);
-        self.waiting += ticks * u128::from(self.left.occupancy.waiting);
+        self.sums.busy += ticks * u128::from(self.left.occupancy.busy);
+        self.sums.waiting += ticks * u128::from(self.left.occupancy.waiting);
     }
 
     /// A part within the window counts.
     fn count(&mut self, part: &Part)
         requires { IsWithin (2 ^ 34) self.old }
-        ensures counted { self.new ≡ record self.old {
-          arrivals = self.old.arrivals + from_bool (is_arrival part.now.word);
-          served = self.old.served + from_bool (is_service part.now.word);
-          lost = self.old.lost + from_bool (is_loss part.now.word);
-          age = self.old.age + (if part.now.word == LEFT_WORD then part.now.b else 0);
-          longest = max self.old.longest self.old.left.occupancy.waiting;
-        } }
-        ensures age { self.new.age ≤ self.old.age + 2 ^ 64 }
+        ensures counted { self.new ≡ counted part.now self.old }
+        ensures age { self.new.sums.age ≤ self.old.sums.age + 2 ^ 64 }
     {
-        self.arrivals += u64::from(is_arrival(part.word));
-        self.served += u64::from(is_service(part.word));
-        self.lost += u64::from(part.word == LOST_WORD);
-        self.age += if part.word == LEFT_WORD {
+        self.sums.arrivals += u64::from(is_arrival(part.word));
+        self.sums.served += u64::from(is_service(part.word));
+        self.sums.lost += u64::from(part.word == LOST_WORD);
+        self.sums.age += if part.word == LEFT_WORD {
             u128::from(part.b)
         } else {
             0
         };
-        self.longest = self.longest.max(self.left.occupancy.waiting);
+        self.sums.longest = self.sums.longest.max(self.left.occupancy.waiting);
     }
 
     /// One part more, told at this time, of a window that begins at `first_tick`.
@@ -145,33 +140,13 @@ impl Window {
         ensures { (told : List TimedPart) → self.now ≡ window_of first_tick told → result ≡ window_sums first_tick last_tick told }
     {
         if last_tick < first_tick {
-            return no_sums();
+            return Columns::none();
         }
         let mut all = *self;
         all.pass(first_tick, last_tick);
         Columns {
-            arrivals: all.arrivals,
-            served: all.served,
-            lost: all.lost,
-            busy: all.busy,
-            waiting: all.waiting,
-            age: all.age,
-            longest: all.begins.max(all.longest),
+            longest: all.begins.max(all.sums.longest),
+            ..all.sums
         }
-    }
-}
-
-/// The sums of no tick.
-fn no_sums() -> Columns
-    ensures { result ≡ no_sums }
-{
-    Columns {
-        arrivals: 0,
-        served: 0,
-        lost: 0,
-        busy: 0,
-        waiting: 0,
-        age: 0,
-        longest: 0,
     }
 }
