@@ -62,52 +62,58 @@ fn do_job<M: SimulationModel, W: Rows<M>, S: Seeds<M, W>>(
     }
 }
 
-/// Jobs for the replications from one on, before another one.
-fn jobs_between(
-    alloc: Global,
-    first_seed: u64,
-    from: u64,
-    until: u64,
-) -> Result<Vec<Job>, OutOfMemory>
-    requires first_seed { first_seed < 2 ^ 63 }
-    requires order { from ≤ until }
-    requires below { until < 2 ^ 63 }
-    ensures jobs { IfOk result (λ jobs. AreToDo first_seed from jobs.items) }
-    ensures ready { IfOk result (λ jobs. All (λ (job : Job). (job.seed < 2 ^ 63) × (job.stop ≡ None)) jobs.items) }
-    ensures many { IfOk result (λ jobs. from + length jobs.items ≡ until) }
-{
-    let mut jobs = Vec::new(alloc);
-    for number in from..until {
-        jobs.push(Job {
-            seed: seed_at(first_seed, number),
-            rows: Vec::new(alloc),
-            stop: None,
-        })?;
-    }
-    Ok(jobs)
+/// Replications one after another, counted from 0.
+#[derive(Clone, Copy, Debug, PartialEq, Eq)]
+pub struct Batch {
+    /// The first of them.
+    pub begin: u64,
+    /// The one behind the last of them, not below `begin`.
+    pub end: u64,
 }
 
-/// Does the replications from one on, before another one, by so many workers. Answers them in their order.
-pub fn run_batch<R: Threads + Sync, M: SimulationModel, W: Rows<M>, S: Seeds<M, W>>(
-    rt: &R,
-    alloc: Global,
-    study: &Study<S>,
-    workers: u32,
-    from: u64,
-    until: u64,
-) -> Result<Vec<Job>, OutOfMemory>
-    requires first_seed { study.now.first_seed < 2 ^ 63 }
-    requires order { from ≤ until }
-    requires below { until < 2 ^ 63 }
-    requires workers { (1 ≤ workers) × (workers ≤ MOST_WORKERS) }
-    ensures done { IfOk result (λ jobs. AreDone (study_of S.seeded S.rows study.now) from jobs.items) }
-    ensures many { IfOk result (λ jobs. from + length jobs.items ≡ until) }
-{
-    let jobs = jobs_between(alloc, study.first_seed, from, until)?;
-    let work = |job: &mut Job|
-        requires { IsSync S.row × IsSend M.row × IsSync M.row × IsSend W.row × IsSync W.row × (job.old.seed < 2 ^ 63) × (job.old.stop ≡ None) }
-        ensures { Does (study_of S.seeded S.rows study.entry.now) job.old job.new }
-    { do_job::<M, W, S>(alloc, study, job) };
-    let done = run_each(rt, alloc, jobs, workers, &work)?;
-    Ok(done)
+impl Batch {
+    /// Its replications as jobs in order, where the first one of all has this seed.
+    fn jobs(self, alloc: Global, first_seed: u64) -> Result<Vec<Job>, OutOfMemory>
+        requires first_seed { first_seed < 2 ^ 63 }
+        requires order { self.begin ≤ self.end }
+        requires below { self.end < 2 ^ 63 }
+        ensures jobs { IfOk result (λ jobs. AreToDo first_seed self.begin jobs.items) }
+        ensures ready { IfOk result (λ jobs. All (λ (job : Job). (job.seed < 2 ^ 63) × (job.stop ≡ None)) jobs.items) }
+        ensures many { IfOk result (λ jobs. self.begin + length jobs.items ≡ self.end) }
+    {
+        let mut jobs = Vec::new(alloc);
+        for number in self.begin..self.end {
+            jobs.push(Job {
+                seed: seed_at(first_seed, number),
+                rows: Vec::new(alloc),
+                stop: None,
+            })?;
+        }
+        Ok(jobs)
+    }
+
+    /// Does its replications, shared out among 1 to 64 workers, and answers them in their order. The one error is that memory
+    /// ran out for the jobs or the workers: a replication that memory ran out for has no stop.
+    pub fn run<R: Threads + Sync, M: SimulationModel, W: Rows<M>, S: Seeds<M, W>>(
+        self,
+        rt: &R,
+        alloc: Global,
+        study: &Study<S>,
+        workers: u32,
+    ) -> Result<Vec<Job>, OutOfMemory>
+        requires first_seed { study.now.first_seed < 2 ^ 63 }
+        requires order { self.begin ≤ self.end }
+        requires below { self.end < 2 ^ 63 }
+        requires workers { (1 ≤ workers) × (workers ≤ MOST_WORKERS) }
+        ensures done { IfOk result (λ jobs. AreDone (study_of S.seeded S.rows study.now) self.begin jobs.items) }
+        ensures many { IfOk result (λ jobs. self.begin + length jobs.items ≡ self.end) }
+    {
+        let jobs = self.jobs(alloc, study.first_seed)?;
+        let work = |job: &mut Job|
+            requires { IsSync S.row × IsSend M.row × IsSync M.row × IsSend W.row × IsSync W.row × (job.old.seed < 2 ^ 63) × (job.old.stop ≡ None) }
+            ensures { Does (study_of S.seeded S.rows study.entry.now) job.old job.new }
+        { do_job::<M, W, S>(alloc, study, job) };
+        let done = run_each(rt, alloc, jobs, workers, &work)?;
+        Ok(done)
+    }
 }

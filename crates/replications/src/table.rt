@@ -8,7 +8,7 @@ ghost use Rattle.sim_text.specs.Written.{TellsFaults, WritesText};
 ghost use Rattle.replications.specs.Families.{study_of};
 ghost use Rattle.replications.specs.Studies.{StudyOf, AreDone, rows_between, stops_between, table_text, gravest};
 
-use crate::batch::run_batch;
+use crate::batch::Batch;
 use crate::gravest::graver;
 use crate::job::Job;
 use crate::run_rows::Rows;
@@ -83,17 +83,11 @@ fn write_batches<R: Threads + Sync, M: SimulationModel, W: Rows<M>, S: Seeds<M, 
     let mut worst = Stop::End;
     let mut done = 0u64;
     while done < table.count {
-        let until = table.count.min(done + size);
-        let jobs = run_batch::<R, M, W, S>(
-            table.rt,
-            table.alloc,
-            table.study,
-            table.workers,
-            done,
-            until,
-        )?;
+        let end = table.count.min(done + size);
+        let batch = Batch { begin: done, end };
+        let jobs = batch.run::<R, M, W, S>(table.rt, table.alloc, table.study, table.workers)?;
         write_rows(jobs.as_slice(), &mut worst, out)?;
-        done = until;
+        done = end;
     }
     Ok(worst)
 }

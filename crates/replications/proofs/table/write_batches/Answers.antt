@@ -29,7 +29,7 @@ returns-in_err-write_rows-clause-text g c =
     let jobs = c.in_ok-jobs.jobs.items in
     let all : AreDone s c.loop-done.done c.as_slice.result.now = subst (AreDone s c.loop-done.done) (sym c.as_slice.ensures.value) c.in_ok-jobs.ensures.done in
     let P : ℕ → Type 0 = λ n. AppendsPrefix (g.K.Sink.told c.loop-done.out) (g.K.Sink.told c.write_rows.new.out) (rows_between s c.loop-done.done n) in
-    cut_short _ _ _ _ _ _ c.from_residual-in_err-write_rows.ensures.1 (batch-prefix s c.loop-done.done (length jobs) c.args.table.now.count (omega (arith, c.in_ok-jobs.ensures.many, c.min-until.ensures)) _ _ _ c.loop-done.invariant.written
+    cut_short _ _ _ _ _ _ c.from_residual-in_err-write_rows.ensures.1 (batch-prefix s c.loop-done.done (length jobs) c.args.table.now.count (omega (arith, c.in_ok-jobs.ensures.many, c.min-end.ensures)) _ _ _ c.loop-done.invariant.written
     (subst P (ap length c.as_slice.ensures.value) ((c.in_err-write_rows.ensures.text s c.loop-done.done all).prefix)))
 
 pub loop-done-preserved : goal.loop-done-preserved
@@ -42,13 +42,13 @@ loop-done-preserved g c =
     let all : AreDone s c.loop-done.done c.as_slice.result.now = subst (AreDone s c.loop-done.done) (sym c.as_slice.ensures.value) c.in_ok-jobs.ensures.done in
     let P : ℕ → Type 0 = λ n. Appends mid new (rows_between s c.loop-done.done n) in
     record {
-      within = omega (arith, c.min-until.ensures);
-      written = subst (Appends (g.K.Sink.told c.args.out.now) new) (batch (rows_between s) (rows_between-split s) c.loop-done.done (length jobs) c.min-until.result c.in_ok-jobs.ensures.many)
+      within = omega (arith, c.min-end.ensures);
+      written = subst (Appends (g.K.Sink.told c.args.out.now) new) (batch (rows_between s) (rows_between-split s) c.loop-done.done (length jobs) c.min-end.result c.in_ok-jobs.ensures.many)
           (Appends-trans _ mid new (rows_between s 0 c.loop-done.done) (rows_between s c.loop-done.done (length jobs)) i.written
           (subst P (ap length c.as_slice.ensures.value) ((c.in_ok-write_rows.ensures.text s c.loop-done.done all).whole)));
       stops = c.in_ok-write_rows.ensures.stops s c.loop-done.done (stops_between s 0 c.loop-done.done) all i.stops
           ∙ ap gravest (ap (λ n. stops_between s 0 c.loop-done.done ++ stops_between s c.loop-done.done n) (ap length c.as_slice.ensures.value)
-          ∙ batch (stops_between s) (stops_between-split s) c.loop-done.done (length jobs) c.min-until.result c.in_ok-jobs.ensures.many);
+          ∙ batch (stops_between s) (stops_between-split s) c.loop-done.done (length jobs) c.min-end.result c.in_ok-jobs.ensures.many);
       later = omega (arith, i.later, c.in_ok-write_rows.ensures.faults.later);
       quiet = c.in_ok-write_rows.ensures.faults.quiet ∙ i.quiet;
     }
