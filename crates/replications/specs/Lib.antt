@@ -3,6 +3,7 @@ pub mod Families
 pub mod Parts
 pub mod ReplicateWords
 pub mod Rows
+pub mod RowSums
 pub mod Stays
 pub mod Studies
 pub mod Tables

@@ -54,7 +54,8 @@ given_with given choice word = and_then (value_of choice word) (λ n. Ok (with_n
 unfoldable pub walked : WindowStart → Given → List (List ℕ) → Result Given WordFault
 walked start given [] = Ok given
 walked start given (word ∷ []) = and_then (chosen start given word) (λ _. Err MissingValue)
-walked start given (word ∷ value ∷ rest) = and_then (chosen start given word) (λ choice. and_then (given_with given choice value) (λ next. walked start next rest))
+walked start given (word ∷ value ∷ rest) =
+    and_then (chosen start given word) (λ choice. and_then (given_with given choice value) (λ next. walked start next rest))
 
 abbrev pub no_options : Given
 no_options = record { first_seed = None; first_tick = None; workers = None }

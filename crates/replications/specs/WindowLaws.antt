@@ -3,6 +3,7 @@ use Rattle.std.specs.Prelude.{◌≡◌, ℕ, ◌+◌, ◌-◌, ◌*◌, ◌<◌
 use Rattle.std.specs.List.{filter}
 use Rattle.sim_stats.specs.Sums.{sums_of}
 use Rattle.sim_stats.specs.Words.{TimedWord}
+use Rattle.replications.specs.declared.window.Columns.{Columns}
 use Rattle.replications.specs.Parts.{TimedPart}
 use Rattle.replications.specs.Windows.{window_sums}
 
@@ -33,14 +34,21 @@ InOrder [] = Unit {0}
 InOrder (one ∷ []) = Unit {0}
 InOrder (one ∷ next ∷ rest) = (one.time ≤ next.time) × InOrder (next ∷ rest)
 
--- the sums of a window are those up to a tick within it, over what is told before that tick, and those from there on
+-- a column of a window is what it is up to a tick within it, over what is told before that tick, and what it is from there on
+abbrev pub AddsUpAt : ℕ → ℕ → ℕ → List TimedPart → (Columns → ℕ) → Type 0
+AddsUpAt first_tick middle last told column =
+    column (window_sums first_tick last told)
+    ≡ column (window_sums first_tick middle (before_tick middle told)) + column (window_sums middle last told)
+
+-- so it is with all of them but the longest line
 pub record IsCutAt (first_tick middle last : ℕ) (told : List TimedPart) : Type 0 where
-  pub arrivals : (window_sums first_tick last told).arrivals ≡ (window_sums first_tick middle (before_tick middle told)).arrivals + (window_sums middle last told).arrivals
-  pub served : (window_sums first_tick last told).served ≡ (window_sums first_tick middle (before_tick middle told)).served + (window_sums middle last told).served
-  pub lost : (window_sums first_tick last told).lost ≡ (window_sums first_tick middle (before_tick middle told)).lost + (window_sums middle last told).lost
-  pub busy : (window_sums first_tick last told).busy ≡ (window_sums first_tick middle (before_tick middle told)).busy + (window_sums middle last told).busy
-  pub waiting : (window_sums first_tick last told).waiting ≡ (window_sums first_tick middle (before_tick middle told)).waiting + (window_sums middle last told).waiting
-  pub age : (window_sums first_tick last told).age ≡ (window_sums first_tick middle (before_tick middle told)).age + (window_sums middle last told).age
+  pub arrivals : AddsUpAt first_tick middle last told (λ sums. sums.arrivals)
+  pub served : AddsUpAt first_tick middle last told (λ sums. sums.served)
+  pub lost : AddsUpAt first_tick middle last told (λ sums. sums.lost)
+  pub busy : AddsUpAt first_tick middle last told (λ sums. sums.busy)
+  pub waiting : AddsUpAt first_tick middle last told (λ sums. sums.waiting)
+  pub age : AddsUpAt first_tick middle last told (λ sums. sums.age)
 
 abbrev pub WindowsAdd : Type 0
-WindowsAdd = (first_tick middle last : ℕ) (told : List TimedPart) → first_tick < middle → middle ≤ last → InOrder told → IsCutAt first_tick middle last told
+WindowsAdd =
+    (first_tick middle last : ℕ) (told : List TimedPart) → first_tick < middle → middle ≤ last → InOrder told → IsCutAt first_tick middle last told

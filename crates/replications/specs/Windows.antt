@@ -80,7 +80,7 @@ passed first_tick time w =
       };
     }
 
--- a part within the window counts: it has left the line as it is
+-- a part within the window counts, where what it leaves is already set
 abbrev pub counted : Part → Window → Window
 counted part w = record w {
   sums = record w.sums {

@@ -95,8 +95,9 @@ pub fn replicate_once<M: SimulationModel, W: Rows<M>>(
     seed: u64,
     into: &mut Vec<u8>,
 ) -> Result<Stop, OutOfMemory>
-    ensures rows { OnOk result (into.new.items ≡ into.old.items ++ rows_of_run (W.rows_of (arc_value model)) (M.meaning (arc_value model)) terms first_tick seed) }
-    ensures stop { IfOk result (λ stop. stop ≡ (run (M.meaning (arc_value model)) terms (initial_state (M.meaning (arc_value model)))).stop) }
+    ensures rows { let own = arc_value model in
+        OnOk result (into.new.items ≡ into.old.items ++ rows_of_run (W.rows_of own) (M.meaning own) terms first_tick seed) }
+    ensures stop { let m = M.meaning (arc_value model) in IfOk result (λ stop. stop ≡ (run m terms (initial_state m)).stop) }
 {
     let mut engine = OneThread::new(alloc, model.clone()?, terms)?;
     let replication = Replication {

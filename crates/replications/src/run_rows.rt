@@ -1,9 +1,10 @@
 //! What a table says of a run.
-ghost use Rattle.std.specs.Prelude.{◌≡◌, ◌++◌, ◌∷◌, [], ℕ, List, IfOk, OnOk};
+ghost use Rattle.std.specs.Prelude.{◌≡◌, ◌++◌, [], ℕ, List, IfOk, OnOk};
 ghost use Rattle.event_key.specs.declared.key.Key.{Key};
 ghost use Rattle.model_core.specs.declared.note.Note.{Note};
-ghost use Rattle.run_tally.specs.Tallies.{CanCome, CanAllCome, AreOfRun};
+ghost use Rattle.run_tally.specs.Tallies.{AreOfRun};
 ghost use Rattle.replications.specs.Ends.{RowsOf};
+ghost use Rattle.replications.specs.RowSums.{AddsAll, AddsOne, CanAdd, CanAddAll, SumUpRun};
 
 use crate::rows::RunEnd;
 use event_key::Key;
@@ -27,9 +28,8 @@ pub trait Rows<M: SimulationModel>: std::marker::Send + Sync + Drop {
 
     /// One record more. It takes no memory, and should take time for its own parts alone.
     fn add(&mut self, model: &M, key: &Key, parts: &[Part])
-        requires { (first_tick : ℕ) × (records : List (Key × Note)) × sums_up model.now first_tick self.old records × CanCome (M.meaning model.now) records (key.now, parts.now) }
-        ensures { (first_tick : ℕ) (records : List (Key × Note)) → sums_up model.now first_tick self.old records → CanCome (M.meaning model.now) records (key.now, parts.now)
-            → sums_up model.now first_tick self.new (records ++ (key.now, parts.now) ∷ []) };
+        requires { CanAdd (sums_up model.now) (M.meaning model.now) self.old (key.now, parts.now) }
+        ensures { AddsOne (sums_up model.now) (M.meaning model.now) self.old self.new (key.now, parts.now) };
 
     /// Appends the rows, once the run has ended so. Where memory runs out, it may have appended some of them.
     fn put(
@@ -40,16 +40,16 @@ pub trait Rows<M: SimulationModel>: std::marker::Send + Sync + Drop {
         end: &RunEnd,
         into: &mut Vec<u8>,
     ) -> Result<(), OutOfMemory>
-        requires { (first_tick : ℕ) × (records : List (Key × Note)) × sums_up model.now first_tick self.now records × AreOfRun (M.meaning model.now) terms.now records end.now.stop }
-        ensures { OnOk result ((first_tick : ℕ) (records : List (Key × Note)) → sums_up model.now first_tick self.now records → AreOfRun (M.meaning model.now) terms.now records end.now.stop
+        requires { SumUpRun (sums_up model.now) (M.meaning model.now) self.now terms.now end.now.stop }
+        ensures { OnOk result ((first_tick : ℕ) (records : List (Key × Note)) → sums_up model.now first_tick self.now records
+            → AreOfRun (M.meaning model.now) terms.now records end.now.stop
             → into.new.items ≡ into.old.items ++ rows_of model.now first_tick terms.now end.now records) };
 }
 
 /// Adds all these records, in order.
 pub fn add_all<M: SimulationModel, W: Rows<M>>(rows: &mut W, model: &M, records: &RecordBuffer)
-    requires { (first_tick : ℕ) × (before : List (Key × Note)) × W.sums_up model.now first_tick rows.old before × CanAllCome (M.meaning model.now) before records.now.items }
-    ensures { (first_tick : ℕ) (before : List (Key × Note)) → W.sums_up model.now first_tick rows.old before → CanAllCome (M.meaning model.now) before records.now.items
-        → W.sums_up model.now first_tick rows.new (before ++ records.now.items) }
+    requires { CanAddAll (W.sums_up model.now) (M.meaning model.now) rows.old records.now.items }
+    ensures { AddsAll (W.sums_up model.now) (M.meaning model.now) rows.old rows.new records.now.items }
 {
     for i in 0..records.len() {
         let (key, parts) = records.at(i);

@@ -31,17 +31,13 @@ pub struct Windows {
 }
 
 impl Model for Windows {
-    ghost use Rattle.std.specs.Prelude.{◌*◌, ◌^◌, ◌≤◌, All};
-    ghost use Rattle.model_core.specs.declared.limits.TheConstants.{MOST_EVENTS};
-    ghost use Rattle.replications.specs.declared.window.Window.{Window};
-    ghost use Rattle.replications.specs.Windows.{IsWithin};
-    ghost use Rattle.replications.specs.Tables.{WindowsView};
+    ghost use Rattle.replications.specs.Tables.{AreSmall, WindowsView};
 
     ghost Value = { WindowsView };
 
     ghost view = { λ windows. record { objects = windows.objects.items; first_tick = windows.first_tick; records = windows.records; last_time = windows.last_time } };
 
-    ghost invariant = { λ windows. (windows.records ≤ MOST_EVENTS) × (windows.last_time ≤ 2 ^ 48) × All (λ (window : Window). IsWithin (4 * windows.records) window) windows.objects.items };
+    ghost invariant = { λ windows. AreSmall windows.objects.items windows.records windows.last_time };
 }
 
 impl Windows {
@@ -83,7 +79,8 @@ impl Windows {
 
     /// The last tick of a run of these records that stopped for this reason.
     fn last_tick(&self, terms: &Terms, stop: &Stop) -> u64
-        ensures tick { (first_tick objects : ℕ) (records : List (Key × Note)) → self.now ≡ windows_of first_tick objects records → result ≡ last_tick terms.now records stop.now }
+        ensures tick { (first_tick objects : ℕ) (records : List (Key × Note)) → self.now ≡ windows_of first_tick objects records
+            → result ≡ last_tick terms.now records stop.now }
         ensures below { result ≤ 2 ^ 48 }
     {
         match stop {

@@ -11,12 +11,12 @@ pub run_to_stop-requires-clause-rows : goal.run_to_stop-requires-clause-rows
 run_to_stop-requires-clause-rows g c κs within = (c.args.replication.now.first_tick, c.in_ok-rows.ensures)
 
 pub put-requires : goal.put-requires
-put-requires g c = (
-  c.args.replication.now.first_tick,
-  (run (g.M.Model.meaning c.args.model.now) c.args.replication.now.terms (initial_state (g.M.Model.meaning c.args.model.now))).records,
-  c.in_ok-end.ensures.rows c.args.replication.now.first_tick c.in_ok-rows.ensures,
-  record { are_all = refl; stops_so = ap (λ (e : RunEnd). e.stop) c.in_ok-end.ensures.end },
-)
+put-requires g c = record {
+  first_tick = c.args.replication.now.first_tick;
+  records = (run (g.M.Model.meaning c.args.model.now) c.args.replication.now.terms (initial_state (g.M.Model.meaning c.args.model.now))).records;
+  summed = c.in_ok-end.ensures.rows c.args.replication.now.first_tick c.in_ok-rows.ensures;
+  of_run = record { are_all = refl; stops_so = ap (λ (e : RunEnd). e.stop) c.in_ok-end.ensures.end };
+}
 
 pub returns-clause-rows : goal.returns-clause-rows
 unfolding rows_of_run

@@ -59,12 +59,13 @@ add_all-requires-after_bounds g c κs within =
     let same = ap g.M.Model.meaning i.model in
     let own_none = sym c.ended.ensures ∙ none_of _ c.in_default.not-Some in
     let not_ended = ended-same _ _ _ _ _ _ same i.terms (sym own_none) in
-    let cycle = cycle-same _ _ _ _ _ _ c.in_ok-bucket.bucket same i.terms c.in_ok-bucket.ensures.gives in (
-      first_tick,
-      records_of_buckets i.so_far,
-      i.kept first_tick c.requires.rows.1,
-      subst (CanAllCome m (records_of_buckets i.so_far)) (sym c.as_buffer.ensures) (bucket-can_come _ _ i.laws _ i.so_far i.way _ _ not_ended cycle),
-    )
+    let cycle = cycle-same _ _ _ _ _ _ c.in_ok-bucket.bucket same i.terms c.in_ok-bucket.ensures.gives in
+    record {
+      first_tick = first_tick;
+      records = records_of_buckets i.so_far;
+      summed = i.kept first_tick c.requires.rows.1;
+      can_come = subst (CanAllCome m (records_of_buckets i.so_far)) (sym c.as_buffer.ensures) (bucket-can_come _ _ i.laws _ i.so_far i.way _ _ not_ended cycle);
+    }
 
 pub loop-stop-smaller : goal.loop-stop-smaller
 loop-stop-smaller g c =

@@ -7,10 +7,15 @@ loop-i-init g c first_tick before up can = subst (g.W.Rows.sums_up c.args.model.
 
 pub add-requires : goal.add-requires
 add-requires g c =
-    let first_tick = c.requires.0 in
-    let before = c.requires.1 in
-    let comes = read-comes (g.M.Model.meaning c.args.model.now) before c.args.records.now.items c.loop-i.i _ c.at.ensures.told c.at.ensures.few c.requires.3 in
-    (first_tick, before ++ take c.loop-i.i c.args.records.now.items, c.loop-i.invariant first_tick before c.requires.2 c.requires.3, comes)
+    let first_tick = c.requires.first_tick in
+    let before = c.requires.records in
+    let comes = read-comes (g.M.Model.meaning c.args.model.now) before c.args.records.now.items c.loop-i.i _ c.at.ensures.told c.at.ensures.few c.requires.can_come in
+    record {
+      first_tick = first_tick;
+      records = before ++ take c.loop-i.i c.args.records.now.items;
+      summed = c.loop-i.invariant first_tick before c.requires.summed c.requires.can_come;
+      can_come = comes;
+    }
 
 pub loop-i-preserved : goal.loop-i-preserved
 loop-i-preserved g c first_tick before up can =

@@ -29,10 +29,10 @@ returns-clause-windows c first_tick objects records summed =
     ∙ ap with_first (windows_of-first_tick first_tick objects records) ∙ windows_of-more first_tick objects records told new added
 
 pub invariant_of-self : goal.invariant_of-self
-invariant_of-self c = (
-  omega (arith, c.requires.room, ap (λ (s : WindowsView). s.records) c.self.view_is),
-  omega (arith, c.time_of-time.ensures),
-  keeps_within c.self.inside.objects.items c.self.inside.records c.args.key.now.dest c.index_mut-window.result.now c.add.new.self
+invariant_of-self c = record {
+  few = omega (arith, c.requires.room, ap (λ (s : WindowsView). s.records) c.self.view_is);
+  early = omega (arith, c.time_of-time.ensures);
+  sums = keeps_within c.self.inside.objects.items c.self.inside.records c.args.key.now.dest c.index_mut-window.result.now c.add.new.self
       (omega (arith, c.requires.object, ap (λ (s : WindowsView). length s.objects) c.self.view_is))
-      c.index_mut-window.ensures.value c.self.invariant.2 c.add.ensures.within,
-)
+      c.index_mut-window.ensures.value c.self.invariant.sums c.add.ensures.within;
+}

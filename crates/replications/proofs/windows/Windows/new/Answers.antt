@@ -11,9 +11,9 @@ returns c =
     ∙ sym (windows_of-none c.args.first_tick c.args.objects)
 
 pub invariant_of-result : goal.invariant_of-result
-invariant_of-result c = (
-  omega arith,
-  omega arith,
-  none_are_small c.args.first_tick c.args.objects c.in_ok-vec.field-0.items
-      (c.in_ok-vec.ensures.items_if_clones_equal (λ y same. same) ∙ ap (λ (one : Window). replicate c.args.objects one) (c.none.ensures c.args.first_tick)),
-)
+invariant_of-result c = record {
+  few = omega arith;
+  early = omega arith;
+  sums = none_are_small c.args.first_tick c.args.objects c.in_ok-vec.field-0.items
+      (c.in_ok-vec.ensures.items_if_clones_equal (λ y same. same) ∙ ap (λ (one : Window). replicate c.args.objects one) (c.none.ensures c.args.first_tick));
+}

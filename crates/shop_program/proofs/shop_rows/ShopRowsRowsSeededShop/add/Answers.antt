@@ -9,8 +9,8 @@ use Rattle.shop_program.proofs.shop_rows.ShopRowsRowsSeededShop.add.Goals as goa
 
 pub add-requires : goal.add-requires
 add-requires c =
-    let Up : Shop → Type 0 = λ shop. SumsUpShop (parts_of shop) (counted_from shop) c.args.self.now.totals c.requires.1 in
-    (c.requires.1, subst Up (sym c.shop.ensures) c.requires.2, can_come-seeded c.args.model.now c.shop.result.now c.requires.1 _ c.shop.ensures c.requires.3)
+    let Up : Shop → Type 0 = λ shop. SumsUpShop (parts_of shop) (counted_from shop) c.args.self.now.totals c.requires.records in
+    (c.requires.records, subst Up (sym c.shop.ensures) c.requires.summed, can_come-seeded c.args.model.now c.shop.result.now c.requires.records _ c.shop.ensures c.requires.can_come)
 
 pub returns : goal.returns
 returns c first_tick records is can =

@@ -10,16 +10,16 @@ use Rattle.shop_program.proofs.shop_rows.ShopRowsRowsSeededShop.put.Goals as goa
 
 pub put_by-requires-clause-sums : goal.put_by-requires-clause-sums
 put_by-requires-clause-sums c =
-    let Up : Shop → Type 0 = λ shop. SumsUpShop (parts_of shop) (counted_from shop) c.args.self.now.totals c.requires.1 in
+    let Up : Shop → Type 0 = λ shop. SumsUpShop (parts_of shop) (counted_from shop) c.args.self.now.totals c.requires.records in
     let shop = shop_seeded c.args.model.now in
-    let stands = clock-stands (seeded_meaning c.args.model.now) c.args.terms.now c.requires.1 c.args.end.now.stop (seeded_laws c.args.model.now) c.requires.3 in
-    (c.requires.1, subst Up (sym c.shop-shop.ensures) c.requires.2, omega (arith, stands.0, c.clock-clock.ensures (parts_of shop) (counted_from shop) c.requires.1 c.requires.2))
+    let stands = clock-stands (seeded_meaning c.args.model.now) c.args.terms.now c.requires.records c.args.end.now.stop (seeded_laws c.args.model.now) c.requires.of_run in
+    (c.requires.records, subst Up (sym c.shop-shop.ensures) c.requires.summed, omega (arith, stands.0, c.clock-clock.ensures (parts_of shop) (counted_from shop) c.requires.records c.requires.summed))
 
 pub put_by-requires-clause-soon : goal.put_by-requires-clause-soon
 put_by-requires-clause-soon c =
     let shop = shop_seeded c.args.model.now in
-    let stands = clock-stands (seeded_meaning c.args.model.now) c.args.terms.now c.requires.1 c.args.end.now.stop (seeded_laws c.args.model.now) c.requires.3 in
-    omega (arith, stands.1, c.clock-clock.ensures (parts_of shop) (counted_from shop) c.requires.1 c.requires.2, c.args.terms.now.end_in_range)
+    let stands = clock-stands (seeded_meaning c.args.model.now) c.args.terms.now c.requires.records c.args.end.now.stop (seeded_laws c.args.model.now) c.requires.of_run in
+    omega (arith, stands.1, c.clock-clock.ensures (parts_of shop) (counted_from shop) c.requires.records c.requires.summed, c.args.terms.now.end_in_range)
 
 pub returns : goal.returns
 returns c first_tick records is all =
