@@ -4,6 +4,7 @@ use sim_spec::Stop;
 /// A replication, and what came of it.
 #[derive(Drop)]
 pub struct Job {
+    /// Below 2^63.
     pub seed: u64,
     /// Its rows, once it is done.
     pub rows: Vec<u8>,

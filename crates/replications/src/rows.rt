@@ -15,8 +15,9 @@ pub const WINDOW_HEAD: &str =
 #[derive(Clone, Copy, Debug, PartialEq, Eq)]
 pub struct RunEnd {
     pub seed: u64,
-    /// How many events the whole run did.
+    /// How many events the whole run did, those before the window too.
     pub events: u64,
+    /// Why it ended.
     pub stop: Stop,
 }
 
@@ -31,7 +32,8 @@ fn stop_name(stop: &Stop) -> &'static str
     }
 }
 
-/// Appends a number and a comma. Where memory runs out, each call here may have appended some of its text.
+/// Appends a number in decimal and a comma. The one error here is that memory ran out: then each call may have appended some of
+/// its text.
 pub fn put_field<I: Integer>(number: I, into: &mut Vec<u8>) -> Result<(), OutOfMemory>
     ensures { OnOk result (into.new.items ≡ into.old.items ++ (I.text number ++ codes ",")) }
 {

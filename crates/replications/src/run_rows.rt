@@ -22,7 +22,8 @@ pub trait Rows<M: SimulationModel>: std::marker::Send + Sync + Drop {
     /// That it has summed up these records, in a window that begins at a tick.
     ghost sums_up: { M → ℕ → Self → List (Key × Note) → Type 0 };
 
-    /// What is kept of no record, in a window that begins at a tick. This alone takes memory.
+    /// What is kept of no record, in a window that begins at a tick. This alone takes memory, and the one error is that there was
+    /// none.
     fn new(alloc: Global, model: &M, first_tick: u64) -> Result<Self, OutOfMemory>
         ensures { IfOk result (λ rows. sums_up model.now first_tick rows []) };
 

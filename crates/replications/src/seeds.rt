@@ -18,7 +18,7 @@ pub trait Seeds<M: SimulationModel, W: Rows<M>>: std::marker::Send + Sync + Drop
     /// What the rows of the model with a seed are.
     ghost rows: { Self → ℕ → RowsOf };
 
-    /// The model with a seed, which is below 2^63.
+    /// The model with a seed, which is below 2^63. The one error is that memory ran out.
     fn with_seed(&self, alloc: Global, seed: u64) -> Result<Arc<M>, OutOfMemory>
         requires { seed < 2 ^ 63 }
         ensures meaning { IfOk result (λ model. M.meaning (arc_value model) ≡ seeded self.now seed) }

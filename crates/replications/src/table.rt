@@ -110,7 +110,8 @@ fn write_lines<R: Threads + Sync, M: SimulationModel, W: Rows<M>, S: Seeds<M, W>
 /// Runs a model under so many seeds, shared out among so many workers, and writes the table: the head line, and the rows of
 /// each replication in the order of the seeds. It is the same for any number of workers and any schedule of threads. Memory
 /// is that of the runs under way and of the rows of a batch, and doesn't grow with the number of replications. The result is
-/// the gravest of the stops of the runs.
+/// the gravest of the stops of the runs. There are less than 2^32 replications, and 1 to 64 workers. The error is that the
+/// sink failed or that memory ran out: then a prefix of the table was written.
 pub fn write_table<R: Threads + Sync, M: SimulationModel, W: Rows<M>, S: Seeds<M, W>, K: Sink>(
     rt: &R,
     alloc: Global,

@@ -49,15 +49,18 @@ impl WindowStart {
     }
 }
 
-/// An option.
+/// An option, by what it sets.
 #[derive(Clone, Copy, Debug, PartialEq, Eq)]
 pub enum Choice {
+    /// `--first`: the seed of the first replication.
     FirstSeed,
+    /// `--from`: the first tick of the window.
     FirstTick,
+    /// `--workers`: how many workers there are.
     Workers,
 }
 
-/// What options gave.
+/// What options gave, each within the bounds that `Replicate` names.
 #[derive(Clone, Copy, Debug, PartialEq, Eq)]
 pub struct Given {
     pub first_seed: Option<u64>,
@@ -163,7 +166,8 @@ fn options(start: WindowStart, given: Given, words: &[String]) -> Result<Given, 
     }
 }
 
-/// Reads these words. It takes no memory.
+/// Reads these words: how many replications there are, and then options, each with its value behind it. It takes no memory. The
+/// error is that of the first word that is wrong or has no value.
 #[tactic(auto, unfolding(crate::specs::ReplicateWords::replicate_settings))]
 pub fn read_replicate_words(start: WindowStart, words: &[String]) -> Result<Replicate, WordFault>
     ensures settings { result ≡ replicate_settings start (texts_of words.now) }
