@@ -19,7 +19,8 @@ module _ {R : Type 0} (sums_up : ℕ → R → List (Key × Note) → Type 0) (m
   -- whatever they had summed up, now it is this one too, if that could come
   abbrev pub AddsOne : R → R → Key × Note → Type 0
   AddsOne old new told =
-      (first_tick : ℕ) (records : List (Key × Note)) → sums_up first_tick old records → CanCome m records told → sums_up first_tick new (records ++ told ∷ [])
+      (first_tick : ℕ) (records : List (Key × Note)) → sums_up first_tick old records → CanCome m records told
+      → sums_up first_tick new (records ++ told ∷ [])
 
   -- the same of several records, one after another
   pub record CanAddAll (rows : R) (more : List (Key × Note)) : Type 0 where
@@ -30,7 +31,8 @@ module _ {R : Type 0} (sums_up : ℕ → R → List (Key × Note) → Type 0) (m
 
   abbrev pub AddsAll : R → R → List (Key × Note) → Type 0
   AddsAll old new more =
-      (first_tick : ℕ) (records : List (Key × Note)) → sums_up first_tick old records → CanAllCome m records more → sums_up first_tick new (records ++ more)
+      (first_tick : ℕ) (records : List (Key × Note)) → sums_up first_tick old records → CanAllCome m records more
+      → sums_up first_tick new (records ++ more)
 
   -- they have summed up all records of a run that stopped so
   pub record SumUpRun (rows : R) (t : Terms) (stop : Stop) : Type 0 where

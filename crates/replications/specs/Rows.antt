@@ -49,6 +49,10 @@ end_text ticks end = field ticks ++ (field end.events ++ (stop_name end.stop ++ 
 unfoldable pub row : Meaning → ℕ → ℕ → RunEnd → ℕ → Columns → List ℕ
 row m first_tick last end object sums = seed_text end.seed ++ (m.label object ++ (columns_text sums ++ end_text (last - first_tick) end))
 
+-- the row of an object over the records of a run
+abbrev pub row_of : Meaning → ℕ → ℕ → RunEnd → ℕ → List (Key × Note) → List ℕ
+row_of m first_tick last end object records = row m first_tick last end object (window_sums first_tick last (parts_told object records))
+
 -- a row for each object, numbered from this one on
 unfoldable pub rows_from : Meaning → ℕ → ℕ → RunEnd → ℕ → List Columns → List ℕ
 rows_from m first_tick last end object [] = []

@@ -3,6 +3,7 @@ ghost use Rattle.std.specs.Prelude.{◌≡◌, ◌≤◌, ◌+◌, ◌^◌, ◌+
 ghost use Rattle.replications.specs.Windows.{no_sums};
 
 use crate::left::Left;
+use crate::span::Span;
 use model_core::{LEFT_WORD, LOST_WORD, Part};
 use sim_stats::{Occupancy, is_arrival, is_service};
 
@@ -13,11 +14,11 @@ pub struct Columns {
     pub arrivals: u64,
     pub served: u64,
     pub lost: u64,
-    /// Busy servers times the ticks for which they were busy.
+    /// Busy servers times the ticks for which they were busy, summed up: in server ticks.
     pub busy: u128,
-    /// Waiting jobs times the ticks for which they waited.
+    /// Waiting jobs times the ticks for which they waited, summed up: in job ticks.
     pub waiting: u128,
-    /// The ages of the jobs that left there, in ticks.
+    /// The sum of the ages of the jobs that left there, in ticks.
     pub age: u128,
     /// The most jobs that waited at once.
     pub longest: u64,
@@ -125,7 +126,8 @@ impl Window {
         requires few { length parts.now ≤ 4 }
         requires time { time ≤ 2 ^ 48 }
         requires room { IsWithin (2 ^ 32) self.old }
-        ensures sums { (told : List TimedPart) → self.old ≡ window_of first_tick told → self.new ≡ window_of first_tick (told ++ parts_at time parts.now) }
+        ensures sums { (told : List TimedPart) → self.old ≡ window_of first_tick told
+            → self.new ≡ window_of first_tick (told ++ parts_at time parts.now) }
         ensures within { (parts : ℕ) → IsWithin parts self.old → IsWithin (parts + 4) self.new }
     {
         for part in parts {
@@ -133,17 +135,17 @@ impl Window {
         }
     }
 
-    /// The sums of the window from tick `first_tick` to tick `last_tick`: all are 0 where it has no tick.
-    pub fn close(&self, first_tick: u64, last_tick: u64) -> Columns
-        requires last_tick { last_tick ≤ 2 ^ 48 }
+    /// The sums of a window that ends: all are 0 where it has no tick. It has to begin where the parts were told to begin.
+    pub fn close(&self, span: Span) -> Columns
+        requires last_tick { span.last_tick ≤ 2 ^ 48 }
         requires room { IsWithin (2 ^ 33) self.now }
-        ensures { (told : List TimedPart) → self.now ≡ window_of first_tick told → result ≡ window_sums first_tick last_tick told }
+        ensures { (told : List TimedPart) → self.now ≡ window_of span.first_tick told → result ≡ window_sums span.first_tick span.last_tick told }
     {
-        if last_tick < first_tick {
+        if span.last_tick < span.first_tick {
             return Columns::none();
         }
         let mut all = *self;
-        all.pass(first_tick, last_tick);
+        all.pass(span.first_tick, span.last_tick);
         Columns {
             longest: all.begins.max(all.sums.longest),
             ..all.sums

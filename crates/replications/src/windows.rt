@@ -5,6 +5,7 @@ ghost use Rattle.event_key.specs.Stamps.{time_part};
 ghost use Rattle.model_core.specs.declared.note.Note.{Note};
 
 use crate::rows::{RunEnd, put_columns, put_end, put_seed};
+use crate::span::Span;
 use crate::window::Window;
 use event_key::{Key, time_of};
 use model_core::model::Model as SimulationModel;
@@ -13,11 +14,11 @@ use sim_spec::{Stop, Terms};
 use std::alloc::Global;
 use std::marker::Model;
 
-/// A row: the object that it is of, the last tick of its window, and how the run ended.
+/// A row: the object that it is of, its window, and how the run ended.
 #[derive(Clone, Copy)]
 struct Row {
     object: u32,
-    last_tick: u64,
+    span: Span,
     end: RunEnd,
 }
 
@@ -35,19 +36,22 @@ impl Model for Windows {
 
     ghost Value = { WindowsView };
 
-    ghost view = { λ windows. record { objects = windows.objects.items; first_tick = windows.first_tick; records = windows.records; last_time = windows.last_time } };
+    ghost view = { λ windows. record {
+      objects = windows.objects.items;
+      first_tick = windows.first_tick;
+      records = windows.records;
+      last_time = windows.last_time;
+    } };
 
     ghost invariant = { λ windows. AreSmall windows.objects.items windows.records windows.last_time };
 }
 
 impl Windows {
-    ghost use Rattle.replications.specs.Parts.{parts_told};
-    ghost use Rattle.replications.specs.Windows.{window_sums};
     ghost use Rattle.replications.specs.Tables.{windows_of};
-    ghost use Rattle.replications.specs.Rows.{last_tick, row, rows_of_records};
+    ghost use Rattle.replications.specs.Rows.{last_tick, row_of, rows_of_records};
     ghost use Rattle.model_core.specs.declared.limits.TheConstants.{MOST_EVENTS};
 
-    /// No record yet, for a model with so many objects and a window that begins at this tick.
+    /// No record yet, for a model with so many objects and a window that begins at this tick. The one error is that memory ran out.
     pub fn new(alloc: Global, objects: u32, first_tick: u64) -> Result<Windows, OutOfMemory>
         ensures { IfOk result (λ windows. windows ≡ windows_of first_tick objects []) }
     {
@@ -100,24 +104,21 @@ impl Windows {
     ) -> Result<(), OutOfMemory>
         requires object { which.object < (M.meaning model.now).objects }
         requires exists { which.object < length self.now.objects }
-        requires last_tick { which.last_tick ≤ 2 ^ 48 }
-        ensures { (first_tick objects : ℕ) (records : List (Key × Note)) → self.now ≡ windows_of first_tick objects records
+        requires last_tick { which.span.last_tick ≤ 2 ^ 48 }
+        ensures { (objects : ℕ) (records : List (Key × Note)) → self.now ≡ windows_of which.span.first_tick objects records
             → OnOk result (into.new.items ≡ into.old.items
-            ++ row (M.meaning model.now) first_tick which.last_tick which.end which.object (window_sums first_tick which.last_tick (parts_told which.object records))) }
+            ++ row_of (M.meaning model.now) which.span.first_tick which.span.last_tick which.end which.object records) }
     {
-        let sums = self.objects[which.object as usize].close(self.first_tick, which.last_tick);
+        let sums = self.objects[which.object as usize].close(which.span);
         put_seed(which.end.seed, into)?;
         model.put_name(alloc, which.object, into)?;
         put_columns(&sums, into)?;
-        put_end(
-            which.last_tick.saturating_sub(self.first_tick),
-            &which.end,
-            into,
-        )?;
+        put_end(which.span.ticks(), &which.end, into)?;
         Ok(())
     }
 
-    /// Appends the rows of all objects, in order, where these are all records of a run that ended so.
+    /// Appends the rows of all objects, in order, where these are all records of a run that ended so. The one error is that memory
+    /// ran out: then it may have appended some of them.
     pub fn put_rows<M: SimulationModel>(
         &self,
         alloc: Global,
@@ -131,10 +132,14 @@ impl Windows {
             → OnOk result (into.new.items ≡ into.old.items ++ rows_of_records (M.meaning model.now) terms.now first_tick end.now records) }
     {
         let last_tick = self.last_tick(terms, &end.stop);
+        let span = Span {
+            first_tick: self.first_tick,
+            last_tick,
+        };
         for object in 0..model.objects() {
             let row = Row {
                 object,
-                last_tick,
+                span,
                 end: *end,
             };
             self.put_row(alloc, model, row, into)?;

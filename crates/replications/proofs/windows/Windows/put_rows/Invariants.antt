@@ -9,4 +9,4 @@ abbrev pub invariant-loop-object : goal.invariant-loop-object
 invariant-loop-object g l =
     let m = g.M.Model.meaning l.model in
     (first_tick objects : ℕ) (records : List (Key × Note)) → l.self ≡ windows_of first_tick objects records
-    → l.into.items ≡ l.fn.into.items ++ rows_from m first_tick l.last_tick l.end 0 (take l.object (table_of first_tick l.last_tick m.objects records))
+    → l.into.items ≡ l.fn.into.items ++ rows_from m first_tick l.span.last_tick l.end 0 (take l.object (table_of first_tick l.span.last_tick m.objects records))
