@@ -15,6 +15,7 @@ pub mod LevelSteps
 pub mod LevelSums
 pub mod Meaning
 pub mod ModelLaws
+pub mod OwnEvents
 pub mod Parts
 pub mod Routes
 pub mod ShopParts

@@ -14,7 +14,7 @@ ghost use Rattle.shop_model.specs.Beginnings.{service_drawn, begin_changes, begi
 
 use crate::counts::Counts;
 use crate::job::{Job, job_at, served_by};
-use crate::kinds::DONE;
+use crate::own_event::OwnEvent;
 use crate::site::Site;
 use crate::station::{FREE_SERVERS, HELD, LAG};
 use crate::station_event::StationEvent;
@@ -94,9 +94,11 @@ impl StationEvent<'_> {
             word: self.station.mark(server as u32),
             value: self.cells.word(LAG),
         });
-        let a = job_at(job.step, job.id);
-        let b = served_by(server, birth);
-        sheet.sends.push(self.site.to_self(service, DONE, a, b));
+        let end = OwnEvent::Done {
+            job: job_at(job.step, job.id),
+            served: served_by(server, birth),
+        };
+        sheet.sends.push(self.site.to_self(service, end));
         Counts {
             free: counts.free - 1,
             ..counts

@@ -5,7 +5,7 @@ ghost use Rattle.random_streams.specs.Delays.{is_delay_law};
 ghost use Rattle.shop_model.specs.StationEffects.{break_effect, mend_effect, still_effect, works_effect};
 
 use crate::counts::Counts;
-use crate::kinds::{BREAK, MEND};
+use crate::own_event::OwnEvent;
 use crate::site::told;
 use crate::station::{DOWN, LAG};
 use crate::station_event::StationEvent;
@@ -42,7 +42,7 @@ impl StationEvent<'_> {
             word: LAG,
             value: self.cells.word(LAG).wrapping_add(still),
         });
-        sheet.sends.push(self.site.to_self(still, MEND, 0, 0));
+        sheet.sends.push(self.site.to_self(still, OwnEvent::Mend));
         let busy = Counts::of(self.cells).busy(self.station.most);
         sheet.note = told(DOWN_WORD, still, busy);
     }
@@ -74,7 +74,7 @@ impl StationEvent<'_> {
             word: DOWN,
             value: 0,
         });
-        sheet.sends.push(self.site.to_self(works, BREAK, 0, 0));
+        sheet.sends.push(self.site.to_self(works, OwnEvent::Break));
         counts.call(self.station.most, self.site, sheet);
         sheet.note = told(UP_WORD, counts.waiting, counts.busy(self.station.most));
     }

@@ -12,8 +12,8 @@ ghost use Rattle.delta_exchange.specs.declared.change.Change.TheVariants.{Set, P
 
 use crate::counts::Counts;
 use crate::job::Job;
-use crate::kinds::CALL;
 use crate::levels::{EMPTY, Entry, Level};
+use crate::own_event::OwnEvent;
 use crate::site::told;
 use crate::station::{Order, WAITING};
 use crate::station_event::StationEvent;
@@ -52,7 +52,7 @@ impl StationEvent<'_> {
         let a = self.cells.line_at(jobs, place);
         if a >= EMPTY {
             self.go_out(level, sheet);
-            sheet.sends.push(self.site.to_self(0, CALL, 0, 0));
+            sheet.sends.push(self.site.to_self(0, OwnEvent::Call));
             return;
         }
         self.call_job(words, Entry { level, place }, a, sheet);

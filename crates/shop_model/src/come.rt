@@ -13,8 +13,8 @@ ghost use Rattle.shop_model.specs.StationEffects.{come_effect, free_effect, arri
 
 use crate::counts::Counts;
 use crate::job::{Job, birth_of, job_at};
-use crate::kinds::TIRE;
 use crate::levels::{Level, NEVER};
+use crate::own_event::OwnEvent;
 use crate::site::told;
 use crate::station::{HELD, WAITING};
 use crate::station_event::StationEvent;
@@ -164,10 +164,11 @@ impl StationEvent<'_> {
                 let patience = self.site.draw(words, self.cells, law, sheet);
                 let entries = self.cells.line_len(Level::at(level).jobs) as u64;
                 let gone = self.cells.word(self.station.gone(level));
-                let place = gone.wrapping_add(entries);
-                sheet
-                    .sends
-                    .push(self.site.to_self(patience, TIRE, place, u64::from(level)));
+                let end = OwnEvent::Tire {
+                    entry: gone.wrapping_add(entries),
+                    level,
+                };
+                sheet.sends.push(self.site.to_self(patience, end));
                 self.site.tick + patience
             }
             None => NEVER,

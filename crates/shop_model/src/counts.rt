@@ -3,7 +3,7 @@ ghost use Rattle.std.specs.Prelude.{◌≡◌, ◌<◌, ◌≤◌, ◌++◌, len
 ghost use Rattle.shop_model.specs.HasStation.{AreCounts};
 ghost use Rattle.shop_model.specs.Stations.{counts_of, busy_of, spare_of, call_sent};
 
-use crate::kinds::CALL;
+use crate::own_event::OwnEvent;
 use crate::site::Site;
 use crate::station::{DOWN, FREE_SERVERS, HELD, OPEN, WAITING};
 use model_core::{Cells, Effect};
@@ -63,7 +63,7 @@ impl Counts {
         ensures { sheet.new ≡ record sheet.old { sends = sheet.old.sends ++ call_sent most site self.now } }
     {
         if self.waiting > 0 && self.spare(most) > 0 {
-            sheet.sends.push(site.to_self(0, CALL, 0, 0));
+            sheet.sends.push(site.to_self(0, OwnEvent::Call));
         }
     }
 }

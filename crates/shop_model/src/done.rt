@@ -7,7 +7,7 @@ ghost use Rattle.shop_model.specs.StationEffects.{done_effect, end_effect};
 
 use crate::counts::Counts;
 use crate::job::{Job, server_of};
-use crate::kinds::DONE;
+use crate::own_event::OwnEvent;
 use crate::site::told;
 use crate::station::{FREE_SERVERS, LAG};
 use crate::station_event::StationEvent;
@@ -39,8 +39,11 @@ impl StationEvent<'_> {
                 word,
                 value: mark.wrapping_add(put_off),
             });
-            let again = self.site.to_self(put_off, DONE, self.event.a, self.event.b);
-            sheet.sends.push(again);
+            let again = OwnEvent::Done {
+                job: self.event.a,
+                served: self.event.b,
+            };
+            sheet.sends.push(self.site.to_self(put_off, again));
             return;
         }
         self.end(job, server, sheet);

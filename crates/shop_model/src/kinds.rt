@@ -1,7 +1,5 @@
 //! The kinds of events, and the rank of each: of one instant services end first, then stations break or are mended,
 //! shifts change, patience ends, jobs are made, jobs come, and last of all servers call.
-ghost use Rattle.std.specs.Prelude.{◌≡◌};
-ghost use Rattle.shop_model.specs.Kinds.{rank_of};
 
 /// A class makes jobs.
 pub const MAKE: u32 = 1;
@@ -29,18 +27,3 @@ pub const MEND: u32 = 8;
 
 /// The rank of a job that comes, beside the priority of its class.
 pub const COME_RANK: u32 = 8;
-
-/// The rank of an event that an object sends to itself.
-#[tactic(auto, unfolding(crate::specs::Kinds::rank_of))]
-pub fn rank_of(kind: u32) -> u32
-    ensures { result ≡ rank_of kind }
-{
-    match kind {
-        MAKE => 4,
-        CALL => 16,
-        TIRE => 3,
-        SHIFT => 2,
-        BREAK | MEND => 1,
-        _ => 0,
-    }
-}

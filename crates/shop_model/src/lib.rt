@@ -18,6 +18,7 @@ mod job;
 mod kinds;
 mod levels;
 mod make;
+mod own_event;
 mod routes;
 mod shift;
 mod shop;

@@ -10,7 +10,7 @@ ghost use Rattle.shop_model.specs.Classes.{made_jobs, pause_drawn, arrival_of, n
 use crate::class::{Class, INSIDE, MADE};
 use crate::class_event::ClassEvent;
 use crate::job::{JOBS_A_CLASS, Job};
-use crate::kinds::MAKE;
+use crate::own_event::OwnEvent;
 use crate::site::{Site, told};
 use model_core::{Change, Effect, MADE_WORD, keep_place};
 use random_streams::{DelayLaw, Stream};
@@ -98,7 +98,8 @@ impl ClassEvent<'_> {
         });
         sheet.sends.push(self.routes.to(job, self.site.tick, 0, 0));
         if jobs > 1 && number < u64::from(self.class.count) {
-            sheet.sends.push(self.site.to_self(0, MAKE, jobs - 1, 0));
+            let others = OwnEvent::MakeRest { jobs: jobs - 1 };
+            sheet.sends.push(self.site.to_self(0, others));
         }
         sheet.note = told(MADE_WORD, job.id, inside);
     }
@@ -130,7 +131,9 @@ impl Class {
     {
         if let Some(pause) = pause {
             if made < u64::from(self.count) && site.tick + pause <= self.until {
-                sheet.sends.push(site.to_self(pause, MAKE, 0, 1));
+                sheet
+                    .sends
+                    .push(site.to_self(pause, OwnEvent::ArriveInTurn));
             }
         }
     }

@@ -5,7 +5,7 @@ ghost use Rattle.shop_model.specs.HasStation.{IsStation};
 ghost use Rattle.shop_model.specs.StationEffects.{shift_at, shift_sent, shift_effect};
 
 use crate::counts::Counts;
-use crate::kinds::SHIFT;
+use crate::own_event::OwnEvent;
 use crate::site::{Site, told};
 use crate::station::{OPEN, Shift, Station};
 use crate::station_event::StationEvent;
@@ -58,10 +58,12 @@ impl Station {
         let at = self.shift_at(number).at;
         if number + 1 < self.shifts.as_slice().len() as u64 {
             let delay = self.shift_at(number + 1).at.saturating_sub(at);
-            sheet.sends.push(site.to_self(delay, SHIFT, number + 1, 0));
+            let next = OwnEvent::Shift { number: number + 1 };
+            sheet.sends.push(site.to_self(delay, next));
         } else if let Some(period) = self.period {
             let delay = (period + self.shift_at(0).at).saturating_sub(at);
-            sheet.sends.push(site.to_self(delay, SHIFT, 0, 0));
+            let first = OwnEvent::Shift { number: 0 };
+            sheet.sends.push(site.to_self(delay, first));
         }
     }
 }

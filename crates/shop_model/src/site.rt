@@ -3,9 +3,10 @@ ghost use Rattle.std.specs.Prelude.{◌≡◌, ◌<◌, ◌≤◌, ◌^◌, [], 
 ghost use Rattle.model_core.specs.Effects.{blank};
 ghost use Rattle.model_core.specs.Places.{place_changes};
 ghost use Rattle.random_streams.specs.Delays.{is_delay_law};
+ghost use Rattle.shop_model.specs.OwnEvents.{kind_of, first_word, second_word};
 ghost use Rattle.shop_model.specs.Sites.{to_self, place_of, drawn_at, told};
 
-use crate::kinds::rank_of;
+use crate::own_event::OwnEvent;
 use model_core::{Cells, Effect, Note, Part, Send, keep_place};
 use random_streams::{DelayLaw, Stream};
 
@@ -19,16 +20,16 @@ pub struct Site {
 
 impl Site {
     /// An event at the object itself, after a delay.
-    pub fn to_self(&self, delay: u64, kind: u32, a: u64, b: u64) -> Send
-        ensures { result ≡ to_self self.now delay kind a b }
+    pub fn to_self(&self, delay: u64, event: OwnEvent) -> Send
+        ensures { result ≡ to_self self.now delay (kind_of event) (first_word event) (second_word event) }
     {
         Send {
             dest: self.object,
             delay,
-            kind,
-            a,
-            b,
-            rank: rank_of(kind),
+            kind: event.kind(),
+            a: event.first_word(),
+            b: event.second_word(),
+            rank: event.rank(),
         }
     }
 

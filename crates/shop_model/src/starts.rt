@@ -2,25 +2,26 @@
 ghost use Rattle.std.specs.Prelude.{◌≡◌, ◌<◌, ◌≤◌, ◌+◌, ◌++◌, ◌∷◌, [], IfOk, OnOk, length, map};
 ghost use Rattle.shop_model.specs.declared.kinds.TheConstants.{MAKE};
 ghost use Rattle.model_core.specs.declared.limits.TheConstants.{MOST_OBJECTS};
+ghost use Rattle.shop_model.specs.OwnEvents.{kind_of, first_word, second_word};
 ghost use Rattle.shop_model.specs.Starts.{start_at, first_shift, first_work, first_arrival, station_starts, class_starts, starts_of};
 
 use crate::class::Class;
-use crate::kinds::{MAKE, MEND, SHIFT, rank_of};
+use crate::own_event::OwnEvent;
 use crate::station::Station;
 use model_core::{OutOfMemory, Start};
 use std::alloc::Global;
 
 /// An event with which an object begins.
-fn start_at(object: u32, time: u64, kind: u32, b: u64) -> Start
-    ensures { result ≡ start_at object time kind b }
+fn start_at(object: u32, time: u64, event: OwnEvent) -> Start
+    ensures { result ≡ record (start_at object time (kind_of event) (second_word event)) { a = first_word event } }
 {
     Start {
         time,
         dest: object,
-        kind,
-        a: 0,
-        b,
-        rank: rank_of(kind),
+        kind: event.kind(),
+        a: event.first_word(),
+        b: event.second_word(),
+        rank: event.rank(),
     }
 }
 
@@ -30,10 +31,10 @@ impl Station {
         ensures { OnOk result (starts.new.items ≡ starts.old.items ++ station_starts object self.now) }
     {
         if let Some(shift) = self.shifts.as_slice().first() {
-            starts.push(start_at(object, shift.at, SHIFT, 0))?;
+            starts.push(start_at(object, shift.at, OwnEvent::Shift { number: 0 }))?;
         }
         if self.breakdowns.is_some() {
-            starts.push(start_at(object, 0, MEND, 0))?;
+            starts.push(start_at(object, 0, OwnEvent::Mend))?;
         }
         Ok(())
     }
@@ -54,7 +55,7 @@ impl Class {
             ++ first_arrival object self.now.every self.now.first self.now.until) }
     {
         if self.every.is_some() && self.first <= self.until {
-            starts.push(start_at(object, self.first, MAKE, 1))?;
+            starts.push(start_at(object, self.first, OwnEvent::ArriveInTurn))?;
         }
         Ok(())
     }
@@ -65,7 +66,7 @@ impl Class {
             ++ map (λ time. start_at object time MAKE 0) self.now.times) }
     {
         for time in self.times.as_slice() {
-            starts.push(start_at(object, *time, MAKE, 0))?;
+            starts.push(start_at(object, *time, OwnEvent::Arrive))?;
         }
         Ok(())
     }
