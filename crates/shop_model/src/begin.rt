@@ -82,9 +82,7 @@ impl StationEvent<'_> {
                 word: HELD,
                 value: held,
             });
-            sheet
-                .sends
-                .push(self.routes.to(job, birth, job.step + 1, 0));
+            sheet.sends.push(self.routes.onward(job, birth));
             return Counts { held, ..counts };
         }
         let last = self.cells.line_len(FREE_SERVERS) - 1;

@@ -47,10 +47,8 @@ impl StationEvent<'_> {
             sheet.new ≡ free_effect at.site at.routes.now at.station.now job at.cells.now.contents at.event.now }
     {
         let counts = Counts::of(self.cells);
+        sheet.sends.push(self.routes.onward(job, self.event.b));
         if counts.held == 0 {
-            sheet
-                .sends
-                .push(self.routes.to(job, self.event.b, job.step + 1, 0));
             return;
         }
         let held = counts.held - 1;
@@ -58,9 +56,6 @@ impl StationEvent<'_> {
             word: HELD,
             value: held,
         });
-        sheet
-            .sends
-            .push(self.routes.to(job, self.event.b, job.step + 1, 0));
         let counts = Counts { held, ..counts };
         counts.call(self.station.most, self.site, sheet);
         sheet.note = told(FREED_WORD, job.id, counts.waiting);

@@ -66,9 +66,7 @@ impl StationEvent<'_> {
             line: FREE_SERVERS,
             value: server,
         });
-        sheet
-            .sends
-            .push(self.routes.to(job, self.event.b, job.step + 1, 0));
+        sheet.sends.push(self.routes.onward(job, self.event.b));
         let counts = Counts {
             free: counts.free + 1,
             ..counts

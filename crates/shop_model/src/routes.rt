@@ -119,6 +119,16 @@ impl Routes {
         }
     }
 
+    /// The job on its way to the step after its own, where it comes at once.
+    pub fn onward(&self, job: Job, b: u64) -> Send
+        requires routes { AreRoutes self.now }
+        requires job { HasJob self.now job }
+        requires step { job.step < MOST_STEPS }
+        ensures { result ≡ moved self.now job b (job.step + 1) 0 }
+    {
+        self.to(job, b, job.step + 1, 0)
+    }
+
     /// The job on its way to a step, where it comes after a delay.
     #[tactic(auto, unfolding(crate::specs::Routes::moved))]
     pub fn to(&self, job: Job, b: u64, step: u32, delay: u64) -> Send
