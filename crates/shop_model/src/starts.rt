@@ -1,9 +1,10 @@
 //! The events with which a shop begins.
-ghost use Rattle.std.specs.Prelude.{◌≡◌, ◌<◌, ◌≤◌, ◌+◌, ◌++◌, ◌∷◌, [], IfOk, OnOk, length, map};
+ghost use Rattle.std.specs.Prelude.{◌≡◌, ◌<◌, ◌≤◌, ◌+◌, ◌++◌, ◌∷◌, [], List, IfOk, OnOk, length, map};
 ghost use Rattle.shop_model.specs.declared.kinds.TheConstants.{MAKE};
 ghost use Rattle.model_core.specs.declared.limits.TheConstants.{MOST_OBJECTS};
 ghost use Rattle.shop_model.specs.OwnEvents.{kind_of, first_word, second_word};
-ghost use Rattle.shop_model.specs.Starts.{start_at, first_shift, first_work, first_arrival, station_starts, class_starts, starts_of};
+ghost use Rattle.shop_model.specs.declared.class.Class.{Class};
+ghost use Rattle.shop_model.specs.Starts.{start_at, first_shift, first_work, first_arrival, station_starts, class_starts, starts_below, starts_of};
 
 use crate::class::Class;
 use crate::own_event::OwnEvent;
@@ -81,12 +82,35 @@ pub(crate) fn starts_of(
     requires { length stations.now + length classes.now ≤ MOST_OBJECTS }
     ensures { IfOk result (λ starts. starts.items ≡ starts_of stations.now classes.now) }
 {
+    let mut starts = station_starts(alloc, stations)?;
+    add_class_starts(stations, classes, &mut starts)?;
+    Ok(starts)
+}
+
+/// Those with which the stations begin.
+fn station_starts(alloc: Global, stations: &[Station]) -> Result<Vec<Start>, OutOfMemory>
+    requires { length stations.now ≤ MOST_OBJECTS }
+    ensures { IfOk result (λ starts. (classes : List Class) → starts.items ≡ starts_below stations.now classes (length stations.now)) }
+{
     let mut starts = Vec::new(alloc);
     for (number, station) in stations.iter().enumerate() {
         station.add_starts(number as u32, &mut starts)?;
     }
-    for (place, class) in classes.iter().enumerate() {
-        class.add_starts((stations.len() + place) as u32, &mut starts)?;
-    }
     Ok(starts)
+}
+
+/// Lists those with which the classes begin, after those of the stations.
+fn add_class_starts(
+    stations: &[Station],
+    classes: &[Class],
+    starts: &mut Vec<Start>,
+) -> Result<(), OutOfMemory>
+    requires few { length stations.now + length classes.now ≤ MOST_OBJECTS }
+    requires stations { starts.old.items ≡ starts_below stations.now classes.now (length stations.now) }
+    ensures { OnOk result (starts.new.items ≡ starts_of stations.now classes.now) }
+{
+    for (place, class) in classes.iter().enumerate() {
+        class.add_starts((stations.len() + place) as u32, starts)?;
+    }
+    Ok(())
 }
