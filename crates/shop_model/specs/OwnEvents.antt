@@ -8,7 +8,7 @@ abbrev pub kind_of : OwnEvent → ℕ
 kind_of Arrive = MAKE
 kind_of ArriveInTurn = MAKE
 kind_of (MakeRest jobs) = MAKE
-kind_of (Done job served) = DONE
+kind_of (Done job birth) = DONE
 kind_of Call = CALL
 kind_of (Tire entry level) = TIRE
 kind_of (Shift number) = SHIFT
@@ -19,7 +19,7 @@ abbrev pub first_word : OwnEvent → ℕ
 first_word Arrive = 0
 first_word ArriveInTurn = 0
 first_word (MakeRest jobs) = jobs
-first_word (Done job served) = job
+first_word (Done job birth) = job.word
 first_word Call = 0
 first_word (Tire entry level) = entry
 first_word (Shift number) = number
@@ -31,7 +31,7 @@ abbrev pub second_word : OwnEvent → ℕ
 second_word Arrive = 0
 second_word ArriveInTurn = 1
 second_word (MakeRest jobs) = 0
-second_word (Done job served) = served
+second_word (Done job birth) = birth.word
 second_word Call = 0
 second_word (Tire entry level) = level
 second_word (Shift number) = 0

@@ -13,7 +13,7 @@ ghost use Rattle.shop_model.specs.HasStation.{AreCounts};
 ghost use Rattle.shop_model.specs.Beginnings.{service_drawn, begin_changes, begin_sent, counts_begun};
 
 use crate::counts::Counts;
-use crate::job::{Job, job_at, served_by};
+use crate::job::{BirthCode, Job, JobCode};
 use crate::own_event::OwnEvent;
 use crate::site::Site;
 use crate::station::{FREE_SERVERS, HELD, LAG};
@@ -93,8 +93,8 @@ impl StationEvent<'_> {
             value: self.cells.word(LAG),
         });
         let end = OwnEvent::Done {
-            job: job_at(job.step, job.id),
-            served: served_by(server, birth),
+            job: JobCode::of(job.step, job.id),
+            birth: BirthCode::of(server, birth),
         };
         sheet.sends.push(self.site.to_self(service, end));
         Counts {

@@ -12,7 +12,7 @@ ghost use Rattle.shop_model.specs.Stations.{counts_of, spare_of};
 ghost use Rattle.shop_model.specs.StationEffects.{come_effect, free_effect, arrive_effect, take_effect, wait_effect, until_of, tire_sent};
 
 use crate::counts::Counts;
-use crate::job::{Job, birth_of, job_at};
+use crate::job::{BirthCode, Job, JobCode};
 use crate::levels::{Level, NEVER};
 use crate::own_event::OwnEvent;
 use crate::site::told;
@@ -99,7 +99,7 @@ impl StationEvent<'_> {
     {
         let counts = Counts::of(self.cells);
         let service = visit.service(words, self.site, self.cells, sheet);
-        let birth = birth_of(self.event.b);
+        let birth = BirthCode { word: self.event.b }.birth();
         let counts = self.begin(visit, service, job, birth, counts, sheet);
         sheet.note = told(TAKEN_WORD, job.id, counts.busy(self.station.most));
     }
@@ -124,11 +124,11 @@ impl StationEvent<'_> {
         });
         sheet.changes.push(Change::Push {
             line: lines.jobs,
-            value: job_at(job.step, job.id),
+            value: JobCode::of(job.step, job.id).word,
         });
         sheet.changes.push(Change::Push {
             line: lines.births,
-            value: birth_of(self.event.b),
+            value: BirthCode { word: self.event.b }.birth(),
         });
         sheet.changes.push(Change::Push {
             line: lines.since,

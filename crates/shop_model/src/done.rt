@@ -6,7 +6,7 @@ ghost use Rattle.shop_model.specs.Routes.{HasJob};
 ghost use Rattle.shop_model.specs.StationEffects.{done_effect, end_effect};
 
 use crate::counts::Counts;
-use crate::job::{Job, server_of};
+use crate::job::{BirthCode, Job, JobCode};
 use crate::own_event::OwnEvent;
 use crate::site::told;
 use crate::station::{FREE_SERVERS, LAG};
@@ -26,7 +26,8 @@ impl StationEvent<'_> {
         ensures { let at = self.now in
             sheet.new ≡ done_effect at.site at.routes.now at.station.now job at.cells.now.contents at.event.now }
     {
-        let server = server_of(self.event.b);
+        let birth = BirthCode { word: self.event.b };
+        let server = birth.server();
         if server >= u64::from(self.station.most) {
             return;
         }
@@ -40,8 +41,8 @@ impl StationEvent<'_> {
                 value: mark.wrapping_add(put_off),
             });
             let again = OwnEvent::Done {
-                job: self.event.a,
-                served: self.event.b,
+                job: JobCode { word: self.event.a },
+                birth,
             };
             sheet.sends.push(self.site.to_self(put_off, again));
             return;

@@ -9,7 +9,7 @@ ghost use Rattle.shop_model.specs.Classes.{come_home, leave_effect, stay_effect,
 
 use crate::class::{Class, INSIDE};
 use crate::class_event::ClassEvent;
-use crate::job::{Job, birth_of};
+use crate::job::{BirthCode, Job};
 use crate::site::told;
 use crate::step::{Branch, Step};
 use model_core::{
@@ -47,7 +47,8 @@ impl ClassEvent<'_> {
                 value: inside - 1,
             });
         }
-        let age = self.site.tick.saturating_sub(birth_of(self.event.b));
+        let birth = BirthCode { word: self.event.b }.birth();
+        let age = self.site.tick.saturating_sub(birth);
         if job.step as usize > self.class.route.as_slice().len() {
             sheet.note = told(DROPPED_WORD, job.id, age);
         } else {

@@ -14,62 +14,82 @@ pub struct Job {
     pub id: u64,
 }
 
-/// The id of a job.
-pub fn id_of(a: u64) -> u64
-    ensures { result ≡ id_of a }
-{
-    a % (1 << 40)
+/// A job at its step, as the number `a` of an event and the entry of a line name it.
+#[derive(Clone, Copy)]
+pub struct JobCode {
+    pub word: u64,
 }
 
-/// The number of a job's class.
-pub fn class_of(a: u64) -> u64
-    ensures { result ≡ class_of a }
-{
-    id_of(a) / JOBS_A_CLASS
+/// The tick at which a job was made and the server that serves it, as the number `b` of an event names them.
+#[derive(Clone, Copy)]
+pub struct BirthCode {
+    pub word: u64,
 }
 
-/// The number of a job in its class.
-pub fn number_of(a: u64) -> u64
-    ensures { result ≡ number_of a }
-{
-    id_of(a) % JOBS_A_CLASS
+impl JobCode {
+    /// That of a job with this id at a step.
+    pub fn of(step: u32, id: u64) -> JobCode
+        requires step { step < 2 ^ 24 }
+        requires id { id < 2 ^ 40 }
+        ensures { result.word ≡ job_at step id }
+    {
+        JobCode {
+            word: (u64::from(step) << 40) + id,
+        }
+    }
+
+    /// The id of the job.
+    pub fn id(self) -> u64
+        ensures { result ≡ id_of self.word }
+    {
+        self.word % (1 << 40)
+    }
+
+    /// The number of the job's class.
+    pub fn class(self) -> u64
+        ensures { result ≡ class_of self.word }
+    {
+        self.id() / JOBS_A_CLASS
+    }
+
+    /// The number of the job in its class.
+    pub fn number(self) -> u64
+        ensures { result ≡ number_of self.word }
+    {
+        self.id() % JOBS_A_CLASS
+    }
+
+    /// The step of the job's route.
+    pub fn step(self) -> u64
+        ensures { result ≡ step_of self.word }
+    {
+        self.word >> 40
+    }
 }
 
-/// The step of a job's route.
-pub fn step_of(a: u64) -> u64
-    ensures { result ≡ step_of a }
-{
-    a >> 40
-}
+impl BirthCode {
+    /// That of a job that was made at this tick, on a server.
+    pub fn of(server: u64, birth: u64) -> BirthCode
+        requires server { server < 2 ^ 16 }
+        requires birth { birth < 2 ^ 48 }
+        ensures { result.word ≡ served_by server birth }
+    {
+        BirthCode {
+            word: (server << 48) + birth,
+        }
+    }
 
-/// The tick of a job's make.
-pub fn birth_of(b: u64) -> u64
-    ensures { result ≡ birth_of b }
-{
-    b % (1 << 48)
-}
+    /// The tick of the job's make.
+    pub fn birth(self) -> u64
+        ensures { result ≡ birth_of self.word }
+    {
+        self.word % (1 << 48)
+    }
 
-/// The server that serves a job.
-pub fn server_of(b: u64) -> u64
-    ensures { result ≡ server_of b }
-{
-    b >> 48
-}
-
-/// A job with this id at a step.
-pub fn job_at(step: u32, id: u64) -> u64
-    requires step { step < 2 ^ 24 }
-    requires id { id < 2 ^ 40 }
-    ensures { result ≡ job_at step id }
-{
-    (u64::from(step) << 40) + id
-}
-
-/// A job that was made at this tick, and its server.
-pub fn served_by(server: u64, birth: u64) -> u64
-    requires server { server < 2 ^ 16 }
-    requires birth { birth < 2 ^ 48 }
-    ensures { result ≡ served_by server birth }
-{
-    (server << 48) + birth
+    /// The server that serves the job.
+    pub fn server(self) -> u64
+        ensures { result ≡ server_of self.word }
+    {
+        self.word >> 48
+    }
 }

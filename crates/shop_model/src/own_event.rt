@@ -3,6 +3,7 @@ ghost use Rattle.std.specs.Prelude.{◌≡◌};
 ghost use Rattle.shop_model.specs.Kinds.{rank_of};
 ghost use Rattle.shop_model.specs.OwnEvents.{kind_of, first_word, second_word};
 
+use crate::job::{BirthCode, JobCode};
 use crate::kinds::{BREAK, CALL, DONE, MAKE, MEND, SHIFT, TIRE};
 
 /// An event of an object's own.
@@ -15,7 +16,7 @@ pub enum OwnEvent {
     /// A class makes the jobs that are left of an arrival.
     MakeRest { jobs: u64 },
     /// A service may be at its end: that of a job, by a server.
-    Done { job: u64, served: u64 },
+    Done { job: JobCode, birth: BirthCode },
     /// A server may call a job that waits.
     Call,
     /// The patience of a job that waits may be at its end. Entries count from the first that the level ever had.
@@ -68,7 +69,7 @@ impl OwnEvent {
     {
         match self {
             OwnEvent::MakeRest { jobs } => jobs,
-            OwnEvent::Done { job, .. } => job,
+            OwnEvent::Done { job, .. } => job.word,
             OwnEvent::Tire { entry, .. } => entry,
             OwnEvent::Shift { number } => number,
             _ => 0,
@@ -82,7 +83,7 @@ impl OwnEvent {
     {
         match self {
             OwnEvent::ArriveInTurn => 1,
-            OwnEvent::Done { served, .. } => served,
+            OwnEvent::Done { birth, .. } => birth.word,
             OwnEvent::Tire { level, .. } => u64::from(level),
             _ => 0,
         }

@@ -7,7 +7,7 @@ ghost use Rattle.shop_model.specs.Routes.{class_at, step_at, is_job, job_of, obj
 ghost use Rattle.shop_model.specs.Meaning.{job_here, is_served};
 
 use crate::class::Class;
-use crate::job::{Job, birth_of, class_of, id_of, job_at, number_of, step_of};
+use crate::job::{BirthCode, Job, JobCode};
 use crate::kinds::{COME, COME_RANK};
 use crate::step::{Step, Visit};
 use model_core::{Send, Sequence};
@@ -34,11 +34,12 @@ impl Routes {
         requires { AreRoutes self.now }
         ensures { result ≡ is_job self.now a }
     {
-        if class_of(a) >= self.classes.as_slice().len() as u64 || number_of(a) == 0 {
+        let code = JobCode { word: a };
+        if code.class() >= self.classes.as_slice().len() as u64 || code.number() == 0 {
             return false;
         }
-        let steps = self.class(class_of(a) as u32).route.as_slice().len() as u64;
-        step_of(a) <= steps + 1
+        let steps = self.class(code.class() as u32).route.as_slice().len() as u64;
+        code.step() <= steps + 1
     }
 
     /// The job that an event names, where there is one.
@@ -51,10 +52,11 @@ impl Routes {
         if !self.is_job(a) {
             return None;
         }
+        let code = JobCode { word: a };
         Some(Job {
-            class: class_of(a) as u32,
-            step: step_of(a) as u32,
-            id: id_of(a),
+            class: code.class() as u32,
+            step: code.step() as u32,
+            id: code.id(),
         })
     }
 
@@ -141,8 +143,8 @@ impl Routes {
             dest: self.object_at(job.class, step),
             delay,
             kind: COME,
-            a: job_at(step, job.id),
-            b: birth_of(b),
+            a: JobCode::of(step, job.id).word,
+            b: BirthCode { word: b }.birth(),
             rank: COME_RANK + self.class(job.class).priority,
         }
     }

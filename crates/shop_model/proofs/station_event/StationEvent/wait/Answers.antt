@@ -22,5 +22,5 @@ pub returns : goal.returns
 unfolding wait_effect
 returns c =
     let lines = c.at-lines.ensures in
-    rw (c.told-sheet.ensures, c.push-5.ensures, c.push-4.ensures, c.push-3.ensures, c.push-2.ensures, c.push.ensures, c.patience-until.ensures.sheet, c.patience-until.ensures.until, c.job_at.ensures, c.birth_of.ensures, lines.jobs, lines.births, lines.since, lines.until, c.word-waiting.ensures)
+    rw (c.told-sheet.ensures, c.push-5.ensures, c.push-4.ensures, c.push-3.ensures, c.push-2.ensures, c.push.ensures, c.patience-until.ensures.sheet, c.patience-until.ensures.until, c.of.ensures, c.birth.ensures, lines.jobs, lines.births, lines.since, lines.until, c.word-waiting.ensures)
     (simp append_assoc)
