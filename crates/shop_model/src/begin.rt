@@ -7,6 +7,7 @@ ghost use Rattle.model_core.specs.Effects.{blank};
 ghost use Rattle.model_core.specs.Places.{place_changes};
 ghost use Rattle.random_streams.specs.Delays.{is_delay_law};
 ghost use Rattle.shop_model.specs.declared.class.TheConstants.{MOST_STEPS};
+ghost use Rattle.shop_model.specs.declared.job.TheConstants.{BIRTHS};
 ghost use Rattle.shop_model.specs.Routes.{HasJob};
 ghost use Rattle.shop_model.specs.Sites.{place_of};
 ghost use Rattle.shop_model.specs.HasStation.{AreCounts};
@@ -63,7 +64,7 @@ impl StationEvent<'_> {
     ) -> Counts
         requires job { HasJob self.now.routes.now job }
         requires step { job.step < MOST_STEPS }
-        requires birth { birth < 2 ^ 48 }
+        requires birth { birth < BIRTHS }
         requires counts { AreCounts self.now.station.now.most counts }
         requires free { counts.held < counts.free }
         requires same { counts.free ≡ length (line_of self.now.cells.now.contents FREE_SERVERS) }

@@ -7,7 +7,7 @@ ghost use Rattle.shop_model.specs.StationEffects.{break_effect, mend_effect, sti
 use crate::counts::Counts;
 use crate::own_event::OwnEvent;
 use crate::site::told;
-use crate::station::{DOWN, LAG};
+use crate::station::{DOWN, LAG, STANDS_STILL, WORKS};
 use crate::station_event::StationEvent;
 use model_core::{Change, DOWN_WORD, Effect, UP_WORD};
 use random_streams::{DelayLaw, Stream};
@@ -20,7 +20,7 @@ impl StationEvent<'_> {
             sheet.new ≡ break_effect at.site at.station.now at.cells.now.contents at.station.now.breakdowns }
     {
         if let Some(breakdowns) = &self.station.breakdowns {
-            if self.cells.word(DOWN) == 0 {
+            if self.cells.word(DOWN) == WORKS {
                 self.stand_still(words, &breakdowns.down, sheet);
             }
         }
@@ -36,7 +36,7 @@ impl StationEvent<'_> {
         let still = self.site.draw(words, self.cells, law, sheet);
         sheet.changes.push(Change::Set {
             word: DOWN,
-            value: 1,
+            value: STANDS_STILL,
         });
         sheet.changes.push(Change::Set {
             word: LAG,
@@ -66,13 +66,13 @@ impl StationEvent<'_> {
         ensures { let at = self.now in sheet.new ≡ works_effect at.site at.station.now law.now at.cells.now.contents }
     {
         let counts = Counts {
-            down: 0,
+            down: WORKS,
             ..Counts::of(self.cells)
         };
         let works = self.site.draw(words, self.cells, law, sheet);
         sheet.changes.push(Change::Set {
             word: DOWN,
-            value: 0,
+            value: WORKS,
         });
         sheet.sends.push(self.site.to_self(works, OwnEvent::Break));
         counts.call(self.station.most, self.site, sheet);

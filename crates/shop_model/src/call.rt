@@ -2,6 +2,7 @@
 ghost use Rattle.std.specs.Prelude.{◌≡◌, ◌<◌, ◌≤◌, ◌+◌, ◌^◌, ◌++◌, ◌∷◌, [], ◌%◌, length, slice_index};
 ghost use Rattle.model_core.specs.Effects.{blank};
 ghost use Rattle.shop_model.specs.declared.class.TheConstants.{MOST_STEPS};
+ghost use Rattle.shop_model.specs.declared.station.TheConstants.{MOST_LEVELS};
 ghost use Rattle.shop_model.specs.Entries.{HasEntry};
 ghost use Rattle.shop_model.specs.Parts.{IsVisit};
 ghost use Rattle.shop_model.specs.Routes.{HasJob};
@@ -154,7 +155,7 @@ impl StationEvent<'_> {
 /// The last entry of a level goes out.
 #[inline(always)]
 fn push_out_last(level: u32, sheet: &mut Effect)
-    requires level { level < 8 }
+    requires level { level < MOST_LEVELS }
     requires room { length sheet.old.changes ≤ 2 }
     ensures few { length sheet.new.changes ≤ 7 }
     ensures sheet { sheet.new ≡ record sheet.old {
@@ -172,7 +173,7 @@ fn push_out_last(level: u32, sheet: &mut Effect)
 /// The first entry of a level goes out, which this word counts.
 #[inline(always)]
 fn push_out_first(level: u32, cells: &Cells, word: u32, sheet: &mut Effect)
-    requires level { level < 8 }
+    requires level { level < MOST_LEVELS }
     requires word { word < length cells.now.contents.words }
     requires room { length sheet.old.changes ≤ 2 }
     ensures few { length sheet.new.changes ≤ 7 }

@@ -2,6 +2,7 @@
 ghost use Rattle.std.specs.Prelude.{◌≡◌, ◌<◌, ◌≤◌, ◌+◌, ◌^◌, ◌++◌, ◌∷◌, [], IsTrue, length};
 ghost use Rattle.model_core.specs.Effects.{blank};
 ghost use Rattle.shop_model.specs.declared.class.TheConstants.{MOST_STEPS};
+ghost use Rattle.shop_model.specs.declared.job.TheConstants.{IDS};
 ghost use Rattle.shop_model.specs.Parts.{IsVisit};
 ghost use Rattle.shop_model.specs.Routes.{HasJob, step_at};
 ghost use Rattle.model_core.specs.Places.{place_changes};
@@ -109,7 +110,7 @@ impl StationEvent<'_> {
     fn wait(&self, words: &mut Stream, visit: &Visit, level: u32, job: Job, sheet: &mut Effect)
         requires patience { ForSome visit.now.patience (λ law. IsTrue (is_delay_law law)) }
         requires level { level < self.now.station.now.levels }
-        requires id { job.id < 2 ^ 40 }
+        requires id { job.id < IDS }
         requires step { job.step < MOST_STEPS }
         requires blank { sheet.old ≡ blank }
         ensures { let at = self.now in

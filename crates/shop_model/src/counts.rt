@@ -5,7 +5,7 @@ ghost use Rattle.shop_model.specs.Stations.{counts_of, busy_of, spare_of, call_s
 
 use crate::own_event::OwnEvent;
 use crate::site::Site;
-use crate::station::{DOWN, FREE_SERVERS, HELD, OPEN, WAITING};
+use crate::station::{DOWN, FREE_SERVERS, HELD, OPEN, WAITING, WORKS};
 use model_core::{Cells, Effect};
 
 /// How many servers of a station are open, held and free, how many jobs wait, and whether it stands still.
@@ -49,7 +49,7 @@ impl Counts {
         ensures spare { result ≡ spare_of most self.now }
         ensures few { result ≤ self.now.opened }
     {
-        if self.down > 0 {
+        if self.down != WORKS {
             return 0;
         }
         self.opened.saturating_sub(self.busy(most))

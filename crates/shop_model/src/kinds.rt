@@ -1,5 +1,4 @@
-//! The kinds of events, and the rank of each: of one instant services end first, then stations break or are mended,
-//! shifts change, patience ends, jobs are made, jobs come, and last of all servers call.
+//! The kinds of events.
 
 /// A class makes jobs.
 pub const MAKE: u32 = 1;

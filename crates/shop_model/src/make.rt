@@ -57,11 +57,12 @@ impl ClassEvent<'_> {
     {
         let place = self.cells.word(0);
         words.move_to(self.site.seed, self.site.object, place);
-        let arrival = if self.event.a == 0 {
+        let left = self.event.a;
+        let arrival = if left == 0 {
             self.class.new_arrival(words, self.event.b)
         } else {
             Arrival {
-                jobs: self.event.a,
+                jobs: left,
                 pause: None,
             }
         };

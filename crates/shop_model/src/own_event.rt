@@ -46,7 +46,8 @@ impl OwnEvent {
         }
     }
 
-    /// The rank of the event.
+    /// The rank of the event: of one instant services end first, then stations break or are mended, shifts change,
+    /// patience ends, jobs are made, jobs come, and last of all servers call.
     #[tactic(auto, unfolding(crate::specs::Kinds::rank_of))]
     #[inline(always)]
     pub fn rank(self) -> u32

@@ -20,6 +20,7 @@ pub struct Site {
 
 impl Site {
     /// An event at the object itself, after a delay.
+    #[inline(always)]
     pub fn to_self(&self, delay: u64, event: OwnEvent) -> Send
         ensures { result ≡ to_self self.now delay (kind_of event) (first_word event) (second_word event) }
     {

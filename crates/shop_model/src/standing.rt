@@ -2,15 +2,19 @@
 ghost use Rattle.std.specs.Prelude.{◌≡◌, ◌<◌, ◌≤◌, ◌+◌, ◌*◌, ◌^◌, [], ◌∷◌, IfOk, length, map, replicate, reverse, nat_lt, count_by, sum_by};
 ghost use Rattle.std.specs.List.{list_all, range_with_len};
 ghost use Rattle.delta_exchange.specs.Changes.{line_of};
+ghost use Rattle.shop_model.specs.declared.station.TheConstants.{MOST_LEVELS};
 ghost use Rattle.shop_model.specs.Parts.{AreRoutes};
 ghost use Rattle.shop_model.specs.HasStation.{IsStation};
 ghost use Rattle.shop_model.specs.Classes.{is_class_cells, first_class_cells};
 ghost use Rattle.shop_model.specs.Stations.{is_entry, is_level, waiting_at, has_servers, is_station_cells, first_station_cells};
 
 use crate::class::{Class, INSIDE, MADE};
+use crate::job::BIRTHS;
 use crate::levels::{EMPTY, Level};
 use crate::routes::Routes;
-use crate::station::{DOWN, FREE_SERVERS, GONE, HELD, OPEN, Station, WAITING};
+use crate::station::{
+    DOWN, ENTRIES, FREE_SERVERS, GONE, HELD, LINES_A_LEVEL, OPEN, STANDS_STILL, Station, WAITING,
+};
 use model_core::{Cells, OutOfMemory};
 use std::alloc::{AllocError, Global};
 
@@ -65,7 +69,7 @@ impl Station {
     {
         let free = servers(alloc, self.most)?;
         let mut lines = vec![in alloc; free]?;
-        for _ in 0..4 * self.levels {
+        for _ in 0..LINES_A_LEVEL * self.levels {
             lines.push(Vec::new(alloc))?;
         }
         Ok(lines)
@@ -78,14 +82,16 @@ impl Station {
         requires station { IsStation self.now }
         ensures { result ≡ is_station_cells object routes.now self.now cells.now.contents }
     {
-        if cells.words() != GONE + self.levels + self.most || cells.lines() != 1 + 4 * self.levels {
+        if cells.words() != GONE + self.levels + self.most
+            || cells.lines() != ENTRIES + LINES_A_LEVEL * self.levels
+        {
             return false;
         }
         if !self.has_levels(object, routes, cells) || !self.has_servers(cells) {
             return false;
         }
         let waiting = self.waiting(cells);
-        cells.word(DOWN) <= 1
+        cells.word(DOWN) <= STANDS_STILL
             && u128::from(cells.word(WAITING)) == waiting
             && waiting <= u128::from(self.line + self.most)
     }
@@ -150,7 +156,7 @@ fn servers(alloc: Global, count: u32) -> Result<Vec<u64>, AllocError>
 #[tactic(auto, unfolding(crate::specs::Stations::is_level))]
 fn is_level(object: u32, routes: &Routes, cells: &Cells, level: u32) -> bool
     requires routes { AreRoutes routes.now }
-    requires level { level < 8 }
+    requires level { level < MOST_LEVELS }
     requires lines { 4 + 4 * level < length cells.now.contents.lines }
     ensures { result ≡ is_level object routes.now cells.now.contents level }
 {
@@ -160,7 +166,7 @@ fn is_level(object: u32, routes: &Routes, cells: &Cells, level: u32) -> bool
         && cells.line_len(lines.since) == entries
         && cells.line_len(lines.until) == entries
         && are_entries(object, routes, cells, lines.jobs)
-        && are_below(cells, lines.births, 1 << 48)
+        && are_below(cells, lines.births, BIRTHS)
 }
 
 /// Whether a line holds jobs that wait at this object, or such jobs with each bit turned.
@@ -202,7 +208,7 @@ fn are_below(cells: &Cells, line: u32, bound: u64) -> bool
 /// How many jobs wait at a level.
 #[tactic(auto, unfolding(crate::specs::Stations::waiting_at))]
 fn waiting_at(cells: &Cells, level: u32) -> usize
-    requires level { level < 8 }
+    requires level { level < MOST_LEVELS }
     requires lines { 4 + 4 * level < length cells.now.contents.lines }
     ensures { result ≡ waiting_at cells.now.contents level }
 {

@@ -1,8 +1,9 @@
 //! Stations.
 ghost use Rattle.std.specs.Prelude.{◌≡◌, ◌<◌, ◌≤◌};
-ghost use Rattle.shop_model.specs.declared.station.TheConstants.{MOST_OPEN};
+ghost use Rattle.shop_model.specs.declared.station.TheConstants.{MOST_LEVELS, MOST_OPEN};
 ghost use Rattle.shop_model.specs.Stations.{gone_word, mark_word, level_of};
 
+use crate::class::MOST_PRIORITY;
 use model_core::{Name, Sequence};
 use random_streams::DelayLaw;
 
@@ -27,11 +28,26 @@ pub const DOWN: u32 = 4;
 
 pub const LAG: u32 = 5;
 
+/// What `DOWN` says of a station that works.
+pub const WORKS: u64 = 0;
+
+/// What `DOWN` says of a station that stands still.
+pub const STANDS_STILL: u64 = 1;
+
 /// The word that counts how many entries went out at the front of level 0; the other levels follow.
 pub const GONE: u32 = 6;
 
 /// The line of the servers that serve nobody.
 pub const FREE_SERVERS: u32 = 0;
+
+/// The first line of level 0; the other levels follow.
+pub const ENTRIES: u32 = 1;
+
+/// How many lines a level has: for the jobs that wait, their births, since when and until when they wait.
+pub const LINES_A_LEVEL: u32 = 4;
+
+/// How many levels a line has at most: one for each priority.
+pub const MOST_LEVELS: u32 = MOST_PRIORITY + 1;
 
 /// Who is called first.
 #[derive(Clone, Copy, Debug, PartialEq, Eq)]
@@ -81,7 +97,7 @@ pub struct Station {
 impl Station {
     /// The word that counts how many entries went out at the front of a level.
     pub(crate) fn gone(&self, level: u32) -> u32
-        requires { level < 8 }
+        requires { level < MOST_LEVELS }
         ensures { result ≡ gone_word level }
     {
         GONE + level
@@ -89,7 +105,7 @@ impl Station {
 
     /// The word that keeps up to which lag the service on a server was put off.
     pub(crate) fn mark(&self, server: u32) -> u32
-        requires levels { self.now.levels ≤ 8 }
+        requires levels { self.now.levels ≤ MOST_LEVELS }
         requires server { server < MOST_OPEN }
         ensures { result ≡ mark_word self.now server }
     {

@@ -26,13 +26,14 @@ impl StationEvent<'_> {
         ensures { let at = self.now in
             sheet.new ≡ tire_effect at.site at.routes.now at.station.now at.cells.now.contents at.event.now }
     {
+        let entry = self.event.a;
         if self.event.b >= u64::from(self.station.levels) {
             return;
         }
         let level = self.event.b as u32;
         let gone = self.cells.word(self.station.gone(level));
-        if self.event.a >= gone && self.tires(level, self.event.a - gone) {
-            let place = (self.event.a - gone) as usize;
+        if entry >= gone && self.tires(level, entry - gone) {
+            let place = (entry - gone) as usize;
             self.give_up(Entry { level, place }, sheet);
         }
     }
