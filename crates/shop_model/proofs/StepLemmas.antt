@@ -27,7 +27,8 @@ pub visit-there : (routes : Routes) (job : Job) (visit : AVisit) → AreRoutes r
     → Some (Visit visit) ≡ step_at routes job.class job.step → IsVisit routes.stations MOST_STEPS visit
 visit-there routes job visit fine has is =
     let few = (class_fine routes job.class fine has.class).few_steps in
-    let known : IsVisit routes.stations (length (class_at routes job.class).route) visit = step_fine routes job.class job.step fine has.class (Visit visit) (sym is) in
+    let known : IsVisit routes.stations (length (class_at routes job.class).route) visit =
+    step_fine routes job.class job.step fine has.class (Visit visit) (sym is) in
     let away = known.away in
     let full = known.full in
     record { exists = known.exists; service = known.service; patience = known.patience; away = omega arith; full = omega arith }
@@ -40,7 +41,8 @@ pub branch-there : (routes : Routes) (job : Job) (branch : Branch) → AreRoutes
     → Some (Go branch) ≡ step_at routes job.class job.step → IsBranch MOST_STEPS branch
 branch-there routes job branch fine has is =
     let few = (class_fine routes job.class fine has.class).few_steps in
-    let known : IsBranch (length (class_at routes job.class).route) branch = step_fine routes job.class job.step fine has.class (Go branch) (sym is) in
+    let known : IsBranch (length (class_at routes job.class).route) branch =
+    step_fine routes job.class job.step fine has.class (Go branch) (sym is) in
     record { matched = known.matched; choice = known.choice; links = λ k d within. let link = known.links k d within in omega arith }
 
 -- a job that is served stands at a step

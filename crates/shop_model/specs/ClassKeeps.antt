@@ -24,8 +24,10 @@ use Rattle.shop_model.specs.declared.routes.Routes.{Routes}
 use Rattle.shop_model.specs.declared.site.Site.{Site}
 use Rattle.shop_model.specs.declared.step.Step.{Step}
 use Rattle.shop_model.specs.declared.step.Step.TheVariants.{Visit, Free, Delay, Go}
-use Rattle.shop_model.specs.Classes.{made_jobs, jobs_inside, is_class_cells, pause_drawn, arrival_of, next_job, others_sent, next_arrival, one_made, arrival_effect, make_effect, stay_effect, go_effect, leave_effect, come_home}
-use Rattle.shop_model.specs.EffectKeeps.{EffectKeeps, Sent, sent_append, sent_more, self_sent, job_sent, drawn_short, few_places, blank_keeps, step_fine}
+use Rattle.shop_model.specs.Classes.{made_jobs, jobs_inside, is_class_cells, pause_drawn, arrival_of, next_job, others_sent, next_arrival, one_made}
+use Rattle.shop_model.specs.Classes.{arrival_effect, make_effect, stay_effect, go_effect, leave_effect, come_home}
+use Rattle.shop_model.specs.EffectKeeps.{EffectKeeps, Sent, sent_append, sent_more, self_sent, job_sent, drawn_short, few_places, blank_keeps}
+use Rattle.shop_model.specs.EffectKeeps.{step_fine}
 use Rattle.shop_model.specs.Keeping.{Keeps}
 use Rattle.shop_model.specs.Meaning.{job_here, home_by, class_effect}
 use Rattle.shop_model.specs.JobLaws.{job_here_is}
@@ -55,7 +57,8 @@ class_cases P count cells lawful h =
     three_words
     (λ words. IsTrue (is_class_cells count (record { words = words; lines = cells.lines })) → P (record { words = words; lines = cells.lines }))
     cells.words (grind (arith, nat_tests))
-    (λ place made inside lawful. no_lines (λ lines. P (record { words = place ∷ made ∷ inside ∷ []; lines = lines })) cells.lines (grind (arith, nat_tests))
+    (λ place made inside lawful. no_lines (λ lines. P (record { words = place ∷ made ∷ inside ∷ []; lines = lines })) cells.lines
+    (grind (arith, nat_tests))
     (h place made inside (grind (arith, nat_tests)) (grind (arith, nat_tests))))
     lawful
 
@@ -77,9 +80,16 @@ made_keeps class cells next lawful some = class_cases
     by : (place made inside : ℕ) → inside ≤ made → made ≤ class.count → made < class.count
         → Keeps (Lawful class) (place_changes place next ++ Set MADE (made + 1) ∷ Set INSIDE (inside + 1) ∷ []) (class_cells place made inside)
     by place made inside few within some =
-        place_cases (λ drawn. Keeps (Lawful class) (drawn ++ Set MADE (made + 1) ∷ Set INSIDE (inside + 1) ∷ []) (class_cells place made inside)) place next
-        (record { fits = (omega arith, (omega arith, tt)); after = class_lawful class.count place (made + 1) (inside + 1) (omega arith) (omega arith) })
-        (record { fits = (omega arith, (omega arith, (omega arith, tt))); after = class_lawful class.count next (made + 1) (inside + 1) (omega arith) (omega arith) })
+        place_cases (λ drawn. Keeps (Lawful class) (drawn ++ Set MADE (made + 1) ∷ Set INSIDE (inside + 1) ∷ []) (class_cells place made inside))
+        place next
+        (record {
+          fits = (omega arith, (omega arith, tt));
+          after = class_lawful class.count place (made + 1) (inside + 1) (omega arith) (omega arith);
+        })
+        (record {
+          fits = (omega arith, (omega arith, (omega arith, tt)));
+          after = class_lawful class.count next (made + 1) (inside + 1) (omega arith) (omega arith);
+        })
 
 -- the random place alone moves on
 moved_keeps : (class : Class) (cells : CellData) (next : ℕ) → Lawful class cells → Keeps (Lawful class) (place_changes (place_of cells) next) cells
@@ -87,7 +97,8 @@ unfolding AllFit cells_after_all
 moved_keeps class cells next lawful = class_cases
     (λ cells. Keeps (Lawful class) (place_changes (place_of cells) next) cells) class.count cells lawful by
   where
-    by : (place made inside : ℕ) → inside ≤ made → made ≤ class.count → Keeps (Lawful class) (place_changes place next) (class_cells place made inside)
+    by : (place made inside : ℕ) → inside ≤ made → made ≤ class.count
+        → Keeps (Lawful class) (place_changes place next) (class_cells place made inside)
     by place made inside few within =
         place_cases (λ drawn. Keeps (Lawful class) drawn (class_cells place made inside)) place next
         (record { fits = tt; after = class_lawful class.count place made inside few within })
@@ -148,7 +159,8 @@ next_sent site class objects made (Some pause) here short = by (nat_lt made clas
     by true = self_sent objects site pause MAKE 0 1 here (short pause refl)
     by false = record { few = omega arith; sends = tt }
 
-others_few : (site : Site) (class : Class) (objects : ℕ) (cells : CellData) (jobs : ℕ) → site.object < objects → Sent objects 1 (others_sent site class cells jobs)
+others_few : (site : Site) (class : Class) (objects : ℕ) (cells : CellData) (jobs : ℕ) → site.object < objects
+    → Sent objects 1 (others_sent site class cells jobs)
 others_few site class objects cells jobs here = by (nat_lt 1 jobs && nat_lt (made_jobs cells + 1) class.count)
   where
     by : (more : Bool) → Sent objects 1 (if more then to_self site 0 MAKE (jobs - 1) 0 ∷ [] else [])
@@ -187,7 +199,11 @@ make_keeps site routes class cells event is = by (nat_lt (made_jobs cells) class
     has some = record { class = omega arith; step = omega arith; id = omega (arith, number some, is.routes_fine.few) }
 
     arrives : (none : Bool) → made_jobs cells < class.count → EffectKeeps objects (Lawful class) cells
-        (if none then record { changes = place_changes (place_of cells) next; sends = next_arrival site class (made_jobs cells) arrival.pause; note = [] }
+        (if none then record {
+          changes = place_changes (place_of cells) next;
+          sends = next_arrival site class (made_jobs cells) arrival.pause;
+          note = [];
+        }
         else record {
           changes = place_changes (place_of cells) next ++ (one_made site routes class cells arrival.jobs).changes;
           sends = (one_made site routes class cells arrival.jobs).sends ++ next_arrival site class (made_jobs cells + 1) arrival.pause;
@@ -203,23 +219,32 @@ make_keeps site routes class cells event is = by (nat_lt (made_jobs cells) class
         }
     arrives false some =
         let job = next_job site routes cells in
-        let first = sent_more objects 1 (moved routes job site.tick 0 0) (others_sent site class cells arrival.jobs) (job_sent routes job site.tick 0 0 is.routes_fine (has some) (omega arith))
+        let first = sent_more objects 1 (moved routes job site.tick 0 0) (others_sent site class cells arrival.jobs)
+        (job_sent routes job site.tick 0 0 is.routes_fine (has some) (omega arith))
         (others_few site class objects cells arrival.jobs is.exists) in
-        let sent = sent_append objects 2 1 (moved routes job site.tick 0 0 ∷ others_sent site class cells arrival.jobs) (next_arrival site class (made_jobs cells + 1) arrival.pause) first
+        let sent = sent_append objects 2 1 (moved routes job site.tick 0 0 ∷ others_sent site class cells arrival.jobs)
+        (next_arrival site class (made_jobs cells + 1) arrival.pause) first
         (next_sent site class objects (made_jobs cells + 1) arrival.pause is.exists short) in
         record {
           changes = made_keeps class cells next is.lawful some;
-          few_changes = omega (arith, few_places (place_of cells) next, length-append (place_changes (place_of cells) next) (Set MADE (made_jobs cells + 1) ∷ Set INSIDE (jobs_inside cells + 1) ∷ []));
+          few_changes = omega (
+            arith,
+            few_places (place_of cells) next,
+            length-append (place_changes (place_of cells) next) (Set MADE (made_jobs cells + 1) ∷ Set INSIDE (jobs_inside cells + 1) ∷ []),
+          );
           few_sends = omega (arith, sent.few);
           sends = sent.sends;
         }
 
-    by : (some : Bool) → nat_lt (made_jobs cells) class.count ≡ some → EffectKeeps objects (Lawful class) cells (if some then arrival_effect site routes class cells arrival next else blank)
+    by : (some : Bool) → nat_lt (made_jobs cells) class.count ≡ some
+        → EffectKeeps objects (Lawful class) cells (if some then arrival_effect site routes class cells arrival next else blank)
     by true some = arrives (arrival.jobs == 0) (ltb-true _ _ some)
     by false none = blank_keeps objects (Lawful class) cells is.lawful
 
-home_keeps : (site : Site) (routes : Routes) (class : Class) (cells : CellData) (event : Event) (job : Job) (step : Option Step) → AtClass site routes class cells → HasJob routes job
-    → step_at routes job.class job.step ≡ step → EffectKeeps (routes.stations + length routes.classes) (Lawful class) cells (come_home site routes class step job cells event)
+home_keeps : (site : Site) (routes : Routes) (class : Class) (cells : CellData) (event : Event) (job : Job) (step : Option Step)
+    → AtClass site routes class cells → HasJob routes job
+    → step_at routes job.class job.step ≡ step
+    → EffectKeeps (routes.stations + length routes.classes) (Lawful class) cells (come_home site routes class step job cells event)
 unfolding stay_effect go_effect leave_effect
 home_keeps site routes class cells event job None is has steps =
     record { changes = left_keeps class cells is.lawful; few_changes = few (jobs_inside cells == 0); few_sends = omega arith; sends = tt }
@@ -229,7 +254,8 @@ home_keeps site routes class cells event job None is has steps =
     few false = omega arith
 home_keeps site routes class cells event job (Some (Delay law)) is has steps =
     let fine : IsTrue (is_delay_law law) = step_fine routes job.class job.step is.routes_fine has.class (Delay law) steps in
-    let sent = job_sent routes job event.b (job.step + 1) (drawn_at site (place_of cells) law).0 is.routes_fine has (drawn_short site (place_of cells) law fine) in
+    let sent = job_sent routes job event.b (job.step + 1) (drawn_at site (place_of cells) law).0 is.routes_fine has
+    (drawn_short site (place_of cells) law fine) in
     record {
       changes = moved_keeps class cells (drawn_at site (place_of cells) law).1 is.lawful;
       few_changes = omega (arith, few_places (place_of cells) (drawn_at site (place_of cells) law).1);
@@ -245,8 +271,10 @@ home_keeps site routes class cells event job (Some (Go branch)) is has steps =
       few_sends = omega (arith, sent.few);
       sends = sent.sends;
     }
-home_keeps site routes class cells event job (Some (Visit visit)) is has steps = blank_keeps (routes.stations + length routes.classes) (Lawful class) cells is.lawful
-home_keeps site routes class cells event job (Some (Free station)) is has steps = blank_keeps (routes.stations + length routes.classes) (Lawful class) cells is.lawful
+home_keeps site routes class cells event job (Some (Visit visit)) is has steps =
+    blank_keeps (routes.stations + length routes.classes) (Lawful class) cells is.lawful
+home_keeps site routes class cells event job (Some (Free station)) is has steps =
+    blank_keeps (routes.stations + length routes.classes) (Lawful class) cells is.lawful
 
 pub class_keeps : (site : Site) (routes : Routes) (class : Class) (cells : CellData) (event : Event) → AtClass site routes class cells
     → EffectKeeps (routes.stations + length routes.classes) (Lawful class) cells (class_effect site routes class cells event)
@@ -257,7 +285,8 @@ class_keeps site routes class cells event is = by (event.kind == MAKE) (event.ki
         → EffectKeeps (routes.stations + length routes.classes) (Lawful class) cells (home_by site routes class cells event found)
     comes None none = blank_keeps (routes.stations + length routes.classes) (Lawful class) cells is.lawful
     comes (Some job) some =
-        home_keeps site routes class cells event job (step_at routes job.class job.step) is (job_here_is routes site.object event.a job is.routes_fine some).names.has refl
+        home_keeps site routes class cells event job (step_at routes job.class job.step) is
+        (job_here_is routes site.object event.a job is.routes_fine some).names.has refl
 
     by : (make come : Bool) → EffectKeeps (routes.stations + length routes.classes) (Lawful class) cells
         (if make then make_effect site routes class cells event

@@ -37,7 +37,8 @@ pub record EffectKeeps (objects : ℕ) (Holds : CellData → Type 0) (cells : Ce
 pub blank_keeps : (objects : ℕ) (P : CellData → Type 0) (cells : CellData) → P cells → EffectKeeps objects P cells blank
 blank_keeps objects P cells h = record { changes = keeps_none P cells h; few_changes = omega arith; few_sends = omega arith; sends = tt }
 
-pub effect_laws : (m : Meaning) (object : ℕ) (P : CellData → Type 0) (cells : CellData) (effect : Effect) → ((c : CellData) → P c → IsTrue (m.lawful object c))
+pub effect_laws : (m : Meaning) (object : ℕ) (P : CellData → Type 0) (cells : CellData) (effect : Effect)
+    → ((c : CellData) → P c → IsTrue (m.lawful object c))
     → EffectKeeps m.objects P cells effect → EffectLaws m object cells effect
 effect_laws m object P cells effect lawful keeps = record {
   few_changes = keeps.few_changes;
@@ -62,14 +63,16 @@ sent_append objects n m first last a b = record { few = omega (arith, a.few, b.f
     both [] h = b.sends
     both (s ∷ rest) h = (h.0, h.1, h.2, both rest h.3)
 
-pub sent_more : (objects n : ℕ) (send : Send) (rest : List Send) → Sent objects 1 (send ∷ []) → Sent objects n rest → Sent objects (n + 1) (send ∷ rest)
+pub sent_more : (objects n : ℕ) (send : Send) (rest : List Send) → Sent objects 1 (send ∷ []) → Sent objects n rest
+    → Sent objects (n + 1) (send ∷ rest)
 sent_more objects n send rest a b = record { few = omega (arith, b.few); sends = (a.sends.0, a.sends.1, a.sends.2, b.sends) }
 
 pub rank_of-le : (kind : ℕ) → rank_of kind ≤ 16
 unfolding rank_of
 rank_of-le kind = by (kind == MAKE) (kind == CALL) (kind == TIRE) (kind == SHIFT) (kind == BREAK || kind == MEND)
   where
-    by : (make call tire shift other : Bool) → (if make then 4 else if call then 16 else if tire then 3 else if shift then 2 else if other then 1 else 0) ≤ 16
+    by : (make call tire shift other : Bool)
+        → (if make then 4 else if call then 16 else if tire then 3 else if shift then 2 else if other then 1 else 0) ≤ 16
     by true call tire shift other = omega arith
     by false true tire shift other = omega arith
     by false false true shift other = omega arith
@@ -77,7 +80,8 @@ rank_of-le kind = by (kind == MAKE) (kind == CALL) (kind == TIRE) (kind == SHIFT
     by false false false false true = omega arith
     by false false false false false = omega arith
 
-pub self_sent : (objects : ℕ) (site : Site) (delay kind a b : ℕ) → site.object < objects → delay ≤ 2 ^ 40 → Sent objects 1 (to_self site delay kind a b ∷ [])
+pub self_sent : (objects : ℕ) (site : Site) (delay kind a b : ℕ) → site.object < objects → delay ≤ 2 ^ 40
+    → Sent objects 1 (to_self site delay kind a b ∷ [])
 self_sent objects site delay kind a b here short = record { few = omega arith; sends = (here, short, omega (arith, rank_of-le kind), tt) }
 
 pub call_sent-laws : (objects most : ℕ) (site : Site) (counts : Counts) → site.object < objects → Sent objects 1 (call_sent most site counts)
@@ -97,9 +101,11 @@ pub step_fine : (routes : Routes) (class step : ℕ) → AreRoutes routes → cl
 step_fine routes class step fine there s is =
     let route = (class_at routes class).route in
     let within : step < length route = slice_get_within route step s is in
-    subst (λ x. IsStep routes.stations (length route) x) (get_or_from_slice_get route step s s is) ((class_fine routes class fine there).steps step s within)
+    subst (λ x. IsStep routes.stations (length route) x) (get_or_from_slice_get route step s s is)
+    ((class_fine routes class fine there).steps step s within)
 
-stands_exists : (routes : Routes) (class steps : ℕ) (step : Option Step) → class < length routes.classes → ForSome step (λ s. IsStep routes.stations steps s)
+stands_exists : (routes : Routes) (class steps : ℕ) (step : Option Step) → class < length routes.classes
+    → ForSome step (λ s. IsStep routes.stations steps s)
     → stands_at (routes.stations + class) step < routes.stations + length routes.classes
 stands_exists routes class steps None there fine = omega arith
 stands_exists routes class steps (Some (Visit visit)) there fine = omega (arith, (fine (Visit visit) refl).exists)
@@ -114,7 +120,8 @@ unfolding moved object_at
 job_sent routes job b step delay fine has short = record {
   few = omega arith;
   sends = (
-    stands_exists routes job.class (length (class_at routes job.class).route) (step_at routes job.class step) has.class (step_fine routes job.class step fine has.class),
+    stands_exists routes job.class (length (class_at routes job.class).route) (step_at routes job.class step) has.class
+        (step_fine routes job.class step fine has.class),
     short,
     omega (arith, (class_fine routes job.class fine has.class).priority),
     tt,

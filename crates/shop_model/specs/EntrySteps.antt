@@ -1,5 +1,6 @@
 -- Entries of a station's line go in, go out, or lose their jobs, and the count of the waiting jobs goes along.
-use Rattle.std.proofs.Common.{◌≡◌, ◌≢◌, ℕ, ◌+◌, ◌-◌, ◌^◌, ◌<◌, ◌≤◌, true, cond, List, [], ◌∷◌, ◌++◌, length, get_or, take, drop, refl, ap, sym, ◌∙◌, length-append, length-drop, get_or-set_same, get_or-set_other, arith}
+use Rattle.std.proofs.Common.{◌≡◌, ◌≢◌, ℕ, ◌+◌, ◌-◌, ◌^◌, ◌<◌, ◌≤◌, true, cond, List, [], ◌∷◌, ◌++◌, length, get_or, take, drop, refl, ap, sym, ◌∙◌}
+use Rattle.std.proofs.Common.{length-append, length-drop, get_or-set_same, get_or-set_other, arith}
 use Rattle.std.specs.Prelude.{All, if◌then◌else◌, is_some, min, nat_lt, slice_set, slice_index}
 use Rattle.std.specs.List.{range_with_len}
 use Rattle.std.proofs.lemmas.Bool.{lt-ltb, le-ltb}
@@ -32,10 +33,12 @@ mapped change line cells = with_line cells line (change (line_of cells line))
 mapped_long : (change : List ℕ → List ℕ) (line : ℕ) (cells : CellData) → length (mapped change line cells).lines ≡ length cells.lines
 mapped_long change line cells = length-set cells.lines line (change (line_of cells line))
 
-mapped_here : (change : List ℕ → List ℕ) (line : ℕ) (cells : CellData) → line < length cells.lines → line_of (mapped change line cells) line ≡ change (line_of cells line)
+mapped_here : (change : List ℕ → List ℕ) (line : ℕ) (cells : CellData) → line < length cells.lines
+    → line_of (mapped change line cells) line ≡ change (line_of cells line)
 mapped_here change line cells there = get_or-set_same cells.lines line (change (line_of cells line)) [] there
 
-mapped_other : (change : List ℕ → List ℕ) (line other : ℕ) (cells : CellData) → other ≢ line → line_of (mapped change line cells) other ≡ line_of cells other
+mapped_other : (change : List ℕ → List ℕ) (line other : ℕ) (cells : CellData) → other ≢ line
+    → line_of (mapped change line cells) other ≡ line_of cells other
 mapped_other change line other cells differs = get_or-set_other cells.lines line other (change (line_of cells line)) [] differs
 
 -- the four lines of a level become others, beside other words
@@ -81,7 +84,8 @@ four_read f g h level cells there =
 
 four_as : (f g h i : List ℕ → List ℕ) (level : ℕ) (cells : CellData) (words : List ℕ) → until_line level < length cells.lines
     → LevelAs cells (four_mapped f g h i level (record cells { words = words })) level
-    (f (line_of cells (jobs_line level))) (g (line_of cells (births_line level))) (h (line_of cells (since_line level))) (i (line_of cells (until_line level)))
+    (f (line_of cells (jobs_line level))) (g (line_of cells (births_line level))) (h (line_of cells (since_line level)))
+    (i (line_of cells (until_line level)))
 four_as f g h i level cells words there =
     let base : CellData = record cells { words = words } in
     let c1 : CellData = one_mapped f level base in
@@ -89,7 +93,8 @@ four_as f g h i level cells words there =
     let c3 : CellData = three_mapped f g h level base in
     let read : FourRead f g h level base = four_read f g h level base there in
     record {
-      lines = mapped_long i (until_line level) c3 ∙ mapped_long h (since_line level) c2 ∙ mapped_long g (births_line level) c1 ∙ mapped_long f (jobs_line level) base;
+      lines = mapped_long i (until_line level) c3 ∙ mapped_long h (since_line level) c2 ∙ mapped_long g (births_line level) c1
+          ∙ mapped_long f (jobs_line level) base;
       jobs = mapped_other i (until_line level) (jobs_line level) c3 (λ e. absurd (omega arith))
           ∙ mapped_other h (since_line level) (jobs_line level) c2 (λ e. absurd (omega arith))
           ∙ mapped_other g (births_line level) (jobs_line level) c1 (λ e. absurd (omega arith))
@@ -141,7 +146,8 @@ front_counts entries some =
     let sum : jobs_in entries ≡ counted (slice_index entries 0) + jobs_in (drop 1 entries) = sum_by-drop_more counted entries 0 0 some in
     omega (arith, sum)
 
-end_counts : (entries : List ℕ) → 0 < length entries → jobs_in entries ≡ jobs_in (take (length entries - 1) entries) + counted (slice_index entries (length entries - 1))
+end_counts : (entries : List ℕ) → 0 < length entries
+    → jobs_in entries ≡ jobs_in (take (length entries - 1) entries) + counted (slice_index entries (length entries - 1))
 end_counts entries some =
     let all : take (length entries - 1 + 1) entries ≡ entries = take_all (length entries - 1 + 1) entries (omega arith) in
     ap jobs_in (sym all) ∙ sum_by_more counted entries (length entries - 1) 0 (omega arith)
@@ -163,11 +169,13 @@ out_all P First entries all = All-drop P 1 entries all
 out_all P Priority entries all = All-drop P 1 entries all
 
 -- a job waits more
-pub wait_keeps : (object : ℕ) (routes : Routes) (station : Station) (held : ℕ) (servers : List ℕ) (level waiting a birth since until : ℕ) (cells : CellData)
+pub wait_keeps : (object : ℕ) (routes : Routes) (station : Station) (held : ℕ) (servers : List ℕ) (level waiting a birth since until : ℕ)
+    (cells : CellData)
     → Stands object routes station held servers cells → level < station.levels → is_entry object routes a ≡ true → a < EMPTY → birth < 2 ^ 48
     → waiting ≡ (counts_of cells).waiting + 1 → waiting ≤ station.line + station.most
     → Keeps (Stands object routes station held servers)
-    (Set WAITING waiting ∷ Push (jobs_line level) a ∷ Push (births_line level) birth ∷ Push (since_line level) since ∷ Push (until_line level) until ∷ []) cells
+    (Set WAITING waiting ∷ Push (jobs_line level) a ∷ Push (births_line level) birth ∷ Push (since_line level) since
+    ∷ Push (until_line level) until ∷ []) cells
 unfolding AllFit cells_after_all
 wait_keeps object routes station held servers level waiting a birth since until cells is below entry job early one few =
     let push = λ (value : ℕ) (xs : List ℕ). xs ++ value ∷ [] in
@@ -183,7 +191,8 @@ wait_keeps object routes station held servers level waiting a birth since until 
       fits = (long, (read.jobs, (read.births, (read.since, (read.until, tt)))));
       after = level_changed object routes station held servers cells
           (four_mapped (push a) (push birth) (push since) (push until) level (record cells { words = words })) level
-          (jobs ++ a ∷ []) (line_of cells (births_line level) ++ birth ∷ []) (line_of cells (since_line level) ++ since ∷ []) (line_of cells (until_line level) ++ until ∷ [])
+          (jobs ++ a ∷ []) (line_of cells (births_line level) ++ birth ∷ []) (line_of cells (since_line level) ++ since ∷ [])
+          (line_of cells (until_line level) ++ until ∷ [])
           is below (set_waiting cells.words waiting)
           (four_as (push a) (push birth) (push since) (push until) level cells words there)
           (record {
@@ -198,10 +207,14 @@ wait_keeps object routes station held servers level waiting a birth since until 
     }
 
 -- an entry goes out, and the count of the waiting jobs is as before or one less
-out_stands : (object : ℕ) (routes : Routes) (station : Station) (held : ℕ) (servers : List ℕ) (level : ℕ) (order : Order) (cells : CellData) (words : List ℕ)
-    → Stands object routes station held servers cells → level < station.levels → 0 < length (line_of cells (jobs_line level)) → WordsAs cells.words words
-    → slice_index words WAITING + counted (slice_index (line_of cells (jobs_line level)) (called_place order (length (line_of cells (jobs_line level))))) ≡ (counts_of cells).waiting
-    → Stands object routes station held servers (four_mapped (out_of order) (out_of order) (out_of order) (out_of order) level (record cells { words = words }))
+out_stands : (object : ℕ) (routes : Routes) (station : Station) (held : ℕ) (servers : List ℕ) (level : ℕ) (order : Order) (cells : CellData)
+    (words : List ℕ)
+    → Stands object routes station held servers cells → level < station.levels → 0 < length (line_of cells (jobs_line level))
+    → WordsAs cells.words words
+    → slice_index words WAITING + counted (slice_index (line_of cells (jobs_line level))
+    (called_place order (length (line_of cells (jobs_line level))))) ≡ (counts_of cells).waiting
+    → Stands object routes station held servers
+    (four_mapped (out_of order) (out_of order) (out_of order) (out_of order) level (record cells { words = words }))
 out_stands object routes station held servers level order cells words is below some like count =
     let out = out_of order in
     let there : until_line level < length cells.lines = omega (arith, is.lawful.lines) in
@@ -224,18 +237,23 @@ out_stands object routes station held servers level order cells words is below s
 
 -- the lines of a level hold an entry, each where the ones before it lost theirs
 pops_fit : (level : ℕ) (cells : CellData) → until_line level < length cells.lines → 0 < length (line_of cells (jobs_line level))
-    → length (line_of cells (births_line level)) ≡ length (line_of cells (jobs_line level)) → length (line_of cells (since_line level)) ≡ length (line_of cells (jobs_line level))
+    → length (line_of cells (births_line level)) ≡ length (line_of cells (jobs_line level))
+    → length (line_of cells (since_line level)) ≡ length (line_of cells (jobs_line level))
     → length (line_of cells (until_line level)) ≡ length (line_of cells (jobs_line level))
     → AllFit (Pop (jobs_line level) ∷ Pop (births_line level) ∷ Pop (since_line level) ∷ Pop (until_line level) ∷ []) cells
 unfolding AllFit
 pops_fit level cells there some births since until =
     let read : FourRead (drop 1) (drop 1) (drop 1) level cells = four_read (drop 1) (drop 1) (drop 1) level cells there in (
       (read.jobs, some),
-      ((read.births, omega (arith, ap length read.births_are)), ((read.since, omega (arith, ap length read.since_are)), ((read.until, omega (arith, ap length read.until_are)), tt))),
+      (
+        (read.births, omega (arith, ap length read.births_are)),
+        ((read.since, omega (arith, ap length read.since_are)), ((read.until, omega (arith, ap length read.until_are)), tt)),
+      ),
     )
 
 unpushes_fit : (level : ℕ) (cells : CellData) → until_line level < length cells.lines → 0 < length (line_of cells (jobs_line level))
-    → length (line_of cells (births_line level)) ≡ length (line_of cells (jobs_line level)) → length (line_of cells (since_line level)) ≡ length (line_of cells (jobs_line level))
+    → length (line_of cells (births_line level)) ≡ length (line_of cells (jobs_line level))
+    → length (line_of cells (since_line level)) ≡ length (line_of cells (jobs_line level))
     → length (line_of cells (until_line level)) ≡ length (line_of cells (jobs_line level))
     → AllFit (Unpush (jobs_line level) ∷ Unpush (births_line level) ∷ Unpush (since_line level) ∷ Unpush (until_line level) ∷ []) cells
 unfolding AllFit
@@ -243,7 +261,10 @@ unpushes_fit level cells there some births since until =
     let out = λ (xs : List ℕ). take (length xs - 1) xs in
     let read : FourRead out out out level cells = four_read out out out level cells there in (
       (read.jobs, some),
-      ((read.births, omega (arith, ap length read.births_are)), ((read.since, omega (arith, ap length read.since_are)), ((read.until, omega (arith, ap length read.until_are)), tt))),
+      (
+        (read.births, omega (arith, ap length read.births_are)),
+        ((read.since, omega (arith, ap length read.since_are)), ((read.until, omega (arith, ap length read.until_are)), tt)),
+      ),
     )
 
 abbrev pops : ℕ → List Change
@@ -261,7 +282,8 @@ gone_keeps object routes station held servers level value cells is below =
     (λ e. absurd (omega arith)) (λ e. absurd (omega arith)) (λ e. absurd (omega arith)) (λ e. absurd (omega arith))
 
 -- the entry that is called goes out, and was a job
-pub called_keeps : (object : ℕ) (routes : Routes) (station : Station) (held : ℕ) (servers : List ℕ) (level waiting : ℕ) (from cells : CellData) (order : Order)
+pub called_keeps : (object : ℕ) (routes : Routes) (station : Station) (held : ℕ) (servers : List ℕ) (level waiting : ℕ) (from cells : CellData)
+    (order : Order)
     → Stands object routes station held servers cells → level < station.levels → 0 < length (line_of cells (jobs_line level))
     → slice_index (line_of cells (jobs_line level)) (called_place order (length (line_of cells (jobs_line level)))) < EMPTY
     → waiting + 1 ≡ (counts_of cells).waiting
@@ -293,25 +315,36 @@ called_keeps object routes station held servers level waiting from cells order i
     front : slice_index (line_of cells (jobs_line level)) 0 < EMPTY
         → Keeps (Stands object routes station held servers) (Set WAITING waiting ∷ pops level) cells
     front job = record {
-      fits = (long, pops_fit level base there some (is.lawful.levels level below).births (is.lawful.levels level below).since (is.lawful.levels level below).until);
+      fits = (
+        long,
+        pops_fit level base there some (is.lawful.levels level below).births (is.lawful.levels level below).since
+            (is.lawful.levels level below).until,
+      );
       after = stands First job;
     }
 
     by : (order : Order) → slice_index (line_of cells (jobs_line level)) (called_place order (length (line_of cells (jobs_line level)))) < EMPTY
         → Keeps (Stands object routes station held servers) (Set WAITING waiting ∷ out_changes order from level) cells
     by Last job = record {
-      fits = (long, unpushes_fit level base there some (is.lawful.levels level below).births (is.lawful.levels level below).since (is.lawful.levels level below).until);
+      fits = (
+        long,
+        unpushes_fit level base there some (is.lawful.levels level below).births (is.lawful.levels level below).since
+            (is.lawful.levels level below).until,
+      );
       after = stands Last job;
     }
     by First job =
-        keeps_then (Stands object routes station held servers) (Stands object routes station held servers) (Set WAITING waiting ∷ pops level) (Set (gone_word level) _ ∷ []) cells (front job)
+        keeps_then (Stands object routes station held servers) (Stands object routes station held servers) (Set WAITING waiting ∷ pops level)
+        (Set (gone_word level) _ ∷ []) cells (front job)
         (λ c stood. gone_keeps object routes station held servers level _ c stood below)
     by Priority job =
-        keeps_then (Stands object routes station held servers) (Stands object routes station held servers) (Set WAITING waiting ∷ pops level) (Set (gone_word level) _ ∷ []) cells (front job)
+        keeps_then (Stands object routes station held servers) (Stands object routes station held servers) (Set WAITING waiting ∷ pops level)
+        (Set (gone_word level) _ ∷ []) cells (front job)
         (λ c stood. gone_keeps object routes station held servers level _ c stood below)
 
 -- the entry that is called goes out, and was the place of a job that lost its patience
-pub passed_keeps : (object : ℕ) (routes : Routes) (station : Station) (held : ℕ) (servers : List ℕ) (level : ℕ) (from cells : CellData) (order : Order)
+pub passed_keeps : (object : ℕ) (routes : Routes) (station : Station) (held : ℕ) (servers : List ℕ) (level : ℕ) (from cells : CellData)
+    (order : Order)
     → Stands object routes station held servers cells → level < station.levels → 0 < length (line_of cells (jobs_line level))
     → EMPTY ≤ slice_index (line_of cells (jobs_line level)) (called_place order (length (line_of cells (jobs_line level))))
     → Keeps (Stands object routes station held servers) (out_changes order from level) cells
@@ -329,21 +362,25 @@ passed_keeps object routes station held servers level from cells order is below 
 
     front : EMPTY ≤ slice_index (line_of cells (jobs_line level)) 0 → Keeps (Stands object routes station held servers) (pops level) cells
     front empty = record {
-      fits = pops_fit level cells there some (is.lawful.levels level below).births (is.lawful.levels level below).since (is.lawful.levels level below).until;
+      fits = pops_fit level cells there some (is.lawful.levels level below).births (is.lawful.levels level below).since
+          (is.lawful.levels level below).until;
       after = stands First empty;
     }
 
     by : (order : Order) → EMPTY ≤ slice_index (line_of cells (jobs_line level)) (called_place order (length (line_of cells (jobs_line level))))
         → Keeps (Stands object routes station held servers) (out_changes order from level) cells
     by Last empty = record {
-      fits = unpushes_fit level cells there some (is.lawful.levels level below).births (is.lawful.levels level below).since (is.lawful.levels level below).until;
+      fits = unpushes_fit level cells there some (is.lawful.levels level below).births (is.lawful.levels level below).since
+          (is.lawful.levels level below).until;
       after = stands Last empty;
     }
     by First empty =
-        keeps_then (Stands object routes station held servers) (Stands object routes station held servers) (pops level) (Set (gone_word level) _ ∷ []) cells (front empty)
+        keeps_then (Stands object routes station held servers) (Stands object routes station held servers) (pops level)
+        (Set (gone_word level) _ ∷ []) cells (front empty)
         (λ c stood. gone_keeps object routes station held servers level _ c stood below)
     by Priority empty =
-        keeps_then (Stands object routes station held servers) (Stands object routes station held servers) (pops level) (Set (gone_word level) _ ∷ []) cells (front empty)
+        keeps_then (Stands object routes station held servers) (Stands object routes station held servers) (pops level)
+        (Set (gone_word level) _ ∷ []) cells (front empty)
         (λ c stood. gone_keeps object routes station held servers level _ c stood below)
 
 -- a job that waits is an entry still when each of its bits is turned
@@ -355,7 +392,8 @@ flipped_entry object routes a job entry =
     ap (λ n. is_some (visit_at routes object n)) same ∙ entry
 
 -- no fewer jobs wait than at one level
-level_waiting : (object : ℕ) (routes : Routes) (station : Station) (cells : CellData) (level : ℕ) → IsLawful object routes station cells → level < station.levels
+level_waiting : (object : ℕ) (routes : Routes) (station : Station) (cells : CellData) (level : ℕ) → IsLawful object routes station cells
+    → level < station.levels
     → waiting_at cells level ≤ (counts_of cells).waiting
 level_waiting object routes station cells level is below =
     let at : get_or (range_with_len 0 station.levels) level 0 ≡ level = omega (arith, get_or-range_with_len 0 station.levels level 0 below) in
@@ -381,13 +419,15 @@ renege_keeps object routes station held servers level place cells is below withi
     let a = slice_index jobs place in
     let set : slice_index words WAITING ≡ waiting = get_or-set_same cells.words WAITING waiting 0 long in
     let big : EMPTY ≤ flipped a = grind (arith, nat_tests) in
-    let sum : jobs_in (with_flipped jobs place) + counted a ≡ jobs_in jobs + counted (flipped a) = sum_by-set counted jobs place (flipped a) 0 within in
+    let sum : jobs_in (with_flipped jobs place) + counted a ≡ jobs_in jobs + counted (flipped a) =
+    sum_by-set counted jobs place (flipped a) 0 within in
     let some : waiting_at cells level ≤ (counts_of cells).waiting = level_waiting object routes station cells level is.lawful below in
     let one : 1 ≤ jobs_in jobs = omega (arith, get_or-le-sum_by counted jobs place 0 within, job_counts a job) in
     record {
       fits = (long, ((there, within), tt));
       after = level_changed object routes station held servers cells (mapped turn (jobs_line level) base) level
-          (with_flipped jobs place) (line_of cells (births_line level)) (line_of cells (since_line level)) (line_of cells (until_line level)) is below (set_waiting cells.words waiting)
+          (with_flipped jobs place) (line_of cells (births_line level)) (line_of cells (since_line level)) (line_of cells (until_line level)) is below
+          (set_waiting cells.words waiting)
           (record {
             lines = mapped_long turn (jobs_line level) base;
             jobs = mapped_here turn (jobs_line level) base there;
@@ -400,7 +440,8 @@ renege_keeps object routes station held servers level place cells is below withi
             births = at.births ∙ sym (length-set jobs place (flipped a));
             since = at.since ∙ sym (length-set jobs place (flipped a));
             until = at.until ∙ sym (length-set jobs place (flipped a));
-            entries = All-set (λ a. is_entry object routes a ≡ true) jobs place (flipped a) (flipped_entry object routes a job (at.entries place 0 within)) at.entries;
+            entries = All-set (λ a. is_entry object routes a ≡ true) jobs place (flipped a)
+                (flipped_entry object routes a job (at.entries place 0 within)) at.entries;
             early = at.early;
           })
           (omega (arith, set, sum, job_counts a job, empty_counts (flipped a) big, one, some))

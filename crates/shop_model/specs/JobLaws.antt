@@ -25,7 +25,8 @@ pub job_named : (routes : Routes) (a : ℕ) (job : Job) → AreRoutes routes →
 unfolding job_of is_job
 job_named routes a job fine is = by (is_job routes a) refl is
   where
-    by : (names : Bool) → is_job routes a ≡ names → (if names then Some (record { class = class_of a; step = step_of a; id = id_of a }) else None) ≡ Some job → Names routes a job
+    by : (names : Bool) → is_job routes a ≡ names
+        → (if names then Some (record { class = class_of a; step = step_of a; id = id_of a }) else None) ≡ Some job → Names routes a job
     by false fails is = absurd (cc)
     by true passes is =
         let p = and_parts _ _ passes in
@@ -51,11 +52,13 @@ unfolding job_here
 job_here_is routes object a job fine is = by (job_of routes a) refl is
   where
     by : (found : Option Job) → job_of routes a ≡ found
-        → option_and_then (λ (j : Job). if object_at routes j.class j.step == object then Some j else None) found ≡ Some job → HasHere routes object a job
+        → option_and_then (λ (j : Job). if object_at routes j.class j.step == object then Some j else None) found ≡ Some job
+        → HasHere routes object a job
     by None none is = absurd (cc)
     by (Some j) some is = at (object_at routes j.class j.step == object) refl is
       where
-        at : (here : Bool) → (object_at routes j.class j.step == object) ≡ here → (if here then Some j else None) ≡ Some job → HasHere routes object a job
+        at : (here : Bool) → (object_at routes j.class j.step == object) ≡ here → (if here then Some j else None) ≡ Some job
+            → HasHere routes object a job
         at false fails is = absurd (cc)
         at true passes is =
             let same : j ≡ job = cc in
@@ -63,7 +66,8 @@ job_here_is routes object a job fine is = by (job_of routes a) refl is
             (record { is = some; names = job_named routes a j fine some; here = eqb-true _ _ passes })
 
 -- a job that visits a station may wait there
-pub waits_here : (routes : Routes) (object a : ℕ) (job : Job) (visit : AVisit) → HasHere routes object a job → step_at routes job.class job.step ≡ Some (Visit visit)
+pub waits_here : (routes : Routes) (object a : ℕ) (job : Job) (visit : AVisit) → HasHere routes object a job
+    → step_at routes job.class job.step ≡ Some (Visit visit)
     → is_entry object routes a ≡ true
 unfolding is_entry visit_at object_at
 waits_here routes object a job visit has visits =

@@ -12,11 +12,13 @@ pub keeps_none : (P : CellData → Type 0) (cells : CellData) → P cells → Ke
 unfolding AllFit cells_after_all
 keeps_none P cells h = record { fits = tt; after = h }
 
-pub keeps_one : (P : CellData → Type 0) (change : Change) (cells : CellData) → Fits change cells → P (cells_after change cells) → Keeps P (change ∷ []) cells
+pub keeps_one : (P : CellData → Type 0) (change : Change) (cells : CellData) → Fits change cells → P (cells_after change cells)
+    → Keeps P (change ∷ []) cells
 unfolding AllFit cells_after_all
 keeps_one P change cells fits h = record { fits = (fits, tt); after = h }
 
-pub keeps_then : (P Q : CellData → Type 0) (first last : List Change) (cells : CellData) → Keeps P first cells → ((c : CellData) → P c → Keeps Q last c)
+pub keeps_then : (P Q : CellData → Type 0) (first last : List Change) (cells : CellData) → Keeps P first cells
+    → ((c : CellData) → P c → Keeps Q last c)
     → Keeps Q (first ++ last) cells
 keeps_then P Q first last cells a b =
     let c = b (cells_after_all first cells) a.after in

@@ -10,7 +10,8 @@ use Rattle.delta_exchange.specs.Changes.{CellData, line_of}
 use Rattle.shop_model.specs.declared.routes.Routes.{Routes}
 use Rattle.shop_model.specs.declared.station.Station.{Station}
 use Rattle.shop_model.specs.declared.station.TheConstants.{FREE_SERVERS, GONE}
-use Rattle.shop_model.specs.Stations.{jobs_line, births_line, since_line, until_line, counts_of, is_entry, is_level, waiting_at, has_servers, is_station_cells}
+use Rattle.shop_model.specs.Stations.{jobs_line, births_line, since_line, until_line, counts_of, is_entry, is_level, waiting_at, has_servers}
+use Rattle.shop_model.specs.Stations.{is_station_cells}
 
 -- the four lines of a level are as long as one another, and hold jobs that wait at the object
 pub record IsLevelOf (object : ℕ) (routes : Routes) (cells : CellData) (level : ℕ) : Type 0 where
@@ -22,16 +23,18 @@ pub record IsLevelOf (object : ℕ) (routes : Routes) (cells : CellData) (level 
 
 -- a level whose lines are these
 pub level_of_lists : (object : ℕ) (routes : Routes) (cells : CellData) (level : ℕ) (jobs births since until : List ℕ)
-    → line_of cells (jobs_line level) ≡ jobs → line_of cells (births_line level) ≡ births → line_of cells (since_line level) ≡ since → line_of cells (until_line level) ≡ until
+    → line_of cells (jobs_line level) ≡ jobs → line_of cells (births_line level) ≡ births → line_of cells (since_line level) ≡ since
+    → line_of cells (until_line level) ≡ until
     → length births ≡ length jobs → length since ≡ length jobs → length until ≡ length jobs
     → All (λ a. is_entry object routes a ≡ true) jobs → All (λ birth. nat_lt birth (2 ^ 48) ≡ true) births → IsLevelOf object routes cells level
-level_of_lists object routes cells level jobs births since until jobs_are births_are since_are until_are as_births as_since as_until entries early = record {
-  births = ap length births_are ∙ as_births ∙ sym (ap length jobs_are);
-  since = ap length since_are ∙ as_since ∙ sym (ap length jobs_are);
-  until = ap length until_are ∙ as_until ∙ sym (ap length jobs_are);
-  entries = subst (λ xs. All (λ a. is_entry object routes a ≡ true) xs) (sym jobs_are) entries;
-  early = subst (λ xs. All (λ birth. nat_lt birth (2 ^ 48) ≡ true) xs) (sym births_are) early;
-}
+level_of_lists object routes cells level jobs births since until jobs_are births_are since_are until_are as_births as_since as_until entries
+    early = record {
+      births = ap length births_are ∙ as_births ∙ sym (ap length jobs_are);
+      since = ap length since_are ∙ as_since ∙ sym (ap length jobs_are);
+      until = ap length until_are ∙ as_until ∙ sym (ap length jobs_are);
+      entries = subst (λ xs. All (λ a. is_entry object routes a ≡ true) xs) (sym jobs_are) entries;
+      early = subst (λ xs. All (λ birth. nat_lt birth (2 ^ 48) ≡ true) xs) (sym births_are) early;
+    }
 
 -- how many jobs wait at all levels
 abbrev pub waiting_in : CellData → ℕ → ℕ
@@ -69,7 +72,8 @@ not_all_below test n k below fails =
     let at : get_or (range_with_len 0 n) k 0 ≡ k = omega (arith, get_or-range_with_len 0 n k 0 below) in
     list_all_at test (range_with_len 0 n) k 0 (omega (arith, length-range_with_len 0 n)) (ap test at ∙ fails)
 
-pub level_from : (object : ℕ) (routes : Routes) (cells : CellData) (level : ℕ) → is_level object routes cells level ≡ true → IsLevelOf object routes cells level
+pub level_from : (object : ℕ) (routes : Routes) (cells : CellData) (level : ℕ) → is_level object routes cells level ≡ true
+    → IsLevelOf object routes cells level
 unfolding is_level
 level_from object routes cells level h =
     let p5 = and_parts _ _ h in
@@ -84,7 +88,8 @@ level_from object routes cells level h =
       early = AllPass-from_list_all _ _ p5.1;
     }
 
-pub from_level : (object : ℕ) (routes : Routes) (cells : CellData) (level : ℕ) → IsLevelOf object routes cells level → is_level object routes cells level ≡ true
+pub from_level : (object : ℕ) (routes : Routes) (cells : CellData) (level : ℕ) → IsLevelOf object routes cells level
+    → is_level object routes cells level ≡ true
 unfolding is_level
 from_level object routes cells level is =
     and_from _ _
@@ -113,7 +118,8 @@ lawful_from object routes station cells h =
     record {
       words = eqb-true _ _ p1.0;
       lines = eqb-true _ _ p1.1;
-      levels = λ level below. level_from object routes cells level (list_all_below (λ l. is_level object routes cells l) station.levels p2.1 level below);
+      levels =
+          λ level below. level_from object routes cells level (list_all_below (λ l. is_level object routes cells l) station.levels p2.1 level below);
       opened = leb-true _ _ s1.0;
       held = leb-true _ _ s1.1;
       free = leb-true _ _ s2.1;
@@ -134,7 +140,8 @@ from_lawful object routes station cells is =
     (and_from _ _
     (and_from _ _
     (and_from _ _ (eq-eqb _ _ is.words) (eq-eqb _ _ is.lines))
-    (below_list_all (λ l. is_level object routes cells l) station.levels (λ level below. from_level object routes cells level (is.levels level below))))
+    (below_list_all (λ l. is_level object routes cells l) station.levels
+    (λ level below. from_level object routes cells level (is.levels level below))))
     (and_from _ _
     (and_from _ _ (and_from _ _ (le-leb _ _ is.opened) (le-leb _ _ is.held)) (le-leb _ _ is.free))
     (list_all-from_AllPass _ _ is.servers)))

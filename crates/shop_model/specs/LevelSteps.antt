@@ -56,13 +56,16 @@ other_level object routes cells later level at jobs births since until like othe
 this_level : (object : ℕ) (routes : Routes) (cells later : CellData) (level : ℕ) (jobs births since until : List ℕ)
     → LevelAs cells later level jobs births since until → AreLines object routes jobs births since until → IsLevelOf object routes later level
 this_level object routes cells later level jobs births since until like are =
-    level_of_lists object routes later level jobs births since until like.jobs like.births like.since like.until are.births are.since are.until are.entries are.early
+    level_of_lists object routes later level jobs births since until like.jobs like.births like.since like.until are.births are.since are.until
+    are.entries are.early
 
-other_waiting : (cells later : CellData) (level at : ℕ) (jobs births since until : List ℕ) → LevelAs cells later level jobs births since until → at ≢ level
+other_waiting : (cells later : CellData) (level at : ℕ) (jobs births since until : List ℕ) → LevelAs cells later level jobs births since until
+    → at ≢ level
     → waiting_at later at ≡ waiting_at cells at
 unfolding waiting_at
 other_waiting cells later level at jobs births since until like other =
-    ap jobs_in (like.others (jobs_line at) (λ e. other (omega arith)) (λ e. absurd (omega arith)) (λ e. absurd (omega arith)) (λ e. absurd (omega arith)))
+    ap jobs_in (like.others (jobs_line at) (λ e. other (omega arith)) (λ e. absurd (omega arith)) (λ e. absurd (omega arith))
+    (λ e. absurd (omega arith)))
 
 this_waiting : (cells later : CellData) (level : ℕ) (jobs births since until : List ℕ) → LevelAs cells later level jobs births since until
     → waiting_at later level ≡ jobs_in jobs
@@ -74,7 +77,8 @@ unfolding waiting_at
 was_waiting cells level = refl
 
 -- one level changes, and the count of the waiting jobs with it
-pub level_changed : (object : ℕ) (routes : Routes) (station : Station) (held : ℕ) (servers : List ℕ) (cells later : CellData) (level : ℕ) (jobs births since until : List ℕ)
+pub level_changed : (object : ℕ) (routes : Routes) (station : Station) (held : ℕ) (servers : List ℕ) (cells later : CellData) (level : ℕ)
+    (jobs births since until : List ℕ)
     → Stands object routes station held servers cells → level < station.levels → WordsAs cells.words later.words
     → LevelAs cells later level jobs births since until → AreLines object routes jobs births since until
     → slice_index later.words WAITING + jobs_in (line_of cells (jobs_line level)) ≡ slice_index cells.words WAITING + jobs_in jobs
@@ -83,7 +87,8 @@ pub level_changed : (object : ℕ) (routes : Routes) (station : Station) (held :
 level_changed object routes station held servers cells later level jobs births since until is below words like are counted few =
     let free : line_of later FREE_SERVERS ≡ line_of cells FREE_SERVERS =
     like.others FREE_SERVERS (λ e. absurd (omega arith)) (λ e. absurd (omega arith)) (λ e. absurd (omega arith)) (λ e. absurd (omega arith)) in
-    let sums : sum_by (λ k. waiting_at later k) (range_with_len 0 station.levels) + waiting_at cells level ≡ sum_by (λ k. waiting_at cells k) (range_with_len 0 station.levels) + waiting_at later level =
+    let sums : sum_by (λ k. waiting_at later k) (range_with_len 0 station.levels) + waiting_at cells level
+    ≡ sum_by (λ k. waiting_at cells k) (range_with_len 0 station.levels) + waiting_at later level =
     sum_changed (λ k. waiting_at cells k) (λ k. waiting_at later k) station.levels level below
     (λ k other. other_waiting cells later level k jobs births since until like other) in
     record {
@@ -91,7 +96,8 @@ level_changed object routes station held servers cells later level jobs births s
         words = words.as_long ∙ is.lawful.words;
         lines = like.lines ∙ is.lawful.lines;
         levels = λ at within. ⊎_elim
-            (λ (e : at ≡ level). subst (λ k. IsLevelOf object routes later k) (sym e) (this_level object routes cells later level jobs births since until like are))
+            (λ (e : at ≡ level). subst (λ k. IsLevelOf object routes later k) (sym e)
+            (this_level object routes cells later level jobs births since until like are))
             (λ other. other_level object routes cells later level at jobs births since until like other (is.lawful.levels at within))
             (cases_eq at level);
         opened = omega (arith, words.opened, is.lawful.opened);
@@ -99,7 +105,8 @@ level_changed object routes station held servers cells later level jobs births s
         free = omega (arith, is.lawful.free, ap length free);
         servers = subst (λ xs. All (λ server. nat_lt server station.most ≡ true) xs) (sym free) is.lawful.servers;
         down = omega (arith, words.down, is.lawful.down);
-        waiting = omega (arith, sums, counted, is.lawful.waiting, was_waiting cells level, this_waiting cells later level jobs births since until like);
+        waiting =
+            omega (arith, sums, counted, is.lawful.waiting, was_waiting cells level, this_waiting cells later level jobs births since until like);
         few = few;
       };
       held = words.held ∙ is.held;

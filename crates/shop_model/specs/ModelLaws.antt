@@ -1,5 +1,6 @@
 -- A shop keeps the laws of models.
-use Rattle.std.proofs.Common.{◌≡◌, ℕ, ◌+◌, ◌-◌, ◌*◌, ◌<◌, ◌≤◌, ◌^◌, Bool, true, false, zero, suc, List, [], ◌∷◌, length, get_or, map, max, replicate, reverse, ⊎_elim, refl, sym, ap, ◌∙◌, subst, arith}
+use Rattle.std.proofs.Common.{◌≡◌, ℕ, ◌+◌, ◌-◌, ◌*◌, ◌<◌, ◌≤◌, ◌^◌, Bool, true, false, zero, suc, List, [], ◌∷◌, length, get_or, map, max, replicate}
+use Rattle.std.proofs.Common.{reverse, ⊎_elim, refl, sym, ap, ◌∙◌, subst, arith}
 use Rattle.std.specs.Prelude.{All, IsTrue, count_by, slice_index, slice_index_or, if◌then◌else◌, nat_lt, nat_le, Option, None, Some}
 use Rattle.std.specs.List.{fold, range_with_len}
 use Rattle.std.proofs.lemmas.Bool.{ltb-true, ltb-false, lt-ltb, le-ltb, cases_lt}
@@ -65,7 +66,8 @@ some_levels Last classes = omega arith
 
 -- each class has a level
 pub has_levels : (p : ShopParts) (station : Station) → IsStationOf p.classes station → HasLevels (routes_of p) station
-has_levels p station is class within = subst (λ levels. level_of station.order (class_at (routes_of p) class).priority < levels) (sym is.levels) (by station.order)
+has_levels p station is class within =
+    subst (λ levels. level_of station.order (class_at (routes_of p) class).priority < levels) (sym is.levels) (by station.order)
   where
     by : (order : Order) → level_of order (class_at (routes_of p) class).priority < levels_of order p.classes
     by Priority = omega (arith, calmest_of 0 p.classes class within)
@@ -73,7 +75,8 @@ has_levels p station is class within = subst (λ levels. level_of station.order 
     by Last = omega arith
 
 -- the cells of a station at the start
-first_station : (object : ℕ) (p : ShopParts) (station : Station) → IsStationOf p.classes station → IsTrue (is_station_cells object (routes_of p) station (first_station_cells station))
+first_station : (object : ℕ) (p : ShopParts) (station : Station) → IsStationOf p.classes station
+    → IsTrue (is_station_cells object (routes_of p) station (first_station_cells station))
 unfolding first_station_cells waiting_at
 first_station object p station is = from_lawful object (routes_of p) station (first_station_cells station) (record {
   words = omega (arith, length-replicate {A = ℕ} (4 + station.levels + station.most) 0);
@@ -94,7 +97,12 @@ first_station object p station is = from_lawful object (routes_of p) station (fi
         length-range_with_len 0 station.most,
       ));
   down = omega (arith, zeros 2 (omega arith));
-  waiting = omega (arith, zeros 1 (omega arith), sum_by-le (λ k. waiting_at (first_station_cells station) k) 0 (range_with_len 0 station.levels) (λ k d within. omega (arith, nobody (get_or (range_with_len 0 station.levels) k d))));
+  waiting = omega (
+    arith,
+    zeros 1 (omega arith),
+    sum_by-le (λ k. waiting_at (first_station_cells station) k) 0 (range_with_len 0 station.levels)
+        (λ k d within. omega (arith, nobody (get_or (range_with_len 0 station.levels) k d))),
+  );
   few = omega (arith, zeros 1 (omega arith));
 })
   where
@@ -116,7 +124,8 @@ first_station object p station is = from_lawful object (routes_of p) station (fi
     nobody level =
         let empty : line_of (first_station_cells station) (jobs_line level) ≡ [] = ⊎_elim
         (λ (within : jobs_line level < 1 + 4 * station.levels). none (jobs_line level) (omega arith) within)
-        (λ (past : 1 + 4 * station.levels ≤ jobs_line level). get_or_past (first_station_cells station).lines (jobs_line level) [] (omega (arith, lines)))
+        (λ (past : 1 + 4 * station.levels ≤ jobs_line level). get_or_past (first_station_cells station).lines (jobs_line level) []
+        (omega (arith, lines)))
         (cases_lt (jobs_line level) (1 + 4 * station.levels)) in
         ap (λ xs. count_by (λ a. nat_lt a EMPTY) xs) empty
 
@@ -125,14 +134,16 @@ lawful_station : (p : ShopParts) (object : ℕ) (cells : CellData) → object < 
     → IsTrue (is_station_cells object (routes_of p) (station_at p.stations object) cells)
 unfolding lawful_at
 lawful_station p object cells early lawful =
-    subst (λ b. IsTrue (if b then is_station_cells object (routes_of p) (station_at p.stations object) cells else is_class_cells (class_of_object p object).count cells))
+    subst (λ b. IsTrue (if b then is_station_cells object (routes_of p) (station_at p.stations object) cells
+    else is_class_cells (class_of_object p object).count cells))
     (lt-ltb object (length p.stations) early) lawful
 
 pub lawful_class : (p : ShopParts) (object : ℕ) (cells : CellData) → length p.stations ≤ object → IsTrue (lawful_at p object cells)
     → IsTrue (is_class_cells (class_of_object p object).count cells)
 unfolding lawful_at
 lawful_class p object cells late lawful =
-    subst (λ b. IsTrue (if b then is_station_cells object (routes_of p) (station_at p.stations object) cells else is_class_cells (class_of_object p object).count cells))
+    subst (λ b. IsTrue (if b then is_station_cells object (routes_of p) (station_at p.stations object) cells
+    else is_class_cells (class_of_object p object).count cells))
     (le-ltb object (length p.stations) late) lawful
 
 -- what the handlers of a station ask of its cells
@@ -169,7 +180,8 @@ effect_class p object cells event late =
     (le-ltb object (length p.stations) late)
 
 at_station : (p : ShopParts) (object : ℕ) (cells : CellData) (event : Event) → IsShop p → object < length p.stations
-    → IsTrue (is_station_cells object (routes_of p) (station_at p.stations object) cells) → AtStation (site_of p object event) (routes_of p) (station_at p.stations object) cells
+    → IsTrue (is_station_cells object (routes_of p) (station_at p.stations object) cells)
+    → AtStation (site_of p object event) (routes_of p) (station_at p.stations object) cells
 at_station p object cells event fine exists lawful =
     let is = station_fine p object fine exists in
     record {
@@ -181,7 +193,8 @@ at_station p object cells event fine exists lawful =
       lawful = lawful_from object (routes_of p) (station_at p.stations object) cells lawful;
     }
 
-at_class : (p : ShopParts) (object : ℕ) (cells : CellData) (event : Event) → IsShop p → length p.stations ≤ object → object < length p.stations + length p.classes
+at_class : (p : ShopParts) (object : ℕ) (cells : CellData) (event : Event) → IsShop p → length p.stations ≤ object
+    → object < length p.stations + length p.classes
     → IsTrue (is_class_cells (class_of_object p object).count cells) → AtClass (site_of p object event) (routes_of p) (class_of_object p object) cells
 at_class p object cells event fine after exists lawful = record {
   routes_fine = fine.routes;
@@ -191,7 +204,8 @@ at_class p object cells event fine after exists lawful = record {
   lawful = lawful;
 }
 
-outcome_laws : (p : ShopParts) (object : ℕ) (cells : CellData) (event : Event) → IsShop p → object < length p.stations + length p.classes → IsTrue (lawful_at p object cells)
+outcome_laws : (p : ShopParts) (object : ℕ) (cells : CellData) (event : Event) → IsShop p → object < length p.stations + length p.classes
+    → IsTrue (lawful_at p object cells)
     → EffectLaws (shop_meaning p) object cells (effect_at p object cells event)
 unfolding shop_meaning lawful_at effect_at
 outcome_laws p object cells event fine exists lawful = by (nat_lt object (length p.stations)) refl lawful
@@ -209,32 +223,40 @@ outcome_laws p object cells event fine exists lawful = by (nat_lt object (length
     by : (early : Bool) → nat_lt object (length p.stations) ≡ early
         → IsTrue (if early then is_station_cells object (routes_of p) station cells else is_class_cells class.count cells)
         → EffectLaws (shop_meaning p) object cells
-        (if early then station_effect (site_of p object event) (routes_of p) station cells event else class_effect (site_of p object event) (routes_of p) class cells event)
+        (if early then station_effect (site_of p object event) (routes_of p) station cells event
+        else class_effect (site_of p object event) (routes_of p) class cells event)
     by true early lawful =
-        effect_laws (shop_meaning p) object (IsLawful object (routes_of p) station) cells (station_effect (site_of p object event) (routes_of p) station cells event)
+        effect_laws (shop_meaning p) object (IsLawful object (routes_of p) station) cells
+        (station_effect (site_of p object event) (routes_of p) station cells event)
         (λ c h. kept true early c (from_lawful object (routes_of p) station c h))
         (station_keeps (site_of p object event) (routes_of p) station cells event (at_station p object cells event fine (ltb-true _ _ early) lawful))
     by false late lawful =
-        effect_laws (shop_meaning p) object (λ c. IsTrue (is_class_cells class.count c)) cells (class_effect (site_of p object event) (routes_of p) class cells event)
+        effect_laws (shop_meaning p) object (λ c. IsTrue (is_class_cells class.count c)) cells
+        (class_effect (site_of p object event) (routes_of p) class cells event)
         (λ c h. kept false late c h)
         (class_keeps (site_of p object event) (routes_of p) class cells event (at_class p object cells event fine (ltb-false _ _ late) exists lawful))
 
-first_lawful : (p : ShopParts) (object : ℕ) → IsShop p → object < length p.stations + length p.classes → IsTrue (lawful_at p object (first_at p object))
+first_lawful : (p : ShopParts) (object : ℕ) → IsShop p → object < length p.stations + length p.classes
+    → IsTrue (lawful_at p object (first_at p object))
 unfolding lawful_at first_at
 first_lawful p object fine exists = by (nat_lt object (length p.stations)) refl
   where
     by : (early : Bool) → nat_lt object (length p.stations) ≡ early
-        → IsTrue (if early then is_station_cells object (routes_of p) (station_at p.stations object) (if early then first_station_cells (station_at p.stations object) else first_class_cells)
-        else is_class_cells (class_of_object p object).count (if early then first_station_cells (station_at p.stations object) else first_class_cells))
+        → IsTrue (if early then is_station_cells object (routes_of p) (station_at p.stations object)
+        (if early then first_station_cells (station_at p.stations object) else first_class_cells)
+        else is_class_cells (class_of_object p object).count
+        (if early then first_station_cells (station_at p.stations object) else first_class_cells))
     by true early = first_station object p (station_at p.stations object) (station_fine p object fine (ltb-true _ _ early))
     by false late = grind (arith, nat_tests)
 
 -- the events at the start
-start_fine : (p : ShopParts) (object time kind b : ℕ) → object < length p.stations + length p.classes → time < 2 ^ 46 → StartLaws (shop_meaning p) (start_at object time kind b)
+start_fine : (p : ShopParts) (object time kind b : ℕ) → object < length p.stations + length p.classes → time < 2 ^ 46
+    → StartLaws (shop_meaning p) (start_at object time kind b)
 unfolding shop_meaning
 start_fine p object time kind b exists early = record { dest = exists; time = early; rank = omega (arith, rank_of-le kind) }
 
-station_starts_fine : (p : ShopParts) (object : ℕ) → IsShop p → object < length p.stations → All (StartLaws (shop_meaning p)) (station_starts object (station_at p.stations object))
+station_starts_fine : (p : ShopParts) (object : ℕ) → IsShop p → object < length p.stations
+    → All (StartLaws (shop_meaning p)) (station_starts object (station_at p.stations object))
 station_starts_fine p object fine exists =
     All-append (StartLaws (shop_meaning p)) (first_shift object station.shifts) (first_work object station.breakdowns)
     (shifts station.shifts (station_fine p object fine exists).numbers.shifts) (works station.breakdowns)
@@ -248,21 +270,25 @@ station_starts_fine p object fine exists =
     shifts : (shifts : List Shift) → All (IsShift station) shifts → All (StartLaws (shop_meaning p)) (first_shift object shifts)
     shifts [] each = All-nil (StartLaws (shop_meaning p))
     shifts (shift ∷ rest) each =
-        All-cons (StartLaws (shop_meaning p)) (start_at object shift.at SHIFT 0) [] (start_fine p object shift.at SHIFT 0 there (omega (arith, (each 0 shift (omega arith)).at)))
+        All-cons (StartLaws (shop_meaning p)) (start_at object shift.at SHIFT 0) []
+        (start_fine p object shift.at SHIFT 0 there (omega (arith, (each 0 shift (omega arith)).at)))
         (All-nil (StartLaws (shop_meaning p)))
 
     works : (breakdowns : Option Breakdowns) → All (StartLaws (shop_meaning p)) (first_work object breakdowns)
     works None = All-nil (StartLaws (shop_meaning p))
     works (Some breakdowns) =
-        All-cons (StartLaws (shop_meaning p)) (start_at object 0 MEND 0) [] (start_fine p object 0 MEND 0 there (omega arith)) (All-nil (StartLaws (shop_meaning p)))
+        All-cons (StartLaws (shop_meaning p)) (start_at object 0 MEND 0) [] (start_fine p object 0 MEND 0 there (omega arith))
+        (All-nil (StartLaws (shop_meaning p)))
 
 class_starts_fine : (p : ShopParts) (n : ℕ) → IsShop p → n < length p.classes
     → All (StartLaws (shop_meaning p)) (class_starts (length p.stations + n) (slice_index_or p.classes n no_class))
 class_starts_fine p n fine exists =
-    All-append (StartLaws (shop_meaning p)) (first_arrival object class.every class.first class.until) (map (λ time. start_at object time MAKE 0) class.times)
+    All-append (StartLaws (shop_meaning p)) (first_arrival object class.every class.first class.until)
+    (map (λ time. start_at object time MAKE 0) class.times)
     (arrivals class.every)
     (All-map (StartLaws (shop_meaning p)) (λ time. start_at object time MAKE 0) class.times
-    (All-weaker (λ time. time ≤ MOST_DUE) (λ time. StartLaws (shop_meaning p) (start_at object time MAKE 0)) (λ time early. start_fine p object time MAKE 0 there (omega (arith, early))) class.times is.times))
+    (All-weaker (λ time. time ≤ MOST_DUE) (λ time. StartLaws (shop_meaning p) (start_at object time MAKE 0))
+    (λ time early. start_fine p object time MAKE 0 there (omega (arith, early))) class.times is.times))
   where
     object : ℕ
     object = length p.stations + n
@@ -278,7 +304,8 @@ class_starts_fine p n fine exists =
 
     first : (early : Bool) → All (StartLaws (shop_meaning p)) (if early then start_at object class.first MAKE 1 ∷ [] else [])
     first true =
-        All-cons (StartLaws (shop_meaning p)) (start_at object class.first MAKE 1) [] (start_fine p object class.first MAKE 1 there (omega (arith, is.first))) (All-nil (StartLaws (shop_meaning p)))
+        All-cons (StartLaws (shop_meaning p)) (start_at object class.first MAKE 1) []
+        (start_fine p object class.first MAKE 1 there (omega (arith, is.first))) (All-nil (StartLaws (shop_meaning p)))
     first false = All-nil (StartLaws (shop_meaning p))
 
     arrivals : (every : Option DelayLaw) → All (StartLaws (shop_meaning p)) (first_arrival object every class.first class.until)
@@ -292,6 +319,7 @@ shop_laws p fine = record {
   starts = omega (arith, length-starts_of p.stations p.classes, fine.routes.few, fine.few_times);
   first = λ object exists. first_lawful p object fine exists;
   outcome = λ object cells event exists lawful. outcome_laws p object cells event fine exists lawful;
-  start = λ i exists. All-starts_of (StartLaws (shop_meaning p)) p.stations p.classes (λ object there. station_starts_fine p object fine there) (λ n there. class_starts_fine p n fine there)
+  start = λ i exists. All-starts_of (StartLaws (shop_meaning p)) p.stations p.classes (λ object there. station_starts_fine p object fine there)
+      (λ n there. class_starts_fine p n fine there)
       i (start_at 0 0 0 0) exists;
 }

@@ -1,5 +1,6 @@
 -- Where the jobs of each class go.
-use Rattle.std.specs.Prelude.{ℕ, ◌+◌, ◌^◌, ◌<◌, ◌≤◌, Bool, ◌&&◌, ◌==◌, if◌then◌else◌, [], length, nat_lt, nat_le, slice_get, slice_index_or, Option, None, Some}
+use Rattle.std.specs.Prelude.{ℕ, ◌+◌, ◌^◌, ◌<◌, ◌≤◌, Bool, ◌&&◌, ◌==◌, if◌then◌else◌, [], length, nat_lt, nat_le, slice_get, slice_index_or, Option}
+use Rattle.std.specs.Prelude.{None, Some}
 use Rattle.std.specs.Option.{option_and_then}
 use Rattle.model_core.specs.declared.event.Send.{Send}
 use Rattle.shop_model.specs.declared.class.Class.{Class}

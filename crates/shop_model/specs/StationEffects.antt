@@ -1,5 +1,6 @@
 -- What a station does: jobs come to it, servers call and end, patience ends, shifts change, and it breaks down.
-use Rattle.std.specs.Prelude.{ℕ, ◌+◌, ◌-◌, ◌%◌, ◌^◌, min, Bool, ◌&&◌, ◌==◌, if◌then◌else◌, List, [], ◌∷◌, ◌++◌, length, nat_lt, nat_le, slice_index, slice_index_or, Option, None, Some}
+use Rattle.std.specs.Prelude.{ℕ, ◌+◌, ◌-◌, ◌%◌, ◌^◌, min, Bool, ◌&&◌, ◌==◌, if◌then◌else◌, List, [], ◌∷◌, ◌++◌, length, nat_lt, nat_le, slice_index}
+use Rattle.std.specs.Prelude.{slice_index_or, Option, None, Some}
 use Rattle.std.specs.List.{position_or_len, range_with_len}
 use Rattle.delta_exchange.specs.declared.change.Change.{Change}
 use Rattle.delta_exchange.specs.declared.change.Change.TheVariants.{Set, Push, Pop, Unpush, Flip}
@@ -7,7 +8,8 @@ use Rattle.delta_exchange.specs.Changes.{CellData, line_of}
 use Rattle.model_core.specs.declared.effect.Effect.{Effect}
 use Rattle.model_core.specs.declared.event.Event.{Event}
 use Rattle.model_core.specs.declared.event.Send.{Send}
-use Rattle.model_core.specs.declared.words.TheConstants.{TAKEN_WORD, WAITING_WORD, LOST_WORD, FREED_WORD, CALLED_WORD, DONE_WORD, RENEGED_WORD, OPENED_WORD, DOWN_WORD, UP_WORD}
+use Rattle.model_core.specs.declared.words.TheConstants.{TAKEN_WORD, WAITING_WORD, LOST_WORD, FREED_WORD, CALLED_WORD, DONE_WORD, RENEGED_WORD}
+use Rattle.model_core.specs.declared.words.TheConstants.{OPENED_WORD, DOWN_WORD, UP_WORD}
 use Rattle.model_core.specs.Effects.{blank}
 use Rattle.model_core.specs.Places.{place_changes}
 use Rattle.random_streams.specs.declared.delay_law.DelayLaw.{DelayLaw}
@@ -30,7 +32,8 @@ use Rattle.shop_model.specs.Beginnings.{service_drawn, begin_changes, begin_sent
 use Rattle.shop_model.specs.Jobs.{job_at, birth_of, server_of}
 use Rattle.shop_model.specs.Routes.{class_at, step_at, job_of, moved}
 use Rattle.shop_model.specs.Sites.{to_self, place_of, words_at, drawn_at, drawn_or, told}
-use Rattle.shop_model.specs.Stations.{gone_word, mark_word, jobs_line, births_line, since_line, until_line, level_of, counts_of, busy_of, spare_of, call_sent}
+use Rattle.shop_model.specs.Stations.{gone_word, mark_word, jobs_line, births_line, since_line, until_line, level_of, counts_of, busy_of, spare_of}
+use Rattle.shop_model.specs.Stations.{call_sent}
 
 -- a job gives a server back, if one is held, and goes on
 unfoldable pub free_effect : Site → Routes → Station → Job → CellData → Event → Effect

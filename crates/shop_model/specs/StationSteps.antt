@@ -1,5 +1,6 @@
 -- Single changes of the cells of a station that keep what is lawful: words, and the servers that serve nobody.
-use Rattle.std.proofs.Common.{◌≡◌, ◌≢◌, ℕ, ◌-◌, ◌<◌, ◌≤◌, true, List, [], ◌∷◌, ◌++◌, length, get_or, take, refl, ap, sym, ◌∙◌, subst, ⊎_elim, length-append, get_or-set_same, get_or-set_other, arith}
+use Rattle.std.proofs.Common.{◌≡◌, ◌≢◌, ℕ, ◌-◌, ◌<◌, ◌≤◌, true, List, [], ◌∷◌, ◌++◌, length, get_or, take, refl, ap, sym, ◌∙◌, subst, ⊎_elim}
+use Rattle.std.proofs.Common.{length-append, get_or-set_same, get_or-set_other, arith}
 use Rattle.std.specs.Prelude.{All, count_by, nat_lt, slice_set, slice_index}
 use Rattle.std.proofs.lemmas.Bool.{cases_eq, lt-ltb}
 use Rattle.std.proofs.lemmas.List.{length-set, length-take-le}
@@ -22,7 +23,8 @@ pub record Stands (object : ℕ) (routes : Routes) (station : Station) (holding 
   pub servers : line_of cells FREE_SERVERS ≡ idle
 
 -- a word read after a word is set
-pub read_word : (words : List ℕ) (word value at : ℕ) (P : ℕ → Type 0) → word < length words → (word ≡ at → P value) → (word ≢ at → P (slice_index words at))
+pub read_word : (words : List ℕ) (word value at : ℕ) (P : ℕ → Type 0) → word < length words → (word ≡ at → P value)
+    → (word ≢ at → P (slice_index words at))
     → P (slice_index (slice_set words word value) at)
 read_word words word value at P there same other = ⊎_elim is is_not (cases_eq word at)
   where
@@ -40,7 +42,8 @@ level_as object routes cells words level is =
 
 words_as : (object : ℕ) (routes : Routes) (station : Station) (cells : CellData) (words : List ℕ) → IsLawful object routes station cells
     → length words ≡ length cells.words → slice_index words OPEN ≤ station.most → slice_index words HELD ≤ (counts_of cells).free
-    → slice_index words WAITING ≡ (counts_of cells).waiting → slice_index words DOWN ≤ 1 → IsLawful object routes station (record cells { words = words })
+    → slice_index words WAITING ≡ (counts_of cells).waiting → slice_index words DOWN ≤ 1
+    → IsLawful object routes station (record cells { words = words })
 unfolding waiting_at
 words_as object routes station cells words is as_long opened held waiting down = record {
   words = as_long ∙ is.words;
@@ -66,7 +69,8 @@ set_word object routes station held servers word value later cells is there open
       lawful = words_as object routes station cells (slice_set cells.words word value) is.lawful
           (length-set cells.words word value)
           (read_word cells.words word value OPEN (λ n. n ≤ station.most) there opened (λ other. is.lawful.opened))
-          (read_word cells.words word value HELD (λ n. n ≤ (counts_of cells).free) there (λ e. omega (arith, holds e, ap length is.servers)) (λ other. is.lawful.held))
+          (read_word cells.words word value HELD (λ n. n ≤ (counts_of cells).free) there (λ e. omega (arith, holds e, ap length is.servers))
+          (λ other. is.lawful.held))
           (read_word cells.words word value WAITING (λ n. n ≡ (counts_of cells).waiting) there (λ e. absurd (waits e)) (λ other. refl))
           (read_word cells.words word value DOWN (λ n. n ≤ 1) there down (λ other. is.lawful.down));
       held = read_word cells.words word value HELD (λ n. n ≡ later) there now (λ other. is.held ∙ stays other);
@@ -82,21 +86,26 @@ set_other object routes station held servers word value cells is there no_open n
     (λ e. absurd (no_down e)) (λ e. absurd (no_held e)) (λ other. refl)
 
 pub set_open : (object : ℕ) (routes : Routes) (station : Station) (held : ℕ) (servers : List ℕ) (value : ℕ) (cells : CellData)
-    → Stands object routes station held servers cells → value ≤ station.most → Keeps (Stands object routes station held servers) (Set OPEN value ∷ []) cells
+    → Stands object routes station held servers cells → value ≤ station.most
+    → Keeps (Stands object routes station held servers) (Set OPEN value ∷ []) cells
 set_open object routes station held servers value cells is few =
-    set_word object routes station held servers OPEN value held cells is (omega (arith, is.lawful.words)) (λ e. few) (λ e. absurd (omega arith)) (λ e. absurd (omega arith))
+    set_word object routes station held servers OPEN value held cells is (omega (arith, is.lawful.words)) (λ e. few) (λ e. absurd (omega arith))
+    (λ e. absurd (omega arith))
     (λ e. absurd (omega arith)) (λ e. absurd (omega arith)) (λ other. refl)
 
 pub set_down : (object : ℕ) (routes : Routes) (station : Station) (held : ℕ) (servers : List ℕ) (value : ℕ) (cells : CellData)
     → Stands object routes station held servers cells → value ≤ 1 → Keeps (Stands object routes station held servers) (Set DOWN value ∷ []) cells
 set_down object routes station held servers value cells is few =
-    set_word object routes station held servers DOWN value held cells is (omega (arith, is.lawful.words)) (λ e. absurd (omega arith)) (λ e. absurd (omega arith)) (λ e. absurd (omega arith))
+    set_word object routes station held servers DOWN value held cells is (omega (arith, is.lawful.words)) (λ e. absurd (omega arith))
+    (λ e. absurd (omega arith)) (λ e. absurd (omega arith))
     (λ e. few) (λ e. absurd (omega arith)) (λ other. refl)
 
 pub set_held : (object : ℕ) (routes : Routes) (station : Station) (held : ℕ) (servers : List ℕ) (value : ℕ) (cells : CellData)
-    → Stands object routes station held servers cells → value ≤ length servers → Keeps (Stands object routes station value servers) (Set HELD value ∷ []) cells
+    → Stands object routes station held servers cells → value ≤ length servers
+    → Keeps (Stands object routes station value servers) (Set HELD value ∷ []) cells
 set_held object routes station held servers value cells is few =
-    set_word object routes station held servers HELD value value cells is (omega (arith, is.lawful.words)) (λ e. absurd (omega arith)) (λ e. few) (λ e. absurd (omega arith))
+    set_word object routes station held servers HELD value value cells is (omega (arith, is.lawful.words)) (λ e. absurd (omega arith)) (λ e. few)
+    (λ e. absurd (omega arith))
     (λ e. absurd (omega arith)) (λ e. refl) (λ other. absurd (other refl))
 
 -- other servers serve nobody, beside the same levels
@@ -133,7 +142,8 @@ servers_as object routes station held before servers cells is holds few below =
         free = omega (arith, few, ap length read);
         servers = subst (λ xs. All (λ server. nat_lt server station.most ≡ true) xs) (sym read) below;
         down = is.lawful.down;
-        waiting = is.lawful.waiting ∙ sym (sum_same (λ level. waiting_at cells level) (λ level. waiting_at (with_line cells FREE_SERVERS servers) level) station.levels (λ level. free_waiting cells servers level));
+        waiting = is.lawful.waiting ∙ sym (sum_same (λ level. waiting_at cells level)
+            (λ level. waiting_at (with_line cells FREE_SERVERS servers) level) station.levels (λ level. free_waiting cells servers level));
         few = is.lawful.few;
       };
       held = is.held;
@@ -146,7 +156,8 @@ pub push_server : (object : ℕ) (routes : Routes) (station : Station) (held : �
     → Keeps (Stands object routes station held (servers ++ server ∷ [])) (Push FREE_SERVERS server ∷ []) cells
 push_server object routes station held servers server cells is few below =
     keeps_one (Stands object routes station held (servers ++ server ∷ [])) (Push FREE_SERVERS server) cells (omega (arith, is.lawful.lines))
-    (subst (λ xs. Stands object routes station held (xs ++ server ∷ []) (with_line cells FREE_SERVERS (line_of cells FREE_SERVERS ++ server ∷ []))) is.servers
+    (subst (λ xs. Stands object routes station held (xs ++ server ∷ []) (with_line cells FREE_SERVERS (line_of cells FREE_SERVERS ++ server ∷ [])))
+    is.servers
     (servers_as object routes station held servers (line_of cells FREE_SERVERS ++ server ∷ []) cells is
     (omega (arith, is.lawful.held, is.held, length-append (line_of cells FREE_SERVERS) (server ∷ [])))
     (omega (arith, few, ap length is.servers, length-append (line_of cells FREE_SERVERS) (server ∷ [])))
@@ -159,8 +170,10 @@ pub unpush_server : (object : ℕ) (routes : Routes) (station : Station) (held :
 unpush_server object routes station held servers cells is some =
     keeps_one (Stands object routes station held (take (length servers - 1) servers)) (Unpush FREE_SERVERS) cells
     (omega (arith, is.lawful.lines), omega (arith, ap length is.servers))
-    (subst (λ xs. Stands object routes station held (take (length xs - 1) xs) (with_line cells FREE_SERVERS (take (length (line_of cells FREE_SERVERS) - 1) (line_of cells FREE_SERVERS)))) is.servers
+    (subst (λ xs. Stands object routes station held (take (length xs - 1) xs)
+    (with_line cells FREE_SERVERS (take (length (line_of cells FREE_SERVERS) - 1) (line_of cells FREE_SERVERS)))) is.servers
     (servers_as object routes station held servers (take (length (line_of cells FREE_SERVERS) - 1) (line_of cells FREE_SERVERS)) cells is
     (omega (arith, some, ap length is.servers, length-take-le (length (line_of cells FREE_SERVERS) - 1) (line_of cells FREE_SERVERS) (omega arith)))
     (omega (arith, is.lawful.free, length-take-le (length (line_of cells FREE_SERVERS) - 1) (line_of cells FREE_SERVERS) (omega arith)))
-    (All-take (λ server. nat_lt server station.most ≡ true) (length (line_of cells FREE_SERVERS) - 1) (line_of cells FREE_SERVERS) is.lawful.servers)))
+    (All-take (λ server. nat_lt server station.most ≡ true) (length (line_of cells FREE_SERVERS) - 1)
+    (line_of cells FREE_SERVERS) is.lawful.servers)))

@@ -1,5 +1,6 @@
 -- The cells of a station, and what they count.
-use Rattle.std.specs.Prelude.{ℕ, ◌+◌, ◌-◌, ◌*◌, ◌^◌, Bool, ◌&&◌, ◌==◌, if◌then◌else◌, List, [], ◌∷◌, length, min, reverse, replicate, nat_lt, nat_le, slice_index, is_some, sum_by, count_by}
+use Rattle.std.specs.Prelude.{ℕ, ◌+◌, ◌-◌, ◌*◌, ◌^◌, Bool, ◌&&◌, ◌==◌, if◌then◌else◌, List, [], ◌∷◌, length, min, reverse, replicate, nat_lt, nat_le}
+use Rattle.std.specs.Prelude.{slice_index, is_some, sum_by, count_by}
 use Rattle.std.specs.List.{list_all, range_with_len}
 use Rattle.delta_exchange.specs.Changes.{CellData, line_of}
 use Rattle.model_core.specs.declared.event.Send.{Send}

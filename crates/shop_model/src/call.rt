@@ -8,7 +8,8 @@ ghost use Rattle.shop_model.specs.Parts.{IsVisit};
 ghost use Rattle.shop_model.specs.Routes.{HasJob};
 ghost use Rattle.shop_model.specs.Routes.{job_of};
 ghost use Rattle.shop_model.specs.Stations.{counts_of, spare_of, jobs_line, births_line, since_line, until_line};
-ghost use Rattle.shop_model.specs.StationEffects.{call_effect, first_level, called_place, out_changes, entry_effect, pass_effect, begin_effect, begin_job};
+ghost use Rattle.shop_model.specs.StationEffects.{call_effect, first_level, called_place, out_changes};
+ghost use Rattle.shop_model.specs.StationEffects.{entry_effect, pass_effect, begin_effect, begin_job};
 ghost use Rattle.delta_exchange.specs.declared.change.Change.TheVariants.{Set, Pop, Unpush};
 
 use crate::counts::Counts;

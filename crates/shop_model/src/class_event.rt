@@ -47,7 +47,8 @@ impl ClassEvent<'_> {
     fn come_here(&self, words: &mut Stream, sheet: &mut Effect)
         requires { sheet.old ≡ blank }
         ensures { let at = self.now in
-            sheet.new ≡ home_by at.site at.routes.now at.class.now at.cells.now.contents at.event.now (job_here at.routes.now at.site.object at.event.now.a) }
+            sheet.new ≡ home_by at.site at.routes.now at.class.now at.cells.now.contents at.event.now
+            (job_here at.routes.now at.site.object at.event.now.a) }
     {
         if let Some(job) = self.routes.job_here(self.site.object, self.event.a) {
             self.come(words, job, sheet);

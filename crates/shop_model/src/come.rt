@@ -29,7 +29,8 @@ impl StationEvent<'_> {
         requires job { HasJob self.now.routes.now job }
         requires blank { sheet.old ≡ blank }
         ensures { let at = self.now in
-            sheet.new ≡ come_effect at.site at.routes.now at.station.now (step_at at.routes.now job.class job.step) job at.cells.now.contents at.event.now }
+            sheet.new ≡ come_effect at.site at.routes.now at.station.now (step_at at.routes.now job.class job.step) job
+            at.cells.now.contents at.event.now }
     {
         match self.routes.step(job.class, job.step) {
             Some(Step::Visit(visit)) => self.arrive(words, visit, job, sheet),

@@ -24,7 +24,8 @@ impl ClassEvent<'_> {
         requires job { HasJob self.now.routes.now job }
         requires blank { sheet.old ≡ blank }
         ensures { let at = self.now in
-            sheet.new ≡ come_home at.site at.routes.now at.class.now (step_at at.routes.now job.class job.step) job at.cells.now.contents at.event.now }
+            sheet.new ≡ come_home at.site at.routes.now at.class.now (step_at at.routes.now job.class job.step) job
+            at.cells.now.contents at.event.now }
     {
         match self.routes.step(job.class, job.step) {
             Some(Step::Delay { law }) => self.stay(words, law, job, sheet),

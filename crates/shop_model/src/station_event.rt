@@ -53,7 +53,8 @@ impl StationEvent<'_> {
     fn come_here(&self, words: &mut Stream, sheet: &mut Effect)
         requires { sheet.old ≡ blank }
         ensures { let at = self.now in
-            sheet.new ≡ come_by at.site at.routes.now at.station.now at.cells.now.contents at.event.now (job_here at.routes.now at.site.object at.event.now.a) }
+            sheet.new ≡ come_by at.site at.routes.now at.station.now at.cells.now.contents at.event.now
+            (job_here at.routes.now at.site.object at.event.now.a) }
     {
         if let Some(job) = self.routes.job_here(self.site.object, self.event.a) {
             self.come(words, job, sheet);
@@ -64,7 +65,8 @@ impl StationEvent<'_> {
     fn done_here(&self, sheet: &mut Effect)
         requires { sheet.old ≡ blank }
         ensures { let at = self.now in
-            sheet.new ≡ done_by at.site at.routes.now at.station.now at.cells.now.contents at.event.now (job_here at.routes.now at.site.object at.event.now.a) }
+            sheet.new ≡ done_by at.site at.routes.now at.station.now at.cells.now.contents at.event.now
+            (job_here at.routes.now at.site.object at.event.now.a) }
     {
         if let Some(job) = self.routes.job_here(self.site.object, self.event.a) {
             if self.routes.is_served(job) {

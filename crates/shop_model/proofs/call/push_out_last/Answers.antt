@@ -12,7 +12,8 @@ pub push-requires-3 : goal.push-requires-3
 push-requires-3 c = has-room _ 4 11 (one-more _ _ _ 3 (one-more _ _ _ 2 c.requires.room c.push.ensures) c.push-2.ensures) refl
 
 pub push-requires-4 : goal.push-requires-4
-push-requires-4 c = has-room _ 5 10 (one-more _ _ _ 4 (one-more _ _ _ 3 (one-more _ _ _ 2 c.requires.room c.push.ensures) c.push-2.ensures) c.push-3.ensures) refl
+push-requires-4 c =
+    has-room _ 5 10 (one-more _ _ _ 4 (one-more _ _ _ 3 (one-more _ _ _ 2 c.requires.room c.push.ensures) c.push-2.ensures) c.push-3.ensures) refl
 
 pub returns-clause-sheet : goal.returns-clause-sheet
 returns-clause-sheet c =

@@ -9,4 +9,5 @@ pub returns : goal.returns
 returns c =
     let values = line_of c.args.cells.now.contents c.args.line in
     sym (list_all-from_AllPass (λ value. nat_lt value c.args.bound) values
-    (All-from_get_or (λ value. nat_lt value c.args.bound ≡ true) values 0 (λ k h. c.loop-place.invariant k (omega (arith, c.line_len-place-end.ensures)))))
+    (All-from_get_or (λ value. nat_lt value c.args.bound ≡ true) values 0
+    (λ k h. c.loop-place.invariant k (omega (arith, c.line_len-place-end.ensures)))))

@@ -9,4 +9,5 @@ pub returns : goal.returns
 returns c =
     let jobs = line_of c.args.cells.now.contents c.args.line in
     sym (list_all-from_AllPass (λ a. is_entry c.args.object c.args.routes.now a) jobs
-    (All-from_get_or (λ a. is_entry c.args.object c.args.routes.now a ≡ true) jobs 0 (λ k h. c.loop-place.invariant k (omega (arith, c.line_len-place-end.ensures)))))
+    (All-from_get_or (λ a. is_entry c.args.object c.args.routes.now a ≡ true) jobs 0
+    (λ k h. c.loop-place.invariant k (omega (arith, c.line_len-place-end.ensures)))))

@@ -13,9 +13,11 @@ more-starts : (object : ℕ) (times : List ℕ) (at time : ℕ) (first before af
 more-starts object times at time first before after within is added =
     let one = start_at object (get_or times at time) MAKE 0 in
     rw (take_more times at time within, map-append)
-    (added ∙ ap (λ (starts : List Start). starts ++ one ∷ []) is ∙ append_assoc first (map (λ t. start_at object t MAKE 0) (take at times)) (one ∷ []))
+    (added ∙ ap (λ (starts : List Start). starts ++ one ∷ []) is
+    ∙ append_assoc first (map (λ t. start_at object t MAKE 0) (take at times)) (one ∷ []))
 
 pub loop-time-preserved : goal.loop-time-preserved
 loop-time-preserved c =
     let added = rw c.start_at.ensures at c.in_ok-push.ensures.items in
-    more-starts c.args.object c.as_slice-time-items.result.now c.loop-time.time-index _ c.args.starts.now.items _ _ c.loop-time-test.true c.loop-time.invariant added
+    more-starts c.args.object c.as_slice-time-items.result.now c.loop-time.time-index _ c.args.starts.now.items _ _ c.loop-time-test.true
+    c.loop-time.invariant added

@@ -12,5 +12,21 @@ begin-counts-requires-clause-free c =
 pub returns : goal.returns
 unfolding begin_effect
 returns c =
-    rw (c.told-sheet.ensures, c.saturating_sub.ensures, c.line_at-since.ensures, c.at-lines.ensures.since, c.call.ensures, c.begin-counts.ensures.sheet, c.begin-counts.ensures.counts, c.go_out.ensures.sheet, c.push.ensures, c.service-service.ensures.sheet, c.service-service.ensures.value, c.line_at-birth.ensures, c.at-lines.ensures.births, c.saturating_sub-waiting.ensures, c.of-counts.ensures)
+    rw (
+      c.told-sheet.ensures,
+      c.saturating_sub.ensures,
+      c.line_at-since.ensures,
+      c.at-lines.ensures.since,
+      c.call.ensures,
+      c.begin-counts.ensures.sheet,
+      c.begin-counts.ensures.counts,
+      c.go_out.ensures.sheet,
+      c.push.ensures,
+      c.service-service.ensures.sheet,
+      c.service-service.ensures.value,
+      c.line_at-birth.ensures,
+      c.at-lines.ensures.births,
+      c.saturating_sub-waiting.ensures,
+      c.of-counts.ensures,
+    )
     (simp append_assoc)

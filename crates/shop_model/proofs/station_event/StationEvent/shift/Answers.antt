@@ -8,5 +8,16 @@ unfolding shift_effect
 returns c =
     let at = c.args.self.now in
     let within : nat_lt at.event.now.a (length at.station.now.shifts) ≡ true = lt-ltb _ _ (rw c.as_slice.ensures at c.if-number-as_slice.false) in
-    rw (within, c.told-sheet.ensures, c.busy.ensures, c.call.ensures, c.send_shift.ensures.sheet, c.push.ensures, c.requires, c.from-opened.ensures, c.shift_at.ensures, c.of.ensures)
+    rw (
+      within,
+      c.told-sheet.ensures,
+      c.busy.ensures,
+      c.call.ensures,
+      c.send_shift.ensures.sheet,
+      c.push.ensures,
+      c.requires,
+      c.from-opened.ensures,
+      c.shift_at.ensures,
+      c.of.ensures,
+    )
     refl
