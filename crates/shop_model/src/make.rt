@@ -10,7 +10,7 @@ ghost use Rattle.shop_model.specs.Classes.{made_jobs, pause_drawn, arrival_of, n
 use crate::class::{Class, INSIDE, MADE};
 use crate::class_event::ClassEvent;
 use crate::job::{JOBS_A_CLASS, Job};
-use crate::own_event::OwnEvent;
+use crate::own_event::{OwnEvent, is_in_turn};
 use crate::site::{Site, told};
 use model_core::{Change, Effect, MADE_WORD, keep_place};
 use random_streams::{DelayLaw, Stream};
@@ -160,7 +160,7 @@ fn drawn_pause(words: &mut Stream, every: &Option<DelayLaw>, b: u64) -> Option<u
     ensures place { words.new ≡ record words.old { place = (pause_drawn words.old every.now b).1 } }
 {
     match every {
-        Some(law) if b % 2 == 1 => Some(words.draw_delay(law)),
+        Some(law) if is_in_turn(b) => Some(words.draw_delay(law)),
         _ => None,
     }
 }

@@ -1,5 +1,5 @@
 //! The events that an object sends to itself, or begins with.
-ghost use Rattle.std.specs.Prelude.{◌≡◌};
+ghost use Rattle.std.specs.Prelude.{◌≡◌, ◌%◌, ◌==◌};
 ghost use Rattle.shop_model.specs.Kinds.{rank_of};
 ghost use Rattle.shop_model.specs.OwnEvents.{kind_of, first_word, second_word};
 
@@ -89,4 +89,12 @@ impl OwnEvent {
             _ => 0,
         }
     }
+}
+
+/// Whether jobs arrive in turn by an event of a class with this number `b`.
+#[inline(always)]
+pub fn is_in_turn(b: u64) -> bool
+    ensures { result ≡ (b % 2 == 1) }
+{
+    b % 2 == 1
 }
