@@ -31,5 +31,5 @@ returns-in-None-clause-ends g c =
     let words = texts_of c.args.words.now.items in
     let said : after_replicate words ≡ None =
     ap (λ (list : List (String Global)). after_replicate (texts_of list)) (sym c.as_slice.ensures.value) ∙ sym c.after_replicate.ensures ∙ ap (option_map (λ rest. texts_of rest.now)) c.in-None.is in
-    let Ends : Option (List (List ℕ)) → Type 0 = λ after. EndsAsked g.S.Source g.K.Sink c.args.source.now c.run_words-2.new.source c.args.out.now c.run_words-2.new.out c.run_words-2.result (asked_with words after) in
-    subst Ends (sym said) c.run_words-2.ensures.ends
+    let Ends : Option (List (List ℕ)) → Type 0 = λ after. EndsAsked g.S.Source g.K.Sink c.args.source.now c.run_words-in-None.new.source c.args.out.now c.run_words-in-None.new.out c.run_words-in-None.result (asked_with words after) in
+    subst Ends (sym said) c.run_words-in-None.ensures.ends
