@@ -15,6 +15,10 @@ RowsOf = ℕ → Terms → RunEnd → List (Key × Note) → List ℕ
 abbrev pub end_of : ℕ → Run → RunEnd
 end_of seed r = record { seed = seed; events = r.last.count; stop = r.stop }
 
+-- the run of a model from its start
+abbrev pub run_from_start : Meaning → Terms → Run
+run_from_start m t = run m t (initial_state m)
+
 -- the rows of the run of a model from its start, under this seed
 unfoldable pub rows_of_run : RowsOf → Meaning → Terms → ℕ → ℕ → List ℕ
-rows_of_run rows m t first_tick seed = let r = run m t (initial_state m) in rows first_tick t (end_of seed r) r.records
+rows_of_run rows m t first_tick seed = let r = run_from_start m t in rows first_tick t (end_of seed r) r.records

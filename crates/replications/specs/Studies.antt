@@ -5,10 +5,8 @@ use Rattle.model_core.specs.Meaning.{Meaning}
 use Rattle.sim_spec.specs.declared.stop.Stop.{Stop}
 use Rattle.sim_spec.specs.declared.stop.Stop.TheVariants.{End, Limit, Fault}
 use Rattle.sim_spec.specs.declared.terms.Terms.{Terms}
-use Rattle.sim_spec.specs.State.{initial_state}
-use Rattle.sim_spec.specs.Run.{run}
 use Rattle.replications.specs.declared.job.Job.{Job}
-use Rattle.replications.specs.Ends.{RowsOf, rows_of_run}
+use Rattle.replications.specs.Ends.{RowsOf, rows_of_run, run_from_start}
 
 -- what a model means under each seed, what its rows are then, the head line, how far its runs go, the first tick of the window,
 -- and the seed of the first replication
@@ -29,7 +27,7 @@ abbrev pub rows_under : StudyOf → ℕ → List ℕ
 rows_under s seed = rows_of_run (s.rows seed) (s.with_seed seed) s.terms s.first_tick seed
 
 abbrev pub stop_under : StudyOf → ℕ → Stop
-stop_under s seed = (run (s.with_seed seed) s.terms (initial_state (s.with_seed seed))).stop
+stop_under s seed = (run_from_start (s.with_seed seed) s.terms).stop
 
 abbrev pub rows_at : StudyOf → ℕ → List ℕ
 rows_at s number = rows_under s (seed_at s.first_seed number)

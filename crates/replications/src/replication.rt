@@ -1,10 +1,9 @@
 //! One replication.
 ghost use Rattle.std.specs.Prelude.{◌≡◌, ◌++◌, [], ℕ, IfOk, OnOk, None};
 ghost use Rattle.std.specs.Arc.{arc_value};
-ghost use Rattle.sim_spec.specs.Run.{run};
 ghost use Rattle.sim_spec.specs.Standing.{stands};
 ghost use Rattle.sim_spec.specs.State.{initial_state};
-ghost use Rattle.replications.specs.Ends.{end_of, rows_of_run};
+ghost use Rattle.replications.specs.Ends.{end_of, rows_of_run, run_from_start};
 
 use crate::rows::RunEnd;
 use crate::run_rows::{Rows, add_all};
@@ -38,9 +37,8 @@ fn run_to_stop<M: SimulationModel, W: Rows<M>>(
     requires begins { engine.old.standing ≡ stands (initial_state (M.meaning model.now)) None }
     requires rows { (first_tick : ℕ) × W.sums_up model.now first_tick rows.old [] }
     ensures rows { OnOk result ((first_tick : ℕ) → W.sums_up model.now first_tick rows.old []
-        → W.sums_up model.now first_tick rows.new (run (M.meaning model.now) replication.now.terms (initial_state (M.meaning model.now))).records) }
-    ensures end { IfOk result (λ end.
-        end ≡ end_of replication.now.seed (run (M.meaning model.now) replication.now.terms (initial_state (M.meaning model.now)))) }
+        → W.sums_up model.now first_tick rows.new (run_from_start (M.meaning model.now) replication.now.terms).records) }
+    ensures end { IfOk result (λ end. end ≡ end_of replication.now.seed (run_from_start (M.meaning model.now) replication.now.terms)) }
 {
     let terms = &replication.terms;
     law_initial(model, terms);
@@ -77,7 +75,7 @@ fn put_run<M: SimulationModel, W: Rows<M>>(
     requires begins { engine.old.standing ≡ stands (initial_state (M.meaning model.now)) None }
     ensures rows { OnOk result (into.new.items ≡ into.old.items
         ++ rows_of_run (W.rows_of model.now) (M.meaning model.now) replication.now.terms replication.now.first_tick replication.now.seed) }
-    ensures stop { IfOk result (λ stop. stop ≡ (run (M.meaning model.now) replication.now.terms (initial_state (M.meaning model.now))).stop) }
+    ensures stop { IfOk result (λ stop. stop ≡ (run_from_start (M.meaning model.now) replication.now.terms).stop) }
 {
     let mut rows = W::new(alloc, model, replication.first_tick)?;
     let end = run_to_stop(alloc, model, replication, engine, &mut rows)?;
@@ -97,7 +95,7 @@ pub fn replicate_once<M: SimulationModel, W: Rows<M>>(
 ) -> Result<Stop, OutOfMemory>
     ensures rows { let own = arc_value model in
         OnOk result (into.new.items ≡ into.old.items ++ rows_of_run (W.rows_of own) (M.meaning own) terms first_tick seed) }
-    ensures stop { let m = M.meaning (arc_value model) in IfOk result (λ stop. stop ≡ (run m terms (initial_state m)).stop) }
+    ensures stop { IfOk result (λ stop. stop ≡ (run_from_start (M.meaning (arc_value model)) terms).stop) }
 {
     let mut engine = OneThread::new(alloc, model.clone()?, terms)?;
     let replication = Replication {
