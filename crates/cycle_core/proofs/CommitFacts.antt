@@ -1,5 +1,5 @@
 -- What the commits of a closed cycle hand out, and that each node can receive what is sent to it.
-use Rattle.std.proofs.Common.{◌≡◌, ℕ, zero, suc, ◌+◌, ◌*◌, ◌<◌, ◌≤◌, ◌^◌, List, [], ◌∷◌, ◌++◌, length, take, drop, not, get_or, refl, sym, ap, ◌∙◌, subst, arith}
+use Rattle.std.proofs.Common.{◌≡◌, ℕ, zero, suc, ◌+◌, ◌*◌, ◌<◌, ◌≤◌, ◌^◌, List, [], ◌++◌, length, take, drop, not, get_or, refl, sym, ap, ◌∙◌, subst, arith}
 use Rattle.std.proofs.lemmas.List.{take_all}
 use Rattle.std.proofs.lemmas.List.Sorted.{IsPermutation-append, IsPermutation-refl, IsPermutation-trans, length_permutation}
 use Rattle.std.proofs.lemmas.Option.{slice_get_within, get_or_from_slice_get}
@@ -35,15 +35,9 @@ use Rattle.cycle_core.specs.Ends.{CommitUpto, CanReceive, AllCanReceive, Receive
 use Rattle.cycle_core.specs.Known.{IsKnown, AreKnown}
 use Rattle.cycle_core.specs.Worlds.{WorldView, data_at, IsNodeOf, data_of_world, StandsAt}
 use Rattle.cycle_core.proofs.EndLemmas.{to-world, to-node, node-same}
-use Rattle.cycle_core.proofs.PlaceLemmas.{at-some, same-some}
+use Rattle.cycle_core.proofs.PlaceLemmas.{at-some, same-some, take-at}
 use Rattle.cycle_core.proofs.SentLemmas.{sent_to-more, told_by-more}
 use Rattle.cycle_core.proofs.WorldLemmas.{data-is, node-stands}
-
-module _ {A : Type 0} where
-  pub take-at : (xs : List A) (k : ℕ) (x : A) → slice_get xs k ≡ Some x → take (suc k) xs ≡ take k xs ++ x ∷ []
-  take-at [] k x at = absurd (cc)
-  take-at (y ∷ ys) zero x at = let same : (a b : A) → Some a ≡ Some b → a ≡ b = λ a b e. cc in ap (λ v. v ∷ []) (same y x at)
-  take-at (y ∷ ys) (suc k) x at = ap (λ vs. y ∷ vs) (take-at ys k x at)
 
 module _ {M : Type 0} (meaning_of : M → Meaning) (w : WorldView M) (laws : MeaningLaws (meaning_of w.model)) (s : State) (stands : StandsAt (meaning_of w.model) w s) (bound : ℕ)
     (closed : WorldIsClosed (meaning_of w.model) w.terms (home_of w.homes) w.homes.nodes (data_at w.nodes) bound) where

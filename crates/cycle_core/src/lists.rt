@@ -14,6 +14,8 @@ pub struct Lists {
     pub committed: Vec<Committed>,
     /// What arrives at each node.
     pub parcels: Vec<Chain<Event>>,
+    /// The places of the nodes that have events after the cycle.
+    pub busy: Vec<usize>,
     /// Where records are merged.
     pub spare: RecordBuffer,
     /// Where those of all nodes are put, whatever it holds.
@@ -39,6 +41,7 @@ impl Lists {
         let lists = Lists {
             committed: blank_commits(alloc, nodes)?,
             parcels: empty_parcels(alloc, nodes)?,
+            busy: Vec::with_capacity(alloc, nodes as usize)?,
             spare: RecordBuffer::new(alloc),
             told: RecordBuffer::new(alloc),
         };

@@ -1,7 +1,9 @@
 //! Where nodes stand in a simulation.
 ghost use Rattle.std.specs.Prelude.{◌≡◌, true, false};
+ghost use Rattle.cycle_core.specs.Busy.{NamesBusy};
 ghost use Rattle.cycle_core.specs.Gathered.{HasEventBefore, HasNoneBefore, HaveEventBefore, HaveNoneBefore};
 
+use crate::knowing::know_all;
 use model_core::model::Model as SimulationModel;
 use node_core::Node;
 
@@ -27,6 +29,22 @@ pub fn has_event_before<M: SimulationModel>(nodes: &[Node<M>], bound: u64) -> bo
 {
     for node in nodes {
         if is_before(node, bound) {
+            return true;
+        }
+    }
+    false
+}
+
+/// The same, of nodes of which these alone may have events.
+pub fn has_event_among<M: SimulationModel>(nodes: &[Node<M>], busy: &[usize], bound: u64) -> bool
+    requires { NamesBusy nodes.now busy.now }
+    ensures some { result ≡ true → HaveEventBefore M.meaning bound nodes.now }
+    ensures none { result ≡ false → HaveNoneBefore M.meaning bound nodes.now }
+{
+    know_all(nodes);
+    for k in 0..busy.len() {
+        let place = busy[k];
+        if is_before(&nodes[place], bound) {
             return true;
         }
     }

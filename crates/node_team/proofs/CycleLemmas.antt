@@ -11,11 +11,13 @@ use Rattle.sim_spec.specs.State.{State}
 use Rattle.world_spec.specs.WorldLaws.{WorldStepsLaw}
 use Rattle.node_core.specs.Nodes.{NodeView}
 use Rattle.cycle_core.specs.declared.cut.Cut.{Cut}
+use Rattle.cycle_core.specs.Busy.{NamesBusy}
 use Rattle.cycle_core.specs.Cuts.{IsCutOf, HaveEnded}
 use Rattle.cycle_core.specs.Cycled.{IsClosedAt}
 use Rattle.cycle_core.specs.Known.{AreKnown}
 use Rattle.cycle_core.specs.Works.{AllWorkOn, WorksOn, IsOpened, AreIdle}
 use Rattle.cycle_core.specs.Worlds.{WorldView, StandsAt}
+use Rattle.cycle_core.proofs.PassLemmas.{busy-on}
 use Rattle.cycle_core.proofs.PlaceLemmas.{at-some, same-some}
 use Rattle.cycle_core.proofs.WholeCycle.{HasCycled, whole-cycle}
 use Rattle.cycle_core.proofs.WorkLemmas.{as_before, works-none, works-then}
@@ -91,6 +93,11 @@ module _ {M : Type 0} (meaning_of : M → Meaning) where
   -- the world that it leaves is closed
   pub closed-here : (ahead : ℕ) (w0 w2 : WorldView M) (bound : ℕ) → HasClosed meaning_of ahead w0 w2 bound → IsClosedAt meaning_of w2 w2.nodes bound
   closed-here ahead w0 w2 bound closed = let C : WorldView M → Type 0 = λ v. IsClosedAt meaning_of v w2.nodes bound in subst C (sym closed.world) closed.closed
+
+  -- the nodes that have events in it are those that had
+  pub still-busy : (ahead : ℕ) (w0 w2 : WorldView M) (bound : ℕ) → HasClosed meaning_of ahead w0 w2 bound → (places : List ℕ) → NamesBusy w0.nodes places → NamesBusy w2.nodes places
+  still-busy ahead w0 w2 bound closed places busy =
+      busy-on meaning_of w0.nodes w2.nodes places (all-works-then w0.nodes closed.mids w2.nodes (run-works meaning_of ahead w0.nodes closed.mids closed.run) closed.works) busy
 
   -- what a closed cycle leaves, when it is cut and ended
   pub closed-cycle : (ahead : ℕ) (w0 w2 : WorldView M) (bound : ℕ) → HasClosed meaning_of ahead w0 w2 bound → MeaningLaws (meaning_of w2.model) → AreKnown meaning_of w2.nodes

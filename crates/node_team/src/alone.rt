@@ -114,29 +114,26 @@ fn advance_each<R, M: SimulationModel, G: Gate>(
     Ok(fallen)
 }
 
-/// Advances each node of a world and closes the cycle, on the calling thread, without a word that is shared. Finds the
-/// nodes that have events, and passes over all others. Answers the bound at which it is closed. After a refusal the world has
-/// lost its nodes.
+/// Advances the nodes of a world that have events and closes the cycle, on the calling thread, without a word that is shared.
+/// Answers the bound at which it is closed. After a refusal the world has lost its nodes.
 pub fn close_alone<R, M: SimulationModel, G: Gate>(
     setting: &Setting<R, G>,
     world: &mut World<M>,
-    busy: &mut Vec<usize>,
+    busy: &[usize],
 ) -> Result<u64, OutOfMemory>
-    requires { (s : State) × StandsAt (M.meaning world.old.model) world.old s }
+    requires stands { (s : State) × StandsAt (M.meaning world.old.model) world.old s }
+    requires busy { NamesBusy world.old.nodes busy.now }
     ensures closed { IfOk result (HasClosed M.meaning setting.now.ahead world.old world.new) }
-    ensures busy { OnOk result (NamesBusy world.new.nodes busy.new.items) }
     ensures made { IsSameWorld world.old world.new }
 {
     let terms = world.terms();
     law_world(world.model(), &terms);
     let end = end_bound(terms.end);
-    world.find_busy(busy)?;
-    let named = busy.as_slice();
     let mut nodes = world.take_nodes();
     let all = nodes.as_mut_slice();
     know_all(all);
-    let opened = open_busy(all, named, end);
-    let bound = advance_each(setting, all, named, terms, opened)?;
+    let opened = open_busy(all, busy, end);
+    let bound = advance_each(setting, all, busy, terms, opened)?;
     world.put_nodes(nodes);
     Ok(bound)
 }

@@ -8,7 +8,7 @@ ghost use Rattle.cycle_core.specs.Cuts.{CanEnd, HaveEnded, IsCutOf};
 ghost use Rattle.cycle_core.specs.Cycled.{IsClosedAt};
 ghost use Rattle.cycle_core.specs.Known.{AreKnown};
 ghost use Rattle.cycle_core.specs.Places.{AtEach};
-ghost use Rattle.cycle_core.specs.Worlds.{HasNodes, IsSameWorld, StandsAt};
+ghost use Rattle.cycle_core.specs.Worlds.{IsSameWorld, StandsAt};
 ghost use Rattle.node_team.specs.Readiness.{IsReady};
 
 use crate::arriving::{Receipt, receive_arrived};
@@ -55,17 +55,6 @@ fn end_nodes<R: Threads + Sync, M: SimulationModel, L: Lanes, G>(
     let told = mem::replace(&mut lists.told, RecordBuffer::new(setting.alloc));
     let records = merge(lists.committed.as_mut_slice(), told, &mut lists.spare)?;
     Ok(records)
-}
-
-/// How many events the nodes of a world have processed in all, modulo 2^64.
-pub fn processed_by<M: SimulationModel>(world: &World<M>) -> u64
-    requires { HasNodes world.now }
-{
-    let mut count: u64 = 0;
-    for number in 0..world.nodes() {
-        count = count.wrapping_add(world.node(number).tallies().processed);
-    }
-    count
 }
 
 /// Commits and receipts of a closed cycle, with releases through lanes. Answers what is told, in the order of the keys. After

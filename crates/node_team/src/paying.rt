@@ -1,5 +1,5 @@
 //! When a fork pays.
-ghost use Rattle.std.specs.Prelude.{◌≡◌, ◌<◌, ◌≤◌, ◌+◌, ◌↔◌, IsTrue, true, false};
+ghost use Rattle.std.specs.Prelude.{◌≡◌, ◌<◌, ◌≤◌, ◌↔◌, IsTrue, true, false};
 ghost use Rattle.node_team.specs.declared.paying.TheConstants.{MANY_EVENTS, MOST_THREADS};
 
 /// In how many threads a phase of a cycle runs at most. Beyond that a thread does several nodes one after another: a fork in
@@ -16,10 +16,9 @@ const MANY_EVENTS: u64 = 1_536;
 /// What the nodes of a team did together in their last cycle. It stands for what they will do in the next one.
 #[derive(Clone, Copy)]
 pub struct Load {
-    /// How many events were processed before, in all cycles, modulo 2^64.
-    pub total: u64,
-    /// How many of them in the last cycle, modulo 2^64.
+    /// How many events were processed, modulo 2^64.
     pub processed: u64,
+    /// How many were committed.
     pub committed: u64,
 }
 
@@ -30,22 +29,8 @@ impl Load {
         ensures commit { MANY_EVENTS ≤ result.committed }
     {
         Load {
-            total: 0,
             processed: u64::MAX,
             committed: u64::MAX,
-        }
-    }
-
-    /// After one more cycle: so many events are processed by now, in all cycles, and so many were committed in this one.
-    pub fn after(&self, total: u64, committed: u64) -> Load
-        ensures total { result.total ≡ total }
-        ensures processed { self.now.total ≤ total → self.now.total + result.processed ≡ total }
-        ensures committed { result.committed ≡ committed }
-    {
-        Load {
-            total,
-            processed: total.wrapping_sub(self.total),
-            committed,
         }
     }
 

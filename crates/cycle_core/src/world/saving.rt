@@ -57,6 +57,7 @@ impl<M: SimulationModel> World<M> {
         ensures stands { (s : State) → StandsAt (M.meaning self.old.model) self.old s → StandsAt (M.meaning self.new.model) self.new s }
         ensures world { self.new ≡ record self.old { nodes = self.new.nodes } }
     {
+        self.knows_busy = false;
         let Some(nodes) = &mut self.nodes else {
             unreachable!()
         };

@@ -1,96 +1,59 @@
-use Rattle.std.proofs.Common.{◌≡◌, ◌+◌, ◌≤◌, ℕ, List, ap, length, sym, ◌∙◌, subst}
-use Rattle.sim_spec.specs.Cut.{after}
+-- What the cycle says of the world, once it has taken out the names of the nodes that have events.
+use Rattle.std.proofs.Common.{◌∙◌, ap, subst, sym}
+use Rattle.std.proofs.lemmas.Result.{IfOk-weaker, on_ok_weaker}
 use Rattle.cycle_core.specs.Busy.{NamesBusy}
-use Rattle.cycle_core.specs.Worlds.{StandsAt}
-use Rattle.cycle_core.proofs.ChangedNodes.{same-then}
+use Rattle.cycle_core.specs.Cycled.{CarriesOn, IsBucketOf, StandsAfter}
+use Rattle.cycle_core.specs.Worlds.{IsSameWorld, StandsAt, WorldView}
+use Rattle.node_team.specs.Readiness.{IsReady}
 use Rattle.node_team.specs.Releases.{AreClear}
-use Rattle.node_team.proofs.CycleLemmas.{closed-cycle, closed-here}
-use Rattle.node_team.proofs.RiseLemmas.{all-rise}
+use Rattle.node_team.specs.Rises.{AllRise}
 use Rattle.node_team.proofs.cycling.run_cycle.Goals as goal
 
-pub commit_cut_among-requires-clause-nodes : goal.commit_cut_among-requires-clause-nodes
-commit_cut_among-requires-clause-nodes g c lifetimes outlives = (c.in_ok-bound.ensures.closed.stands c.requires.stands.0 c.requires.stands.1).has
+pub find_busy-requires-after_bounds : goal.find_busy-requires-after_bounds
+find_busy-requires-after_bounds g c lifetimes outlives = c.requires.stands.1.has
 
-pub commit_cut_among-requires-clause-busy : goal.commit_cut_among-requires-clause-busy
-commit_cut_among-requires-clause-busy g c lifetimes outlives =
-    let B : List ℕ → Type 0 = NamesBusy c.close_world.new.world.nodes in
-    subst B (sym c.as_slice.ensures.value) c.in_ok-bound.ensures.busy
+pub run_busy-requires-clause-stands : goal.run_busy-requires-clause-stands
+run_busy-requires-clause-stands g c lifetimes outlives =
+    let S : WorldView _ → Type 0 = λ v. StandsAt (g.M.Model.meaning v.model) v c.requires.stands.0 in
+    (c.requires.stands.0, subst S (sym c.find_busy.ensures.same) c.requires.stands.1)
 
-pub processed_by-total-requires-after_bounds : goal.processed_by-total-requires-after_bounds
-processed_by-total-requires-after_bounds g c lifetimes outlives = (c.in_ok-bound.ensures.closed.stands c.requires.stands.0 c.requires.stands.1).has
+pub run_busy-requires-clause-busy : goal.run_busy-requires-clause-busy
+run_busy-requires-clause-busy g c lifetimes outlives =
+    let B : WorldView _ → Type 0 = λ v. NamesBusy v.nodes c.find_busy.new.busy.items in
+    subst B (sym c.find_busy.ensures.same) c.in_ok-find_busy.ensures.busy
 
-pub end_world-requires-clause-stands : goal.end_world-requires-clause-stands
-end_world-requires-clause-stands g c lifetimes outlives = (c.requires.stands.0, c.in_ok-bound.ensures.closed.stands c.requires.stands.0 c.requires.stands.1)
-
-pub end_world-requires-clause-closed : goal.end_world-requires-clause-closed
-end_world-requires-clause-closed g c lifetimes outlives = closed-here g.M.Model.meaning c.args.setting.now.ahead c.args.world.now c.close_world.new.world c.in_ok-bound.bound c.in_ok-bound.ensures.closed
-
-pub finish-requires-clause-nodes : goal.finish-requires-clause-nodes
-finish-requires-clause-nodes g c lifetimes outlives =
-    let closed = c.in_ok-bound.ensures.closed in
-    let cycled = closed-cycle g.M.Model.meaning c.args.setting.now.ahead c.args.world.now c.close_world.new.world c.in_ok-bound.bound closed c.end_world.ensures.laws (λ place x at. c.in_ok-records.ensures.known place x at)
-    c.in_ok-cut.cut c.in_ok-cut.ensures c.end_world.new.world c.in_ok-records.records.items (λ place x at. c.in_ok-records.ensures.known_now place x at) c.in_ok-records.ensures.world c.in_ok-records.ensures.ended c.requires.stands.0 c.requires.stands.1 in
-    cycled.has
-
-pub finish-requires-clause-count : goal.finish-requires-clause-count
-finish-requires-clause-count g c lifetimes outlives =
-    let closed = c.in_ok-bound.ensures.closed in
-    let cycled = closed-cycle g.M.Model.meaning c.args.setting.now.ahead c.args.world.now c.close_world.new.world c.in_ok-bound.bound closed c.end_world.ensures.laws (λ place x at. c.in_ok-records.ensures.known place x at)
-    c.in_ok-cut.cut c.in_ok-cut.ensures c.end_world.new.world c.in_ok-records.records.items (λ place x at. c.in_ok-records.ensures.known_now place x at) c.in_ok-records.ensures.world c.in_ok-records.ensures.ended c.requires.stands.0 c.requires.stands.1 in
-    subst (λ n. c.end_world.new.world.count + n ≤ c.end_world.new.world.terms.limit) (sym c.len.ensures) cycled.fits
+pub run_busy-requires-clause-ready : goal.run_busy-requires-clause-ready
+run_busy-requires-clause-ready g c lifetimes outlives =
+    let ready = c.requires.ready in
+    let many = ap (λ v. v.homes.nodes) (sym c.find_busy.ensures.same) in
+    record { wide = ready.wide ∙ many; rest = ready.rest; clear = subst (λ n. AreClear n c.args.kept.now.inboxes.items) many ready.clear }
 
 pub returns-clause-bucket : goal.returns-clause-bucket
-returns-clause-bucket g c s stands =
-    let closed = c.in_ok-bound.ensures.closed in
-    let cycled = closed-cycle g.M.Model.meaning c.args.setting.now.ahead c.args.world.now c.close_world.new.world c.in_ok-bound.bound closed c.end_world.ensures.laws (λ place x at. c.in_ok-records.ensures.known place x at)
-    c.in_ok-cut.cut c.in_ok-cut.ensures c.end_world.new.world c.in_ok-records.records.items (λ place x at. c.in_ok-records.ensures.known_now place x at) c.in_ok-records.ensures.world c.in_ok-records.ensures.ended s stands in
-    c.bucket_of.ensures ∙ cycled.bucket
+returns-clause-bucket g c = IfOk-weaker c.run_busy.result _ _ (λ bucket is. (let B : WorldView _ → Type 0 = λ v. IsBucketOf g.M.Model.meaning v bucket in subst B c.find_busy.ensures.same is)) c.run_busy.ensures.bucket
 
 pub returns-clause-stands : goal.returns-clause-stands
-returns-clause-stands g c s stands =
-    let closed = c.in_ok-bound.ensures.closed in
-    let cycled = closed-cycle g.M.Model.meaning c.args.setting.now.ahead c.args.world.now c.close_world.new.world c.in_ok-bound.bound closed c.end_world.ensures.laws (λ place x at. c.in_ok-records.ensures.known place x at)
-    c.in_ok-cut.cut c.in_ok-cut.ensures c.end_world.new.world c.in_ok-records.records.items (λ place x at. c.in_ok-records.ensures.known_now place x at) c.in_ok-records.ensures.world c.in_ok-records.ensures.ended s stands in
-    let w4 = c.end_world.new.world in
-    let long : c.len.result ≡ length c.in_ok-records.records.items = c.len.ensures in
-    let m = g.M.Model.meaning c.args.world.now.model in
-    let S : ℕ → Type 0 = λ n. StandsAt m (record w4 { count = w4.count + n; fault = c.in_ok-cut.cut.fault }) (after m c.args.world.now.terms s) in
-    rw c.finish.ensures (subst S (sym long) cycled.stands)
+returns-clause-stands g c = on_ok_weaker c.run_busy.result (let S : WorldView _ → Type 0 = λ v. StandsAfter g.M.Model.meaning v c.run_busy.new.world in λ is. subst S c.find_busy.ensures.same is) c.run_busy.ensures.stands
 
 pub returns-clause-carried : goal.returns-clause-carried
-returns-clause-carried g c s stands =
-    let closed = c.in_ok-bound.ensures.closed in
-    let cycled = closed-cycle g.M.Model.meaning c.args.setting.now.ahead c.args.world.now c.close_world.new.world c.in_ok-bound.bound closed c.end_world.ensures.laws (λ place x at. c.in_ok-records.ensures.known place x at)
-    c.in_ok-cut.cut c.in_ok-cut.ensures c.end_world.new.world c.in_ok-records.records.items (λ place x at. c.in_ok-records.ensures.known_now place x at) c.in_ok-records.ensures.world c.in_ok-records.ensures.ended s stands in
-    rw c.finish.ensures cycled.carried
+returns-clause-carried g c = on_ok_weaker c.run_busy.result (let S : WorldView _ → Type 0 = λ v. CarriesOn g.M.Model.meaning v c.run_busy.new.world in λ is. subst S c.find_busy.ensures.same is) c.run_busy.ensures.carried
 
 pub returns-clause-work : goal.returns-clause-work
 returns-clause-work g c =
-    let closed = c.in_ok-bound.ensures.closed in
-    rw c.finish.ensures
-    (all-rise g.M.Model.meaning c.args.setting.now.ahead c.in_ok-bound.bound c.in_ok-cut.cut.below c.args.world.now.nodes closed.mids c.close_world.new.world.nodes c.end_world.new.world.nodes c.in_ok-records.records.items closed.run closed.works
-    c.in_ok-records.ensures.ended)
-
-pub returns-in_err-records-clause-made : goal.returns-in_err-records-clause-made
-returns-in_err-records-clause-made g c = same-then c.args.world.now c.close_world.new.world c.end_world.new.world c.close_world.ensures.made c.end_world.ensures.made
-
-pub returns-clause-made : goal.returns-clause-made
-returns-clause-made g c =
-    let done = c.finish.ensures in
-    same-then c.args.world.now c.end_world.new.world _ (same-then c.args.world.now c.close_world.new.world c.end_world.new.world c.close_world.ensures.made c.end_world.ensures.made)
-    (record { model = ap (λ w. w.model) done; terms = ap (λ w. w.terms) done; homes = ap (λ w. w.homes) done })
-
-pub returns-clause-fault : goal.returns-clause-fault
-returns-clause-fault g c = ap (λ w. w.fault) c.finish.ensures ∙ sym (ap (λ b. b.fault) c.bucket_of.ensures)
-
-pub end_world-requires-clause-ready : goal.end_world-requires-clause-ready
-end_world-requires-clause-ready g c lifetimes outlives =
-    let ready = c.requires.ready in
-    let many = ap (λ h. h.nodes) (sym c.close_world.ensures.made.homes) in
-    record { wide = ready.wide ∙ many; rest = ready.rest; clear = subst (λ n. AreClear n c.args.kept.now.inboxes.items) many ready.clear }
+    on_ok_weaker c.run_busy.result (let S : WorldView _ → Type 0 = λ v. AllRise g.M.Model.meaning c.args.setting.now.ahead v.nodes c.run_busy.new.world.nodes in λ is. subst S c.find_busy.ensures.same is) c.run_busy.ensures.work
 
 pub returns-clause-ready : goal.returns-clause-ready
 returns-clause-ready g c =
-    let ready = c.in_ok-records.ensures.ready in
-    let many = ap (λ h. h.nodes) c.close_world.ensures.made.homes in
-    record { wide = ready.wide ∙ many; rest = ready.rest; clear = subst (λ n. AreClear n c.end_world.new.kept.inboxes.items) many ready.clear }
+    on_ok_weaker c.run_busy.result (let S : WorldView _ → Type 0 = λ v. IsReady g.L.Lanes.nodes g.L.Lanes.are_at_rest v.homes.nodes c.run_busy.new.kept in λ is. subst S c.find_busy.ensures.same is) c.run_busy.ensures.ready
+
+pub returns-in_err-find_busy-clause-made : goal.returns-in_err-find_busy-clause-made
+returns-in_err-find_busy-clause-made g c =
+    let same = c.find_busy.ensures.same in
+    record { model = ap (λ v. v.model) same; terms = ap (λ v. v.terms) same; homes = ap (λ v. v.homes) same }
+
+pub returns-clause-made : goal.returns-clause-made
+returns-clause-made g c =
+    let I : WorldView _ → Type 0 = λ v. IsSameWorld v c.run_busy.new.world in
+    subst I c.find_busy.ensures.same c.run_busy.ensures.made
+
+pub returns-clause-fault : goal.returns-clause-fault
+returns-clause-fault g c = c.run_busy.ensures.fault

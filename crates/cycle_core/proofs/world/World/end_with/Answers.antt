@@ -71,7 +71,21 @@ pub returns-clause-world : goal.returns-clause-world
 returns-clause-world g c = nodes-alone c.args.self.now _ _ _ c.self.view_is refl
 
 pub invariant_of-self : goal.invariant_of-self
-invariant_of-self g c = c.self.invariant
+invariant_of-self g c = (c.self.invariant.0, λ knows. absurd (cc))
 
 pub invariant_of-self-2 : goal.invariant_of-self-2
-invariant_of-self-2 g c = c.self.invariant
+invariant_of-self-2 g c = (c.self.invariant.0, λ knows. absurd (cc))
+
+pub end_nodes-requires-clause-some : goal.end_nodes-requires-clause-some
+end_nodes-requires-clause-some g c lifetimes outlives =
+    let slice : c.args.self.now.nodes ≡ c.as_mut_slice-nodes.result.now = ap (λ v. v.nodes) (sym c.self.view_is) ∙ ap nodes_in c.in-Some.is ∙ sym c.as_mut_slice-nodes.ensures.value in
+    let long = ap length slice in
+    let some = c.requires.stands.1.has.nodes.some in
+    omega arith
+
+pub returns-clause-busy : goal.returns-clause-busy
+returns-clause-busy g c =
+    let ended = c.in_ok-records.ensures.ended in
+    let over = with_items_is c.in-Some.nodes c.end_nodes.new.nodes (ended.receives.many ∙ ended.commits.many ∙ ap length c.as_mut_slice-nodes.ensures.value ∙ sym c.in-Some.nodes.ok.0) in
+    let B : List (NodeView _) → Type 0 = λ ns. NamesBusy ns c.end_nodes.new.lists.busy.items in
+    subst B (sym over) c.in_ok-records.ensures.busy

@@ -17,13 +17,13 @@ returns-in_default-nodes g c =
     taken-ended (g.M.Model.meaning) c.args.self.now None (sym (ap (λ v. v.is_spent) c.self.view_is) ∙ c.if-self.false)
     (sym (ap (λ v. v.nodes) c.self.view_is) ∙ ap nodes_in c.in_default-nodes.is)
 
-pub returns-then-not-has_event_before : goal.returns-then-not-has_event_before
-returns-then-not-has_event_before g c =
+pub returns-then-not-has_event_at : goal.returns-then-not-has_event_at
+returns-then-not-has_event_at g c =
     let of = g.M.Model.meaning in
     let w = c.args.self.now in
     let slice : w.nodes ≡ c.as_slice.result.now = ap (λ v. v.nodes) (sym c.self.view_is) ∙ ap nodes_in c.in-Some-nodes.is ∙ sym c.as_slice.ensures.value in
     let end : c.end_bound.result ≡ end_stamp w.terms.end = c.end_bound.ensures ∙ ap (λ v. end_stamp v.terms.end) c.self.view_is in
-    let none = subst (λ b. HaveNoneBefore of b c.as_slice.result.now) end (c.has_event_before.ensures.none c.if-not-has_event_before.true) in
+    let none = subst (λ b. HaveNoneBefore of b c.as_slice.result.now) end (c.has_event_at.ensures.none c.if-not-has_event_at.true) in
     end-told of w (sym (ap (λ v. v.is_spent) c.self.view_is) ∙ c.if-self.false) (sym (ap (λ v. v.fault) c.self.view_is) ∙ c.in_default.is)
     (subst (λ ns. HaveNoneBefore of (end_stamp w.terms.end) ns) (sym slice) none)
 
@@ -33,7 +33,7 @@ returns-then-self-2 g c =
     let w = c.args.self.now in
     let slice : w.nodes ≡ c.as_slice.result.now = ap (λ v. v.nodes) (sym c.self.view_is) ∙ ap nodes_in c.in-Some-nodes.is ∙ sym c.as_slice.ensures.value in
     let end : c.end_bound.result ≡ end_stamp w.terms.end = c.end_bound.ensures ∙ ap (λ v. end_stamp v.terms.end) c.self.view_is in
-    let some = subst (λ b. HaveEventBefore of b c.as_slice.result.now) end (c.has_event_before.ensures.some c.if-not-has_event_before.false) in
+    let some = subst (λ b. HaveEventBefore of b c.as_slice.result.now) end (c.has_event_at.ensures.some c.if-not-has_event_at.false) in
     limit-told of w (sym (ap (λ v. v.is_spent) c.self.view_is) ∙ c.if-self.false) (sym (ap (λ v. v.fault) c.self.view_is) ∙ c.in_default.is)
     (subst (λ ns. HaveEventBefore of (end_stamp w.terms.end) ns) (sym slice) some)
     (sym (ap (λ v. v.count) c.self.view_is) ∙ c.if-self-2.true ∙ ap (λ v. v.terms.limit) c.self.view_is)
@@ -44,7 +44,10 @@ returns-else-self-2 g c =
     let w = c.args.self.now in
     let slice : w.nodes ≡ c.as_slice.result.now = ap (λ v. v.nodes) (sym c.self.view_is) ∙ ap nodes_in c.in-Some-nodes.is ∙ sym c.as_slice.ensures.value in
     let end : c.end_bound.result ≡ end_stamp w.terms.end = c.end_bound.ensures ∙ ap (λ v. end_stamp v.terms.end) c.self.view_is in
-    let some = subst (λ b. HaveEventBefore of b c.as_slice.result.now) end (c.has_event_before.ensures.some c.if-not-has_event_before.false) in
+    let some = subst (λ b. HaveEventBefore of b c.as_slice.result.now) end (c.has_event_at.ensures.some c.if-not-has_event_at.false) in
     more-told of w (sym (ap (λ v. v.is_spent) c.self.view_is) ∙ c.if-self.false) (sym (ap (λ v. v.fault) c.self.view_is) ∙ c.in_default.is)
     (subst (λ ns. HaveEventBefore of (end_stamp w.terms.end) ns) (sym slice) some)
     (λ full. c.if-self-2.false (ap (λ v. v.count) c.self.view_is ∙ full ∙ sym (ap (λ v. v.terms.limit) c.self.view_is)))
+
+pub has_event_at-requires-after_bounds : goal.has_event_at-requires-after_bounds
+has_event_at-requires-after_bounds g c lifetimes outlives = ap (λ v. v.nodes) (sym c.self.view_is) ∙ ap nodes_in c.in-Some-nodes.is ∙ sym c.as_slice.ensures.value

@@ -1,12 +1,18 @@
-use Rattle.std.proofs.Common.{◌≡◌, ◌∙◌, List, ap, sym, subst}
-use Rattle.std.specs.Prelude.{OnOk}
+-- If the last cycle has named them, the names are those in the lists.
+use Rattle.std.proofs.Common.{◌≡◌, ◌∙◌, ℕ, List, ap, sym, subst}
+use Rattle.std.specs.Prelude.{IfSome}
 use Rattle.node_core.specs.Nodes.{NodeView}
 use Rattle.cycle_core.specs.Busy.{NamesBusy}
 use Rattle.cycle_core.specs.Inside.{nodes_in}
 use Rattle.cycle_core.proofs.world.World.find_busy.Goals as goal
 
-pub returns : goal.returns
-returns g c =
-    let slice : c.args.self.now.nodes ≡ c.as_slice.result.now = ap (λ v. v.nodes) (sym c.self.view_is) ∙ ap nodes_in c.in-Some.is ∙ sym c.as_slice.ensures.value in
-    let B : List (NodeView _) → Type 0 = λ ns. OnOk c.find_busy.result (NamesBusy ns c.find_busy.new.busy.items) in
-    subst B (sym slice) c.find_busy.ensures
+pub returns-clause-busy : goal.returns-clause-busy
+returns-clause-busy g c =
+    let named = subst (λ l. IfSome l (λ lists. NamesBusy (nodes_in c.self.inside.nodes) lists.value.busy.items)) (sym c.take.ensures.value ∙ c.in-Some.is) (c.self.invariant.1 c.if-not-self.false) in
+    let kept : c.swap.new.y ≡ c.in-Some.lists.value.busy = c.swap.ensures.y_after ∙ ap (λ l. l.busy) c.deref_mut.ensures.value in
+    let P : List ℕ → Type 0 = NamesBusy c.args.self.now.nodes in
+    let B : List (NodeView _) → Type 0 = λ ns. NamesBusy ns c.in-Some.lists.value.busy.items in
+    subst P (sym (ap (λ v. v.items) kept)) (subst B (ap (λ v. v.nodes) c.self.view_is) named)
+
+pub returns-clause-same : goal.returns-clause-same
+returns-clause-same g c = c.self.view_is

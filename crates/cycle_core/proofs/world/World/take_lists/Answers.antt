@@ -10,7 +10,7 @@ returns-clause-blank g c =
     let nodes = c.args.self.now.homes.nodes in
     elim c.match-take.branch [
       | in-Some w ↦
-          let kept = subst (λ l. IfSome l (λ lists. AreBlankLists c.self.inside.homes.value.nodes lists.value)) (sym c.take.ensures.value ∙ w.in-Some.is) c.self.invariant in
+          let kept = subst (λ l. IfSome l (λ lists. AreBlankLists c.self.inside.homes.value.nodes lists.value)) (sym c.take.ensures.value ∙ w.in-Some.is) c.self.invariant.0 in
           subst (λ r. IfOk r (λ lists. AreBlankLists nodes lists.value)) (sym w.result-is) (subst (λ v. AreBlankLists v.homes.nodes w.in-Some.lists.value) c.self.view_is kept)
       | in-None w ↦
           let same = w.nodes.ensures.value ∙ ap (λ h. h.nodes) w.deref.ensures ∙ ap (λ v. v.homes.nodes) c.self.view_is in
