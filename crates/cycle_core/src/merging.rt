@@ -236,7 +236,7 @@ fn put_among(
     ensures given { OnOk result (HaveGiven committed.old committed.new) }
     ensures spare { OnOk result (spare.new.items ≡ []) }
 {
-    if busy.len() <= FEW {
+    if only.is_none() && busy.len() <= FEW {
         return merge_in_turn(committed, busy, merged, spare);
     }
     put_merged(committed, only, merged, spare)
