@@ -31,7 +31,7 @@ overflow_add-carried c =
     let n = c.self.inside in
     let whole = ap (λ (v : ProcessedView). length v.items) c.self.view_is in
     let long = merged-long n.news.done n.places.items n.carried.items c.self.invariant.long in
-    omega (arith, c.requires.few, c.due-news.ensures.within, c.due_in-carried.ensures.within)
+    omega (arith, c.requires.due.few, c.due-news.ensures.within, c.due_in-carried.ensures.within)
 
 pub carry-requires-clause-can : goal.carry-requires-clause-can
 carry-requires-clause-can c =
@@ -47,7 +47,7 @@ whole c = merged c.self.inside.news.done c.self.inside.places.items c.self.insid
 went : (c : After-due_in-carried) → fault_of (due_of c.args.horizon c.args.cut.now (dones_in (whole c))) ≡ None
 went c =
     let F : ProcessedView → Type 0 = λ v. fault_of (due_of c.args.horizon c.args.cut.now (dones_in v.items)) ≡ None in
-    subst F (sym c.self.view_is) c.requires.went
+    subst F (sym c.self.view_is) c.requires.due.went
 
 -- what is due is parted where all news are, and none of what is carried
 abbrev Parts : After-due_in-carried → Type 0
@@ -148,11 +148,11 @@ commit_first-requires c =
       apart = subst A (sym told_is) (told-apart h cut all ds items k x good);
       went = first-went h cut all ds items k x good;
       room = omega (arith, c.in-Ok.ensures.room);
-      known = first-held h cut all ds items k x K (subst V (sym c.self.view_is) c.requires.known);
-      homes = subst H (sym nodes) c.requires.homes;
+      known = first-held h cut all ds items k x K (subst V (sym c.self.view_is) c.requires.due.known);
+      homes = subst H (sym nodes) c.requires.due.homes_in;
       few = λ to.
           let held = ap (λ (v : ProcessedView). length (held_of (dones_in v.items))) c.self.view_is in
-          let few = few-held h cut all ds items k x (omega (arith, held, c.requires.few_held)) in
+          let few = few-held h cut all ds items k x (omega (arith, held, c.requires.due.few_held)) in
           let own = ap length (c.send_out.ensures.parcels to) in
           let most = parcel-most to new.news.sent ds c.tells-2.ensures.sent in
           omega arith;
@@ -181,7 +181,7 @@ returns-then-news-len c =
     record {
       ok = subst V c.self.view_is
           (commits-news homes h cut (processed_view n.places.items n.news n.carried) now n.news.done n.carried.items c.due_in-carried.result n.news.sent [] x (went at)
-          (sym (append-nil n.news.sent)) (subst H (sym c.self.view_is) c.requires.homed) c.tells.ensures.sent left out.ensures.done out.ensures.sent
+          (sym (append-nil n.news.sent)) (subst H (sym c.self.view_is) c.requires.due.homed) c.tells.ensures.sent left out.ensures.done out.ensures.sent
           out.new.done.items out.new.chains.items none out.ensures.told out.ensures.parcels);
       err = tt;
       told = tt;
@@ -227,7 +227,7 @@ returns c =
     record {
       ok = subst V c.self.view_is
           (commits-due homes h cut (processed_view n.places.items n.news n.carried) now ds items k new.news.sent c.carry.ensures.sent.0 x good c.carry.ensures.sent.1
-          (subst H (sym c.self.view_is) c.requires.homed) c.tells-2.ensures.sent left no_news (ap (λ (v : NewsView). v.sent) news ∙ c.send_out.ensures.sent)
+          (subst H (sym c.self.view_is) c.requires.due.homed) c.tells-2.ensures.sent left no_news (ap (λ (v : NewsView). v.sent) news ∙ c.send_out.ensures.sent)
           first.new.told.items first.new.out.items
           (first.ensures.told ∙ (λ i. (same_told i) ++ weave told_key (told_is i) (told_all (dones_in (take k items)))))
           (λ to. first.ensures.sent to ∙ ap (λ es. es ++ filter (goes_to (slice_index homes) to) (held_of (dones_in (take k items)))) (c.send_out.ensures.parcels to)));
