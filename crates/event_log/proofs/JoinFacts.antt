@@ -93,9 +93,9 @@ holds-push news gone told rows undo sent code d told' rows' undo' sent' code' h 
       ordered = ascends-push news d above h.ordered;
     }
 
--- nothing
 -- where there is no event, what is told is told of events that are gone
-pub holds-gone : (told : Told) (rows : List Row) (undo : List Change) (sent : List (ℕ × Event)) (code : Option ℕ) → rows ≡ [] → undo ≡ [] → sent ≡ [] → code ≡ None → HoldsNews [] told told rows undo sent code
+pub holds-gone : (told : Told) (rows : List Row) (undo : List Change) (sent : List (ℕ × Event)) (code : Option ℕ)
+    → rows ≡ [] → undo ≡ [] → sent ≡ [] → code ≡ None → HoldsNews [] told told rows undo sent code
 unfolding rows_of told_all changes_of held_of code_of OnlyLastFailed Ascends
 holds-gone told rows undo sent code no_rows no_undo no_sent no_code = record {
   rows_are = no_rows;
@@ -108,15 +108,24 @@ holds-gone told rows undo sent code no_rows no_undo no_sent no_code = record {
   ordered = tt;
 }
 
-pub holds-none : (told : Told) (rows : List Row) (undo : List Change) (sent : List (ℕ × Event)) (code : Option ℕ) → told ≡ [] → rows ≡ [] → undo ≡ [] → sent ≡ [] → code ≡ None → HoldsNews [] [] told rows undo sent code
+pub holds-none : (told : Told) (rows : List Row) (undo : List Change) (sent : List (ℕ × Event)) (code : Option ℕ)
+    → told ≡ [] → rows ≡ [] → undo ≡ [] → sent ≡ [] → code ≡ None → HoldsNews [] [] told rows undo sent code
 holds-none told rows undo sent code no_told no_rows no_undo no_sent no_code =
     let G : Told → Type 0 = λ gone. HoldsNews [] gone told rows undo sent code in
     subst G no_told (holds-gone told rows undo sent code no_rows no_undo no_sent no_code)
 
+-- where none of what is seen failed, there is no code
+pub code-gone : {news seen : List Done} {gone told : Told} {rows : List Row} {undo : List Change} {sent : List (ℕ × Event)} {code : Option ℕ}
+    → HoldsNews news gone told rows undo sent code → news ≡ seen → fault_of seen ≡ None → code ≡ None
+code-gone {news} h same went =
+    let F : List Done → Type 0 = λ ds. fault_of ds ≡ None in
+    h.code_is ∙ code-went news (subst F (sym same) went)
+
 -- nothing is told of those that were taken back any more
-pub forgets : (news : List Done) (gone told told' : Told) (rows : List Row) (undo : List Change) (sent : List (ℕ × Event)) (code : Option ℕ) → HoldsNews news gone told rows undo sent code → news ≡ [] → told' ≡ [] → HoldsNews [] [] told' rows undo sent code
+pub forgets : {news : List Done} {gone told told' : Told} {rows : List Row} {undo : List Change} {sent : List (ℕ × Event)} {code : Option ℕ}
+    → HoldsNews news gone told rows undo sent code → news ≡ [] → told' ≡ [] → HoldsNews [] [] told' rows undo sent code
 unfolding told_all
-forgets news gone told told' rows undo sent code holds none no_told =
+forgets {news} {gone} {told} {told'} {rows} {undo} {sent} {code} holds none no_told =
     let P : List Done → Type 0 = λ ds. HoldsNews ds gone told rows undo sent code in
     let h = subst P none holds in
     record {

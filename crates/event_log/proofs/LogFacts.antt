@@ -1,6 +1,7 @@
 -- One event more in the log of a node.
 use Rattle.std.proofs.Common.{◌≡◌, ℕ, ◌<◌, true, not, arith, refl, List, [], ◌∷◌, length, get_or, sym, ap, ◌∙◌, subst}
-use Rattle.std.specs.Prelude.{Option, Result, Ok, Err, IfOk, OnErr, OnOk, filter, slice_set}
+use Rattle.std.proofs.lemmas.List.{length-map}
+use Rattle.std.specs.Prelude.{Option, Some, Result, Ok, Err, IfOk, OnErr, OnOk, filter, slice_get, slice_set}
 use Rattle.std.specs.List.{AllByRecursion as Each}
 use Rattle.event_key.specs.declared.key.Key.{Key}
 use Rattle.event_key.specs.Keys.{key_lt}
@@ -21,15 +22,15 @@ use Rattle.object_log.specs.Logs.{keys_of}
 use Rattle.object_log.specs.Objects.{IsSameObject, KeptObject}
 use Rattle.object_log.specs.Keeping.{Keeps}
 use Rattle.object_log.specs.Parts.{due_of, left_of}
-use Rattle.object_log.specs.Whole.{IsEventLog, StandsAt, dones_in, log_view}
-use Rattle.object_log.proofs.CarriedLemmas.{times-map}
+use Rattle.object_log.specs.Whole.{IsEventLog, StandsAt, dones_in, log_view, object_view}
+use Rattle.object_log.proofs.CarriedLemmas.{read-map, times-map}
 use Rattle.object_log.proofs.CellLemmas.{keeps-left}
 use Rattle.object_log.proofs.OwnLemmas.{left-at, own-ascends}
 use Rattle.object_log.proofs.PrefixLemmas.{due-front}
 use Rattle.object_log.proofs.EventLogLemmas.{IsFiring, processed-one, same-log, same-view, still-log}
 use Rattle.object_log.proofs.JoinLemmas.{new-key}
 use Rattle.event_log.specs.Committing.{HasCommittedDue}
-use Rattle.event_log.specs.NodeLogs.{HasCommittedTo, node_log_view}
+use Rattle.event_log.specs.NodeLogs.{HasCommittedTo, NodeLogView, node_log_view}
 use Rattle.event_log.specs.Processing.{HasCome, IsSameProcessed, ProcessedView}
 use Rattle.event_log.proofs.CommitFacts.{dones-left}
 
@@ -77,6 +78,20 @@ module _ (m : Meaning) (objects : List KeptObject) (place : ℕ) (o later : Kept
 
     pub kept-view : log_view (slice_set objects place later) new.items ≡ log_view objects old.items
     kept-view = ap (log_view (slice_set objects place later)) same.items ∙ same-view objects old.items place o later log within at is
+
+-- the object at a place is seen there
+pub stands-seen : (objects : List KeptObject) (events : ProcessedView) (v : NodeLogView) (place : ℕ) → node_log_view objects events ≡ v
+    → place < length v.log.objects → place < length objects
+stands-seen objects events v place view inside =
+    let same = length-map objects object_view in
+    let long = ap (λ (w : NodeLogView). length w.log.objects) view in
+    omega arith
+
+pub object-seen : (objects : List KeptObject) (events : ProcessedView) (v : NodeLogView) (place : ℕ) (o : KeptObject) → node_log_view objects events ≡ v
+    → place < length v.log.objects → o ≡ get_or objects place o → slice_get v.log.objects place ≡ Some (object_view o)
+object-seen objects events v place o view inside at =
+    let P : NodeLogView → Type 0 = λ w. slice_get w.log.objects place ≡ Some (object_view o) in
+    subst P view (read-map object_view objects place o (stands-seen objects events v place view inside) at)
 
 -- what isn't due is a log
 pub committed-log : (horizon : ℕ) (cut : Option Key) (objects : List KeptObject) (items : List Placed) → IsEventLog objects items → IsEventLog objects (filter (λ (p : Placed). not (is_due horizon cut (placed_key p))) items)

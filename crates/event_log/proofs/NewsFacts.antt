@@ -95,7 +95,8 @@ gone-is ds gone told n long whole is = by_code (code_of ds) refl whole
         drop_all n told (omega arith) ∙ sym whole
 
 -- what contracts see
-module _ (news : List Done) (gone told : Told) (rows : List Row) (undo : List Change) (sent : List (ℕ × Event)) (code : Option ℕ) (h : HoldsNews news gone told rows undo sent code) where
+module _ {news : List Done} {gone told : Told} {rows : List Row} {undo : List Change} {sent : List (ℕ × Event)} {code : Option ℕ}
+    (h : HoldsNews news gone told rows undo sent code) where
   pub view-done : events_in code rows told undo (map message sent) ≡ news
   view-done =
       let W : Option ℕ → Type 0 = λ c. IfSome c (λ c. gone ≡ []) in
@@ -115,3 +116,11 @@ module _ (news : List Done) (gone told : Told) (rows : List Row) (undo : List Ch
 
   pub seen : (v : NewsView) (nodes : ℕ) → news_view rows told undo sent code nodes ≡ v → news ≡ v.done
   seen v nodes is = sym view-done ∙ ap (λ (w : NewsView). w.done) is
+
+  -- there is a row for each event that is seen
+  pub rows-seen : (v : NewsView) (nodes : ℕ) → news_view rows told undo sent code nodes ≡ v → length rows ≡ length v.done
+  rows-seen v nodes is = view-long ∙ ap length (seen v nodes is)
+
+  -- and what is told of events that are gone
+  pub gone-seen : (v : NewsView) (nodes : ℕ) → news_view rows told undo sent code nodes ≡ v → gone ≡ v.gone
+  gone-seen v nodes is = sym view-gone ∙ ap (λ (w : NewsView). w.gone) is

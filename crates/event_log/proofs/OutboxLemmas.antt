@@ -6,7 +6,7 @@ use Rattle.std.specs.Prelude.{filter, slice_set}
 use Rattle.model_core.specs.declared.event.Event.{Event}
 use Rattle.key_order.proofs.FilterLemmas.{length-filter_le}
 use Rattle.object_log.specs.Dealing.{first_of, no_event, rest_of, without_first}
-use Rattle.event_log.specs.Outboxes.{AreBlank, HoldsSent, chain_at, dealt, home, is_for, message, parcel, sent_of}
+use Rattle.event_log.specs.Outboxes.{AreBlank, HoldsSent, OutboxView, chain_at, dealt, home, is_for, message, parcel, sent_of}
 
 abbrev Sent : Type 0
 Sent = ℕ × Event
@@ -65,6 +65,11 @@ parcel-short node ss =
     let two = length-filter_le (is_for node) (reverse ss) in
     let three = length-reverse ss in
     omega arith
+
+-- these are the messages that contracts see
+pub sent-seen : {sent : List Sent} {homes : List ℕ} {chains : List (List Event)} → HoldsSent sent homes chains → (v : OutboxView) (room : ℕ)
+    → ◌≡◌ {A = OutboxView} (record { sent = sent_of homes chains; nodes = length chains; room = room }) v → sent ≡ v.sent
+sent-seen {sent} {homes} {chains} h v room is = sym (sent-is sent homes chains h) ∙ ap (λ (w : OutboxView). w.sent) is
 
 pub holds-push : (sent : List Sent) (homes : List ℕ) (chains : List (List Event)) (node : ℕ) (e : Event) (chain : List Event) → HoldsSent sent homes chains → node < length chains
     → chain ≡ e ∷ chain_at chains node → HoldsSent (sent ++ (node, e) ∷ []) (homes ++ node ∷ []) (slice_set chains node chain)

@@ -74,10 +74,10 @@ pub record IsEnd (news : List Done) (gone told : Told) (rows : List Row) (undo :
   pub went : code_of front ≡ None
   pub code_is : code ≡ code_or d.verdict None
 
-pub ends-news : (news : List Done) (gone told : Told) (rows : List Row) (undo : List Change) (sent : List (ℕ × Event)) (code : Option ℕ) (n : ℕ) (r : Row) → HoldsNews news gone told rows undo sent code
-    → length rows ≡ n + 1 → r ≡ get_or rows n r → IsEnd news gone told rows undo sent code r
-ends-news news gone told rows undo sent code n r h long at =
-    let all = view-long news gone told rows undo sent code h in
+pub ends-news : {news : List Done} {gone told : Told} {rows : List Row} {undo : List Change} {sent : List (ℕ × Event)} {code : Option ℕ} (n : ℕ) (r : Row)
+    → HoldsNews news gone told rows undo sent code → length rows ≡ n + 1 → r ≡ get_or rows n r → IsEnd news gone told rows undo sent code r
+ends-news {news} {gone} {told} {rows} n r h long at =
+    let all = view-long h in
     let e = ends news n (omega arith) in
     let front = e.0 in
     let d = e.1 in
@@ -100,7 +100,8 @@ ends-news news gone told rows undo sent code n r h long at =
       code_is = h.code_is ∙ ap code_of e.2 ∙ code-push front d went;
     }
 
-module _ (news : List Done) (gone told : Told) (rows : List Row) (undo : List Change) (sent : List (ℕ × Event)) (code : Option ℕ) (r : Row) (h : HoldsNews news gone told rows undo sent code) (e : IsEnd news gone told rows undo sent code r) where
+module _ {news : List Done} {gone told : Told} {rows : List Row} {undo : List Change} {sent : List (ℕ × Event)} {code : Option ℕ} {r : Row}
+    (h : HoldsNews news gone told rows undo sent code) (e : IsEnd news gone told rows undo sent code r) where
   -- how much is its own
   pub changes-own : r.changes ≡ length e.d.undo
   changes-own = ap (λ (x : Row). x.changes) e.row_is
@@ -147,7 +148,7 @@ module _ (news : List Done) (gone told : Told) (rows : List Row) (undo : List Ch
       by_verdict (Failed fault) is told_are = absurd (no-code fault is)
       by_verdict (Noted note) is told_are =
           let front_long = told-long e.front e.went in
-          let all = view-long news gone told rows undo sent code h in
+          let all = view-long h in
           let split = ap length e.is in
           let pushed = length-append e.front (e.d ∷ []) in
           let got : slice_get told n ≡ Some (e.d.event.key, note) = ap (λ ts. slice_get ts n) told_are ∙ get-at (told_all e.front) gone (e.d.event.key, note) n (omega arith) in
@@ -167,7 +168,7 @@ module _ (news : List Done) (gone told : Told) (rows : List Row) (undo : List Ch
       by_verdict (Failed fault) is told_are = absurd (no-code fault is)
       by_verdict (Noted note) is told_are =
           let front_long = told-long e.front e.went in
-          let all = view-long news gone told rows undo sent code h in
+          let all = view-long h in
           let split = ap length e.is in
           let pushed = length-append e.front (e.d ∷ []) in
           let whole = ap length told_are in

@@ -23,8 +23,8 @@ use Rattle.event_log.specs.declared.row.Row.{Row}
 use Rattle.object_log.specs.Fired.{HasGone, failed_of, went_of}
 use Rattle.event_log.specs.News.{HasJoined, HoldsNews, IsNews, NewsView, homed, least_after, news_view}
 use Rattle.event_log.specs.Outboxes.{message}
-use Rattle.event_log.proofs.JoinFacts.{IsPushed, code-went, holds-push, least-after}
-use Rattle.event_log.proofs.NewsFacts.{seen, view-gone, view-is}
+use Rattle.event_log.proofs.JoinFacts.{IsPushed, code-gone, holds-push, least-after}
+use Rattle.event_log.proofs.NewsFacts.{gone-seen, seen, view-is}
 
 abbrev Told : Type 0
 Told = List (Key × Note)
@@ -46,10 +46,10 @@ module _ (v : NewsView) (told : Told) (rows : List Row) (undo : List Change) (se
   news = inside.0
 
   same : news ≡ v.done
-  same = seen news inside.1 told rows undo sent code inside.2 v nodes is
+  same = seen inside.2 v nodes is
 
   gone-same : inside.1 ≡ v.gone
-  gone-same = sym (view-gone news inside.1 told rows undo sent code inside.2) ∙ ap (λ (w : NewsView). w.gone) is
+  gone-same = gone-seen inside.2 v nodes is
 
   -- the least so far, and that of one event more
   pub least-more : (least : ℕ) (es : List Event) → least ≡ least_stamp NO_STAMP es → min (least_after NO_STAMP rows) least ≡ least_stamp (least_after NO_STAMP rows) es
@@ -95,9 +95,7 @@ module _ (v : NewsView) (told : Told) (rows : List Row) (undo : List Change) (se
 
   -- none failed before
   pub code-none : fault_of v.done ≡ None → code ≡ None
-  code-none went =
-      let F : List Done → Type 0 = λ ds. fault_of ds ≡ None in
-      inside.2.code_is ∙ code-went news (subst F (sym same) went)
+  code-none went = code-gone inside.2 same went
 
   module _ (told' : Told) (rows' : List Row) (undo' : List Change) (sent' : List (ℕ × Event)) (code' : Option ℕ) (d : Done) (whole : v.gone ≡ []) (went : fault_of v.done ≡ None)
       (above : Each (λ (x : Done). key_lt x.event.key d.event.key ≡ true) v.done) (p : IsPushed d told rows undo sent told' rows' undo' sent' code') where
@@ -110,7 +108,7 @@ module _ (v : NewsView) (told : Told) (rows : List Row) (undo : List Change) (se
     pub joined : (m : Meaning) (homes : List ℕ) (event : Event) (earlier later : KeptObject) (least nodes' : ℕ) → HasFired m earlier later event d → sent' ≡ sent ++ map (homed homes) d.sends → nodes' ≡ nodes
         → least ≡ least_stamp NO_STAMP d.sends → length d.undo ≤ 16 → length d.sends ≤ 8 → HasJoined m homes event earlier later v (news_view rows' told' undo' sent' code' nodes') least
     joined m homes event earlier later least nodes' fired sent_is nodes_is least_is few_changes few_sends =
-        let now = view-is (news ++ d ∷ []) inside.1 told' rows' undo' sent' code' joins-news nodes' in
+        let now = view-is joins-news nodes' in
         record {
           entry = d;
           fired = fired;

@@ -189,14 +189,18 @@ module _ (objects : List KeptObject) (items carried own : List Placed) (old : Ev
   come-is : weave placed_key carried (map (shifted 0 place) own) ≡ woven objects items own o log own_log away-there
   come-is = λ i. weave placed_key (same i) (map (shifted 0 (at i)) own)
 
-  pub put-ordered : Ascends placed_key (weave placed_key carried (map (shifted 0 place) own))
+  put-ordered : Ascends placed_key (weave placed_key carried (map (shifted 0 place) own))
   put-ordered = subst (Ascends placed_key) (sym come-is) (woven-up objects items own o log own_log away-there)
 
-  pub old-long : length carried ≡ length old.done
+  old-long : length carried ≡ length old.done
   old-long = ap length same ∙ sym (length-map items (λ (p : Placed). p.done)) ∙ ap (λ (v : EventLogView). length v.done) view
 
-  pub own-long : length own ≡ length moved.log.done
+  own-long : length own ≡ length moved.log.done
   own-long = sym (length-map own (λ (p : Placed). p.done)) ∙ ap (λ (m : MovedLogView). length m.log.done) (sym moved_is)
+
+  -- both can be woven into one
+  pub can-put : Ascends placed_key (weave placed_key carried (map (shifted 0 place) own)) × (length carried ≡ length old.done) × (length own ≡ length moved.log.done)
+  can-put = (put-ordered, old-long, own-long)
 
   pub put-all : (objects' : List KeptObject) (items' : List Placed) → length old.done + length moved.log.done < 2 ^ 60 → objects' ≡ objects ++ o ∷ [] → items' ≡ weave placed_key carried (map (shifted 0 place) own) → HasPut old moved objects' items'
   put-all objects' items' few objects_is items_is =

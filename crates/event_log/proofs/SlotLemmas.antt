@@ -1,5 +1,5 @@
 -- Entries whose events lie in slots.
-use Rattle.std.proofs.Common.{◌≡◌, ◌≢◌, ℕ, zero, suc, ◌+◌, ◌<◌, ◌≤◌, cond, List, [], ◌∷◌, ◌++◌, length, take, drop, get_or, set, slice_get, refl, sym, ap, ◌∙◌, subst, inl, inr, arith, length-append, eq-eqb}
+use Rattle.std.proofs.Common.{◌≡◌, ◌≢◌, ℕ, zero, suc, ◌+◌, ◌<◌, ◌≤◌, cond, List, [], ◌∷◌, ◌++◌, length, min, take, drop, get_or, set, slice_get, refl, sym, ap, ◌∙◌, subst, inl, inr, arith, length-append, eq-eqb}
 use Rattle.std.proofs.lemmas.Bool.{cases_eq, eqb-true, false_from_ne_true}
 use Rattle.std.proofs.lemmas.List.{length-map, length-set}
 use Rattle.std.proofs.lemmas.Option.{same_Some, slice_get_read}
@@ -10,9 +10,9 @@ use Rattle.object_log.specs.Dones.{Done}
 use Rattle.object_log.proofs.CarriedLemmas.{map-removed}
 use Rattle.event_log.specs.declared.contents.Contents.{Contents}
 use Rattle.event_log.specs.declared.entry.Entry.{Entry}
-use Rattle.event_log.specs.Items.{Item, item_least}
+use Rattle.event_log.specs.Items.{Item, ItemsView, item_least}
 use Rattle.event_log.specs.Keeping.{IsKept, done_in}
-use Rattle.event_log.specs.Slots.{AreInSlots, HasOpened, LiesIn, TellsOf, done_or, entries_of, frees_of, item_in, items_in}
+use Rattle.event_log.specs.Slots.{AreInSlots, HasLaid, HasOpened, LiesIn, TellsOf, done_or, entries_of, frees_of, item_in, items_in, items_view}
 
 -- what an entry tells
 pub tells-of : (slots : List Contents) (e : Entry) → LiesIn slots e → TellsOf (item_in slots e) e
@@ -312,6 +312,32 @@ opened-long slots slots' free free' es slot room h (inr new) fits more =
     let both = length-append slots (new.3 ∷ []) in
     omega arith
 
+-- an event is laid into a slot that was opened
+pub laid-in : (old slots : List Contents) (unfree free : List ℕ) (e : Entry) (c : Contents) → HasOpened old unfree slots free e.slot → IsKept c → e.key ≡ c.event.key
+    → e.least ≡ c.least → HasLaid old unfree (set slots e.slot c) free e (record { done = done_in c; place = e.place; held = e.held })
+laid-in old slots unfree free e c opens kept key least es room h fits more =
+    let o = opened old slots unfree free es e.slot h opens in
+    let long = opened-long old slots unfree free es e.slot room h opens fits more in
+    let same = length-set slots e.slot c in
+    record {
+      slots_are = put-slots slots free e c es o.0 kept key least;
+      stay = put-stay slots free e c es o.0 ∙ o.1;
+      own = put-item slots free e c es o.0;
+      fits = omega arith;
+    }
+
+-- with an item that is the same
+pub laid-same : {slots slots' : List Contents} {free free' : List ℕ} {e : Entry} {item item' : Item} → item ≡ item' → HasLaid slots free slots' free' e item → HasLaid slots free slots' free' e item'
+laid-same {slots} {slots'} {free} {free'} {e} same laid = subst (HasLaid slots free slots' free' e) same laid
+
+-- there is room for a slot more, as contracts see it
+pub room-more : (slots : List Contents) (es : List Entry) (entries places frees : ℕ) (v : ItemsView) → items_view slots es (min entries (min places frees)) ≡ v → length v.items < v.capacity → length es < frees
+room-more slots es entries places frees v view room =
+    let counted = length-map es (item_in slots) in
+    let seen = ap (λ (w : ItemsView). length w.items) view in
+    let capacity = ap (λ (w : ItemsView). w.capacity) view in
+    omega arith
+
 -- an entry gets another place and another least stamp
 pub lies-at : (slots : List Contents) (n : ℕ) (es : List Entry) (e : Entry) → n < length es → e ≡ get_or es n e → Each (LiesIn slots) es → LiesIn slots e
 lies-at slots n [] e within at lie = absurd (omega arith)
@@ -372,6 +398,38 @@ left-at slots free free' es es' n e c within at h gone freed =
       subst B (sym freed) (subst A (sym gone) (left-slots slots free xs ys e c g)),
       ap (items_in (set slots e.slot c)) gone ∙ left-stay slots free xs ys e c g ∙ map-removed (item_in slots) es n,
     )
+
+-- an entry stands at a place of a list, of which contracts see the events
+pub record StandsIn (slots : List Contents) (free : List ℕ) (es : List Entry) (items : List Item) (n : ℕ) (e : Entry) : Type 0 where
+  pub all : AreInSlots slots free es
+  pub seen : items_in slots es ≡ items
+  pub within : n < length es
+  pub at : e ≡ get_or es n e
+
+pub stands-in : (slots : List Contents) (free : List ℕ) (es : List Entry) (room n : ℕ) (e : Entry) (v : ItemsView) → items_view slots es room ≡ v
+    → AreInSlots slots free es → n < length v.items → e ≡ get_or es n e → StandsIn slots free es v.items n e
+stands-in slots free es room n e v view all within at =
+    let seen = ap (λ (w : ItemsView). w.items) view in
+    record { all = all; seen = seen; within = entry-within slots es v.items n seen within; at = at }
+
+module _ {slots : List Contents} {free : List ℕ} {es : List Entry} {items : List Item} {n : ℕ} {e : Entry} (s : StandsIn slots free es items n e) where
+  -- the event is seen there
+  pub seen-there : item_in slots e ≡ get_or items n (item_in slots e)
+  seen-there = item-at slots n es e s.within s.at ∙ ap (λ is. get_or is n (item_in slots e)) s.seen
+
+  pub there-lies : LiesIn slots e
+  there-lies = lies-at slots n es e s.within s.at s.all.lie
+
+  -- and lies in the entry's slot
+  pub in-slot : (c : Contents) → c ≡ get_or slots e.slot c → IsKept c × ((item_in slots e).done ≡ done_in c)
+  in-slot c read = at-slot slots free es n e c s.within s.at s.all read
+
+  -- it leaves
+  pub has-left : (free' : List ℕ) (es' : List Entry) (c : Contents) → es' ≡ remove es n → free' ≡ free ++ e.slot ∷ []
+      → AreInSlots (set slots e.slot c) free' es' × (items_in (set slots e.slot c) es' ≡ remove items n)
+  has-left free' es' c gone freed =
+      let left = left-at slots free free' es es' n e c s.within s.at s.all gone freed in
+      (left.0, left.1 ∙ ap (λ is. remove is n) s.seen)
 
 -- what lies in the slot of the last entry
 pub end-slot : (slots : List Contents) (free : List ℕ) (xs : List Entry) (e : Entry) (x : Contents) → AreInSlots slots free (xs ++ e ∷ []) → x ≡ get_or slots e.slot x → (item_in slots e).done ≡ done_in x

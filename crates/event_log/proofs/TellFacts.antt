@@ -65,7 +65,8 @@ tells-among t records left told told' up apart h later up' =
     ∙ sym (append_assoc told' (t ∷ []) (weave told_key left later)))
 
 -- so far these carried events are gone: what is told, and where their messages are
-pub record IsAmong (homes : List ℕ) (records : Told) (old : List Placed) (told : Told) (out : List (List Event)) (count from : ℕ) (items : List Placed) (told' : Told) (out' : List (List Event)) : Type 0 where
+pub record IsAmong (homes : List ℕ) (records : Told) (old : List Placed) (told : Told) (out : List (List Event)) (count from : ℕ)
+    (items : List Placed) (told' : Told) (out' : List (List Event)) : Type 0 where
   pub gone : List Placed
   pub split : old ≡ gone ++ items
   pub long : length gone ≡ count
@@ -95,7 +96,8 @@ first-out : (items : List Placed) (p : Placed) → slice_get items 0 ≡ Some p 
 first-out [] p at = absurd (cc)
 first-out (q ∷ qs) p at = (let same : q ≡ p = cc in ap (λ z. z ∷ qs) same)
 
-module _ (homes : List ℕ) (records : Told) (old : List Placed) (told : Told) (out : List (List Event)) (count from : ℕ) (items : List Placed) (told' : Told) (out' : List (List Event)) (h : IsAmong homes records old told out count from items told' out') where
+module _ {homes : List ℕ} {records : Told} {old : List Placed} {told : Told} {out : List (List Event)} {count from : ℕ} {items : List Placed} {told' : Told} {out' : List (List Event)}
+    (h : IsAmong homes records old told out count from items told' out') where
   -- what is known of it
   module _ (due : ℕ) (p : Placed) (below : count < due) (at : slice_get items 0 ≡ Some p) where
     ahead : (more : List Placed) × (take due old ≡ h.gone ++ p ∷ more)
@@ -186,15 +188,15 @@ each-at P [] i within all = absurd (omega arith)
 each-at P (x ∷ xs) zero within all = all.0
 each-at P (x ∷ xs) (suc i) within all = each-at P xs i (omega arith) all.1
 
-pub home-within : (homes : List ℕ) (messages : List Event) (out : List (List Event)) (left : List Event) (out' : List (List Event)) (e : Event) (rest : List Event) → AreLeft homes messages out left out' → left ≡ e ∷ rest → Each (λ home. home < length out) homes
-    → slice_index homes e.key.dest < length out'
-home-within homes messages out left out' e rest l is within =
+pub home-within : {homes : List ℕ} {messages : List Event} {out : List (List Event)} {left : List Event} {out' : List (List Event)} {e : Event} {rest : List Event}
+    → AreLeft homes messages out left out' → left ≡ e ∷ rest → Each (λ home. home < length out) homes → slice_index homes e.key.dest < length out'
+home-within {homes} {messages} {out} {left} {out'} {e} {rest} l is within =
     let K : List Event → Type 0 = Each (λ (x : Event). x.key.dest < length homes) in
     let inside = each-at (λ home. home < length out) homes e.key.dest (subst K is l.known).0 within in
     let long = l.long in
     omega arith
 
-module _ (homes : List ℕ) (messages : List Event) (out : List (List Event)) (left : List Event) (out' : List (List Event)) (e : Event) (rest : List Event) (home : ℕ) (chain : List Event)
+module _ {homes : List ℕ} {messages : List Event} {out : List (List Event)} {left : List Event} {out' : List (List Event)} {e : Event} {rest : List Event} {home : ℕ} {chain : List Event}
     (l : AreLeft homes messages out left out') (is : left ≡ e ∷ rest) (at : home ≡ slice_index homes e.key.dest) (within : home < length out') (read : chain ≡ chain_at out' home) where
   abbrev to_home : ℕ → Event → Bool
   to_home to = goes_to (slice_index homes) to

@@ -1,8 +1,9 @@
 -- Processed events in flat lists.
-use Rattle.std.specs.Prelude.{◌≡◌, ℕ, ◌<◌, ◌≤◌, ◌+◌, ◌^◌, true, List, [], ◌∷◌, ◌++◌, length, map, take, drop, slice_index, Option, Some, None, IfSome}
+use Rattle.std.specs.Prelude.{◌≡◌, ℕ, ◌<◌, ◌≤◌, ◌+◌, ◌^◌, true, List, [], ◌∷◌, ◌++◌, length, map, take, drop, slice_index, Option, Some, None, IfSome, IsTrue}
 use Rattle.std.specs.List.{AllByRecursion}
 use Rattle.event_key.specs.declared.key.Key.{Key}
 use Rattle.event_key.specs.Keys.{key_lt}
+use Rattle.event_key.specs.Stamps.{time_part}
 use Rattle.event_key.specs.declared.stamp.TheConstants.{NO_STAMP}
 use Rattle.delta_exchange.specs.declared.change.Change.{Change}
 use Rattle.key_order.specs.Ascending.{Ascends}
@@ -101,6 +102,16 @@ pub record HasJoined (m : Meaning) (homes : List ℕ) (event : Event) (earlier l
   pub least_is : least ≡ least_stamp NO_STAMP entry.sends
   pub few_changes : length entry.undo ≤ 16
   pub few_sends : length entry.sends ≤ 8
+
+-- an object can fire an event, and the homes of all that it may send to are known
+pub record CanFire (m : Meaning) (homes : List ℕ) (nodes : ℕ) (object : KeptObject) (event : Event) : Type 0 where
+  pub object_in : object.object < m.objects
+  pub lawful : IsTrue (m.lawful object.object object.cells.contents)
+  pub dest : event.key.dest ≡ object.object
+  pub time : time_part event.key.stamp < 2 ^ 46
+  pub sent : object.sent < 2 ^ 60
+  pub known : length homes ≡ m.objects
+  pub homes_in : AllByRecursion (λ home. home < nodes) homes
 
 -- an event of this key can come behind them
 pub record CanTake (key : Key) (v : NewsView) : Type 0 where

@@ -58,6 +58,18 @@ HasOpened slots free slots' free' slot =
     ((free ≡ free' ++ slot ∷ []) × (slots' ≡ slots))
     ⊎ ((free ≡ []) × (free' ≡ []) × (slot ≡ length slots) × (c : Contents) × (slots' ≡ slots ++ c ∷ []))
 
+-- an item lies in a slot of its own, of which an entry tells before others, and there is room for that slot among the free ones
+pub record IsLaid (old now : List Contents) (free : List ℕ) (es : List Entry) (e : Entry) (item : Item) (room : ℕ) : Type 0 where
+  pub slots_are : AreInSlots now free (e ∷ es)
+  pub stay : items_in now es ≡ items_in old es
+  pub own : item_in now e ≡ item
+  pub fits : length now ≤ room
+
+-- so it is whatever others there are
+abbrev pub HasLaid : List Contents → List ℕ → List Contents → List ℕ → Entry → Item → Type 0
+HasLaid slots free slots' free' e item =
+    (es : List Entry) (room : ℕ) → AreInSlots slots free es → length slots ≤ room → length es < room → IsLaid slots slots' free' es e item room
+
 -- as they are seen, with their room
 abbrev pub items_view : List Contents → List Entry → ℕ → ItemsView
 items_view slots es room = record { items = items_in slots es; capacity = room }

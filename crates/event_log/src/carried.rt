@@ -11,10 +11,11 @@ ghost use Rattle.model_core.specs.declared.event.Event.{Event};
 ghost use Rattle.object_log.specs.Carrying.{Placed, placed_key};
 ghost use Rattle.object_log.specs.Objects.{HasUndone, IsNewest};
 ghost use Rattle.object_log.specs.Weave.{weave};
-ghost use Rattle.event_log.specs.Items.{AreHeld, AreHeldBut, first_held, placed};
+ghost use Rattle.event_log.specs.Items.{AreHeld, AreHeldBut, first_held, item_key, placed};
 ghost use Rattle.event_log.specs.Keeping.{IsReleased, IsTakenBack};
 ghost use Rattle.event_log.specs.Moves.{other_items, own_items, shifted};
 ghost use Rattle.event_log.specs.Processing.{CanCarry, merged};
+ghost use Rattle.event_log.specs.Turning.{IsTurned, turned_back};
 
 use crate::items::Items;
 use crate::news::News;
@@ -103,9 +104,7 @@ impl Carried {
     {
         self.may_fail = may_fail_with(self.may_fail, news);
         let turned = carry_into(&mut self.items, news, places, cells, from);
-        let rest = self.items.len() - turned;
-        self.items.rotate_left(turned);
-        mend(&mut self.items, rest);
+        turn_back(&mut self.items, turned);
     }
 
     /// The key of the event at a place of the list, and the place of its object.
@@ -173,9 +172,7 @@ impl Carried {
         let mut items = items;
         settle(&mut items, 0, to);
         let turned = join_all(&mut items, &mut self.items);
-        let rest = items.len() - turned;
-        items.rotate_left(turned);
-        mend(&mut items, rest);
+        turn_back(&mut items, turned);
         self.may_fail = has_failed(&items);
         self.items = items;
     }
@@ -265,6 +262,20 @@ fn held_from(items: &Items, place: usize) -> u64
         return NO_STAMP;
     }
     items.at(place).held
+}
+
+/// Turns so many in front to the back, by the shorter way round, and mends the least stamps before them.
+#[inline(always)]
+fn turn_back(items: &mut Items, turned: usize)
+    requires { IsTurned turned items.old.items }
+    ensures ordered { Ascends item_key items.new.items }
+    ensures held { AreHeld items.new.items }
+    ensures same { placed items.new.items ≡ placed (turned_back turned items.old.items) }
+    ensures capacity { items.new.capacity ≡ items.old.capacity }
+{
+    let rest = items.len() - turned;
+    items.rotate_left(turned);
+    mend(items, rest);
 }
 
 /// Mends the least stamps before a place, from there towards the front until one stays.

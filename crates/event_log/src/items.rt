@@ -9,7 +9,7 @@ ghost use Rattle.object_log.specs.Objects.{HasUndone, IsNewest};
 ghost use Rattle.event_log.specs.Items.{Item, item_before};
 ghost use Rattle.event_log.specs.Keeping.{IsReleased, IsTakenBack};
 ghost use Rattle.event_log.specs.Popping.{HasPopped};
-ghost use Rattle.event_log.specs.Slots.{HasOpened, TellsOf};
+ghost use Rattle.event_log.specs.Slots.{HasLaid, HasOpened, TellsOf};
 
 use crate::contents::Contents;
 use crate::entry::Entry;
@@ -154,17 +154,8 @@ impl Items {
         ensures few { length self.new.items < 2 ^ 64 }
         ensures capacity { self.new.capacity ≡ self.old.capacity }
     {
-        let key = done.key();
-        let least = done.least();
-        let slot = open_slot(&mut self.slots, &mut self.free);
-        self.slots[slot] = done.into_contents();
-        self.entries.push_front_reserved(Entry {
-            key,
-            place,
-            slot,
-            least,
-            held,
-        });
+        let entry = lay_in(&mut self.slots, &mut self.free, done, place, held);
+        self.entries.push_front_reserved(entry);
     }
 
     /// Puts an event behind all.
@@ -173,17 +164,8 @@ impl Items {
         ensures items { self.new.items ≡ self.old.items ++ (record { done = done; place = place; held = held }) ∷ [] }
         ensures capacity { self.new.capacity ≡ self.old.capacity }
     {
-        let key = done.key();
-        let least = done.least();
-        let slot = open_slot(&mut self.slots, &mut self.free);
-        self.slots[slot] = done.into_contents();
-        self.entries.push_back_reserved(Entry {
-            key,
-            place,
-            slot,
-            least,
-            held,
-        });
+        let entry = lay_in(&mut self.slots, &mut self.free, done, place, held);
+        self.entries.push_back_reserved(entry);
     }
 
     /// Takes the event at a place of the list out. It moves the shorter side of the list.
@@ -272,6 +254,34 @@ impl Items {
         ensures capacity { self.new.capacity ≡ self.old.capacity }
     {
         self.entries.rotate_right(1);
+    }
+}
+
+/// Lays an event into a slot, and answers its entry.
+#[inline(always)]
+fn lay_in(
+    slots: &mut Vec<Contents>,
+    free: &mut Vec<usize>,
+    done: Kept,
+    place: u32,
+    held: u64,
+) -> Entry
+    requires within { AllByRecursion (λ slot. slot < length slots.old.items) free.old.items }
+    requires room { free.old.items ≡ [] → vec_len slots.old + 1 ≤ vec_capacity slots.old }
+    ensures laid { HasLaid slots.old.items free.old.items slots.new.items free.new.items result (record { done = done; place = place; held = held }) }
+    ensures slots_room { vec_capacity slots.new ≡ vec_capacity slots.old }
+    ensures free_room { vec_capacity free.new ≡ vec_capacity free.old }
+{
+    let key = done.key();
+    let least = done.least();
+    let slot = open_slot(slots, free);
+    slots[slot] = done.into_contents();
+    Entry {
+        key,
+        place,
+        slot,
+        least,
+        held,
     }
 }
 

@@ -2,7 +2,6 @@
 ghost use Rattle.std.specs.Prelude.{◌≡◌, ℕ, ◌<◌, ◌≤◌, ◌+◌, ◌^◌, [], ◌∷◌, ◌++◌, length, map, min, take, drop, slice_get, filter, vec_len, vec_capacity, IfOk, IfErr, IfSome, IfNone, OnOk, OnErr, IsTrue, Some, None, true};
 ghost use Rattle.std.specs.List.{AllByRecursion};
 ghost use Rattle.event_key.specs.Keys.{key_lt};
-ghost use Rattle.event_key.specs.Stamps.{time_part};
 ghost use Rattle.event_key.specs.declared.stamp.TheConstants.{NO_STAMP};
 ghost use Rattle.key_order.specs.Ascending.{Ascends};
 ghost use Rattle.key_order.specs.Stamps.{least_stamp};
@@ -15,7 +14,7 @@ ghost use Rattle.object_log.specs.Parts.{due_of, left_of};
 ghost use Rattle.object_log.specs.Tellings.{told_all};
 ghost use Rattle.object_log.specs.Flat.{zeros};
 ghost use Rattle.event_log.specs.Keeping.{IsKept, done_in};
-ghost use Rattle.event_log.specs.News.{CanTake, HasJoined, least_after};
+ghost use Rattle.event_log.specs.News.{CanFire, CanTake, HasJoined, least_after};
 ghost use Rattle.event_log.specs.Outboxes.{AreBlank, chain_at, parcel};
 ghost use Rattle.event_log.specs.Popping.{HasPopped};
 
@@ -136,17 +135,9 @@ impl News {
         object: &mut Object,
         event: Cell<Event>,
     ) -> Result<u64, (OutOfMemory, Cell<Event>)>
-        requires object { object.old.object < (M.meaning model.now).objects }
-        requires lawful { IsTrue ((M.meaning model.now).lawful object.old.object object.old.cells.contents) }
-        requires dest { event.key.dest ≡ object.old.object }
-        requires time { time_part event.key.stamp < 2 ^ 46 }
-        requires sent { object.old.sent < 2 ^ 60 }
-        requires above { AllByRecursion (λ d. key_lt d.event.key event.key ≡ true) self.old.done }
-        requires went { fault_of self.old.done ≡ None }
+        requires fires { CanFire (M.meaning model.now) homes.now self.old.nodes object.old event }
+        requires takes { CanTake event.key self.old }
         requires whole { self.old.gone ≡ [] }
-        requires known { length homes.now ≡ (M.meaning model.now).objects }
-        requires homes { AllByRecursion (λ home. home < self.old.nodes) homes.now }
-        requires few { length self.old.sent + 8 < 2 ^ 60 }
         ensures ok { IfOk result (λ least. HasJoined (M.meaning model.now) homes.now event object.old object.new self.old self.new least) }
         ensures lawful { OnOk result (IsTrue ((M.meaning model.now).lawful object.new.object object.new.cells.contents)) }
         ensures err { OnErr result (self.new ≡ self.old) }

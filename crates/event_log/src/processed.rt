@@ -2,7 +2,6 @@
 ghost use Rattle.std.specs.Prelude.{◌≡◌, ℕ, List, ◌<◌, ◌≤◌, ◌+◌, ◌^◌, [], ◌++◌, filter, nat_lt, length, map, take, slice_get, vec_len, vec_capacity, IfOk, IfErr, IfSome, IfNone, OnOk, OnErr, IsTrue, Some, None, true, false};
 ghost use Rattle.std.specs.List.{AllByRecursion, remove};
 ghost use Rattle.event_key.specs.Keys.{key_lt};
-ghost use Rattle.event_key.specs.Stamps.{time_part};
 ghost use Rattle.event_key.specs.declared.stamp.TheConstants.{NO_STAMP};
 ghost use Rattle.key_order.specs.Ascending.{Ascends};
 ghost use Rattle.key_order.specs.Due.{is_due};
@@ -13,15 +12,14 @@ ghost use Rattle.object_log.specs.Carrying.{Placed, placed_key};
 ghost use Rattle.object_log.specs.Logs.{fault_of, held_of};
 ghost use Rattle.model_core.specs.declared.event.Event.{Event};
 ghost use Rattle.object_log.specs.Objects.{HasUndone, IsNewest, IsSameObject};
-ghost use Rattle.object_log.specs.Parts.{due_of};
 ghost use Rattle.object_log.specs.Weave.{weave};
-ghost use Rattle.object_log.specs.Whole.{dones_in};
 ghost use Rattle.event_log.specs.Faults.{lesser_fault};
 ghost use Rattle.event_log.specs.Items.{placed};
 ghost use Rattle.event_log.specs.Keeping.{IsTakenBack};
 ghost use Rattle.event_log.specs.Moves.{other_items, own_items, shifted};
 ghost use Rattle.event_log.specs.Outboxes.{AreBlank};
-ghost use Rattle.event_log.specs.Committing.{HasCommittedDue};
+ghost use Rattle.event_log.specs.Committing.{CanCommit, HasCommittedDue};
+ghost use Rattle.event_log.specs.News.{CanFire};
 ghost use Rattle.event_log.specs.Processing.{AreHomed, CanJoin, HasCome, IsSameProcessed};
 
 use crate::carried::Carried;
@@ -208,14 +206,8 @@ impl Processed {
         place: u32,
         event: Cell<Event>,
     ) -> Result<u64, (OutOfMemory, Cell<Event>)>
-        requires object { object.old.object < (M.meaning model.now).objects }
-        requires lawful { IsTrue ((M.meaning model.now).lawful object.old.object object.old.cells.contents) }
-        requires dest { event.key.dest ≡ object.old.object }
-        requires time { time_part event.key.stamp < 2 ^ 46 }
-        requires sent { object.old.sent < 2 ^ 60 }
+        requires fires { CanFire (M.meaning model.now) homes.now self.old.nodes object.old event }
         requires new { times placed_key event.key self.old.items ≡ 0 }
-        requires known { length homes.now ≡ (M.meaning model.now).objects }
-        requires homes { AllByRecursion (λ home. home < self.old.nodes) homes.now }
         ensures ok { IfOk result (λ least. HasCome (M.meaning model.now) event place object.old object.new self.old self.new least) }
         ensures err { OnErr result (IsSameProcessed self.old self.new) }
         ensures same { OnErr result (IsSameObject object.old object.new) }
@@ -239,14 +231,8 @@ impl Processed {
         event: Cell<Event>,
     ) -> Result<u64, (OutOfMemory, Cell<Event>)>
         requires can { CanJoin event.key self.old }
-        requires object { object.old.object < (M.meaning model.now).objects }
-        requires lawful { IsTrue ((M.meaning model.now).lawful object.old.object object.old.cells.contents) }
-        requires dest { event.key.dest ≡ object.old.object }
-        requires time { time_part event.key.stamp < 2 ^ 46 }
-        requires sent { object.old.sent < 2 ^ 60 }
+        requires fires { CanFire (M.meaning model.now) homes.now self.old.nodes object.old event }
         requires new { times placed_key event.key self.old.items ≡ 0 }
-        requires known { length homes.now ≡ (M.meaning model.now).objects }
-        requires homes { AllByRecursion (λ home. home < self.old.nodes) homes.now }
         ensures ok { IfOk result (λ least. HasCome (M.meaning model.now) event place object.old object.new self.old self.new least) }
         ensures err { OnErr result (self.new ≡ self.old) }
         ensures same { OnErr result (IsSameObject object.old object.new) }
@@ -291,12 +277,7 @@ impl Processed {
         told: &mut RecordBuffer,
         out: &mut Vec<Chain<Event>>,
     ) -> Result<(), OutOfMemory>
-        requires went { fault_of (due_of horizon cut.now (dones_in self.old.items)) ≡ None }
-        requires homed { AreHomed homes.now self.old.chained }
-        requires known { AllByRecursion (λ e. e.key.dest < length homes.now) (held_of (due_of horizon cut.now (dones_in self.old.items))) }
-        requires homes { AllByRecursion (λ home. home < self.old.nodes) homes.now }
-        requires few { length self.old.items < 2 ^ 60 }
-        requires few_held { length (held_of (dones_in self.old.items)) < 2 ^ 60 }
+        requires due { CanCommit homes.now horizon cut.now self.old }
         requires told { told.old.items ≡ [] }
         requires blank { AreBlank out.old.items }
         requires long { length out.old.items ≡ self.old.nodes }

@@ -2,6 +2,7 @@
 use Rattle.std.proofs.Common.{◌≡◌, ℕ, zero, suc, ◌<◌, Bool, true, false, cond, List, [], ◌∷◌, length, map, get_or, Option, Some, is_some, refl, sym, ap, subst, ◌∙◌, arith}
 use Rattle.std.specs.Prelude.{IfSome, IsPermutation, filter, slice_get, slice_index, slice_index_or, ◌==◌}
 use Rattle.std.specs.List.{AllByRecursion as Each}
+use Rattle.std.proofs.lemmas.Grind.{get_or_default_zero}
 use Rattle.std.proofs.lemmas.Option.{get_or_from_slice_get, slice_get_within}
 use Rattle.event_key.specs.declared.key.Key.{Key}
 use Rattle.model_core.specs.declared.event.Event.{Event}
@@ -95,7 +96,7 @@ committed-here homes horizon cut old new told out long known h =
     }
 
 -- the object at a place is found by its number
-pub found-placed : (log : EventLogView) (place object : ℕ) (o : ObjectView) (P : ObjectState → Type 0) → AreApart log.objects → IsPlaced log place object → slice_get log.objects place ≡ Some o → P o.state
+found-placed : (log : EventLogView) (place object : ℕ) (o : ObjectView) (P : ObjectState → Type 0) → AreApart log.objects → IsPlaced log place object → slice_get log.objects place ≡ Some o → P o.state
     → IfSome (state_in log.objects object) P
 found-placed log place object o P apart at found holds =
     let there : get_or log.objects place o ≡ o = get_or_from_slice_get log.objects place o o found in
@@ -108,3 +109,18 @@ found-placed log place object o P apart at found holds =
     ∙ ap (λ (v : ObjectView). Some v.state) there in
     let Q : Option ObjectState → Type 0 = λ s. IfSome s P in
     subst Q (sym state) holds
+
+-- what is true of the object that stands where it was noted is true of what it is in
+pub noted-state : (homes : HomesView) (log : NodeLogView) (places : List ℕ) (object place : ℕ) (o : ObjectView) (P : ObjectState → Type 0) (v : EventLogView)
+    → AreLogged homes log places → log.log ≡ v → is_some (state_in v.objects object) ≡ true → AreApart v.objects → place ≡ get_or places object place
+    → slice_get log.log.objects place ≡ Some o → P o.state → IfSome (state_in v.objects object) P
+noted-state homes log places object place o P v are view here apart read found holds =
+    let H : EventLogView → Type 0 = λ w. is_some (state_in w.objects object) ≡ true in
+    let was = subst H (sym view) here in
+    let below = are.inside object was in
+    let long = are.long in
+    let at = read ∙ get_or_default_zero places object place (omega arith) in
+    let Q : ℕ → Type 0 = λ k. IsPlaced log.log k object in
+    let L : EventLogView → Type 0 = λ w. IsPlaced w place object in
+    let G : EventLogView → Type 0 = λ w. slice_get w.objects place ≡ Some o in
+    found-placed v place object o P apart (subst L view (subst Q (sym at) (are.placed object was))) (subst G view found) holds

@@ -138,6 +138,15 @@ module _ (object : ℕ) (old new : LogsView) (log : LogView) (waiting rest : Lis
   shown-left spare spare' room places more =
       has-left object (shown_logs old) (shown_logs new) (shown_marks old) waiting log store taken (shown_marks new) rest none stay count up rest_is old.homes new.homes spare spare' room places more
 
+-- an object is in: the store is whole, its events are in hand, and once they are given back all has come
+pub record IsComing (new : LogsView) (s : StoreView) (moved : MovedView) : Type 0 where
+  pub store : IsStore (shown_logs new) (shown_marks new) s.waiting
+  pub in_hand : (after : HomesView) (spare : ℕ)
+      → IsInHand (record { homes = after; logs = shown_logs new; marks = shown_marks new; waiting = s.waiting; spare = spare }) moved.waiting
+  pub has_come : (after : HomesView) (later : StoreView)
+      → IsGivenBack (record { homes = after; logs = shown_logs new; marks = shown_marks new; waiting = s.waiting; spare = s.spare }) later moved.waiting
+      → HasCome s later moved
+
 module _ (homes : HomesView) (old new : LogsView) (s : StoreView) (moved : MovedView) (logs : s.logs ≡ shown_logs old) (marks : s.marks ≡ shown_marks old) (store : IsStore s.logs s.marks s.waiting) (can : CanCome homes s moved)
     (sound : AreSound new.log) (same : length new.homes.homes ≡ length old.homes.homes) (within : moved.log.object < length old.homes.homes) (slot : slot_in new.log moved.log.object ≡ Some moved.log)
     (states : (other : ℕ) → other ≢ moved.log.object → state_in new.log.objects other ≡ state_in old.log.objects other)
@@ -160,14 +169,12 @@ module _ (homes : HomesView) (old new : LogsView) (s : StoreView) (moved : Moved
   rises : AreInOrder (shown_marks new)
   rises = Ascends-map (λ (mark : MarkView). mark.key) mark_of new.log.done sound.ordered
 
-  pub store-come : IsStore (shown_logs new) (shown_marks new) s.waiting
-  store-come = come-store homes s moved store can (shown_logs new) (shown_marks new) put come stays total rises
-
-  pub hand-come : (after : HomesView) (spare : ℕ) → IsInHand (record { homes = after; logs = shown_logs new; marks = shown_marks new; waiting = s.waiting; spare = spare }) moved.waiting
-  hand-come after spare = come-hand homes s moved store can (shown_logs new) (shown_marks new) put come stays total rises after spare
-
-  pub shown-come : (after : HomesView) (later : StoreView) → IsGivenBack (record { homes = after; logs = shown_logs new; marks = shown_marks new; waiting = s.waiting; spare = s.spare }) later moved.waiting → HasCome s later moved
-  shown-come after later back = has-come homes s moved store can (shown_logs new) (shown_marks new) put come stays total rises after later back
+  pub coming : IsComing new s moved
+  coming = record {
+    store = come-store homes s moved store can (shown_logs new) (shown_marks new) put come stays total rises;
+    in_hand = come-hand homes s moved store can (shown_logs new) (shown_marks new) put come stays total rises;
+    has_come = has-come homes s moved store can (shown_logs new) (shown_marks new) put come stays total rises;
+  }
 
 -- an object whose slot is empty isn't there
 pub state-away : (l : LogsView) (object : ℕ) → object < length l.homes.homes → slot_at (shown_logs l) object ≡ None → state_in l.log.objects object ≡ None

@@ -24,7 +24,7 @@ pub record IsParting (object : ℕ) (old now : QueueView) (own others : List Eve
   pub spare : old.spare ≤ now.spare
   pub count : length own + length others + length (pending_of now) ≡ length (pending_of old)
 
-module _ (object : ℕ) (old now next : QueueView) (own others : List Event) (e : Event) (so_far : IsParting object old now own others)
+module _ {object : ℕ} {old now next : QueueView} {own others : List Event} {e : Event} (so_far : IsParting object old now own others)
     (first : pending_of now ≡ e ∷ pending_of next) (spare : now.spare ≤ next.spare) where
   pub part-own : (own' : List Event) → e.key.dest ≡ object → own' ≡ own ++ e ∷ [] → IsParting object old next own' others
   part-own own' at is =
@@ -61,7 +61,7 @@ pub nothing-left : (q : QueueView) → IsEmpty q → pending_of q ≡ []
 unfolding enqueue_all
 nothing-left q empty = λ i. enqueue_all (empty.1 i) (empty.0 i)
 
-module _ (object : ℕ) (old now : QueueView) (own others : List Event) (so_far : IsParting object old now own others) (empty : IsEmpty now) where
+module _ {object : ℕ} {old now : QueueView} {own others : List Event} (so_far : IsParting object old now own others) (empty : IsEmpty now) where
   pub parted-own : own ≡ events_at object (pending_of old)
   unfolding events_at
   parted-own = sym (so_far.own_is ∙ ap (λ ws. own ++ events_at object ws) (nothing-left now empty) ∙ append-nil own)

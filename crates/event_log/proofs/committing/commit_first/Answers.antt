@@ -37,8 +37,8 @@ unreachable-requires c =
     let at = c.release_first-sends.ensures.released in
     let due = c.args.due in
     let old = c.args.carried.now.items in
-    let went = next-each c.args.homes.now (take c.args.count c.args.news.now.items) old c.args.told.now.items c.args.out.now.items c.loop.counter c.loop.from c.loop.carried.items c.loop.told.items c.loop.out.items a due at.0 (omega arith) at.1
-    (λ (p : Placed). Went p.done) (each-image (λ (p : Placed). p.done) Went (take due old) (all-went (dones_in (take due old)) c.requires.went)) in
+    let went = next-each a due at.0 (omega arith) at.1 (λ (p : Placed). Went p.done)
+    (each-image (λ (p : Placed). p.done) Went (take due old) (all-went (dones_in (take due old)) c.requires.went)) in
     failed-never at.0.done.verdict _ went (sym at.2.verdict_is ∙ c.in_default.is)
 
 pub tell_among-from-requires-clause-apart : goal.tell_among-from-requires-clause-apart
@@ -46,8 +46,7 @@ tell_among-from-requires-clause-apart c =
     let a = c.loop.invariant.among in
     let at = c.release_first-sends.ensures.released in
     let records = take c.args.count c.args.news.now.items in
-    let new = next-each c.args.homes.now records c.args.carried.now.items c.args.told.now.items c.args.out.now.items c.loop.counter c.loop.from c.loop.carried.items c.loop.told.items c.loop.out.items a c.args.due at.0 (omega arith) at.1
-    (λ (p : Placed). times told_key (placed_key p) records ≡ 0) c.requires.apart in
+    let new = next-each a c.args.due at.0 (omega arith) at.1 (λ (p : Placed). times told_key (placed_key p) records ≡ 0) c.requires.apart in
     ap (λ (e : Event). times told_key e.key records) at.2.event_is ∙ new
 
 pub tell_among-from-requires-clause-room : goal.tell_among-from-requires-clause-room
@@ -58,8 +57,7 @@ send_home-requires-clause-known c =
     let a = c.loop.invariant.among in
     let at = c.release_first-sends.ensures.released in
     let K : Event → Type 0 = λ e. e.key.dest < length c.args.homes.now in
-    let known = next-held c.args.homes.now (take c.args.count c.args.news.now.items) c.args.carried.now.items c.args.told.now.items c.args.out.now.items c.loop.counter c.loop.from c.loop.carried.items c.loop.told.items c.loop.out.items a c.args.due at.0 (omega arith) at.1 K c.requires.known in
-    subst (Each K) (sym at.2.sends_are) known
+    subst (Each K) (sym at.2.sends_are) (next-held a c.args.due at.0 (omega arith) at.1 K c.requires.known)
 
 pub send_home-requires-clause-homes : goal.send_home-requires-clause-homes
 send_home-requires-clause-homes c =
@@ -70,7 +68,7 @@ pub send_home-requires-clause-few : goal.send_home-requires-clause-few
 send_home-requires-clause-few c = λ to.
     let a = c.loop.invariant.among in
     let at = c.release_first-sends.ensures.released in
-    let few = next-few c.args.homes.now (take c.args.count c.args.news.now.items) c.args.carried.now.items c.args.told.now.items c.args.out.now.items c.loop.counter c.loop.from c.loop.carried.items c.loop.told.items c.loop.out.items a c.args.due at.0 (omega arith) at.1 c.requires.few to in
+    let few = next-few a c.args.due at.0 (omega arith) at.1 c.requires.few to in
     let same = ap length at.2.sends_are in
     omega arith
 
@@ -84,8 +82,7 @@ loop-preserved c =
     let verdict = sym at.2.verdict_is ∙ c.in-Noted.is in
     let one : told_of d.event.key d.verdict ≡ t ∷ [] = ap (told_of d.event.key) verdict ∙ ap (λ (e : Event). (e.key, c.in-Noted.note) ∷ []) (sym event) in
     record {
-      among = among-next c.args.homes.now (take c.args.count c.args.news.now.items) c.args.carried.now.items c.args.told.now.items c.args.out.now.items c.loop.counter c.loop.from c.loop.carried.items c.loop.told.items c.loop.out.items a
-          at.0 t c.tell_among-from.result c.release_first-sends.new.self.items c.tell_among-from.new.told.items c.send_home.new.out.items at.1 c.release_first-sends.ensures.left one c.tell_among-from.ensures.told
+      among = among-next a at.0 t c.tell_among-from.result c.release_first-sends.new.self.items c.tell_among-from.new.told.items c.send_home.new.out.items at.1 c.release_first-sends.ensures.left one c.tell_among-from.ensures.told
           (λ to. c.send_home.ensures.sent to ∙ ap (λ es. chain_at c.loop.out.items to ++ filter (goes_to (slice_index c.args.homes.now) to) es) at.2.sends_are)
           c.send_home.ensures.long;
       within = c.tell_among-from.ensures.within;
@@ -97,16 +94,16 @@ tell_rest-requires-clause-room c = omega (arith, c.loop.invariant.room)
 
 pub returns-clause-left : goal.returns-clause-left
 returns-clause-left c =
-    rest-are c.args.homes.now (take c.args.count c.args.news.now.items) c.args.carried.now.items c.args.told.now.items c.args.out.now.items c.loop.counter c.loop.from c.loop.carried.items c.loop.told.items c.loop.out.items c.loop.invariant.among c.args.due (omega arith)
+    rest-are c.loop.invariant.among c.args.due (omega arith)
 
 pub returns-clause-told : goal.returns-clause-told
 returns-clause-told c =
-    told-end c.args.homes.now (take c.args.count c.args.news.now.items) c.args.carried.now.items c.args.told.now.items c.args.out.now.items c.loop.counter c.loop.from c.loop.carried.items c.loop.told.items c.loop.out.items c.loop.invariant.among c.args.due (omega arith)
+    told-end c.loop.invariant.among c.args.due (omega arith)
     c.tell_rest.new.told.items c.tells.ensures c.requires.ordered (all-went (dones_in (take c.args.due c.args.carried.now.items)) c.requires.went) c.tell_rest.ensures
 
 pub returns-clause-sent : goal.returns-clause-sent
 returns-clause-sent c =
-    sent-end c.args.homes.now (take c.args.count c.args.news.now.items) c.args.carried.now.items c.args.told.now.items c.args.out.now.items c.loop.counter c.loop.from c.loop.carried.items c.loop.told.items c.loop.out.items c.loop.invariant.among c.args.due (omega arith)
+    sent-end c.loop.invariant.among c.args.due (omega arith)
 
 pub returns-clause-long : goal.returns-clause-long
 returns-clause-long c = c.loop.invariant.among.homed

@@ -10,6 +10,7 @@ use Rattle.event_log.specs.Items.{Item, item_key, placed}
 use Rattle.event_log.specs.Turning.{AreAfter, turned_back}
 use Rattle.event_log.proofs.TurnLemmas.{joined-after, joined-items, joined-turned}
 use Rattle.event_log.proofs.turning.join.Goals as goal
+use Rattle.event_log.proofs.turning.join.Goals.{After-put_first}
 
 pub turn_past-turned-requires-clause-after : goal.turn_past-turned-requires-clause-after
 turn_past-turned-requires-clause-after c =
@@ -29,38 +30,40 @@ overflow_add-result c =
     let few = c.put_first.ensures.few in
     omega arith
 
+-- the others come before it, and those in front after it
+abbrev joins : After-put_first → Placed
+joins c = record { done = c.args.done; place = c.args.place }
+
+others : (c : After-put_first) → Each (λ (i : Item). key_lt (item_key i) c.args.done.event.key ≡ true) (drop c.turn_past-turned.result c.turn_past-turned.new.items.items)
+others c =
+    let O : Key → Type 0 = λ k. Each (λ (i : Item). key_lt (item_key i) k ≡ true) (drop c.turn_past-turned.result c.turn_past-turned.new.items.items) in
+    subst O c.key-key.ensures c.turn_past-turned.ensures.others
+
+after : (c : After-put_first) → AreAfter c.args.done.event.key c.turn_past-turned.result c.turn_past-turned.new.items.items
+after c =
+    let A : Key → Type 0 = λ k. AreAfter k c.turn_past-turned.result c.turn_past-turned.new.items.items in
+    subst A c.key-key.ensures c.turn_past-turned.ensures.after
+
 pub returns-clause-turned : goal.returns-clause-turned
 returns-clause-turned c =
-    let n = c.turn_past-turned.result in
+    let at = (goal.at.returns-clause-turned c).After-put_first in
     let t = c.turn_past-turned.ensures in
-    let es = c.turn_past-turned.new.items.items in
     let put = c.put_first.ensures.items in
-    let p : Placed = record { done = c.args.done; place = c.args.place } in
-    let A : Key → Type 0 = λ k. AreAfter k n es in
-    let O : Key → Type 0 = λ k. Each (λ (i : Item). key_lt (item_key i) k ≡ true) (drop n es) in
-    joined-turned n es c.put_first.new.items.items put.0 p put.1 put.2 (subst O c.key-key.ensures t.others) (subst A c.key-key.ensures t.after) t.turned put.3 (ap (times placed_key (placed_key p)) t.same ∙ c.requires.new)
+    joined-turned c.turn_past-turned.result c.turn_past-turned.new.items.items c.put_first.new.items.items put.0 (joins at) put.1 put.2 (others at) (after at) t.turned put.3
+    (ap (times placed_key c.args.done.event.key) t.same ∙ c.requires.new)
 
 pub returns-clause-items : goal.returns-clause-items
 returns-clause-items c =
-    let n = c.turn_past-turned.result in
-    let t = c.turn_past-turned.ensures in
-    let es = c.turn_past-turned.new.items.items in
+    let at = (goal.at.returns-clause-items c).After-put_first in
     let put = c.put_first.ensures.items in
-    let p : Placed = record { done = c.args.done; place = c.args.place } in
-    let A : Key → Type 0 = λ k. AreAfter k n es in
-    let O : Key → Type 0 = λ k. Each (λ (i : Item). key_lt (item_key i) k ≡ true) (drop n es) in
-    joined-items n es c.put_first.new.items.items put.0 p put.1 put.2 (subst O c.key-key.ensures t.others) (subst A c.key-key.ensures t.after) ∙ ap (insert placed_key p) t.same
+    joined-items c.turn_past-turned.result c.turn_past-turned.new.items.items c.put_first.new.items.items put.0 (joins at) put.1 put.2 (others at) (after at)
+    ∙ ap (insert placed_key (joins at)) c.turn_past-turned.ensures.same
 
 pub returns-clause-after : goal.returns-clause-after
 returns-clause-after c =
-    let n = c.turn_past-turned.result in
-    let t = c.turn_past-turned.ensures in
-    let es = c.turn_past-turned.new.items.items in
+    let at = (goal.at.returns-clause-after c).After-put_first in
     let put = c.put_first.ensures.items in
-    let p : Placed = record { done = c.args.done; place = c.args.place } in
-    let A : Key → Type 0 = λ k. AreAfter k n es in
-    let O : Key → Type 0 = λ k. Each (λ (i : Item). key_lt (item_key i) k ≡ true) (drop n es) in
-    joined-after n es c.put_first.new.items.items put.0 p put.1 put.2 (subst O c.key-key.ensures t.others) (subst A c.key-key.ensures t.after)
+    joined-after c.turn_past-turned.result c.turn_past-turned.new.items.items c.put_first.new.items.items put.0 (joins at) put.1 put.2 (others at) (after at)
 
 pub returns-clause-long : goal.returns-clause-long
 returns-clause-long c =

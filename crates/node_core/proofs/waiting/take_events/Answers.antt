@@ -20,8 +20,7 @@ push_back-requires c =
 
 pub loop-event-preserved-then-get-object : goal.loop-event-preserved-then-get-object
 loop-event-preserved-then-get-object c =
-    part-own c.args.object c.args.queue.now c.loop-event.queue c.pop.new.self c.loop-event.own c.loop-event.others c.in-Some.event c.loop-event.invariant c.in-Some.ensures.least
-    (room-popped c.loop-event.queue c.pop.new.self c.in-Some.event c.in-Some.ensures.ahead c.in-Some.ensures.merged)
+    part-own c.loop-event.invariant c.in-Some.ensures.least (room-popped _ _ _ c.in-Some.ensures.ahead c.in-Some.ensures.merged)
     c.push_back.new.self (sym (ap (λ (e : Event). e.key.dest) c.get.ensures) ∙ c.if-get-object.true) c.push_back.ensures
 
 pub push_back-requires-else-get-object : goal.push_back-requires-else-get-object
@@ -30,25 +29,27 @@ push_back-requires-else-get-object c =
 
 pub loop-event-preserved : goal.loop-event-preserved
 loop-event-preserved c =
-    part-other c.args.object c.args.queue.now c.loop-event.queue c.pop.new.self c.loop-event.own c.loop-event.others c.in-Some.event c.loop-event.invariant c.in-Some.ensures.least
-    (room-popped c.loop-event.queue c.pop.new.self c.in-Some.event c.in-Some.ensures.ahead c.in-Some.ensures.merged)
+    part-other c.loop-event.invariant c.in-Some.ensures.least (room-popped _ _ _ c.in-Some.ensures.ahead c.in-Some.ensures.merged)
     c.push_back-else-get-object.new.self (λ same. c.if-get-object.false (ap (λ (e : Event). e.key.dest) c.get.ensures ∙ same)) c.push_back-else-get-object.ensures
 
 pub give_back-requires-clause-ascending : goal.give_back-requires-clause-ascending
 give_back-requires-clause-ascending c =
-    parted-up c.args.object c.args.queue.now c.loop-event.queue c.loop-event.own c.loop-event.others c.loop-event.invariant (c.in_default.ensures.none.0 refl) c.len-orderly.ensures.orderly
+    parted-up c.loop-event.invariant (c.in_default.ensures.none.0 refl) c.len-orderly.ensures.orderly
 
 pub give_back-requires-clause-room : goal.give_back-requires-clause-room
 give_back-requires-clause-room c =
-    let few = c.len-orderly.ensures.orderly.few in let long = length-pending c.args.queue.now in let count = c.loop-event.invariant.count in
+    let few = c.len-orderly.ensures.orderly.few in
+    let long = length-pending c.args.queue.now in
+    let count = c.loop-event.invariant.count in
     let same = c.in_default.ensures.unchanged in
     let a = ap (λ (q : QueueView). length q.primary + length q.fresh) same in
-    let left = length-pending c.loop-event.queue in omega arith
+    let left = length-pending c.loop-event.queue in
+    omega arith
 
 pub returns-clause-own : goal.returns-clause-own
-returns-clause-own c = parted-own c.args.object c.args.queue.now c.loop-event.queue c.loop-event.own c.loop-event.others c.loop-event.invariant (c.in_default.ensures.none.0 refl)
+returns-clause-own c = parted-own c.loop-event.invariant (c.in_default.ensures.none.0 refl)
 
 pub returns-clause-rest : goal.returns-clause-rest
 returns-clause-rest c =
-    parted-back c.args.object c.args.queue.now c.loop-event.queue c.loop-event.own c.loop-event.others c.loop-event.invariant (c.in_default.ensures.none.0 refl) c.len-orderly.ensures.orderly
+    parted-back c.loop-event.invariant (c.in_default.ensures.none.0 refl) c.len-orderly.ensures.orderly
     c.pop.new.self c.give_back.new.self c.in_default.ensures.unchanged c.give_back.ensures.primary c.give_back.ensures.fresh

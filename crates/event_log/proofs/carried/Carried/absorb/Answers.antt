@@ -1,15 +1,14 @@
--- What has found its place is turned to the back, and the least stamps before it are mended.
-use Rattle.std.proofs.Common.{◌-◌, List, length, map, sym, ap, ◌∙◌, subst, arith, length-drop}
+-- All find their places, and what has found its place is turned back.
+use Rattle.std.proofs.Common.{List, length, map, sym, ap, ◌∙◌, subst, arith}
 use Rattle.std.proofs.lemmas.List.{length-map}
 use Rattle.key_order.specs.Ascending.{Ascends}
 use Rattle.key_order.proofs.AscendingLemmas.{Ascends-map, Ascends-mapped}
 use Rattle.object_log.specs.Carrying.{Placed, placed_key}
 use Rattle.object_log.specs.Weave.{weave}
 use Rattle.object_log.proofs.WeaveLemmas.{weave-below}
-use Rattle.event_log.specs.Items.{AreHeldBut, CarriedView, Item, placed, placed_of}
+use Rattle.event_log.specs.Items.{CarriedView, placed, placed_of}
 use Rattle.event_log.specs.Moves.{shifted}
-use Rattle.event_log.specs.Turning.{turned_back}
-use Rattle.event_log.proofs.TurnLemmas.{same-order, start-turned, turned-but, turned-long}
+use Rattle.event_log.proofs.TurnLemmas.{start-turned}
 use Rattle.event_log.proofs.carried.Carried.absorb.Goals as goal
 
 pub join_all-turned-requires-clause-turned : goal.join_all-turned-requires-clause-turned
@@ -40,45 +39,11 @@ join_all-turned-requires-clause-room c =
     let kept = c.settle.ensures.capacity in
     omega arith
 
-pub overflow_sub-rest : goal.overflow_sub-rest
-overflow_sub-rest c =
-    let within = c.join_all-turned.ensures.turned.within in
-    omega arith
-
-pub rotate_left-requires : goal.rotate_left-requires
-rotate_left-requires c =
-    let within = c.join_all-turned.ensures.turned.within in
-    omega arith
-
-pub mend-requires-clause-inside : goal.mend-requires-clause-inside
-mend-requires-clause-inside c =
-    let n = c.join_all-turned.result in
-    let es = c.join_all-turned.new.items.items in
-    let within = c.join_all-turned.ensures.turned.within in
-    let turned = ap length c.rotate_left.ensures.items in
-    let long = turned-long n es within in
-    omega arith
-
-pub mend-requires-clause-but : goal.mend-requires-clause-but
-mend-requires-clause-but c =
-    let n = c.join_all-turned.result in
-    let es = c.join_all-turned.new.items.items in
-    let t = c.join_all-turned.ensures.turned in
-    let within = t.within in
-    let rest = length-drop n es in
-    let counted = c.len.ensures in
-    let B : List Item → Type 0 = AreHeldBut (c.len.result - n) in
-    subst B (sym c.rotate_left.ensures.items) (turned-but n (c.len.result - n) es t (omega arith))
-
 pub invariant_of-self : goal.invariant_of-self
-invariant_of-self c =
-    let n = c.join_all-turned.result in
-    let es = c.join_all-turned.new.items.items in
-    let same = c.mend.ensures.same ∙ ap placed c.rotate_left.ensures.items in
-    (same-order c.mend.new.items.items (turned_back n es) same c.join_all-turned.ensures.turned.ordered, c.mend.ensures.held, c.has_failed-self-inside.ensures)
+invariant_of-self c = (c.turn_back.ensures.ordered, c.turn_back.ensures.held, c.has_failed-self-inside.ensures)
 
 pub returns : goal.returns
 returns c =
-    c.mend.ensures.same ∙ ap placed c.rotate_left.ensures.items
+    c.turn_back.ensures.same
     ∙ c.join_all-turned.ensures.items
     ∙ (λ i. weave placed_key ((ap (λ (v : CarriedView). v.items) c.self.view_is) i) (c.settle.ensures.items i))

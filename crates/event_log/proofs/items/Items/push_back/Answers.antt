@@ -1,46 +1,36 @@
 -- It lies in a slot that was free.
-use Rattle.std.proofs.Common.{◌≡◌, ◌<◌, ◌≤◌, [], ◌∷◌, ◌++◌, length, set, sym, ap, ◌∙◌, subst, arith, vec_capacity}
-use Rattle.std.proofs.lemmas.List.{length-map, length-set, map-append}
-use Rattle.event_key.specs.declared.stamp.TheConstants.{NO_STAMP}
-use Rattle.key_order.specs.Stamps.{least_stamp}
-use Rattle.object_log.specs.Dones.{Done}
-use Rattle.event_log.specs.declared.entry.Entry.{Entry}
-use Rattle.event_log.specs.Items.{ItemsView}
-use Rattle.event_log.specs.Slots.{AreInSlots, item_in, items_in}
-use Rattle.event_log.proofs.SlotLemmas.{opened, opened-long, put-item, put-slots, put-stay, turned-slots}
+use Rattle.std.proofs.Common.{[], ◌∷◌, ◌++◌, sym, ap, ◌∙◌, subst, arith, vec_capacity}
+use Rattle.std.proofs.lemmas.List.{map-append}
+use Rattle.event_log.specs.Items.{Item, ItemsView}
+use Rattle.event_log.specs.Slots.{AreInSlots, IsLaid, item_in, items_in}
+use Rattle.event_log.proofs.SlotLemmas.{room-more, turned-slots}
 use Rattle.event_log.proofs.items.Items.push_back.Goals as goal
+use Rattle.event_log.proofs.items.Items.push_back.Goals.{After-lay_in-entry}
+
+-- it lies there
+abbrev Laid : After-lay_in-entry → Type 0
+Laid c =
+    let now = c.lay_in-entry in
+    let item : Item = record { done = c.args.done; place = c.args.place; held = c.args.held } in
+    IsLaid c.self.inside.slots.items now.new.slots.items now.new.free.items c.self.inside.entries.items now.result item (vec_capacity c.self.inside.free)
+
+laid : (c : After-lay_in-entry) → Laid c
+laid c =
+    let more = room-more _ _ _ _ _ c.args.self.now c.self.view_is c.requires in
+    c.lay_in-entry.ensures.laid c.self.inside.entries.items _ c.self.invariant.0 c.self.invariant.1 more
 
 pub invariant_of-self : goal.invariant_of-self
 invariant_of-self c =
-    let old = c.self.inside.slots.items in
-    let es = c.self.inside.entries.items in
-    let opens = c.open_slot-slot.ensures.opened in
-    let slots = c.open_slot-slot.new.slots.items in
-    let free = c.open_slot-slot.new.free.items in
-    let x = c.into_contents.result in
-    let e : Entry = record { key = c.key-key.result; place = c.args.place; slot = c.open_slot-slot.result; least = c.least-least.result; held = c.args.held } in
-    let o = opened old slots c.self.inside.free.items free es e.slot c.self.invariant.0 opens in
-    let now = set slots e.slot x in
-    let kept = c.into_contents.ensures.kept in
-    let same = c.into_contents.ensures.done in
-    let key = c.key-key.ensures ∙ ap (λ (d : Done). d.event.key) (sym same) in
-    let least = c.least-least.ensures ∙ ap (λ (d : Done). least_stamp NO_STAMP d.sends) (sym same) ∙ sym kept.least_is in
-    let more : length es < vec_capacity c.self.inside.free = omega (arith, c.requires, ap (λ (v : ItemsView). length v.items) c.self.view_is, ap (λ (v : ItemsView). v.capacity) c.self.view_is, length-map es (item_in old)) in
-    let fits = opened-long old slots c.self.inside.free.items free es e.slot (vec_capacity c.self.inside.free) c.self.invariant.0 opens c.self.invariant.1 more in
-    let long : length now ≤ vec_capacity c.open_slot-slot.new.free = omega (arith, length-set slots e.slot x, c.open_slot-slot.ensures.free_room) in
-    (subst (AreInSlots now free) (sym c.push_back_reserved.ensures.items) (turned-slots now free (e ∷ []) es (put-slots slots free e x es o.0 kept key least)), omega (arith, long))
+    let l = laid (goal.at.invariant_of-self c).After-lay_in-entry in
+    let fits = l.fits in
+    (subst (AreInSlots _ _) (sym c.push_back_reserved.ensures.items) (turned-slots _ _ (c.lay_in-entry.result ∷ []) c.self.inside.entries.items l.slots_are), omega (arith, c.lay_in-entry.ensures.free_room))
 
 pub returns-clause-items : goal.returns-clause-items
 returns-clause-items c =
-    let old = c.self.inside.slots.items in
-    let es = c.self.inside.entries.items in
-    let opens = c.open_slot-slot.ensures.opened in
-    let slots = c.open_slot-slot.new.slots.items in
-    let free = c.open_slot-slot.new.free.items in
-    let x = c.into_contents.result in
-    let e : Entry = record { key = c.key-key.result; place = c.args.place; slot = c.open_slot-slot.result; least = c.least-least.result; held = c.args.held } in
-    let o = opened old slots c.self.inside.free.items free es e.slot c.self.invariant.0 opens in
-    let now = set slots e.slot x in
-    let stay : items_in now es ≡ items_in old es = put-stay slots free e x es o.0 ∙ o.1 in
-    let own : item_in now e ≡ record { done = c.args.done; place = c.args.place; held = c.args.held } = put-item slots free e x es o.0 ∙ ap (λ d. record { done = d; place = c.args.place; held = c.args.held }) c.into_contents.ensures.done in
-    ap (items_in now) c.push_back_reserved.ensures.items ∙ map-append (item_in now) es (e ∷ []) ∙ (λ i. stay i ++ own i ∷ []) ∙ ap (λ (v : ItemsView). v.items ++ (record { done = c.args.done; place = c.args.place; held = c.args.held }) ∷ []) c.self.view_is
+    let l = laid (goal.at.returns-clause-items c).After-lay_in-entry in
+    let now = c.lay_in-entry.new.slots.items in
+    let item : Item = record { done = c.args.done; place = c.args.place; held = c.args.held } in
+    ap (items_in now) c.push_back_reserved.ensures.items
+    ∙ map-append (item_in now) c.self.inside.entries.items (c.lay_in-entry.result ∷ [])
+    ∙ (λ i. l.stay i ++ l.own i ∷ [])
+    ∙ ap (λ (v : ItemsView). v.items ++ item ∷ []) c.self.view_is

@@ -1,53 +1,44 @@
 -- Its slot is free, and its object has taken it back.
-use Rattle.std.proofs.Common.{◌≡◌, get_or, sym, ap, ◌∙◌, subst, arith}
+use Rattle.std.proofs.Common.{sym, ap, ◌∙◌, subst, arith}
 use Rattle.std.proofs.lemmas.List.{length-set}
-use Rattle.std.specs.List.{remove}
 use Rattle.object_log.specs.Dones.{Done}
 use Rattle.object_log.specs.Objects.{HasUndone, IsNewest}
-use Rattle.event_log.specs.declared.entry.Entry.{Entry}
-use Rattle.event_log.specs.Items.{ItemsView}
 use Rattle.event_log.specs.Slots.{item_in}
-use Rattle.event_log.proofs.SlotLemmas.{at-slot, entry-within, item-at, left-at}
+use Rattle.event_log.proofs.SlotLemmas.{StandsIn, has-left, in-slot, seen-there, stands-in}
 use Rattle.event_log.proofs.items.Items.undo.Goals as goal
+use Rattle.event_log.proofs.items.Items.undo.Goals.{In-Some}
 
+-- its event lies in a slot
+abbrev Stands : In-Some → Type 0
+Stands c = StandsIn c.self.inside.slots.items c.self.inside.free.items c.self.inside.entries.items c.args.self.now.items c.args.index c.in-Some.entry
+
+stands : (c : In-Some) → Stands c
+stands c = stands-in _ _ _ _ c.args.index c.in-Some.entry c.args.self.now c.self.view_is c.self.invariant.0 c.requires.index c.in-Some.ensures.value
+
+-- and it leaves that
 pub invariant_of-self : goal.invariant_of-self
 invariant_of-self c =
-    let slots = c.self.inside.slots.items in
-    let es = c.self.inside.entries.items in
-    let e : Entry = c.in-Some.entry in
-    let within = entry-within slots es c.args.self.now.items c.args.index (ap (λ (v : ItemsView). v.items) c.self.view_is) c.requires.index in
-    let left = left-at slots c.self.inside.free.items c.push_reserved.new.self.items es c.remove.new.self.items c.args.index e c.undo-cell.new.self within c.in-Some.ensures.value c.self.invariant.0 c.in-Some.ensures.items c.push_reserved.ensures.items in
-    let long = length-set slots e.slot c.undo-cell.new.self in
+    let left = has-left (stands (goal.at.invariant_of-self c).In-Some) _ _ c.undo-cell.new.self c.in-Some.ensures.items c.push_reserved.ensures.items in
+    let long = length-set c.self.inside.slots.items c.in-Some.entry.slot c.undo-cell.new.self in
     (left.0, omega (arith, c.self.invariant.1, c.push_reserved.ensures.capacity))
 
 pub returns-clause-items : goal.returns-clause-items
 returns-clause-items c =
-    let slots = c.self.inside.slots.items in
-    let es = c.self.inside.entries.items in
-    let e : Entry = c.in-Some.entry in
-    let within = entry-within slots es c.args.self.now.items c.args.index (ap (λ (v : ItemsView). v.items) c.self.view_is) c.requires.index in
-    let left = left-at slots c.self.inside.free.items c.push_reserved.new.self.items es c.remove.new.self.items c.args.index e c.undo-cell.new.self within c.in-Some.ensures.value c.self.invariant.0 c.in-Some.ensures.items c.push_reserved.ensures.items in
-    left.1 ∙ ap (λ (v : ItemsView). remove v.items c.args.index) c.self.view_is
+    (has-left (stands (goal.at.returns-clause-items c).In-Some) _ _ c.undo-cell.new.self c.in-Some.ensures.items c.push_reserved.ensures.items).1
 
 pub undo-cell-requires-clause-newest : goal.undo-cell-requires-clause-newest
 undo-cell-requires-clause-newest c =
-    let slots = c.self.inside.slots.items in
-    let es = c.self.inside.entries.items in
-    let e : Entry = c.in-Some.entry in
-    let within = entry-within slots es c.args.self.now.items c.args.index (ap (λ (v : ItemsView). v.items) c.self.view_is) c.requires.index in
-    let P : ItemsView → Type 0 = λ v. item_in slots e ≡ get_or v.items c.args.index (item_in slots e) in
-    let there = subst P c.self.view_is (item-at slots c.args.index es e within c.in-Some.ensures.value) in
-    let at = at-slot slots c.self.inside.free.items es c.args.index e c.index_mut-contents.result.now within c.in-Some.ensures.value c.self.invariant.0 c.index_mut-contents.ensures.value in
-    subst (IsNewest c.args.object.now) at.1 (c.requires.newest (item_in slots e) there)
+    let s = stands (goal.at.undo-cell-requires-clause-newest c).In-Some in
+    let own = (in-slot s c.index_mut-contents.result.now c.index_mut-contents.ensures.value).1 in
+    subst (IsNewest c.args.object.now) own (c.requires.newest (item_in c.self.inside.slots.items c.in-Some.entry) (seen-there s))
 
 pub returns-clause-undone : goal.returns-clause-undone
 returns-clause-undone c =
-    let slots = c.self.inside.slots.items in
-    let es = c.self.inside.entries.items in
-    let e : Entry = c.in-Some.entry in
-    let within = entry-within slots es c.args.self.now.items c.args.index (ap (λ (v : ItemsView). v.items) c.self.view_is) c.requires.index in
-    let P : ItemsView → Type 0 = λ v. item_in slots e ≡ get_or v.items c.args.index (item_in slots e) in
-    let there = subst P c.self.view_is (item-at slots c.args.index es e within c.in-Some.ensures.value) in
-    let at = at-slot slots c.self.inside.free.items es c.args.index e c.index_mut-contents.result.now within c.in-Some.ensures.value c.self.invariant.0 c.index_mut-contents.ensures.value in
+    let s = stands (goal.at.returns-clause-undone c).In-Some in
+    let own = sym (in-slot s c.index_mut-contents.result.now c.index_mut-contents.ensures.value).1 in
     let H : Done → Type 0 = λ d. HasUndone c.args.object.now c.undo-cell.new.object d in
-    (item_in slots e, there, record { undone = subst H (sym at.1) c.undo-cell.ensures.undone; event_is = c.undo-cell.ensures.event ∙ ap (λ (d : Done). d.event) (sym at.1) })
+    let undo = c.undo-cell.ensures in (
+      item_in c.self.inside.slots.items c.in-Some.entry,
+      seen-there s,
+      record { undone = subst H own undo.undone; event_is = undo.event ∙ ap (λ (d : Done). d.event) own },
+    )

@@ -15,33 +15,25 @@ use Rattle.event_log.specs.Latest.{AreBounded}
 use Rattle.event_log.proofs.LatestFacts.{bounded-filter}
 use Rattle.event_log.proofs.log.NodeLog.commit.Goals as goal
 
-pub commit-requires-clause-went : goal.commit-requires-clause-went
-commit-requires-clause-went c =
-    let W : NodeLogView → Type 0 = λ v. fault_of (due_of c.args.horizon c.args.cut.now v.log.done) ≡ None in
-    subst W (sym c.self.view_is) c.requires.went
-
-pub commit-requires-clause-homed : goal.commit-requires-clause-homed
-commit-requires-clause-homed c =
-    let H : NodeLogView → Type 0 = λ v. AreHomed c.args.homes.now v.chained in
-    subst H (sym c.self.view_is) c.requires.homed
-
-pub commit-requires-clause-known : goal.commit-requires-clause-known
-commit-requires-clause-known c =
-    let K : NodeLogView → Type 0 = λ v. Each (λ (e : Event). e.key.dest < length c.args.homes.now) (held_of (due_of c.args.horizon c.args.cut.now v.log.done)) in
-    subst K (sym c.self.view_is) c.requires.known
-
-pub commit-requires-clause-homes : goal.commit-requires-clause-homes
-commit-requires-clause-homes c =
-    let H : NodeLogView → Type 0 = λ v. Each (λ home. home < v.nodes) c.args.homes.now in
-    subst H (sym c.self.view_is) c.requires.homes
-
-pub commit-requires-clause-few : goal.commit-requires-clause-few
-commit-requires-clause-few c = c.self.invariant.0.few
-
-pub commit-requires-clause-few_held : goal.commit-requires-clause-few_held
-commit-requires-clause-few_held c =
+pub commit-requires-clause-due : goal.commit-requires-clause-due
+commit-requires-clause-due c =
+    let homes = c.args.homes.now in
+    let due = λ (v : NodeLogView). due_of c.args.horizon c.args.cut.now v.log.done in
+    let K : Event → Type 0 = λ e. e.key.dest < length homes in
+    let W : NodeLogView → Type 0 = λ v. fault_of (due v) ≡ None in
+    let C : NodeLogView → Type 0 = λ v. AreHomed homes v.chained in
+    let H : NodeLogView → Type 0 = λ v. Each K (held_of (due v)) in
+    let N : NodeLogView → Type 0 = λ v. Each (λ home. home < v.nodes) homes in
     let F : NodeLogView → Type 0 = λ v. length (held_of v.log.done) < 2 ^ 60 in
-    subst F (sym c.self.view_is) c.requires.few
+    let view = sym c.self.view_is in
+    record {
+      went = subst W view c.requires.went;
+      homed = subst C view c.requires.homed;
+      known = subst H view c.requires.known;
+      homes_in = subst N view c.requires.homes;
+      few = c.self.invariant.0.few;
+      few_held = subst F view c.requires.few;
+    }
 
 pub commit-requires-clause-long : goal.commit-requires-clause-long
 commit-requires-clause-long c = c.requires.long ∙ sym (ap (λ (v : NodeLogView). v.nodes) c.self.view_is)

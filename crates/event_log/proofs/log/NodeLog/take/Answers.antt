@@ -1,20 +1,27 @@
 -- All is carried, and parts.
-use Rattle.std.proofs.Common.{◌≤◌, ◌-◌, Some, List, length, sym, ap, ◌∙◌, subst, arith}
+use Rattle.std.proofs.Common.{◌<◌, ◌≤◌, ◌-◌, Some, List, length, sym, ap, ◌∙◌, subst, arith}
 use Rattle.object_log.specs.Carrying.{Placed}
 use Rattle.object_log.proofs.EventLogLemmas.{placed-within}
 use Rattle.event_log.specs.Items.{placed}
 use Rattle.event_log.specs.Moves.{MovedLogView, own_items}
 use Rattle.event_log.specs.NodeLogs.{NodeLogView}
 use Rattle.event_log.specs.Processing.{ProcessedView}
-use Rattle.event_log.proofs.MoveFacts.{own-room, taken}
+use Rattle.event_log.proofs.MoveFacts.{IsTaken, own-room, taken}
 use Rattle.event_log.specs.Latest.{AreBounded}
 use Rattle.event_log.proofs.LatestFacts.{bounded-parted}
 use Rattle.event_log.proofs.log.NodeLog.take.Goals as goal
+use Rattle.event_log.proofs.log.NodeLog.take.Goals.{After-self, After-swap_remove-object}
+
+within : (c : After-self) → c.args.place < length c.self.inside.objects.items
+within c =
+    let view = ap (λ (v : NodeLogView). v.log) c.self.view_is in
+    placed-within c.self.inside.objects.items c.self.inside.events.items c.args.self.now.log c.args.place c.args.object view c.requires.place
 
 pub overflow_sub-last : goal.overflow_sub-last
-overflow_sub-last c =
-    let within = placed-within c.self.inside.objects.items c.self.inside.events.items c.args.self.now.log c.args.place c.args.object (ap (λ (v : NodeLogView). v.log) c.self.view_is) c.requires.place in
-    omega (arith, within, c.self.inside.objects.ok.0)
+overflow_sub-last c = omega (arith, within (goal.at.overflow_sub-last c).After-self, c.self.inside.objects.ok.0)
+
+pub swap_remove-object-requires : goal.swap_remove-object-requires
+swap_remove-object-requires c = omega (arith, within (goal.at.swap_remove-object-requires c).After-self, c.self.inside.objects.ok.0)
 
 pub part-requires-clause-room : goal.part-requires-clause-room
 part-requires-clause-room c =
@@ -23,69 +30,50 @@ part-requires-clause-room c =
     let same = own-room c.self.inside.objects.items c.self.inside.events.items c.args.self.now.log c.args.object (ap (λ (v : NodeLogView). v.log) c.self.view_is) in
     subst R (sym c.carry_all.ensures.same.items) (omega (arith, c.into_lists-objects.ensures.events))
 
-pub swap_remove-object-requires : goal.swap_remove-object-requires
-swap_remove-object-requires c =
-    let within = placed-within c.self.inside.objects.items c.self.inside.events.items c.args.self.now.log c.args.place c.args.object (ap (λ (v : NodeLogView). v.log) c.self.view_is) c.requires.place in
-    omega (arith, within, c.self.inside.objects.ok.0)
+-- the object is out, with all that it has processed
+abbrev Taken : After-swap_remove-object → Type 0
+Taken c =
+    let x = c.swap_remove-object in
+    IsTaken c.args.self.now.log c.args.place c.args.object x.result x.new.self.items c.part.new.self.items (placed c.part.new.own.items)
 
-pub new-requires-clause-log : goal.new-requires-clause-log
-new-requires-clause-log c =
+out : (c : After-swap_remove-object) → Taken c
+out c =
     let s = c.self.inside in
     let x = c.swap_remove-object in
-    (taken s.objects.items s.events.items c.carry_all.new.self.items c.args.self.now.log c.args.place c.args.object (c.len-last.result - 1) x.result x.new.self.items c.part.new.self.items (placed c.part.new.own.items)
-    (ap (λ (v : NodeLogView). v.log) c.self.view_is) c.self.invariant.0 c.requires.place x.ensures.value x.ensures.items c.carry_all.ensures.same.items (omega arith) c.part.ensures.items c.part.ensures.own).moved
+    let view = ap (λ (v : NodeLogView). v.log) c.self.view_is in
+    taken s.objects.items s.events.items c.carry_all.new.self.items c.args.self.now.log c.args.place c.args.object (c.len-last.result - 1) x.result x.new.self.items
+    c.part.new.self.items (placed c.part.new.own.items)
+    view c.self.invariant.0 c.requires.place x.ensures.value x.ensures.items c.carry_all.ensures.same.items (omega arith) c.part.ensures.items c.part.ensures.own
+
+pub new-requires-clause-log : goal.new-requires-clause-log
+new-requires-clause-log c = (out (goal.at.new-requires-clause-log c).After-swap_remove-object).moved
 
 pub invariant_of-self : goal.invariant_of-self
 invariant_of-self c =
-    let s = c.self.inside in
-    let x = c.swap_remove-object in (
-      (taken s.objects.items s.events.items c.carry_all.new.self.items c.args.self.now.log c.args.place c.args.object (c.len-last.result - 1) x.result x.new.self.items c.part.new.self.items (placed c.part.new.own.items)
-          (ap (λ (v : NodeLogView). v.log) c.self.view_is) c.self.invariant.0 c.requires.place x.ensures.value x.ensures.items c.carry_all.ensures.same.items (omega arith) c.part.ensures.items c.part.ensures.own).log,
-      subst (AreBounded s.latest) (sym c.part.ensures.items)
-          (bounded-parted s.latest c.args.object (c.len-last.result - 1) c.args.place c.carry_all.new.self.items (subst (AreBounded s.latest) (sym c.carry_all.ensures.same.items) c.self.invariant.1)),
+    let bounds = c.self.inside.latest in
+    let last = c.len-last.result - 1 in
+    let carried = subst (AreBounded bounds) (sym c.carry_all.ensures.same.items) c.self.invariant.1 in (
+      (out (goal.at.invariant_of-self c).After-swap_remove-object).log,
+      subst (AreBounded bounds) (sym c.part.ensures.items) (bounded-parted bounds c.args.object last c.args.place c.carry_all.new.self.items carried),
     )
 
 pub returns-clause-gone : goal.returns-clause-gone
-returns-clause-gone c =
-    let s = c.self.inside in
-    let x = c.swap_remove-object in
-    (taken s.objects.items s.events.items c.carry_all.new.self.items c.args.self.now.log c.args.place c.args.object (c.len-last.result - 1) x.result x.new.self.items c.part.new.self.items (placed c.part.new.own.items)
-    (ap (λ (v : NodeLogView). v.log) c.self.view_is) c.self.invariant.0 c.requires.place x.ensures.value x.ensures.items c.carry_all.ensures.same.items (omega arith) c.part.ensures.items c.part.ensures.own).gone
+returns-clause-gone c = (out (goal.at.returns-clause-gone c).After-swap_remove-object).gone
 
 pub returns-clause-others : goal.returns-clause-others
-returns-clause-others c =
-    let s = c.self.inside in
-    let x = c.swap_remove-object in
-    (taken s.objects.items s.events.items c.carry_all.new.self.items c.args.self.now.log c.args.place c.args.object (c.len-last.result - 1) x.result x.new.self.items c.part.new.self.items (placed c.part.new.own.items)
-    (ap (λ (v : NodeLogView). v.log) c.self.view_is) c.self.invariant.0 c.requires.place x.ensures.value x.ensures.items c.carry_all.ensures.same.items (omega arith) c.part.ensures.items c.part.ensures.own).states
+returns-clause-others c = (out (goal.at.returns-clause-others c).After-swap_remove-object).states
 
 pub returns-clause-done : goal.returns-clause-done
-returns-clause-done c =
-    let s = c.self.inside in
-    let x = c.swap_remove-object in
-    (taken s.objects.items s.events.items c.carry_all.new.self.items c.args.self.now.log c.args.place c.args.object (c.len-last.result - 1) x.result x.new.self.items c.part.new.self.items (placed c.part.new.own.items)
-    (ap (λ (v : NodeLogView). v.log) c.self.view_is) c.self.invariant.0 c.requires.place x.ensures.value x.ensures.items c.carry_all.ensures.same.items (omega arith) c.part.ensures.items c.part.ensures.own).done
+returns-clause-done c = (out (goal.at.returns-clause-done c).After-swap_remove-object).done
 
 pub returns-clause-places : goal.returns-clause-places
-returns-clause-places c =
-    let s = c.self.inside in
-    let x = c.swap_remove-object in
-    (taken s.objects.items s.events.items c.carry_all.new.self.items c.args.self.now.log c.args.place c.args.object (c.len-last.result - 1) x.result x.new.self.items c.part.new.self.items (placed c.part.new.own.items)
-    (ap (λ (v : NodeLogView). v.log) c.self.view_is) c.self.invariant.0 c.requires.place x.ensures.value x.ensures.items c.carry_all.ensures.same.items (omega arith) c.part.ensures.items c.part.ensures.own).places
+returns-clause-places c = (out (goal.at.returns-clause-places c).After-swap_remove-object).places
 
 pub returns-clause-count : goal.returns-clause-count
-returns-clause-count c =
-    let s = c.self.inside in
-    let x = c.swap_remove-object in
-    (taken s.objects.items s.events.items c.carry_all.new.self.items c.args.self.now.log c.args.place c.args.object (c.len-last.result - 1) x.result x.new.self.items c.part.new.self.items (placed c.part.new.own.items)
-    (ap (λ (v : NodeLogView). v.log) c.self.view_is) c.self.invariant.0 c.requires.place x.ensures.value x.ensures.items c.carry_all.ensures.same.items (omega arith) c.part.ensures.items c.part.ensures.own).count
+returns-clause-count c = (out (goal.at.returns-clause-count c).After-swap_remove-object).count
 
 pub returns-clause-log : goal.returns-clause-log
-returns-clause-log c =
-    let s = c.self.inside in
-    let x = c.swap_remove-object in
-    (taken s.objects.items s.events.items c.carry_all.new.self.items c.args.self.now.log c.args.place c.args.object (c.len-last.result - 1) x.result x.new.self.items c.part.new.self.items (placed c.part.new.own.items)
-    (ap (λ (v : NodeLogView). v.log) c.self.view_is) c.self.invariant.0 c.requires.place x.ensures.value x.ensures.items c.carry_all.ensures.same.items (omega arith) c.part.ensures.items c.part.ensures.own).slot ∙ ap (λ (m : MovedLogView). Some m.log) (sym c.new.ensures)
+returns-clause-log c = (out (goal.at.returns-clause-log c).After-swap_remove-object).slot ∙ ap (λ (m : MovedLogView). Some m.log) (sym c.new.ensures)
 
 pub new-requires-clause-empty : goal.new-requires-clause-empty
 new-requires-clause-empty c = c.into_lists-objects.ensures.objects

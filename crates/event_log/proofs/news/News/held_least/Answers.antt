@@ -13,5 +13,5 @@ pub returns : goal.returns
 returns c =
     let n = c.self.inside in
     let h = c.self.invariant in
-    let same = seen h.0 h.1 n.told.items n.rows.items n.undo.items n.outbox.sent n.fault h.2 c.args.self.now n.outbox.nodes c.self.view_is in
+    let same = seen h.2 c.args.self.now n.outbox.nodes c.self.view_is in
     c.least_in.ensures ∙ ap (least_after NO_STAMP) (c.deref.ensures.value ∙ h.2.rows_are) ∙ least-after NO_STAMP h.0 ∙ ap (λ (ds : List Done). least_stamp NO_STAMP (held_of ds)) same

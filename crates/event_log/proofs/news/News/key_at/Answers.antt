@@ -13,8 +13,8 @@ pub index-requires : goal.index-requires
 index-requires c =
     let n = c.self.inside in
     let h = c.self.invariant in
-    let same = seen h.0 h.1 n.told.items n.rows.items n.undo.items n.outbox.sent n.fault h.2 c.args.self.now n.outbox.nodes c.self.view_is in
-    let long = n.rows.ok.0 ∙ view-long h.0 h.1 n.told.items n.rows.items n.undo.items n.outbox.sent n.fault h.2 ∙ ap length same in
+    let same = seen h.2 c.args.self.now n.outbox.nodes c.self.view_is in
+    let long = n.rows.ok.0 ∙ view-long h.2 ∙ ap length same in
     let W : ℕ → Type 0 = λ k. c.args.place < k in
     subst W (sym long) c.requires
 
@@ -22,7 +22,7 @@ pub returns : goal.returns
 returns c =
     let n = c.self.inside in
     let h = c.self.invariant in
-    let same = seen h.0 h.1 n.told.items n.rows.items n.undo.items n.outbox.sent n.fault h.2 c.args.self.now n.outbox.nodes c.self.view_is in
+    let same = seen h.2 c.args.self.now n.outbox.nodes c.self.view_is in
     let r = c.index.result.now in
     let W : ℕ → Type 0 = λ k. c.args.place < k in
     let within : c.args.place < length h.0 = subst W (sym (ap length same)) c.requires in

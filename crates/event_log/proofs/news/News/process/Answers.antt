@@ -138,14 +138,14 @@ hold_all-least-requires g c =
     let O : ℕ → Type 0 = λ n. SendsInRange n c.fire_into-fired.new.sheet.sends in
     let H : ℕ → Type 0 = λ k. Each (λ (h : ℕ). h < k) c.args.homes.now in
     record {
-      time = subst T (sym c.recycle-event.ensures.value) c.requires.time;
+      time = subst T (sym c.recycle-event.ensures.value) c.requires.fires.time;
       stepping = (λ i. has_endless_chain (c.recycle-event.ensures.value i).key.stamp (c.as_slice-sends.ensures i)) ∙ fired.stepping;
-      ranged = subst R (sym c.as_slice-sends.ensures) (subst O (sym c.requires.known) fired.ranged);
-      homes = subst H (sym (c.make_room-room.ensures.nodes ∙ ap (λ (v : NewsView). v.nodes) c.self.view_is)) c.requires.homes;
-      serials = serials-fit _ _ _ c.sent-serial.ensures c.requires.sent few;
+      ranged = subst R (sym c.as_slice-sends.ensures) (subst O (sym c.requires.fires.known) fired.ranged);
+      homes = subst H (sym (c.make_room-room.ensures.nodes ∙ ap (λ (v : NewsView). v.nodes) c.self.view_is)) c.requires.fires.homes_in;
+      serials = serials-fit _ _ _ c.sent-serial.ensures c.requires.fires.sent few;
       cells = cells-ready _ _ _ few c.in-Ok.ensures.cells c.recycle-event.ensures.spare;
       room = le_trans few c.in-Ok.ensures.sent_room;
-      few = still-few _ _ _ (ap length c.make_room-room.ensures.sent ∙ ap (λ (v : NewsView). length v.sent) c.self.view_is) c.requires.few few;
+      few = still-few _ _ _ (ap length c.make_room-room.ensures.sent ∙ ap (λ (v : NewsView). length v.sent) c.self.view_is) c.requires.takes.few_sent few;
     }
 
 pub overflow_sub-changes : goal.overflow_sub-changes
@@ -178,7 +178,7 @@ invariant_of-self-in-Fails g c =
     (failed-in c.args.self.now n.told.items n.rows.items n.undo.items n.outbox.sent n.fault n.outbox.nodes c.self.invariant c.self.view_is
     c.args.homes.now (g.M.Model.meaning c.args.model.now) c.args.object.now c.fire_into-fired.new.self c.args.event c.in-Fails.code c.fire_into-fired.new.undo.items c.make_room-room.new.told.items c.push_reserved.new.self.items c.make_room-room.new.outbox.sent c.make_room-room.new.outbox.nodes
     fired.1 (fired.0 ∙ made.undo) made.told made.sent made.nodes (c.push_reserved.ensures.items ∙ (λ i. made.rows i ++ row_is i ∷ []))
-    c.requires.whole c.requires.went c.requires.above).0
+    c.requires.whole c.requires.takes.went c.requires.takes.above).0
 
 pub returns-in-Fails : goal.returns-in-Fails
 returns-in-Fails g c =
@@ -191,7 +191,7 @@ returns-in-Fails g c =
     let came = failed-in c.args.self.now n.told.items n.rows.items n.undo.items n.outbox.sent n.fault n.outbox.nodes c.self.invariant c.self.view_is
     c.args.homes.now (g.M.Model.meaning c.args.model.now) c.args.object.now c.fire_into-fired.new.self c.args.event c.in-Fails.code c.fire_into-fired.new.undo.items c.make_room-room.new.told.items c.push_reserved.new.self.items c.make_room-room.new.outbox.sent c.make_room-room.new.outbox.nodes
     fired.1 (fired.0 ∙ made.undo) made.told made.sent made.nodes (c.push_reserved.ensures.items ∙ (λ i. made.rows i ++ row_is i ∷ []))
-    c.requires.whole c.requires.went c.requires.above in
+    c.requires.whole c.requires.takes.went c.requires.takes.above in
     record {
       ok = came.1;
       lawful = c.in-Ok-fired.ensures.lawful;
@@ -221,7 +221,7 @@ invariant_of-self-in-Goes g c =
     (c.push_reserved-in-Goes-2.ensures.items ∙ (λ i. made.rows i ++ row_is i ∷ []))
     (c.push_reserved-in-Goes.ensures.items ∙ (λ i. made.told i ++ ((value i).key, x.note) ∷ []))
     (c.hold_all-least.ensures.sent ∙ (λ i. made.sent i ++ map (homed c.args.homes.now) (emissions (value i).key.stamp (value i).key.dest (c.sent-serial.ensures i) (c.as_slice-sends.ensures i))))
-    (c.hold_all-least.ensures.nodes ∙ made.nodes) c.requires.whole c.requires.went c.requires.above).0
+    (c.hold_all-least.ensures.nodes ∙ made.nodes) c.requires.whole c.requires.takes.went c.requires.takes.above).0
 
 pub returns-in-Goes : goal.returns-in-Goes
 returns-in-Goes g c =
@@ -242,7 +242,7 @@ returns-in-Goes g c =
     (c.push_reserved-in-Goes-2.ensures.items ∙ (λ i. made.rows i ++ row_is i ∷ []))
     (c.push_reserved-in-Goes.ensures.items ∙ (λ i. made.told i ++ ((value i).key, x.note) ∷ []))
     (c.hold_all-least.ensures.sent ∙ (λ i. made.sent i ++ map (homed c.args.homes.now) (emissions (value i).key.stamp (value i).key.dest (c.sent-serial.ensures i) (c.as_slice-sends.ensures i))))
-    (c.hold_all-least.ensures.nodes ∙ made.nodes) c.requires.whole c.requires.went c.requires.above in
+    (c.hold_all-least.ensures.nodes ∙ made.nodes) c.requires.whole c.requires.takes.went c.requires.takes.above in
     let sends = c.as_slice-sends.result.now in
     let es = emissions c.recycle-event.result.key.stamp c.recycle-event.result.key.dest c.sent-serial.result sends in
     let sent = ap length c.hold_all-least.ensures.sent ∙ length-append c.make_room-room.new.outbox.sent (map (homed c.args.homes.now) es) in

@@ -14,6 +14,6 @@ pub returns : goal.returns
 returns c = λ so.
     let n = c.self.inside in
     let h = c.self.invariant in
-    let same = seen h.0 h.1 n.told.items n.rows.items n.undo.items n.outbox.sent n.fault h.2 c.args.self.now n.outbox.nodes c.self.view_is in
+    let same = seen h.2 c.args.self.now n.outbox.nodes c.self.view_is in
     let none : n.fault ≡ None = none-failed n.fault c.is_none.result c.is_none.ensures so in
     ap fault_of (sym same) ∙ fault-none h.0 (sym h.2.code_is ∙ none)

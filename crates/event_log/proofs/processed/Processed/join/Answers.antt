@@ -2,7 +2,6 @@
 use Rattle.std.proofs.Common.{◌≡◌, ℕ, ◌+◌, ◌-◌, ◌<◌, ◌≤◌, ◌^◌, min, List, [], ◌∷◌, ◌++◌, length, map, refl, sym, ap, ◌∙◌, subst, arith, length-append}
 use Rattle.std.proofs.Math.Nat.{le_trans}
 use Rattle.std.proofs.lemmas.List.{length-map}
-use Rattle.std.specs.List.{AllByRecursion as Each}
 use Rattle.key_order.specs.Keys.{times}
 use Rattle.model_core.specs.declared.event.Event.{Event}
 use Rattle.model_core.specs.Meaning.{Meaning}
@@ -11,11 +10,13 @@ use Rattle.object_log.specs.Objects.{KeptObject}
 use Rattle.object_log.specs.Weave.{insert}
 use Rattle.object_log.proofs.FireFacts.{still}
 use Rattle.event_log.specs.Items.{CarriedView}
-use Rattle.event_log.specs.News.{HasJoined, NewsView, homed}
+use Rattle.event_log.specs.News.{CanFire, HasJoined, NewsView, homed}
 use Rattle.event_log.specs.Processing.{AreHomed, CanJoin, HasCome, IsProcessed, ProcessedView, merged, processed_view}
 use Rattle.event_log.proofs.ProcessFacts.{none-lost}
 use Rattle.event_log.proofs.ProcessedFacts.{homed-more, joined-items, roomier, still-processed}
 use Rattle.event_log.proofs.processed.Processed.join.Goals as goal
+use Rattle.event_log.proofs.processed.Processed.join.Goals.{After-idle_after-self-inside}
+use Rattle.event_log.proofs.processed.Processed.join.Given.{Over}
 
 idle-few : (idle done news : ℕ) → idle ≤ done → done ≡ news → news + 8 < 2 ^ 60 → idle < 2 ^ 60
 idle-few idle done news most same few = omega arith
@@ -36,49 +37,24 @@ invariant_of-self g c =
     let made = c.make_room-room.ensures in
     roomier n.places.items c.make_room-room.new.places.items n.news n.carried c.make_room-room.new.carried n.idle n.cells c.make_room-room.new.cells c.self.invariant made.places made.items made.room_kept made.cells_kept
 
-pub process-requires-clause-object : goal.process-requires-clause-object
-process-requires-clause-object g c = λ k l. c.requires.object
+pub process-requires-clause-fires : goal.process-requires-clause-fires
+process-requires-clause-fires g c = λ k l.
+    let m : Meaning = g.M.Model.meaning c.args.model.now in
+    let F : ProcessedView → Type 0 = λ v. CanFire m c.args.homes.now v.nodes c.args.object.now c.args.event in
+    subst F (sym c.self.view_is) c.requires.fires
 
-pub process-requires-clause-lawful : goal.process-requires-clause-lawful
-process-requires-clause-lawful g c = λ k l. c.requires.lawful
-
-pub process-requires-clause-dest : goal.process-requires-clause-dest
-process-requires-clause-dest g c = λ k l. c.requires.dest
-
-pub process-requires-clause-time : goal.process-requires-clause-time
-process-requires-clause-time g c = λ k l. c.requires.time
-
-pub process-requires-clause-sent : goal.process-requires-clause-sent
-process-requires-clause-sent g c = λ k l. c.requires.sent
+pub process-requires-clause-takes : goal.process-requires-clause-takes
+process-requires-clause-takes g c = λ k l.
+    let P : ProcessedView → Type 0 = λ v. CanJoin c.args.event.key v in
+    let can = subst P (sym c.self.view_is) c.requires.can in
+    record { above = can.above; went = can.went; few = can.few; few_sent = can.few_sent }
 
 pub process-requires-clause-whole : goal.process-requires-clause-whole
 process-requires-clause-whole g c = λ k l. c.self.invariant.whole
 
-pub process-requires-clause-known : goal.process-requires-clause-known
-process-requires-clause-known g c = λ k l. c.requires.known
-
-pub process-requires-clause-above : goal.process-requires-clause-above
-process-requires-clause-above g c = λ k l.
-    let P : ProcessedView → Type 0 = λ v. CanJoin c.args.event.key v in
-    (subst P (sym c.self.view_is) c.requires.can).above
-
-pub process-requires-clause-went : goal.process-requires-clause-went
-process-requires-clause-went g c = λ k l.
-    let P : ProcessedView → Type 0 = λ v. CanJoin c.args.event.key v in
-    (subst P (sym c.self.view_is) c.requires.can).went
-
-pub process-requires-clause-few : goal.process-requires-clause-few
-process-requires-clause-few g c = λ k l.
-    let P : ProcessedView → Type 0 = λ v. CanJoin c.args.event.key v in
-    (subst P (sym c.self.view_is) c.requires.can).few_sent
-
-pub process-requires-clause-homes : goal.process-requires-clause-homes
-process-requires-clause-homes g c = λ k l.
-    let H : ℕ → Type 0 = λ m. Each (λ (h : ℕ). h < m) c.args.homes.now in
-    subst H (sym (ap (λ (v : ProcessedView). v.nodes) c.self.view_is)) c.requires.homes
-
 -- what came of it
-came : (m : Meaning) (places places' : List ℕ) (place idle idle' spare room cells : ℕ) (v v' : NewsView) (k k' : CarriedView) (event : Event) (earlier later : KeptObject) (least : ℕ) (homes : List ℕ) → IsProcessed places v k idle spare → (h : HasJoined m homes event earlier later v v' least)
+came : (m : Meaning) (places places' : List ℕ) (place idle idle' spare room cells : ℕ) (v v' : NewsView) (k k' : CarriedView) (event : Event) (earlier later : KeptObject) (least : ℕ) (homes : List ℕ)
+    → IsProcessed places v k idle spare → (h : HasJoined m homes event earlier later v v' least)
     → places' ≡ places ++ place ∷ [] → k'.items ≡ k.items → length v.done + 1 ≤ k'.room → length v.done + 8 < 2 ^ 60 → idle + 8 ≤ room → min (room + 1) (2 ^ 60) + length v.sent ≤ cells + length v'.sent
     → (0 < length v'.sent - length v.sent → idle' ≡ idle) → (length v'.sent - length v.sent ≡ 0 → idle' ≡ idle + 1) → times placed_key event.key (merged v.done places k.items) ≡ 0
     → IsProcessed places' v' k' idle' cells × HasCome m event place earlier later (processed_view places v k) (processed_view places' v' k') least
@@ -101,49 +77,54 @@ came m places places' place idle idle' spare room cells v v' k k' event earlier 
       },
     )
 
-pub invariant_of-self-in-Ok-process : goal.invariant_of-self-in-Ok-process
-invariant_of-self-in-Ok-process g c =
+-- it came behind the news
+abbrev Came : (g : Over) → After-idle_after-self-inside g → Type 0
+Came g c =
+    let m : Meaning = g.M.Model.meaning c.args.model.now in
+    let n = c.self.inside in
+    let places = c.push_reserved.new.self.items in
+    let news = c.process.new.self in
+    let carried = c.make_room-room.new.carried in
+    IsProcessed places news carried c.idle_after-self-inside.result c.process.new.pool
+    × HasCome m c.args.event c.args.place c.args.object.now c.process.new.object (processed_view n.places.items n.news n.carried) (processed_view places news carried) c.in-Ok-process.least
+
+here : (g : Over) (c : After-idle_after-self-inside g) → Came g c
+here g c =
     let m : Meaning = g.M.Model.meaning c.args.model.now in
     let n = c.self.inside in
     let made = c.make_room-room.ensures in
-    let same : length n.news.done ≡ length c.args.self.now.news = ap (λ (v : ProcessedView). length v.news) c.self.view_is in
+    let room = c.make_room-room.new in
+    let process = c.in-Ok-process in
+    let idle = c.idle_after-self-inside in
     let F : ℕ → Type 0 = λ k. k + 8 < 2 ^ 60 in
-    let few : length n.news.done + 8 < 2 ^ 60 = subst F (sym same) c.requires.can.few in
-    let R : ℕ → Type 0 = λ k. k + 1 ≤ c.make_room-room.new.carried.room in
-    let enough : length n.news.done + 1 ≤ c.make_room-room.new.carried.room = subst R c.len-news.ensures c.in-Ok.ensures.room in
+    let few : length n.news.done + 8 < 2 ^ 60 = subst F (sym (ap (λ (v : ProcessedView). length v.news) c.self.view_is)) c.requires.can.few in
+    let R : ℕ → Type 0 = λ k. k + 1 ≤ room.carried.room in
+    let enough : length n.news.done + 1 ≤ room.carried.room = subst R c.len-news.ensures c.in-Ok.ensures.room in
     let sends : c.sent.result - c.sent-sent.result ≡ length c.process.new.self.sent - length n.news.sent = (λ i. c.sent.ensures i - c.sent-sent.ensures i) in
     let S : ℕ → Type 0 = λ k. 0 < k in
     let T : ProcessedView → Type 0 = λ v. times placed_key c.args.event.key v.items ≡ 0 in
-    (came m n.places.items c.push_reserved.new.self.items c.args.place n.idle c.idle_after-self-inside.result n.cells c.make_room-room.new.cells c.process.new.pool n.news c.process.new.self n.carried c.make_room-room.new.carried c.args.event c.args.object.now c.process.new.object
-    c.in-Ok-process.least c.args.homes.now c.self.invariant c.in-Ok-process.ensures.ok (c.push_reserved.ensures.items ∙ ap (λ (ps : List ℕ). ps ++ c.args.place ∷ []) made.places) made.items enough few
-    c.in-Ok.ensures.cells c.in-Ok-process.ensures.cells (λ some. c.idle_after-self-inside.ensures.some (subst S (sym sends) some)) (λ none. c.idle_after-self-inside.ensures.none (sends ∙ none))
-    (subst T (sym c.self.view_is) c.requires.new)).0
+    let places = c.push_reserved.ensures.items ∙ ap (λ (ps : List ℕ). ps ++ c.args.place ∷ []) made.places in
+    came m n.places.items c.push_reserved.new.self.items c.args.place n.idle idle.result n.cells room.cells c.process.new.pool n.news c.process.new.self n.carried room.carried
+    c.args.event c.args.object.now c.process.new.object process.least c.args.homes.now c.self.invariant process.ensures.ok places made.items enough few
+    c.in-Ok.ensures.cells process.ensures.cells (λ some. idle.ensures.some (subst S (sym sends) some)) (λ none. idle.ensures.none (sends ∙ none))
+    (subst T (sym c.self.view_is) c.requires.new)
+
+pub invariant_of-self-in-Ok-process : goal.invariant_of-self-in-Ok-process
+invariant_of-self-in-Ok-process g c = (here g (goal.at.invariant_of-self-in-Ok-process g c).After-idle_after-self-inside).0
 
 pub returns-in-Ok-process : goal.returns-in-Ok-process
 returns-in-Ok-process g c =
     let m : Meaning = g.M.Model.meaning c.args.model.now in
-    let n = c.self.inside in
-    let made = c.make_room-room.ensures in
-    let same : length n.news.done ≡ length c.args.self.now.news = ap (λ (v : ProcessedView). length v.news) c.self.view_is in
-    let F : ℕ → Type 0 = λ k. k + 8 < 2 ^ 60 in
-    let few : length n.news.done + 8 < 2 ^ 60 = subst F (sym same) c.requires.can.few in
-    let R : ℕ → Type 0 = λ k. k + 1 ≤ c.make_room-room.new.carried.room in
-    let enough : length n.news.done + 1 ≤ c.make_room-room.new.carried.room = subst R c.len-news.ensures c.in-Ok.ensures.room in
-    let sends : c.sent.result - c.sent-sent.result ≡ length c.process.new.self.sent - length n.news.sent = (λ i. c.sent.ensures i - c.sent-sent.ensures i) in
-    let S : ℕ → Type 0 = λ k. 0 < k in
-    let T : ProcessedView → Type 0 = λ v. times placed_key c.args.event.key v.items ≡ 0 in
-    let V : ProcessedView → Type 0 = λ v. HasCome m c.args.event c.args.place c.args.object.now c.process.new.object v (processed_view c.push_reserved.new.self.items c.process.new.self c.make_room-room.new.carried) c.in-Ok-process.least in
+    let now = processed_view c.push_reserved.new.self.items c.process.new.self c.make_room-room.new.carried in
+    let V : ProcessedView → Type 0 = λ v. HasCome m c.args.event c.args.place c.args.object.now c.process.new.object v now c.in-Ok-process.least in
     let h = c.in-Ok-process.ensures.ok in
     let H : ProcessedView → Type 0 = λ v. AreHomed c.args.homes.now v.chained in
     record {
-      ok = subst V c.self.view_is ((came m n.places.items c.push_reserved.new.self.items c.args.place n.idle c.idle_after-self-inside.result n.cells c.make_room-room.new.cells c.process.new.pool n.news c.process.new.self n.carried c.make_room-room.new.carried c.args.event c.args.object.now c.process.new.object
-          c.in-Ok-process.least c.args.homes.now c.self.invariant c.in-Ok-process.ensures.ok (c.push_reserved.ensures.items ∙ ap (λ (ps : List ℕ). ps ++ c.args.place ∷ []) made.places) made.items enough few
-          c.in-Ok.ensures.cells c.in-Ok-process.ensures.cells (λ some. c.idle_after-self-inside.ensures.some (subst S (sym sends) some)) (λ none. c.idle_after-self-inside.ensures.none (sends ∙ none))
-          (subst T (sym c.self.view_is) c.requires.new)).1);
+      ok = subst V c.self.view_is (here g (goal.at.returns-in-Ok-process g c).After-idle_after-self-inside).1;
       err = tt;
       same = tt;
       back = tt;
-      nodes = c.in-Ok-process.ensures.ok.nodes ∙ ap (λ (v : ProcessedView). v.nodes) c.self.view_is;
+      nodes = h.nodes ∙ ap (λ (v : ProcessedView). v.nodes) c.self.view_is;
       homed = λ homed_are. homed-more c.args.homes.now c.self.inside.news.sent c.process.new.self.sent h.entry.sends h.sent (subst H (sym c.self.view_is) homed_are);
     }
 

@@ -1,11 +1,11 @@
 -- The news make way for the event, which comes behind them.
-use Rattle.std.proofs.Common.{◌≡◌, ℕ, ◌<◌, List, ap, sym, ◌∙◌, subst}
-use Rattle.std.specs.List.{AllByRecursion as Each}
+use Rattle.std.proofs.Common.{◌≡◌, ℕ, List, ap, sym, ◌∙◌, subst}
 use Rattle.key_order.specs.Keys.{times}
 use Rattle.model_core.specs.declared.event.Event.{Event}
 use Rattle.model_core.specs.Meaning.{Meaning}
 use Rattle.object_log.specs.Carrying.{Placed, placed_key}
 use Rattle.object_log.specs.Weave.{insert}
+use Rattle.event_log.specs.News.{CanFire}
 use Rattle.event_log.specs.Processing.{CanJoin, HasCome, IsSameProcessed, ProcessedView}
 use Rattle.event_log.proofs.LogFacts.{err-one, ok-more}
 use Rattle.event_log.proofs.processed.Processed.process.Goals as goal
@@ -18,10 +18,11 @@ join-requires-clause-can g c = λ k l.
 pub join-requires-clause-new : goal.join-requires-clause-new
 join-requires-clause-new g c = λ k l. ap (times placed_key c.args.event.key) c.make_ready.ensures.same.items ∙ c.requires.new
 
-pub join-requires-clause-homes : goal.join-requires-clause-homes
-join-requires-clause-homes g c = λ k l.
-    let H : ℕ → Type 0 = λ n. Each (λ (h : ℕ). h < n) c.args.homes.now in
-    subst H (sym c.make_ready.ensures.same.nodes) c.requires.homes
+pub join-requires-clause-fires : goal.join-requires-clause-fires
+join-requires-clause-fires g c = λ k l.
+    let m : Meaning = g.M.Model.meaning c.args.model.now in
+    let F : ℕ → Type 0 = λ nodes. CanFire m c.args.homes.now nodes c.args.object.now c.args.event in
+    subst F (sym c.make_ready.ensures.same.nodes) c.requires.fires
 
 pub returns-clause-ok : goal.returns-clause-ok
 returns-clause-ok g c =

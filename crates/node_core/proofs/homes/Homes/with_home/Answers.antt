@@ -1,15 +1,20 @@
 -- One home is another, and the counts of two nodes change.
-use Rattle.std.proofs.Common.{ℕ, List, ap, ◌∙◌, arith, ◌≡◌, ◌<◌, length, get_or, sym, subst}
+use Rattle.std.proofs.Common.{ℕ, List, ap, ◌∙◌, arith, ◌≡◌, ◌<◌, length, get_or, sym, subst, vec_len}
 use Rattle.std.specs.Prelude.{slice_set}
 use Rattle.node_core.specs.Homes.{HomesView, rehomed}
 use Rattle.node_core.proofs.HomeLemmas.{can-rehome, counts-set, each-get, homes-set, next-room, was-some}
 use Rattle.node_core.proofs.homes.Homes.with_home.Goals as goal
+use Rattle.node_core.proofs.homes.Homes.with_home.Goals.{In_ok-homes}
+
+-- the object has a home among those that were copied
+copied : (c : In_ok-homes) → c.args.object < vec_len c.in_ok-homes.homes
+copied c =
+    let W : ℕ → Type 0 = λ n. c.args.object < n in
+    let same = c.in_ok-homes.ensures.items ∙ c.as_slice.ensures.value ∙ ap (λ (h : HomesView). h.homes) c.self.view_is in
+    subst W (sym (c.in_ok-homes.homes.ok.0 ∙ ap length same)) c.requires.object
 
 pub index-requires : goal.index-requires
-index-requires c =
-    let W : ℕ → Type 0 = λ n. c.args.object < n in
-    let copied = c.in_ok-homes.ensures.items ∙ c.as_slice.ensures.value ∙ ap (λ (h : HomesView). h.homes) c.self.view_is in
-    subst W (sym (c.in_ok-homes.homes.ok.0 ∙ ap length copied)) c.requires.object
+index-requires c = copied (goal.at.index-requires c).In_ok-homes
 
 pub index_mut-requires : goal.index_mut-requires
 index_mut-requires c =
@@ -33,10 +38,7 @@ index_mut-requires-2 c =
     subst W (sym (counts ∙ ap (λ (h : HomesView). h.nodes) c.self.view_is)) c.requires.node
 
 pub index_mut-requires-3 : goal.index_mut-requires-3
-index_mut-requires-3 c =
-    let W : ℕ → Type 0 = λ n. c.args.object < n in
-    let copied = c.in_ok-homes.ensures.items ∙ c.as_slice.ensures.value ∙ ap (λ (h : HomesView). h.homes) c.self.view_is in
-    subst W (sym (c.in_ok-homes.homes.ok.0 ∙ ap length copied)) c.requires.object
+index_mut-requires-3 c = copied (goal.at.index_mut-requires-3 c).In_ok-homes
 
 pub overflow_sub-index_mut : goal.overflow_sub-index_mut
 overflow_sub-index_mut c =
