@@ -17,8 +17,9 @@ pub reads : (xs : List ℕ) (i x : ℕ) → i < length xs → x ≡ get_or xs i 
 reads xs i x within read = get_or_from_slice_get xs i x 0 (slice_get_read xs (length xs) i x refl within read)
 
 -- a bag that there is has a head
-pub there : {T : Type 0} (items : List T) (links heads : List ℕ) (spare : ℕ) (seen : BagsView T) (b : ℕ) → record { bags = bags_of items links heads; spare = spare } ≡ seen → b < length seen.bags → b < length heads
-there items links heads spare seen b view within =
+pub there : {T : Type 0} {items : List T} {links heads : List ℕ} {free unused : ℕ} {bags : List (List T)} {spare : ℕ} {seen : BagsView T} (held : HoldBags items links heads free unused bags) (b : ℕ)
+    → record { bags = bags_of items links heads; spare = spare } ≡ seen → b < length seen.bags → b < length heads
+there {items = items} {links = links} {heads = heads} {seen = seen} held b view within =
     let all : length (bags_of items links heads) ≡ length heads = length-map heads (values_from items links (length links)) in
     let same : bags_of items links heads ≡ seen.bags = ap (λ (v : BagsView _). v.bags) view in
     let long = ap length same in
@@ -51,6 +52,10 @@ front_within {items = items} {links = links} {heads = heads} held b at within re
     let same = held.same_length in
     (omega arith, omega arith)
 
+pub front_inside : {T : Type 0} {items : List T} {links heads : List ℕ} {free unused : ℕ} {bags : List (List T)} {spare : ℕ} {seen : BagsView T} (held : HoldBags items links heads free unused bags) (b at : ℕ)
+    → record { bags = bags_of items links heads; spare = spare } ≡ seen → b < length seen.bags → at ≡ get_or heads b at → at ≢ NO_PLACE → (at < length items) × (at < length links)
+front_inside held b at view within read some = front_within held b at (there held b view within) read some
+
 -- a bag is empty where it has no front
 ends : {T : Type 0} (items : List T) (links : List ℕ) (owner depth : ℕ → ℕ) (bag place : ℕ) (values : List T) → length items ≤ NO_PLACE → IsChain (layout items links owner depth) bag place values
     → place ≡ NO_PLACE → values ≡ []
@@ -73,54 +78,17 @@ none_if {items = items} {links = links} {heads = heads} {bags = bags} held b at 
     let range = held.in_range in
     (ends items links held.owner held.depth (1 + b) at (slice_index_or bags b []) (omega arith) chain, begins items links held.owner held.depth (1 + b) at (slice_index_or bags b []) chain)
 
+pub seen_empty : {T : Type 0} {items : List T} {links heads : List ℕ} {free unused : ℕ} {bags : List (List T)} {spare : ℕ} {seen : BagsView T} (held : HoldBags items links heads free unused bags) (b at : ℕ)
+    → record { bags = bags_of items links heads; spare = spare } ≡ seen → b < length seen.bags → at ≡ get_or heads b at → at ≡ NO_PLACE → slice_index_or seen.bags b [] ≡ []
+seen_empty held b at view within read none = rw (sees held view) ((none_if held b at (there held b view within) read).0 none)
+
 -- so a bag that isn't empty has a front
-pub some_if : {T : Type 0} {items : List T} {links heads : List ℕ} {free unused : ℕ} {bags : List (List T)} (held : HoldBags items links heads free unused bags) (b at : ℕ) → b < length heads
-    → at ≡ get_or heads b at → {seen : List (List T)} → seen ≡ bags → slice_index_or seen b [] ≢ [] → at ≢ NO_PLACE
-some_if held b at within read is some = λ none. some (rw is ((none_if held b at within read).0 none))
+pub some_front : {T : Type 0} {items : List T} {links heads : List ℕ} {free unused : ℕ} {bags : List (List T)} {spare : ℕ} {seen : BagsView T} (held : HoldBags items links heads free unused bags) (b at : ℕ)
+    → record { bags = bags_of items links heads; spare = spare } ≡ seen → b < length seen.bags → at ≡ get_or heads b at → slice_index_or seen.bags b [] ≢ [] → at ≢ NO_PLACE
+some_front held b at view within read some = λ none. some (seen_empty held b at view within read none)
 
 pub empty_test : {T : Type 0} (values : List T) (at : ℕ) → (at ≡ NO_PLACE → values ≡ []) × (values ≡ [] → at ≡ NO_PLACE) → nat_eq at NO_PLACE ≡ true ↔ values ≡ []
 empty_test values at both = (λ e. both.0 (grind (arith, nat_tests)), λ e. let no = both.1 e in grind (arith, nat_tests))
-
--- `push` with a new place
-pub grown : {T : Type 0} {items items2 : List T} {links links2 heads : List ℕ} {free unused : ℕ} {bags : List (List T)} (held : HoldBags items links heads free unused bags) (b : ℕ) (value : T) (front place : ℕ)
-    → b < length heads → length links < NO_PLACE → front ≡ get_or heads b front → items2 ≡ items ++ value ∷ [] → links2 ≡ links ++ front ∷ [] → place ≡ length links
-    → HoldBags items2 links2 (set heads b place) free unused (set bags b (value ∷ slice_index_or bags b []))
-grown {heads = heads} held b value front place within room read new_items new_links new =
-    rw (new_items, new_links, new) (rw (reads heads b front within read) at (grows held b value within room))
-
--- `push` with an unused place
-pub reused : {T : Type 0} {items : List T} {links heads : List ℕ} {free unused : ℕ} {bags : List (List T)} (held : HoldBags items links heads free unused bags) (b : ℕ) (value : T) (front next : ℕ)
-    → b < length heads → free ≢ NO_PLACE → front ≡ get_or heads b front → next ≡ get_or links free next
-    → HoldBags (set items free value) (set links free front) (set heads b free) next (unused - 1) (set bags b (value ∷ slice_index_or bags b []))
-reused {links = links} {heads = heads} {free = free} held b value front next within some read read_next =
-    let linked = unused_within held some in
-    rw (reads heads b front within read, reads links free next linked.1 read_next) at (reuses held b value within some)
-
--- `pop`
-pub record Taken {T : Type 0} (items : List T) (links2 heads2 : List ℕ) (at unused : ℕ) (bags : List (List T)) (b : ℕ) (value : T) : Type 0 where
-  pub rest : List T
-  pub was : slice_index_or bags b [] ≡ value ∷ rest
-  pub held : HoldBags items links2 heads2 at (unused + 1) (set bags b rest)
-
-pub taken : {T : Type 0} {items : List T} {links heads : List ℕ} {free unused : ℕ} {bags : List (List T)} (held : HoldBags items links heads free unused bags) (b at next : ℕ) (value : T)
-    → b < length heads → at ≢ NO_PLACE → at ≡ get_or heads b at → next ≡ get_or links at next → value ≡ get_or items at value
-    → Taken items (set links at free) (set heads b next) at unused bags b value
-taken {T} {items = items} {links = links} {heads = heads} held b at next value within some read read_next read_value =
-    let e : slice_index heads b ≡ at = reads heads b at within read in
-    let there = front_within held b at within read some in
-    let popped = pops held b within (rw e some) in
-    let here : slice_get items at ≡ Some popped.value = rw e at popped.here in
-    let value_here : slice_get items at ≡ Some value = slice_get_read items (length items) at value refl there.0 read_value in
-    let same : popped.value ≡ value = cc in
-    record {
-      rest = popped.rest;
-      was = rw same at popped.was;
-      held = rw (reads links at next there.1 read_next) at (rw e at popped.held);
-    }
-
-pub took_front : {T : Type 0} {items : List T} {links heads : List ℕ} {at unused : ℕ} {bags : List (List T)} {b : ℕ} {value : T} (left : Taken items links heads at unused bags b value) (seen : List (List T)) → seen ≡ bags
-    → TakesFront seen (bags_of items links heads) b value
-took_front left seen same = rw same (left.rest, left.was, shows left.held)
 
 -- room where no place is unused
 none_unused : {T : Type 0} (items : List T) (links : List ℕ) (owner depth : ℕ → ℕ) (free : ℕ) (left : List T) → length items ≤ NO_PLACE → IsChain (layout items links owner depth) 0 free left → free ≡ NO_PLACE → length left ≡ 0
@@ -136,6 +104,72 @@ fresh {items = items} {links = links} {free = free} held one other seen view som
     let spare = ap (λ (v : BagsView _). v.spare) view in
     let no = none_unused items links held.owner held.depth free held.left (omega arith) held.free_chain none in
     omega arith
+
+-- `push` with a new place
+pub grown : {T : Type 0} {items items2 : List T} {links links2 heads : List ℕ} {free unused : ℕ} {bags : List (List T)} {seen : BagsView T} (held : HoldBags items links heads free unused bags)
+    (one other b : ℕ) (value : T) (front place : ℕ) → record { bags = bags_of items links heads; spare = unused + room_of one other (length links) } ≡ seen → b < length seen.bags → 1 ≤ seen.spare → free ≡ NO_PLACE → one < NO_PLACE
+    → front ≡ get_or heads b front → items2 ≡ items ++ value ∷ [] → links2 ≡ links ++ front ∷ [] → place ≡ length links
+    → HoldBags items2 links2 (set heads b place) free unused (set bags b (value ∷ slice_index_or bags b []))
+grown {heads = heads} {seen = seen} held one other b value front place view there_is some none short read new_items new_links new =
+    let within = there held b view there_is in
+    let room = fresh held one other seen view some none short in
+    rw (new_items, new_links, new) (rw (reads heads b front within read) at (grows held b value within room.2))
+
+-- `push` with an unused place
+pub reused : {T : Type 0} {items : List T} {links heads : List ℕ} {free unused : ℕ} {bags : List (List T)} (held : HoldBags items links heads free unused bags) (b : ℕ) (value : T) (front next : ℕ)
+    → b < length heads → free ≢ NO_PLACE → front ≡ get_or heads b front → next ≡ get_or links free next
+    → HoldBags (set items free value) (set links free front) (set heads b free) next (unused - 1) (set bags b (value ∷ slice_index_or bags b []))
+reused {links = links} {heads = heads} {free = free} held b value front next within some read read_next =
+    let linked = unused_within held some in
+    rw (reads heads b front within read, reads links free next linked.1 read_next) at (reuses held b value within some)
+
+-- the value at the front of a bag, and what taking it leaves
+record Opened {T : Type 0} (items : List T) (links heads : List ℕ) (free unused : ℕ) (bags : List (List T)) (b at : ℕ) : Type 0 where
+  pub value : T
+  pub rest : List T
+  pub linked : at < length links
+  pub here : slice_get items at ≡ Some value
+  pub reads_it : (x : T) → x ≡ get_or items at x → value ≡ x
+  pub was : slice_index_or bags b [] ≡ value ∷ rest
+  pub held : HoldBags items (set links at free) (set heads b (slice_index links at)) at (unused + 1) (set bags b rest)
+
+opens : {T : Type 0} {items : List T} {links heads : List ℕ} {free unused : ℕ} {bags : List (List T)} (held : HoldBags items links heads free unused bags) (b at : ℕ)
+    → b < length heads → at ≢ NO_PLACE → at ≡ get_or heads b at → Opened items links heads free unused bags b at
+opens {T} {items = items} {heads = heads} held b at within some read =
+    let e : slice_index heads b ≡ at = reads heads b at within read in
+    let inside = front_within held b at within read some in
+    let popped = pops held b within (rw e some) in
+    let here : slice_get items at ≡ Some popped.value = rw e at popped.here in
+    record {
+      value = popped.value;
+      rest = popped.rest;
+      linked = inside.1;
+      here = here;
+      reads_it = λ x read_x. (let there : slice_get items at ≡ Some x = slice_get_read items (length items) at x refl inside.0 read_x in cc);
+      was = popped.was;
+      held = rw e at popped.held;
+    }
+
+-- `pop`
+pub record Taken {T : Type 0} (items : List T) (links2 heads2 : List ℕ) (at unused : ℕ) (bags : List (List T)) (b : ℕ) (value : T) : Type 0 where
+  pub rest : List T
+  pub was : slice_index_or bags b [] ≡ value ∷ rest
+  pub held : HoldBags items links2 heads2 at (unused + 1) (set bags b rest)
+
+pub taken : {T : Type 0} {items : List T} {links heads : List ℕ} {free unused : ℕ} {bags : List (List T)} {spare : ℕ} {seen : BagsView T} (held : HoldBags items links heads free unused bags) (b at next : ℕ) (value : T)
+    → record { bags = bags_of items links heads; spare = spare } ≡ seen → b < length seen.bags → at ≢ NO_PLACE → at ≡ get_or heads b at → next ≡ get_or links at next → value ≡ get_or items at value
+    → Taken items (set links at free) (set heads b next) at unused bags b value
+taken {links = links} held b at next value view within some read read_next read_value =
+    let front = opens held b at (there held b view within) some read in
+    record {
+      rest = front.rest;
+      was = rw (front.reads_it value read_value) at front.was;
+      held = rw (reads links at next front.linked read_next) at front.held;
+    }
+
+pub took_front : {T : Type 0} {items : List T} {links heads : List ℕ} {at unused : ℕ} {bags : List (List T)} {b : ℕ} {value : T} (left : Taken items links heads at unused bags b value) (seen : List (List T)) → seen ≡ bags
+    → TakesFront seen (bags_of items links heads) b value
+took_front left seen same = rw same (left.rest, left.was, shows left.held)
 
 pub spare_falls : {T : Type 0} (bags : List (List T)) (links2 : List ℕ) (used unused one other one2 other2 : ℕ) (seen : BagsView T)
     → record { bags = bags; spare = unused + room_of one other used } ≡ seen → used < one → used < other → used < NO_PLACE → one2 ≡ one → other2 ≡ other → length links2 ≡ used + 1
@@ -178,16 +212,11 @@ begun {T} n no_items no_links none = rw (no_items, no_links, none) (record {
 })
 
 -- `front`
-pub fronts : {T : Type 0} {items : List T} {links heads : List ℕ} {free unused : ℕ} {bags : List (List T)} (held : HoldBags items links heads free unused bags) (b at : ℕ) (value : T) → b < length heads
-    → at ≢ NO_PLACE → at ≡ get_or heads b at → value ≡ get_or items at value → HasFront bags b value
-fronts {items = items} {heads = heads} held b at value within some read read_value =
-    let e : slice_index heads b ≡ at = reads heads b at within read in
-    let there = front_within held b at within read some in
-    let popped = pops held b within (rw e some) in
-    let here : slice_get items at ≡ Some popped.value = rw e at popped.here in
-    let value_here : slice_get items at ≡ Some value = slice_get_read items (length items) at value refl there.0 read_value in
-    let same : popped.value ≡ value = cc in
-    (popped.rest, rw same at popped.was)
+pub fronts : {T : Type 0} {items : List T} {links heads : List ℕ} {free unused : ℕ} {bags : List (List T)} {spare : ℕ} {seen : BagsView T} (held : HoldBags items links heads free unused bags) (b at : ℕ) (value : T)
+    → record { bags = bags_of items links heads; spare = spare } ≡ seen → b < length seen.bags → at ≢ NO_PLACE → at ≡ get_or heads b at → value ≡ get_or items at value → HasFront seen.bags b value
+fronts held b at value view within some read read_value =
+    let front = opens held b at (there held b view within) some read in
+    rw (sees held view) (front.rest, rw (front.reads_it value read_value) at front.was)
 
 -- `move_front`
 pub record Moved {T : Type 0} (items : List T) (links2 heads2 : List ℕ) (free unused : ℕ) (bags : List (List T)) (from to : ℕ) : Type 0 where
@@ -196,23 +225,23 @@ pub record Moved {T : Type 0} (items : List T) (links2 heads2 : List ℕ) (free 
   pub was : slice_index_or bags from [] ≡ value ∷ rest
   pub held : HoldBags items links2 heads2 free unused (set (set bags from rest) to (value ∷ slice_index_or (set bags from rest) to []))
 
-pub moved : {T : Type 0} {items : List T} {links heads : List ℕ} {free unused : ℕ} {bags : List (List T)} (held : HoldBags items links heads free unused bags) (from to at next front : ℕ)
-    → from < length heads → to < length heads → at ≢ NO_PLACE → at ≡ get_or heads from at → next ≡ get_or links at next → front ≡ get_or (set heads from next) to front
+pub moved : {T : Type 0} {items : List T} {links heads : List ℕ} {free unused : ℕ} {bags : List (List T)} {spare : ℕ} {seen : BagsView T} (held : HoldBags items links heads free unused bags) (from to at next front : ℕ)
+    → record { bags = bags_of items links heads; spare = spare } ≡ seen → from < length seen.bags → to < length seen.bags → slice_index_or seen.bags from [] ≢ []
+    → at ≡ get_or heads from at → next ≡ get_or links at next → front ≡ get_or (set heads from next) to front
     → Moved items (set links at front) (set (set heads from next) to at) free unused bags from to
-moved {items = items} {links = links} {heads = heads} {free = free} {unused = unused} {bags = bags} held from to at next front within within_to some read read_next read_front =
-    let e : slice_index heads from ≡ at = reads heads from at within read in
-    let there = front_within held from at within read some in
-    let popped = pops held from within (rw e some) in
-    let n : slice_index links at ≡ next = reads links at next there.1 read_next in
-    let out : HoldBags items (set links at free) (set heads from next) at (unused + 1) (set bags from popped.rest) = rw n at (rw e at popped.held) in
+moved {items = items} {links = links} {heads = heads} {free = free} {unused = unused} {bags = bags} held from to at next front view there_from there_to some read read_next read_front =
+    let within_to = there held to view there_to in
+    let front_is = some_front held from at view there_from read some in
+    let opened = opens held from at (there held from view there_from) front_is read in
+    let n : slice_index links at ≡ next = reads links at next opened.linked read_next in
+    let out : HoldBags items (set links at free) (set heads from next) at (unused + 1) (set bags from opened.rest) = rw n at opened.held in
     let still : to < length (set heads from next) = omega (arith, length-set heads from next) in
-    let again : free ≡ get_or (set links at free) at free = sym (get_or-set_same links at free free there.1) in
-    let back = reused out to popped.value front free still some read_front again in
-    let here : slice_get items at ≡ Some popped.value = rw e at popped.here in
-    let stays : set items at popped.value ≡ items = ap (set items at) (sym (get_or_from_slice_get items at popped.value popped.value here)) ∙ set-get_or items at popped.value in
+    let again : free ≡ get_or (set links at free) at free = sym (get_or-set_same links at free free opened.linked) in
+    let back = reused out to opened.value front free still front_is read_front again in
+    let stays : set items at opened.value ≡ items = ap (set items at) (sym (get_or_from_slice_get items at opened.value opened.value opened.here)) ∙ set-get_or items at opened.value in
     let once : set (set links at free) at front ≡ set links at front = set-set links at free front in
     let count : unused + 1 - 1 ≡ unused = omega arith in
-    record { value = popped.value; rest = popped.rest; was = popped.was; held = rw (stays, once, count) at back }
+    record { value = opened.value; rest = opened.rest; was = opened.was; held = rw (stays, once, count) at back }
 
 pub moved_front : {T : Type 0} {items : List T} {links heads : List ℕ} {free unused : ℕ} {bags : List (List T)} {from to : ℕ} (left : Moved items links heads free unused bags from to) (seen : List (List T)) (value : T)
     → seen ≡ bags → HasFront seen from value → MovesFront seen (bags_of items links heads) from to value

@@ -1,5 +1,5 @@
 -- A walk along a bag whose values are appended to a list, and the bag's places as they go to the unused ones.
-use Rattle.std.proofs.Common.{◌≡◌, ℕ, zero, suc, ◌+◌, ◌-◌, ◌<◌, ◌≤◌, ◌≢◌, List, [], ◌∷◌, ◌++◌, length, length-append, append_assoc, refl, sym, ap, ◌∙◌, subst, arith, Some, cond, get_or}
+use Rattle.std.proofs.Common.{◌≡◌, ℕ, zero, suc, ◌+◌, ◌-◌, ◌<◌, ◌≤◌, ◌≢◌, List, [], ◌∷◌, ◌++◌, length, length-append, append_assoc, refl, sym, ap, ap₂, ◌∙◌, subst, arith, Some, cond, get_or}
 use Rattle.std.proofs.Math.ListN.{set, length-set}
 use Rattle.std.specs.Prelude.{slice_index, slice_index_or, nat_eq}
 use Rattle.std.specs.List.{slice_get}
@@ -224,11 +224,11 @@ first_read {items = items} {place = place} w value read =
     let there : slice_get items place ≡ Some value = slice_get_read items (length items) place value refl (walk_within w).0 read in
     cc
 
-pub walk_steps : {T : Type 0} {items : List T} {links heads : List ℕ} {free unused b : ℕ} {old now : List T} {front place : ℕ} (w : Walk items links heads free unused b old now front place) (value : T) (next : ℕ) (more : List T)
-    → value ≡ get_or items place value → next ≡ get_or links place next → more ≡ now ++ value ∷ [] → next ≢ NO_PLACE → Walk items links heads free unused b old more front next
-walk_steps {items = items} {links = links} {heads = heads} {free = free} {unused = unused} {b = b} {old = old} {now = now} {front = front} {place = place} w value next more read read_next is some =
+pub walk_steps : {T : Type 0} {items : List T} {links heads : List ℕ} {free unused b : ℕ} {old now room : List T} {front place : ℕ} (w : Walk items links heads free unused b old now front place) (value : T) (next : ℕ) (more : List T)
+    → value ≡ get_or items place value → next ≡ get_or links place next → room ≡ now → more ≡ room ++ value ∷ [] → next ≢ NO_PLACE → Walk items links heads free unused b old more front next
+walk_steps {items = items} {links = links} {heads = heads} {free = free} {unused = unused} {b = b} {old = old} {now = now} {front = front} {place = place} w value next more read read_next same is some =
     steps_to items links heads free unused w.bags w.held b old now front place w.first w.rest w.chain w.last w.got next more
-    (reads links place next (walk_within w).1 read_next) (is ∙ ap (λ v. now ++ v ∷ []) (sym (first_read w value read))) some
+    (reads links place next (walk_within w).1 read_next) (is ∙ ap₂ (λ xs v. xs ++ v ∷ []) same (sym (first_read w value read))) some
 
 -- all values are appended, and the place is the last one
 pub record Ended {T : Type 0} (items : List T) (links heads : List ℕ) (free unused b : ℕ) (old now : List T) (front place : ℕ) : Type 0 where
@@ -260,37 +260,27 @@ ends_at items links heads free unused bags held b old now front place first (sec
     let range = held.in_range in
     absurd (omega arith)
 
-pub walk_ends : {T : Type 0} {items : List T} {links heads : List ℕ} {free unused b : ℕ} {old now : List T} {front place : ℕ} (w : Walk items links heads free unused b old now front place) (value : T) (next : ℕ) (more : List T)
-    → value ≡ get_or items place value → next ≡ get_or links place next → more ≡ now ++ value ∷ [] → next ≡ NO_PLACE → Ended items links heads free unused b old more front place
-walk_ends {items = items} {links = links} {heads = heads} {free = free} {unused = unused} {b = b} {old = old} {now = now} {front = front} {place = place} w value next more read read_next is none =
-    ends_at items links heads free unused w.bags w.held b old now front place w.first w.rest w.chain w.last w.got more (walk_within w).1
-    (reads links place next (walk_within w).1 read_next ∙ none) (is ∙ ap (λ v. now ++ v ∷ []) (sym (first_read w value read)))
+-- the last value is appended, and so many were appended in all
+pub record Appended {T : Type 0} (items : List T) (links heads : List ℕ) (free unused b : ℕ) (old now : List T) (front place before after : ℕ) : Type 0 where
+  pub ended : Ended items links heads free unused b old now front place
+  pub grows : before ≤ after
+  pub count : after - before ≡ length (slice_index_or ended.bags b [])
 
--- how many values were appended
-pub walk_count : {T : Type 0} {items : List T} {links heads : List ℕ} {free unused b : ℕ} {old now : List T} {front place : ℕ} (e : Ended items links heads free unused b old now front place) (before after : ℕ)
-    → before ≡ length old → after ≡ length now → (before ≤ after) × (after - before ≡ length (slice_index_or e.bags b []))
-walk_count {b = b} {old = old} e before after is now_is =
+pub walk_ends : {T : Type 0} {items : List T} {links heads : List ℕ} {free unused b : ℕ} {old now room : List T} {front place : ℕ} (w : Walk items links heads free unused b old now front place) (value : T) (next : ℕ) (more : List T)
+    (before after : ℕ) → value ≡ get_or items place value → next ≡ get_or links place next → room ≡ now → more ≡ room ++ value ∷ [] → next ≡ NO_PLACE → before ≡ length old → after ≡ length more
+    → Appended items links heads free unused b old more front place before after
+walk_ends {items = items} {links = links} {heads = heads} {free = free} {unused = unused} {b = b} {old = old} {now = now} {front = front} {place = place} w value next more before after read read_next same is none before_is after_is =
+    let e = ends_at items links heads free unused w.bags w.held b old now front place w.first w.rest w.chain w.last w.got more (walk_within w).1
+    (reads links place next (walk_within w).1 read_next ∙ none) (is ∙ ap₂ (λ xs v. xs ++ v ∷ []) same (sym (first_read w value read))) in
     let sizes = ap length e.got in
     let long = length-append old (slice_index_or e.bags b []) in
-    (omega (arith, sizes, long), omega (arith, sizes, long))
+    record { ended = e; grows = omega (arith, sizes, long); count = omega (arith, sizes, long) }
 
 pub spliced : {T : Type 0} {items : List T} {links heads : List ℕ} {free unused b : ℕ} {old now : List T} {front place : ℕ} (e : Ended items links heads free unused b old now front place) (count : ℕ)
     → b < length heads → front ≡ get_or heads b front → front ≢ NO_PLACE → count ≡ length (slice_index_or e.bags b [])
     → HoldBags items (set links place free) (set heads b NO_PLACE) front (unused + count) (set e.bags b [])
 spliced {items = items} {links = links} {heads = heads} {free = free} {unused = unused} {b = b} {front = front} {place = place} e count within read some is =
     rw is (splices items links heads free unused e.bags e.held b front place (slice_index_or e.bags b []) refl (whole e.held b front within read) e.last e.owned e.deep e.inside within some)
-
--- the places that are unused grow by no more than there are
-pub splice_fits : {T : Type 0} {items : List T} {links heads : List ℕ} {free unused b : ℕ} {old now : List T} {front place : ℕ} (e : Ended items links heads free unused b old now front place) (count : ℕ)
-    → b < length heads → count ≡ length (slice_index_or e.bags b []) → unused + count ≤ NO_PLACE
-splice_fits {items = items} {links = links} {heads = heads} {b = b} e count within is =
-    let all = e.held.all in
-    let all_free = e.held.all_free in
-    let range = e.held.in_range in
-    let many = as_many (layout items links e.held.owner e.held.depth) 1 heads e.bags e.held.chains in
-    let none : List _ = [] in
-    let sums = sum_by-set length e.bags b none [] (omega arith) in
-    omega (arith, all, all_free, range, sums, is)
 
 -- the room grows by the places that go to the unused ones
 pub spare_grows : {T : Type 0} (bags : List (List T)) (unused one other used used2 count more : ℕ) (seen : BagsView T) → record { bags = bags; spare = unused + room_of one other used } ≡ seen

@@ -70,19 +70,19 @@ objects_after-append objects (x ∷ ds) d = objects_after-append (slice_set obje
 lawful_done : (m : Meaning) (t : Terms) (c : Parts) (key : Key) (note : Note) (new : Parts) → MeaningLaws m → Lawful m t (state_at c) → DoneAt m t c key note new → Lawful m t (state_at new)
 unfolding next_fired
 lawful_done m t c key note new laws lawful one =
-    let e = one.event in
-    let x = one.firing in
+    let e = one.went.event in
+    let x = one.went.firing in
     let h = horizon_at t c in
-    let early = one.due.early in
+    let early = one.went.due.early in
     let le = least_stamp-le (end_stamp t.end) c.fresh in
-    let free = one.free in
-    let first : enqueue_all c.fresh c.primary ≡ e ∷ enqueue_all c.fresh one.rest =
-    ap (enqueue_all c.fresh) one.due.first ∙ enqueue_all-behind c.fresh e one.rest (after-below h e.key c.fresh (NoneBelow-least_stamp (end_stamp t.end) c.fresh) early) in
+    let free = one.went.free in
+    let first : enqueue_all c.fresh c.primary ≡ e ∷ enqueue_all c.fresh one.went.rest =
+    ap (enqueue_all c.fresh) one.went.due.first ∙ enqueue_all-behind c.fresh e one.went.rest (after-below h e.key c.fresh (NoneBelow-least_stamp (end_stamp t.end) c.fresh) early) in
     let s = state_at c in
-    let is_next = next-fires m t s e (enqueue_all c.fresh one.rest) first (omega arith) (λ full. omega arith) ∙ ap (next_fired s e (enqueue_all c.fresh one.rest)) one.fires in
+    let is_next = next-fires m t s e (enqueue_all c.fresh one.went.rest) first (omega arith) (λ full. omega arith) ∙ ap (next_fired s e (enqueue_all c.fresh one.went.rest)) one.went.fires in
     let left = next-lawful m t s (e.key, x.note) _ laws lawful is_next in
-    let same : record { objects = slice_set c.objects e.key.dest x.state; pending = enqueue_all x.events (enqueue_all c.fresh one.rest); count = c.count + 1 } ≡ state_at new =
-    (λ i. record { objects = slice_set c.objects e.key.dest x.state; pending = sym (enqueue_all-append c.fresh x.events one.rest) i; count = c.count + 1 }) ∙ ap state_at (sym one.after) in
+    let same : record { objects = slice_set c.objects e.key.dest x.state; pending = enqueue_all x.events (enqueue_all c.fresh one.went.rest); count = c.count + 1 } ≡ state_at new =
+    (λ i. record { objects = slice_set c.objects e.key.dest x.state; pending = sym (enqueue_all-append c.fresh x.events one.went.rest) i; count = c.count + 1 }) ∙ ap state_at (sym one.after) in
     let P : State → Type 0 = Lawful m t in
     subst P same left
 
@@ -90,27 +90,27 @@ lawful_done m t c key note new laws lawful one =
 pub goes_on : (m : Meaning) (t : Terms) (s : State) (told now : List (Key × Note)) (c new : Parts) (key : Key) (note : Note) → MeaningLaws m
     → InBucket m t s told c → DoneAt m t c key note new → now ≡ told ++ (key, note) ∷ [] → InBucket m t s now new
 goes_on m t s told now c new key note laws so_far one is_now =
-    let e = one.event in
-    let x = one.firing in
+    let e = one.went.event in
+    let x = one.went.firing in
     let d : Event × Firing = (e, x) in
     let ds = so_far.done in
     let h = horizon_at t c in
     let objects : new.objects ≡ slice_set c.objects e.key.dest x.state = ap (λ (c : Parts). c.objects) one.after in
-    let primary : new.primary ≡ one.rest = ap (λ (c : Parts). c.primary) one.after in
+    let primary : new.primary ≡ one.went.rest = ap (λ (c : Parts). c.primary) one.after in
     let fresh : new.fresh ≡ c.fresh ++ x.events = ap (λ (c : Parts). c.fresh) one.after in
     let count : new.count ≡ c.count + 1 = ap (λ (c : Parts). c.count) one.after in
     let horizon : least_stamp h x.events ≡ horizon_at t new = sym (least_stamp-append (end_stamp t.end) c.fresh x.events) ∙ ap (least_stamp (end_stamp t.end)) (sym fresh) in
     let rest : rest_of m t c ≡ bucket_with d (rest_of m t new) =
-    ap (bucket_below m h c.objects) one.due.first ∙ bucket-goes m h c.objects e one.rest x one.due.early one.fires
+    ap (bucket_below m h c.objects) one.went.due.first ∙ bucket-goes m h c.objects e one.went.rest x one.went.due.early one.went.fires
     ∙ (λ i. bucket_with d (bucket_below m (horizon i) (sym objects i) (sym primary i))) in
     let long = length-append ds (d ∷ []) in
     let was = so_far.count in
     record {
       done = ds ++ d ∷ [];
-      told_is = is_now ∙ (λ i. so_far.told_is i ++ (one.key_is i, one.note_is i) ∷ []) ∙ sym (records_of-append ds (d ∷ []));
+      told_is = is_now ∙ (λ i. so_far.told_is i ++ (one.went.key_is i, one.went.note_is i) ∷ []) ∙ sym (records_of-append ds (d ∷ []));
       bucket = so_far.bucket ∙ ap (behind ds) rest ∙ (λ i. record (rest_of m t new) { done = sym (append_assoc ds (d ∷ []) (rest_of m t new).done) i });
       objects = objects ∙ ap (λ os. slice_set os e.key.dest x.state) so_far.objects ∙ sym (objects_after-append s.objects ds d);
-      pending = so_far.pending ∙ ap (λ es. events_of ds ++ es) (one.due.first ∙ ap (λ es. e ∷ es) (sym primary))
+      pending = so_far.pending ∙ ap (λ es. events_of ds ++ es) (one.went.due.first ∙ ap (λ es. e ∷ es) (sym primary))
           ∙ sym (append_assoc (events_of ds) (e ∷ []) new.primary) ∙ ap (λ es. es ++ new.primary) (sym (events_of-append ds (d ∷ [])));
       fresh = fresh ∙ ap (λ es. es ++ x.events) so_far.fresh ∙ sym (emissions_of-more ds d);
       count = omega arith;

@@ -66,7 +66,7 @@ taken_by m t old e rest laws lawful due =
 pub done_below : (m : Meaning) (t : Terms) (old : Course) (key : Key) (note : Note) (new : Course) → MeaningLaws m → Lawful m t (state_of old) → IsDone m t old key note new → key.dest < m.objects
 done_below m t old key note new laws lawful one =
     let P : Key → Type 0 = λ k. k.dest < m.objects in
-    subst P (sym one.key_is) (taken_by m t old one.event one.rest laws lawful one.due).below
+    subst P (sym one.went.key_is) (taken_by m t old one.went.event one.went.rest laws lawful one.went.due).below
 
 heads : (a b : Event) (xs ys : List Event) → a ∷ xs ≡ b ∷ ys → a ≡ b
 heads a b xs ys is = cc
@@ -113,14 +113,16 @@ done m t old new e rest o after sheet serial sends is_taken free is_o sent is_se
     let events : emissions e.key.stamp e.key.dest serial sends ≡ sent.firing.events =
     ap (λ n. emissions e.key.stamp e.key.dest n sends) is_serial ∙ ap (emissions e.key.stamp e.key.dest o.sent) is_sends ∙ sym sent.events in
     record {
-      event = e;
-      rest = rest;
-      firing = sent.firing;
-      due = is_taken.due;
-      free = free;
-      fires = ap (λ o. fire m e.key.dest o e) (sym is_o) ∙ sent.fires;
-      key_is = refl;
-      note_is = sent.note;
+      went = record {
+        event = e;
+        rest = rest;
+        firing = sent.firing;
+        due = is_taken.due;
+        free = free;
+        fires = ap (λ o. fire m e.key.dest o e) (sym is_o) ∙ sent.fires;
+        key_is = refl;
+        note_is = sent.note;
+      };
       objects = objects ∙ ap (slice_set old.objects e.key.dest) sent.state;
       pending = pending ∙ ap (λ es. enqueue_all es rest) events;
       fresh_least = least ∙ ap (least_stamp old.queue.fresh_least) events;

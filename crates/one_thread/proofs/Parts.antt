@@ -11,7 +11,7 @@ use Rattle.model_core.specs.declared.event.Event.{Event}
 use Rattle.model_core.specs.declared.note.Note.{Note}
 use Rattle.model_core.specs.Meaning.{Meaning}
 use Rattle.sim_spec.specs.declared.terms.Terms.{Terms}
-use Rattle.sim_spec.specs.Firing.{ObjectState, Firing, goes, fails, fire}
+use Rattle.sim_spec.specs.Firing.{ObjectState, fire}
 use Rattle.sim_spec.specs.State.{State, Lawful, object_at}
 use Rattle.key_order.specs.Ascending.{Ascends, IsAscending}
 use Rattle.key_order.specs.Pending.{enqueue_all}
@@ -20,7 +20,7 @@ use Rattle.key_order.proofs.EachLemmas.{Each-map}
 use Rattle.key_order.proofs.EnqueueLemmas.{IsAscending-without_all, Each-enqueue_all, enqueue_all-append, enqueue_all-behind}
 use Rattle.key_order.proofs.StampLemmas.{after-below, NoneBelow-least_stamp, least_stamp-append}
 use Rattle.one_thread.specs.Engines.{Course, state_of}
-use Rattle.one_thread.specs.Turns.{horizon_of, NoneDue, IsDue, IsDone, IsFailed, IsFull}
+use Rattle.one_thread.specs.Turns.{Ahead, FirstComes, FirstGoes, FirstFails, FirstWaits, horizon_of, NoneDue, IsDue, IsDone, IsFailed, IsFull}
 use Rattle.one_thread.proofs.TurnLemmas.{horizon_is}
 
 pub record Parts : Type 0 where
@@ -35,39 +35,26 @@ state_at p = record { objects = p.objects; pending = enqueue_all p.fresh p.prima
 abbrev pub horizon_at : Terms → Parts → ℕ
 horizon_at t p = least_stamp (end_stamp t.end) p.fresh
 
-pub record DueAt (t : Terms) (p : Parts) (e : Event) (rest : List Event) : Type 0 where
-  pub first : p.primary ≡ e ∷ rest
-  pub early : e.key.stamp < horizon_at t p
+abbrev pub ahead_at : Terms → Parts → Ahead
+ahead_at t p = record { objects = p.objects; events = p.primary; horizon = horizon_at t p; count = p.count }
+
+abbrev pub DueAt : Terms → Parts → Event → List Event → Type 0
+DueAt t p = FirstComes (ahead_at t p)
 
 pub record DoneAt (m : Meaning) (t : Terms) (old : Parts) (key : Key) (note : Note) (new : Parts) : Type 0 where
-  pub event : Event
-  pub rest : List Event
-  pub firing : Firing
-  pub due : DueAt t old event rest
-  pub free : old.count < t.limit
-  pub fires : fire m event.key.dest (object_at old.objects event.key.dest) event ≡ goes firing
-  pub key_is : key ≡ event.key
-  pub note_is : note ≡ firing.note
+  pub went : FirstGoes m t (ahead_at t old) key note
   pub after : new ≡ record {
-    objects = slice_set old.objects event.key.dest firing.state;
-    primary = rest;
-    fresh = old.fresh ++ firing.events;
+    objects = slice_set old.objects went.event.key.dest went.firing.state;
+    primary = went.rest;
+    fresh = old.fresh ++ went.firing.events;
     count = old.count + 1;
   }
 
-pub record FailedAt (m : Meaning) (t : Terms) (old : Parts) (key : Key) (code : ℕ) : Type 0 where
-  pub event : Event
-  pub rest : List Event
-  pub due : DueAt t old event rest
-  pub free : old.count < t.limit
-  pub fires : fire m event.key.dest (object_at old.objects event.key.dest) event ≡ fails code
-  pub key_is : key ≡ event.key
+abbrev pub FailedAt : Meaning → Terms → Parts → Key → ℕ → Type 0
+FailedAt m t old = FirstFails m t (ahead_at t old)
 
-pub record FullAt (t : Terms) (p : Parts) : Type 0 where
-  pub event : Event
-  pub rest : List Event
-  pub due : DueAt t p event rest
-  pub full : p.count ≡ t.limit
+abbrev pub FullAt : Terms → Parts → Type 0
+FullAt t p = FirstWaits t (ahead_at t p)
 
 -- these are the parts of a simulation
 pub record HasParts (c : Course) (p : Parts) : Type 0 where
@@ -146,12 +133,13 @@ pub record DoneParts (m : Meaning) (t : Terms) (old : Parts) (key : Key) (note :
 
 pub done_parts : (m : Meaning) (t : Terms) (c : Course) (p : Parts) (key : Key) (note : Note) (now : Course) → HasParts c p → Lawful m t (state_at p) → IsDone m t c key note now → DoneParts m t p key note now
 done_parts m t c p key note now h lawful one =
-    let e = one.event in
-    let x = one.firing in
-    let due = due_parts m t c p e one.rest h lawful one.due in
+    let went = one.went in
+    let e = went.event in
+    let x = went.firing in
+    let due = due_parts m t c p e went.rest h lawful went.due in
     let objects : c.objects ≡ p.objects = ap (λ (s : State). s.objects) h.state in
     let count : c.count ≡ p.count = ap (λ (s : State). s.count) h.state in
-    let free = one.free in
+    let free = went.free in
     let q : Parts = record { objects = slice_set p.objects e.key.dest x.state; primary = due.primary; fresh = p.fresh ++ x.events; count = p.count + 1 } in
     record {
       parts = q;
@@ -164,14 +152,16 @@ done_parts m t c p key note now h lawful one =
         least = one.fresh_least ∙ ap (λ n. least_stamp n x.events) h.least ∙ sym (least_stamp-append NO_STAMP p.fresh x.events);
       };
       done = record {
-        event = e;
-        rest = due.primary;
-        firing = x;
-        due = due.due;
-        free = omega arith;
-        fires = ap (λ os. fire m e.key.dest (object_at os e.key.dest) e) (sym objects) ∙ one.fires;
-        key_is = one.key_is;
-        note_is = one.note_is;
+        went = record {
+          event = e;
+          rest = due.primary;
+          firing = x;
+          due = due.due;
+          free = omega arith;
+          fires = ap (λ os. fire m e.key.dest (object_at os e.key.dest) e) (sym objects) ∙ went.fires;
+          key_is = went.key_is;
+          note_is = went.note_is;
+        };
         after = refl;
       };
     }

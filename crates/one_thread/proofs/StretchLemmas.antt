@@ -25,11 +25,11 @@ use Rattle.one_thread.proofs.EngineLemmas.{engine_of, begins_at}
 pub next_done : (m : Meaning) (t : Terms) (old : Course) (key : Key) (note : Note) (new : Course) → IsDone m t old key note new → next m t (state_of old) ≡ does (key, note) (state_of new)
 unfolding next_fired
 next_done m t old key note new one =
-    let early = one.due.early in
-    let free = one.free in
-    next-fires m t (state_of old) one.event one.rest one.due.first (omega arith) (λ full. omega arith)
-    ∙ ap (next_fired (state_of old) one.event one.rest) one.fires
-    ∙ (λ i. does (sym one.key_is i, sym one.note_is i) (record { objects = sym one.objects i; pending = sym one.pending i; count = sym one.count i }))
+    let early = one.went.due.early in
+    let free = one.went.free in
+    next-fires m t (state_of old) one.went.event one.went.rest one.went.due.first (omega arith) (λ full. omega arith)
+    ∙ ap (next_fired (state_of old) one.went.event one.went.rest) one.went.fires
+    ∙ (λ i. does (sym one.went.key_is i, sym one.went.note_is i) (record { objects = sym one.objects i; pending = sym one.pending i; count = sym one.count i }))
 
 -- so is one that fails
 pub next_failed : (m : Meaning) (t : Terms) (c : Course) (key : Key) (code : ℕ) → IsFailed m t c key code → next m t (state_of c) ≡ stops (Fault key code)

@@ -1,12 +1,12 @@
 //! A simulation under way, and its next event.
-ghost use Rattle.std.specs.Prelude.{◌≡◌, ◌<◌, IfOk, OnOk};
+ghost use Rattle.std.specs.Prelude.{◌≡◌, IfOk, OnOk};
 ghost use Rattle.event_key.specs.declared.stamp.TheConstants.{NO_STAMP};
 ghost use Rattle.sim_spec.specs.State.{Lawful, initial_state};
 ghost use Rattle.sim_spec.specs.Standing.{end_or_limit};
 ghost use Rattle.sim_spec.specs.Run.{next};
 ghost use Rattle.tick_queue.specs.Queues.{IsSettled};
 ghost use Rattle.one_thread.specs.Engines.{state_of};
-ghost use Rattle.one_thread.specs.Turns.{IsOpen, IsTurn, HasDue};
+ghost use Rattle.one_thread.specs.Turns.{IsOpen, IsTurn, MayFire};
 
 use crate::ahead::ReadAhead;
 use crate::beginning::first_events;
@@ -153,10 +153,7 @@ impl Course {
         terms: &Terms,
         sheet: &mut Effect,
     ) -> Result<Turn, OutOfMemory>
-        requires lawful { Lawful (M.meaning model.now) terms.now (state_of self.old) }
-        requires settled { IsSettled self.old.queue }
-        requires due { HasDue terms.now self.old }
-        requires free { self.old.count < terms.now.limit }
+        requires { MayFire (M.meaning model.now) terms.now self.old }
         ensures { IfOk result (λ turn. IsTurn (M.meaning model.now) terms.now self.old turn sheet.new.note self.new) }
     {
         keeps_laws(model);

@@ -1,5 +1,5 @@
 -- What holds at the start and is kept by each event holds in every reached state.
-use Rattle.std.proofs.Common.{◌≡◌, ℕ, zero, suc, List, ◌++◌, refl, sym, ap, subst}
+use Rattle.std.proofs.Common.{◌≡◌, ℕ, zero, suc, List, [], ◌∷◌, ◌++◌, refl, sym, ap, ◌∙◌, subst, append-nil}
 use Rattle.event_key.specs.declared.key.Key.{Key}
 use Rattle.model_core.specs.declared.note.Note.{Note}
 use Rattle.model_core.specs.Meaning.{Meaning}
@@ -7,7 +7,7 @@ use Rattle.sim_spec.specs.declared.terms.Terms.{Terms}
 use Rattle.sim_spec.specs.declared.stop.Stop.{Stop}
 use Rattle.sim_spec.specs.State.{State, initial_state}
 use Rattle.sim_spec.specs.Run.{Next, stops, does, next}
-use Rattle.run_laws.specs.Reached.{left_by, after_events, Reaches, gathered}
+use Rattle.run_laws.specs.Reached.{left_by, after_events, Reaches, gathered, record_of, first_records}
 
 -- one event more
 pub after_events-does : (m : Meaning) (t : Terms) (n : ℕ) (told : Key × Note) (after : State) → next m t (after_events n m t) ≡ does told after → after_events (suc n) m t ≡ after
@@ -52,3 +52,19 @@ each_reached m t P first keeps s reached =
     (λ n stop is_next here. subst P (sym (after_events-stops m t n stop is_next)) here)
     (λ n told after is_next here. subst P (sym (after_events-does m t n told after is_next)) (keeps (after_events n m t) told after (n, refl) is_next here))
     reached.0)
+
+-- what holds at the start and of no records, and is kept by each event and its record, holds of the first n records
+pub each_recorded : (m : Meaning) (t : Terms) (P : State → List (Key × Note) → Type 0) → P (initial_state m) []
+    → ((n : ℕ) (told : Key × Note) (after : State) → next m t (after_events n m t) ≡ does told after → P (after_events n m t) (first_records n m t) → P after (first_records n m t ++ told ∷ []))
+    → (n : ℕ) → P (after_events n m t) (first_records n m t)
+unfolding after_events gathered
+each_recorded m t P first keeps =
+    each_number m t (λ n. P (after_events n m t) (first_records n m t)) first
+    (λ n stop is_next before.
+    let records : first_records (suc n) m t ≡ first_records n m t = gathered-more record_of m t n (stops stop) is_next ∙ append-nil (first_records n m t) in
+    subst (λ (s : State). P s (first_records (suc n) m t)) (sym (after_events-stops m t n stop is_next))
+    (subst (λ (rs : List (Key × Note)). P (after_events n m t) rs) (sym records) before))
+    (λ n told after is_next before.
+    let records : first_records (suc n) m t ≡ first_records n m t ++ told ∷ [] = gathered-more record_of m t n (does told after) is_next in
+    subst (λ (s : State). P s (first_records (suc n) m t)) (sym (after_events-does m t n told after is_next))
+    (subst (λ (rs : List (Key × Note)). P after rs) (sym records) (keeps n told after is_next before)))

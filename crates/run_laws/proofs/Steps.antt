@@ -1,5 +1,7 @@
 -- What is known of an event that happens.
-use Rattle.std.proofs.Common.{◌≡◌, ◌<◌, Bool, true, false, cond, List, [], ◌∷◌, refl, ap, ◌∙◌, eqb, ltb, ltb-true}
+use Rattle.std.proofs.Common.{◌≡◌, ◌≢◌, ℕ, ◌+◌, ◌<◌, Bool, true, false, cond, List, [], ◌∷◌, length, refl, ap, ◌∙◌, eqb, ltb, ltb-true, get_or-set_same, get_or-set_other}
+use Rattle.std.specs.Prelude.{sum_by}
+use Rattle.std.proofs.lemmas.List.Sums.{sum_by-cons}
 use Rattle.event_key.specs.declared.key.Key.{Key}
 use Rattle.event_key.specs.Stamps.{end_stamp}
 use Rattle.model_core.specs.declared.event.Event.{Event}
@@ -11,9 +13,10 @@ use Rattle.model_core.specs.Meaning.{Meaning}
 use Rattle.sim_spec.specs.declared.terms.Terms.{Terms}
 use Rattle.sim_spec.specs.declared.stop.Stop.TheVariants.{End, Limit}
 use Rattle.sim_spec.specs.Firing.{Firing, firing_of, goes, fails, fire, fired_by, has_endless_chain}
-use Rattle.sim_spec.specs.State.{State, object_at}
+use Rattle.sim_spec.specs.State.{State, object_at, no_object}
 use Rattle.sim_spec.specs.Run.{stops, does, next, next_of, next_fired}
 use Rattle.sim_spec.proofs.RunLemmas.{state_after}
+use Rattle.run_laws.proofs.EnqueueSums.{sum_by-enqueue_all}
 use Rattle.run_laws.specs.Sent.{sent_by, sent_by_first, sent_next}
 
 -- the first pending event goes by an effect of the model's, and leaves this state
@@ -92,3 +95,24 @@ pub sent_next-step : (m : Meaning) (t : Terms) (s : State) (told : Key × Note) 
 unfolding sent_next
 sent_next-step m t s told after step =
     ap (sent_by_first m s) step.pending ∙ ap sent_by (step_fires m t s told after step)
+
+-- the object of the event has another state, and each other object keeps its own
+pub object_here : (m : Meaning) (t : Terms) (s : State) (told : Key × Note) (after : State) (step : IsStep m t s told after) → step.event.key.dest < length s.objects
+    → object_at after.objects step.event.key.dest ≡ (first_firing s step.event step.effect).state
+object_here m t s told after step inside =
+    ap (λ (s : State). object_at s.objects step.event.key.dest) step.leaves
+    ∙ get_or-set_same s.objects step.event.key.dest (first_firing s step.event step.effect).state no_object inside
+
+pub object_elsewhere : (m : Meaning) (t : Terms) (s : State) (told : Key × Note) (after : State) (step : IsStep m t s told after) (i : ℕ) → i ≢ step.event.key.dest → object_at after.objects i ≡ object_at s.objects i
+object_elsewhere m t s told after step i apart =
+    ap (λ (s : State). object_at s.objects i) step.leaves
+    ∙ get_or-set_other s.objects step.event.key.dest i (first_firing s step.event step.effect).state no_object apart
+
+-- a sum over what is pending: the event is taken off, and what it sends comes in
+pub pending_before : (m : Meaning) (t : Terms) (s : State) (told : Key × Note) (after : State) (step : IsStep m t s told after) (f : Event → ℕ) → sum_by f s.pending ≡ f step.event + sum_by f step.rest
+pending_before m t s told after step f = ap (sum_by f) step.pending ∙ sum_by-cons f step.event step.rest
+
+pub pending_after : (m : Meaning) (t : Terms) (s : State) (told : Key × Note) (after : State) (step : IsStep m t s told after) (f : Event → ℕ)
+    → sum_by f after.pending ≡ sum_by f (first_firing s step.event step.effect).events + sum_by f step.rest
+pending_after m t s told after step f =
+    ap (λ (s : State). sum_by f s.pending) step.leaves ∙ sum_by-enqueue_all f (first_firing s step.event step.effect).events step.rest

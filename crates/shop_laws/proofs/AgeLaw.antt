@@ -299,14 +299,8 @@ module _ (p : ShopParts) (t : Terms) (fine : IsShop p) (class : ℕ) (exists : c
     step : IsShopStep p t s told after
     step = shop_step p t s told after fine (n, refl) is_next
 
-    abbrev event : Event
-    event = step.step.event
-
-    abbrev dest : ℕ
-    dest = step.step.event.key.dest
-
     abbrev tick : ℕ
-    tick = time_part step.step.event.key.stamp
+    tick = time_part step.event.key.stamp
 
     all : Serving p s
     all = serving p t s fine (n, refl)
@@ -314,21 +308,21 @@ module _ (p : ShopParts) (t : Terms) (fine : IsShop p) (class : ℕ) (exists : c
     records_are : first_records (suc n) m t ≡ first_records n m t ++ told ∷ []
     records_are = gathered-more record_of m t n (does told after) is_next
 
-    told_dest : told.0.dest ≡ dest
-    told_dest = ap (λ (r : Key × Note). r.0.dest) step.step.tells
+    told_dest : told.0.dest ≡ step.dest
+    told_dest = ap (λ (r : Key × Note). r.0.dest) step.tells
 
     had : Aging p class (told_at i (first_records n m t)) s tick
-    had = before tick (earlier p t fine n event step.step.rest step.step.pending)
+    had = before tick (earlier p t fine n step.event step.rest step.pending)
 
-    made_weight : (w : ℕ → ℕ → ℕ) → sum_by (weight_of w) (made_next s (does told after)) ≡ sum_by (weight_of w) (made_by step.step.effect.note tick)
+    made_weight : (w : ℕ → ℕ → ℕ) → sum_by (weight_of w) (made_next s (does told after)) ≡ sum_by (weight_of w) (made_by step.effect.note tick)
     made_weight w = ap (λ (jobs : List (ℕ × ℕ)). sum_by (weight_of w) jobs) (made_is w p t s told after fine step all)
 
-    gone_weight : (w : ℕ → ℕ → ℕ) → sum_by (weight_of w) (gone_next s (does told after)) ≡ sum_by (weight_of w) (gone_by step.step.effect.note event)
+    gone_weight : (w : ℕ → ℕ → ℕ) → sum_by (weight_of w) (gone_next s (does told after)) ≡ sum_by (weight_of w) (gone_by step.effect.note step.event)
     gone_weight w = ap (λ (jobs : List (ℕ × ℕ)). sum_by (weight_of w) jobs) (gone_is w p t s told after fine step all)
 
-    -- an event elsewhere makes no job of the class, and lets none go
-    aging_elsewhere : i ≢ dest → ((w : ℕ → ℕ → ℕ) → OfClass class w
-        → (sum_by (weight_of w) (made_by step.step.effect.note tick) ≡ 0) × (sum_by (weight_of w) (gone_by step.step.effect.note event) ≡ 0))
+    -- an step.event elsewhere makes no job of the class, and lets none go
+    aging_elsewhere : i ≢ step.dest → ((w : ℕ → ℕ → ℕ) → OfClass class w
+        → (sum_by (weight_of w) (made_by step.effect.note tick) ≡ 0) × (sum_by (weight_of w) (gone_by step.effect.note step.event) ≡ 0))
         → Aging p class (told_at i (first_records n m t ++ told ∷ [])) after tick
     aging_elsewhere apart none =
         let same : told_at i (first_records n m t ++ told ∷ []) ≡ told_at i (first_records n m t) = told_at-elsewhere i (first_records n m t) told (λ eq. apart (sym eq ∙ told_dest)) in
@@ -356,22 +350,22 @@ module _ (p : ShopParts) (t : Terms) (fine : IsShop p) (class : ℕ) (exists : c
           );
         })
 
-    -- an event of the class
-    aging_here : i ≡ dest → Aging p class (told_at i (first_records n m t ++ told ∷ [])) after tick
+    -- an step.event of the class
+    aging_here : i ≡ step.dest → Aging p class (told_at i (first_records n m t ++ told ∷ [])) after tick
     aging_here is =
-        let past : length p.stations ≤ dest = omega arith in
+        let past : length p.stations ≤ step.dest = omega arith in
         let st = class_step p t s told after fine step all past in
-        let x : Effect = step.step.effect in
-        let site : Site = site_of p dest event in
-        let cells : CellData = cells_at s dest in
+        let x : Effect = step.effect in
+        let site : Site = site_of p step.dest step.event in
+        let cells : CellData = cells_at s step.dest in
         let later : CellData = cells_after_all x.changes cells in
-        let within : dest - length p.stations < length p.classes = omega arith in
-        let few = (class_fine (routes_of p) (dest - length p.stations) fine.routes within).few in
-        let long = class_cells_lawful p t s dest step.lawful past step.exists in
-        let moves : Moves cells later x.note event tick (dest - length p.stations) = class_moves p site (class_of_object p dest) cells event x st.does_so long few tick in
-        let own : MovesOwn class tick cells later x.note event = moves_own class tick (dest - length p.stations) cells later x.note event (omega arith) moves in
-        let tells : NoteTells x.note event tick (tick - birth_of event.b) = notes p site (class_of_object p dest) cells event x st.does_so tick in
-        let parts : timed_parts told ≡ parts_at tick x.note = ap (λ (r : Key × Note). timed_parts r) step.step.tells in
+        let within : step.dest - length p.stations < length p.classes = omega arith in
+        let few = (class_fine (routes_of p) (step.dest - length p.stations) fine.routes within).few in
+        let long = class_cells_lawful p t s step.dest step.lawful past step.exists in
+        let moves : Moves cells later x.note step.event tick (step.dest - length p.stations) = class_moves p site (class_of_object p step.dest) cells step.event x st.does_so long few tick in
+        let own : MovesOwn class tick cells later x.note step.event = moves_own class tick (step.dest - length p.stations) cells later x.note step.event (omega arith) moves in
+        let tells : NoteTells x.note step.event tick (tick - birth_of step.event.b) = notes p site (class_of_object p step.dest) cells step.event x st.does_so tick in
+        let parts : timed_parts told ≡ parts_at tick x.note = ap (λ (r : Key × Note). timed_parts r) step.tells in
         let same : told_at i (first_records n m t ++ told ∷ []) ≡ told_at i (first_records n m t) ++ parts_at tick x.note =
         told_at-here i (first_records n m t) told (told_dest ∙ sym is) ∙ ap (λ (more : List TimedPart). told_at i (first_records n m t) ++ more) parts in
         let was : jobs_inside (cells_at s i) ≡ jobs_inside cells = ap (λ k. jobs_inside (cells_at s k)) is in
@@ -408,32 +402,32 @@ module _ (p : ShopParts) (t : Terms) (fine : IsShop p) (class : ℕ) (exists : c
         })
 
     aging_there : Aging p class (told_at i (first_records n m t ++ told ∷ [])) after tick
-    aging_there = ⊎_elim (λ (is : i ≡ dest). aging_here is)
-        (λ (apart : i ≢ dest). aging_elsewhere apart (λ w alone. ⊎_elim
-        (λ (early : dest < length p.stations).
+    aging_there = ⊎_elim (λ (is : i ≡ step.dest). aging_here is)
+        (λ (apart : i ≢ step.dest). aging_elsewhere apart (λ w alone. ⊎_elim
+        (λ (early : step.dest < length p.stations).
         let st = station_step p t s told after fine step all early in
-        let words = station_words _ _ _ _ event step.step.effect st.does_so tick in
+        let words = station_words _ _ _ _ step.event step.effect st.does_so tick in
         (ap (λ (jobs : List (ℕ × ℕ)). sum_by (weight_of w) jobs) words.made, ap (λ (jobs : List (ℕ × ℕ)). sum_by (weight_of w) jobs) words.gone))
-        (λ (past : length p.stations ≤ dest).
+        (λ (past : length p.stations ≤ step.dest).
         let st = class_step p t s told after fine step all past in
-        let within : dest - length p.stations < length p.classes = (let there = step.exists in omega arith) in
-        let few = (class_fine (routes_of p) (dest - length p.stations) fine.routes within).few in
-        let long = class_cells_lawful p t s dest step.lawful past step.exists in
-        moves_other class w (cells_at s dest) (cells_after_all step.step.effect.changes (cells_at s dest)) step.step.effect.note event tick (dest - length p.stations) alone (λ eq. apart (omega arith))
-        (class_moves p (site_of p dest event) (class_of_object p dest) (cells_at s dest) event step.step.effect st.does_so long few tick))
-        (cases_lt dest (length p.stations))))
-        (cases_eq i dest)
+        let within : step.dest - length p.stations < length p.classes = (let there = step.exists in omega arith) in
+        let few = (class_fine (routes_of p) (step.dest - length p.stations) fine.routes within).few in
+        let long = class_cells_lawful p t s step.dest step.lawful past step.exists in
+        moves_other class w (cells_at s step.dest) (cells_after_all step.effect.changes (cells_at s step.dest)) step.effect.note step.event tick (step.dest - length p.stations) alone (λ eq. apart (omega arith))
+        (class_moves p (site_of p step.dest step.event) (class_of_object p step.dest) (cells_at s step.dest) step.event step.effect st.does_so long few tick))
+        (cases_lt step.dest (length p.stations))))
+        (cases_eq i step.dest)
 
     ages_on : Ages (suc n)
     ages_on clock by_then =
         let By : List (Key × Note) → Type 0 = AllBy clock in
         let all_by : By (first_records n m t ++ told ∷ []) = subst By records_are by_then in
         let back : By (told ∷ []) = Each-back (λ (r : Key × Note). time_part r.0.stamp ≤ clock) (first_records n m t) (told ∷ []) all_by in
-        let time : time_part told.0.stamp ≡ tick = ap (λ (r : Key × Note). time_part r.0.stamp) step.step.tells in
+        let time : time_part told.0.stamp ≡ tick = ap (λ (r : Key × Note). time_part r.0.stamp) step.tells in
         let last : time_part told.0.stamp ≤ clock = back.0 in
         let records : AllBy tick (first_records (suc n) m t) =
         subst (AllBy tick) (sym records_are)
-        (Each-append (λ (r : Key × Note). time_part r.0.stamp ≤ tick) (first_records n m t) (told ∷ []) (earlier p t fine n event step.step.rest step.step.pending) ((omega arith), tt)) in
+        (Each-append (λ (r : Key × Note). time_part r.0.stamp ≤ tick) (first_records n m t) (told ∷ []) (earlier p t fine n step.event step.rest step.pending) ((omega arith), tt)) in
         let there : Aging p class (told_of p t (suc n) i) (after_events (suc n) m t) tick =
         subst (λ (s : State). Aging p class (told_of p t (suc n) i) s tick) (sym (after_events-does m t n told after is_next))
         (subst (λ (rs : List (Key × Note)). Aging p class (told_at i rs) after tick) (sym records_are) aging_there) in

@@ -141,77 +141,71 @@ module _ (w : ℕ → ℕ → ℕ) (p : ShopParts) (site : Site) (class : Class)
       by false = omega (arith, gone)
 
 module _ (w : ℕ → ℕ → ℕ) (p : ShopParts) (t : Terms) (s : State) (told : Key × Note) (after : State) (fine : IsShop p) (n : IsShopStep p t s told after) (before : Serving p s) where
-  abbrev event : Event
-  event = n.step.event
-
-  abbrev dest : ℕ
-  dest = n.step.event.key.dest
-
   abbrev here : CellData
-  here = cells_at s n.step.event.key.dest
+  here = cells_at s n.dest
 
   abbrev at : Site
-  at = site_of p n.step.event.key.dest n.step.event
+  at = site_of p n.dest n.event
 
-  pub made_is : made_next s (does told after) ≡ made_by n.step.effect.note (time_part event.key.stamp)
-  made_is = ap (λ (r : Key × Note). made_next s (does r after)) n.step.tells
+  pub made_is : made_next s (does told after) ≡ made_by n.effect.note (time_part n.event.key.stamp)
+  made_is = ap (λ (r : Key × Note). made_next s (does r after)) n.tells
 
-  pub gone_is : gone_next s (does told after) ≡ gone_by n.step.effect.note event
+  pub gone_is : gone_next s (does told after) ≡ gone_by n.effect.note n.event
   gone_is =
-      ap (λ (r : Key × Note). gone_next s (does r after)) n.step.tells
-      ∙ ap (λ (es : List Event). if word_told n.step.effect.note == LEFT_WORD || word_told n.step.effect.note == DROPPED_WORD
-      then map (λ (e : Event). (id_of e.a, birth_of e.b)) (first_of es) else []) n.step.pending
+      ap (λ (r : Key × Note). gone_next s (does r after)) n.tells
+      ∙ ap (λ (es : List Event). if word_told n.effect.note == LEFT_WORD || word_told n.effect.note == DROPPED_WORD
+      then map (λ (e : Event). (id_of e.a, birth_of e.b)) (first_of es) else []) n.pending
 
-  events_sent : sum_by (at_event w) (first_firing s n.step.event n.step.effect).events ≡ sum_by (job_sent_weight w) n.step.effect.sends
-  events_sent = sum_emissions (job_weight w) event.key.stamp dest (state_at s.objects dest).sent n.step.effect.sends
+  events_sent : sum_by (at_event w) (first_firing s n.event n.effect).events ≡ sum_by (job_sent_weight w) n.effect.sends
+  events_sent = sum_emissions (job_weight w) n.event.key.stamp n.dest (state_at s.objects n.dest).sent n.effect.sends
 
   -- what a station's lines weigh
   abbrev lines_at : State → ℕ → ℕ
   lines_at s i = sum_in_line (in_line w) (λ k. line_of (cells_at s i) k) (station_at p.stations i).levels
 
-  lines_elsewhere : (i : ℕ) → i ≢ dest → lines_at after i ≡ lines_at s i
+  lines_elsewhere : (i : ℕ) → i ≢ n.dest → lines_at after i ≡ lines_at s i
   lines_elsewhere i apart =
       ap (λ (c : CellData). sum_in_line (in_line w) (λ k. line_of c k) (station_at p.stations i).levels) (cells_elsewhere p t s told after n i apart)
 
-  station_balance : dest < length p.stations → in_shop p w s + sum_by (weight_of w) (made_next s (does told after)) ≡ in_shop p w after + sum_by (weight_of w) (gone_next s (does told after))
+  station_balance : n.dest < length p.stations → in_shop p w s + sum_by (weight_of w) (made_next s (does told after)) ≡ in_shop p w after + sum_by (weight_of w) (gone_next s (does told after))
   station_balance early =
       let st : IsStationStep p t s told after n = station_step p t s told after fine n before early in
-      let x : Effect = n.step.effect in
-      let r : Readings = readings_after at (routes_of p) (station_at p.stations dest) here event x (readings_of here) st.does_so in
-      let reads = reads_after at (routes_of p) (station_at p.stations dest) here event st.at.lawful x st.does_so in
-      let now : lines_at after dest ≡ sum_in_line (in_line w) r.line (station_at p.stations dest).levels =
-      ap (λ (c : CellData). sum_in_line (in_line w) (λ k. line_of c k) (station_at p.stations dest).levels) (cells_here p t s told after n)
-      ∙ reads_sum (in_line w) (station_at p.stations dest).levels (cells_after_all x.changes here) r reads in
-      let words = station_words at (routes_of p) (station_at p.stations dest) here event x st.does_so (time_part event.key.stamp) in
+      let x : Effect = n.effect in
+      let r : Readings = readings_after at (routes_of p) (station_at p.stations n.dest) here n.event x (readings_of here) st.does_so in
+      let reads = reads_after at (routes_of p) (station_at p.stations n.dest) here n.event st.at.lawful x st.does_so in
+      let now : lines_at after n.dest ≡ sum_in_line (in_line w) r.line (station_at p.stations n.dest).levels =
+      ap (λ (c : CellData). sum_in_line (in_line w) (λ k. line_of c k) (station_at p.stations n.dest).levels) (cells_here p t s told after n)
+      ∙ reads_sum (in_line w) (station_at p.stations n.dest).levels (cells_after_all x.changes here) r reads in
+      let words = station_words at (routes_of p) (station_at p.stations n.dest) here n.event x st.does_so (time_part n.event.key.stamp) in
       omega (
         arith,
-        sum_changed (λ i. lines_at s i) (λ i. lines_at after i) (length p.stations) dest early (λ i apart. lines_elsewhere i apart),
+        sum_changed (λ i. lines_at s i) (λ i. lines_at after i) (length p.stations) n.dest early (λ i apart. lines_elsewhere i apart),
         now,
         sum_before p t s told after n (at_event w),
         sum_after p t s told after n (at_event w),
         events_sent,
-        sum_job_sent at (routes_of p) (station_at p.stations dest) here event x st.does_so (job_sent_weight w) (λ s no. no_job_weight w s.dest s.kind s.a s.b no.0 no.1),
-        holds_jobs w p at here event st.at x st.does_so,
+        sum_job_sent at (routes_of p) (station_at p.stations n.dest) here n.event x st.does_so (job_sent_weight w) (λ s no. no_job_weight w s.dest s.kind s.a s.b no.0 no.1),
+        holds_jobs w p at here n.event st.at x st.does_so,
         ap (λ (jobs : List (ℕ × ℕ)). sum_by (weight_of w) jobs) (made_is ∙ words.made),
         ap (λ (jobs : List (ℕ × ℕ)). sum_by (weight_of w) jobs) (gone_is ∙ words.gone),
       )
 
-  class_balance : length p.stations ≤ dest → in_shop p w s + sum_by (weight_of w) (made_next s (does told after)) ≡ in_shop p w after + sum_by (weight_of w) (gone_next s (does told after))
+  class_balance : length p.stations ≤ n.dest → in_shop p w s + sum_by (weight_of w) (made_next s (does told after)) ≡ in_shop p w after + sum_by (weight_of w) (gone_next s (does told after))
   class_balance past =
       let st : IsClassStep p t s told after n = class_step p t s told after fine n before past in
-      let x : Effect = n.step.effect in
-      let early : time_part event.key.stamp < 2 ^ 47 = (first_sound _ t s event n.step.rest n.lawful n.step.pending).time in
+      let x : Effect = n.effect in
+      let early : time_part n.event.key.stamp < 2 ^ 47 = (first_sound _ t s n.event n.rest n.lawful n.pending).time in
       omega (
         arith,
         sums_same (λ i. lines_at s i) (λ i. lines_at after i) 0 (length p.stations) (λ i from to. lines_elsewhere i (λ eq. absurd (omega arith))),
         sum_before p t s told after n (at_event w),
         sum_after p t s told after n (at_event w),
         events_sent,
-        holds_home w p at (class_of_object p dest) here event st.home x st.does_so st.no_service early,
+        holds_home w p at (class_of_object p n.dest) here n.event st.home x st.does_so st.no_service early,
         ap (λ (jobs : List (ℕ × ℕ)). sum_by (weight_of w) jobs) made_is,
         ap (λ (jobs : List (ℕ × ℕ)). sum_by (weight_of w) jobs) gone_is,
       )
 
   -- the jobs in the shop and the one that is made weigh what those in the shop after it weigh, and the one that goes
   pub balance : in_shop p w s + sum_by (weight_of w) (made_next s (does told after)) ≡ in_shop p w after + sum_by (weight_of w) (gone_next s (does told after))
-  balance = ⊎_elim (λ (early : dest < length p.stations). station_balance early) (λ (past : length p.stations ≤ dest). class_balance past) (cases_lt dest (length p.stations))
+  balance = ⊎_elim (λ (early : n.dest < length p.stations). station_balance early) (λ (past : length p.stations ≤ n.dest). class_balance past) (cases_lt n.dest (length p.stations))

@@ -163,47 +163,41 @@ module _ (p : ShopParts) (t : Terms) (n : ℕ) (told : Key × Note) (after : Sta
   step : IsShopStep p t s told after
   step = shop_step p t s told after fine (n, refl) is_next
 
-  abbrev event : Event
-  event = step.step.event
+  note_is : told.1 ≡ step.effect.note
+  note_is = ap (λ (r : Key × Note). r.1) step.tells
 
-  abbrev dest : ℕ
-  dest = step.step.event.key.dest
+  key_is : told.0 ≡ step.event.key
+  key_is = ap (λ (r : Key × Note). r.0) step.tells
 
-  note_is : told.1 ≡ step.step.effect.note
-  note_is = ap (λ (r : Key × Note). r.1) step.step.tells
-
-  key_is : told.0 ≡ event.key
-  key_is = ap (λ (r : Key × Note). r.0) step.step.tells
-
-  its_word : IsGoing (word_told step.step.effect.note)
+  its_word : IsGoing (word_told step.effect.note)
   its_word = subst (λ (note : Note). IsGoing (word_told note)) note_is going
 
-  goes : Goes (site_of p dest event) (routes_of p) (class_of_object p dest) event step.step.effect.note
+  goes : Goes (site_of p step.dest step.event) (routes_of p) (class_of_object p step.dest) step.event step.effect.note
   goes = ⊎_elim
-      (λ (early : dest < length p.stations).
-      station_lets_none _ _ _ _ event step.step.effect (station_step p t s told after fine step (serving p t s fine (n, refl)) early).does_so its_word)
-      (λ (past : length p.stations ≤ dest).
-      class_lets _ _ _ _ event step.step.effect (class_step p t s told after fine step (serving p t s fine (n, refl)) past).does_so its_word)
-      (cases_lt dest (length p.stations))
+      (λ (early : step.dest < length p.stations).
+      station_lets_none _ _ _ _ step.event step.effect (station_step p t s told after fine step (serving p t s fine (n, refl)) early).does_so its_word)
+      (λ (past : length p.stations ≤ step.dest).
+      class_lets _ _ _ _ step.event step.effect (class_step p t s told after fine step (serving p t s fine (n, refl)) past).does_so its_word)
+      (cases_lt step.dest (length p.stations))
 
   of_age : IsOfAge p t n (first_told told.1) (time_part told.0.stamp) (second_told told.1)
   of_age =
       let go = goes in
       let id : ℕ = go.job.id in
-      let birth : ℕ = birth_of event.b in
+      let birth : ℕ = birth_of step.event.b in
       let w : ℕ → ℕ → ℕ = this_job id birth in
       let here : w id birth ≡ 1 = itself id birth in
-      let weighs : at_event w event ≡ 1 =
-      come_weight w dest event.kind event.a event.b go.home.kind ∙ ap (λ k. w k birth) (named_of (routes_of p) event.a go.job go.home.here.is).1 ∙ here in
+      let weighs : at_event w step.event ≡ 1 =
+      come_weight w step.dest step.event.kind step.event.a step.event.b go.home.kind ∙ ap (λ k. w k birth) (named_of (routes_of p) step.event.a go.job go.home.here.is).1 ∙ here in
       let some : 0 < sum_by (weight_of w) (made_jobs p t n) = omega (arith, all_once p t fine w n, sum_before p t s told after step (at_event w), weighs) in
       let told_id : first_told told.1 ≡ id = ap (λ (note : Note). first_told note) note_is ∙ go.id in
       record {
         birth = birth;
         made = subst (λ k. Contains (made_jobs p t n) (k, birth)) (sym told_id) (found_there id birth (made_jobs p t n) some);
         before =
-            let now : ℕ = time_part event.key.stamp in
+            let now : ℕ = time_part step.event.key.stamp in
             let there : birth ≤ now =
-            each-contains (λ (job : ℕ × ℕ). job.1 ≤ now) (id, birth) (made_jobs p t n) (made_by_then p t n now (earlier p t fine n event step.step.rest step.step.pending)) (found_there id birth (made_jobs p t n) some) in
+            each-contains (λ (job : ℕ × ℕ). job.1 ≤ now) (id, birth) (made_jobs p t n) (made_by_then p t n now (earlier p t fine n step.event step.rest step.pending)) (found_there id birth (made_jobs p t n) some) in
             subst (λ (k : Key). birth ≤ time_part k.stamp) (sym key_is) there;
         old = ap (λ (note : Note). second_told note) note_is ∙ go.age ∙ ap (λ (k : Key). time_part k.stamp - birth) (sym key_is);
       }
@@ -211,8 +205,8 @@ module _ (p : ShopParts) (t : Terms) (n : ℕ) (told : Key × Note) (after : Sta
   is_late : word_told told.1 ≡ LEFT_WORD → IsLate (class_of_object p told.0.dest).due (first_told told.1) (second_told told.1) (rest_told told.1)
   is_late left =
       let Late : ℕ → Note → Type 0 = λ d note. IsLate (class_of_object p d).due (first_told note) (second_told note) (rest_told note) in
-      let its_left : word_told step.step.effect.note ≡ LEFT_WORD = ap (λ (note : Note). word_told note) (sym note_is) ∙ left in
-      subst (λ (k : Key). Late k.dest told.1) (sym key_is) (subst (λ (note : Note). Late dest note) (sym note_is) (goes.late its_left))
+      let its_left : word_told step.effect.note ≡ LEFT_WORD = ap (λ (note : Note). word_told note) (sym note_is) ∙ left in
+      subst (λ (k : Key). Late k.dest told.1) (sym key_is) (subst (λ (note : Note). Late step.dest note) (sym note_is) (goes.late its_left))
 
 pub ages_are_told : AgesAreTold
 ages_are_told p t n told after fine is_next going = of_age p t n told after fine is_next going

@@ -202,75 +202,69 @@ module _ (p : ShopParts) (t : Terms) (fine : IsShop p) (i : ℕ) (exists : i < l
     step : IsShopStep p t s told after
     step = shop_step p t s told after fine (n, refl) is_next
 
-    abbrev event : Event
-    event = step.step.event
-
-    abbrev dest : ℕ
-    dest = step.step.event.key.dest
-
     sent : List Event
-    sent = (first_firing s step.step.event step.step.effect).events
+    sent = (first_firing s step.event step.effect).events
 
-    -- what is sent, and what was pending beside the event, is pending after it
-    pending_after : (e : Event) → Contains (sent ++ step.step.rest) e → Contains after.pending e
+    -- what is sent, and what was pending beside the step.event, is pending after it
+    pending_after : (e : Event) → Contains (sent ++ step.rest) e → Contains after.pending e
     unfolding sent
     pending_after e there =
-        subst (λ (s : State). Contains s.pending e) (sym step.step.leaves)
-        (Contains-permutation (sent ++ step.step.rest) (enqueue_all sent step.step.rest) e (enqueue_all-permutation sent step.step.rest) there)
+        subst (λ (s : State). Contains s.pending e) (sym step.leaves)
+        (Contains-permutation (sent ++ step.rest) (enqueue_all sent step.rest) e (enqueue_all-permutation sent step.rest) there)
 
-    -- a call that was pending still is, if it isn't the event
-    still : (clock : ℕ) (called : IsCalled s i clock) → (event ≡ called.call → ⊥) → IsCalled after i clock
+    -- a call that was pending still is, if it isn't the step.event
+    still : (clock : ℕ) (called : IsCalled s i clock) → (step.event ≡ called.call → ⊥) → IsCalled after i clock
     still clock called other =
-        let there : Contains (event ∷ step.step.rest) called.call = subst (λ (es : List Event). Contains es called.call) step.step.pending called.pending in
+        let there : Contains (step.event ∷ step.rest) called.call = subst (λ (es : List Event). Contains es called.call) step.pending called.pending in
         record {
           call = called.call;
           pending = ⊎_elim
-              (λ (is : event ≡ called.call). absurd (other is))
-              (λ (later : Contains step.step.rest called.call). pending_after called.call (Contains-append_right sent step.step.rest called.call later))
-              (first-or-later called.call event step.step.rest there);
+              (λ (is : step.event ≡ called.call). absurd (other is))
+              (λ (later : Contains step.rest called.call). pending_after called.call (Contains-append_right sent step.rest called.call later))
+              (first-or-later called.call step.event step.rest there);
           kind = called.kind;
           there = called.there;
           now = called.now;
         }
 
     -- one that is sent
-    just_sent : i ≡ dest → (clock : ℕ) → time_part event.key.stamp ≤ clock → Contains step.step.effect.sends (to_self (site_of p dest event) 0 CALL 0 0) → IsCalled after i clock
+    just_sent : i ≡ step.dest → (clock : ℕ) → time_part step.event.key.stamp ≤ clock → Contains step.effect.sends (to_self (site_of p step.dest step.event) 0 CALL 0 0) → IsCalled after i clock
     unfolding sent
     just_sent is clock early there =
-        let call : Send = to_self (site_of p dest event) 0 CALL 0 0 in
-        let found = sent_event event.key.stamp dest (state_at s.objects dest).sent step.step.effect.sends call there step.step.no_chain in
-        let e : Event = emission event.key.stamp dest found.0 call in
-        let tick : time_part e.key.stamp ≡ time_part event.key.stamp = same_tick event.key.stamp found.2 in
+        let call : Send = to_self (site_of p step.dest step.event) 0 CALL 0 0 in
+        let found = sent_event step.event.key.stamp step.dest (state_at s.objects step.dest).sent step.effect.sends call there step.no_chain in
+        let e : Event = emission step.event.key.stamp step.dest found.0 call in
+        let tick : time_part e.key.stamp ≡ time_part step.event.key.stamp = same_tick step.event.key.stamp found.2 in
         record {
           call = e;
-          pending = pending_after e (Contains-append_left sent step.step.rest e found.1);
+          pending = pending_after e (Contains-append_left sent step.rest e found.1);
           kind = refl;
           there = sym is;
           now = omega (arith, tick);
         }
 
-    here : i ≡ dest → (clock : ℕ) → AllBy clock (first_records n m t) → time_part event.key.stamp ≤ clock → Idles most (counts_of (cells_at after i)) → IsCalled after i clock
+    here : i ≡ step.dest → (clock : ℕ) → AllBy clock (first_records n m t) → time_part step.event.key.stamp ≤ clock → Idles most (counts_of (cells_at after i)) → IsCalled after i clock
     here is clock by_then early idles =
-        let exists_here : dest < length p.stations = omega (arith, exists) in
+        let exists_here : step.dest < length p.stations = omega (arith, exists) in
         let st = station_step p t s told after fine step (serving p t s fine (n, refl)) exists_here in
-        let x : Effect = step.step.effect in
-        let site : Site = site_of p dest event in
-        let station : Station = station_at p.stations dest in
-        let cells : CellData = cells_at s dest in
-        let r : Readings = readings_after site (routes_of p) station cells event x (readings_of cells) st.does_so in
-        let reads = reads_after site (routes_of p) station cells event st.at.lawful x st.does_so in
-        let counts : counts_of (cells_at after dest) ≡ counts_in r = ap (λ (c : CellData). counts_of c) (cells_here p t s told after step) ∙ counts_read (cells_after_all x.changes cells) r reads in
-        let there : Idles (station_at p.stations dest).most (counts_of (cells_at after dest)) = subst (λ k. Idles (station_at p.stations k).most (counts_of (cells_at after k))) is idles in
+        let x : Effect = step.effect in
+        let site : Site = site_of p step.dest step.event in
+        let station : Station = station_at p.stations step.dest in
+        let cells : CellData = cells_at s step.dest in
+        let r : Readings = readings_after site (routes_of p) station cells step.event x (readings_of cells) st.does_so in
+        let reads = reads_after site (routes_of p) station cells step.event st.at.lawful x st.does_so in
+        let counts : counts_of (cells_at after step.dest) ≡ counts_in r = ap (λ (c : CellData). counts_of c) (cells_here p t s told after step) ∙ counts_read (cells_after_all x.changes cells) r reads in
+        let there : Idles (station_at p.stations step.dest).most (counts_of (cells_at after step.dest)) = subst (λ k. Idles (station_at p.stations k).most (counts_of (cells_at after k))) is idles in
         let later : Idles station.most (counts_in r) = subst (Idles station.most) counts there in
         ⊎_elim
-        (λ (sends : Contains (job_sent site (routes_of p) station cells event x st.does_so ++ others_sent site (routes_of p) station cells event x st.does_so) (to_self site 0 CALL 0 0)).
-        just_sent is clock early (subst (λ (sends : List Send). Contains sends (to_self site 0 CALL 0 0)) (sym (sends_are site (routes_of p) station cells event x st.does_so)) sends))
-        (λ (was : Idles station.most (counts_of cells) × (event.kind ≢ CALL)).
+        (λ (sends : Contains (job_sent site (routes_of p) station cells step.event x st.does_so ++ others_sent site (routes_of p) station cells step.event x st.does_so) (to_self site 0 CALL 0 0)).
+        just_sent is clock early (subst (λ (sends : List Send). Contains sends (to_self site 0 CALL 0 0)) (sym (sends_are site (routes_of p) station cells step.event x st.does_so)) sends))
+        (λ (was : Idles station.most (counts_of cells) × (step.event.kind ≢ CALL)).
         let called : IsCalled s i clock = before clock by_then (subst (λ k. Idles (station_at p.stations k).most (counts_of (cells_at s k))) (sym is) was.0) in
         still clock called (λ same. was.1 (ap (λ (e : Event). e.kind) same ∙ called.kind)))
-        (fate site (routes_of p) station cells event (some_free p site cells event st.at) x st.does_so later)
+        (fate site (routes_of p) station cells step.event (some_free p site cells step.event st.at) x st.does_so later)
 
-    elsewhere : i ≢ dest → (clock : ℕ) → AllBy clock (first_records n m t) → Idles most (counts_of (cells_at after i)) → IsCalled after i clock
+    elsewhere : i ≢ step.dest → (clock : ℕ) → AllBy clock (first_records n m t) → Idles most (counts_of (cells_at after i)) → IsCalled after i clock
     elsewhere apart clock by_then idles =
         let was : Idles most (counts_of (cells_at s i)) = subst (λ (c : CellData). Idles most (counts_of c)) (cells_elsewhere p t s told after step i apart) idles in
         let called : IsCalled s i clock = before clock by_then was in
@@ -280,9 +274,9 @@ module _ (p : ShopParts) (t : Terms) (fine : IsShop p) (i : ℕ) (exists : i < l
     calls_on clock all idles =
         let front : AllBy clock (first_records n m t) = Each-front (λ (r : Key × Note). time_part r.0.stamp ≤ clock) (first_records n m t) (told ∷ []) all in
         let back : AllBy clock (told ∷ []) = Each-back (λ (r : Key × Note). time_part r.0.stamp ≤ clock) (first_records n m t) (told ∷ []) all in
-        let time : time_part told.0.stamp ≡ time_part event.key.stamp = ap (λ (r : Key × Note). time_part r.0.stamp) step.step.tells in
+        let time : time_part told.0.stamp ≡ time_part step.event.key.stamp = ap (λ (r : Key × Note). time_part r.0.stamp) step.tells in
         let last : time_part told.0.stamp ≤ clock = back.0 in
-        ⊎_elim (λ (is : i ≡ dest). here is clock front (omega arith) idles) (λ (apart : i ≢ dest). elsewhere apart clock front idles) (cases_eq i dest)
+        ⊎_elim (λ (is : i ≡ step.dest). here is clock front (omega arith) idles) (λ (apart : i ≢ step.dest). elsewhere apart clock front idles) (cases_eq i step.dest)
 
   all_called : (n : ℕ) → Calls (after_events n m t) (first_records n m t)
   unfolding after_events gathered

@@ -234,7 +234,7 @@ module _ (p : ShopParts) (t : Terms) (fine : IsShop p) (i : ℕ) (exists : i < l
 
   rises_on : (n : ℕ) (told : Key × Note) (after : State) → next m t (after_events n m t) ≡ does told after → Rises (after_events n m t) (first_records n m t)
       → Rises after (first_records n m t ++ told ∷ [])
-  rises_on n told after is_next before clock all = ⊎_elim here elsewhere (cases_eq i dest)
+  rises_on n told after is_next before clock all = ⊎_elim here elsewhere (cases_eq i step.dest)
     where
       s : State
       s = after_events n m t
@@ -242,39 +242,33 @@ module _ (p : ShopParts) (t : Terms) (fine : IsShop p) (i : ℕ) (exists : i < l
       step : IsShopStep p t s told after
       step = shop_step p t s told after fine (n, refl) is_next
 
-      event : Event
-      event = step.step.event
-
-      dest : ℕ
-      dest = step.step.event.key.dest
-
       front : AllBy clock (first_records n m t)
       front = Each-front (λ (r : Key × Note). time_part r.0.stamp ≤ clock) (first_records n m t) (told ∷ []) all
 
-      last : time_part event.key.stamp ≤ clock
+      last : time_part step.event.key.stamp ≤ clock
       last =
           let back : AllBy clock (told ∷ []) = Each-back (λ (r : Key × Note). time_part r.0.stamp ≤ clock) (first_records n m t) (told ∷ []) all in
-          let time : time_part told.0.stamp ≡ time_part event.key.stamp = ap (λ (r : Key × Note). time_part r.0.stamp) step.step.tells in
+          let time : time_part told.0.stamp ≡ time_part step.event.key.stamp = ap (λ (r : Key × Note). time_part r.0.stamp) step.tells in
           let at : time_part told.0.stamp ≤ clock = back.0 in
           omega arith
 
-      elsewhere : i ≢ dest → Rise clock (line_of (cells_at after i) (since_line level))
+      elsewhere : i ≢ step.dest → Rise clock (line_of (cells_at after i) (since_line level))
       elsewhere apart = subst (λ (c : CellData). Rise clock (line_of c (since_line level))) (sym (cells_elsewhere p t s told after step i apart)) (before clock front)
 
-      here : i ≡ dest → Rise clock (line_of (cells_at after i) (since_line level))
+      here : i ≡ step.dest → Rise clock (line_of (cells_at after i) (since_line level))
       here is =
-          let now : ℕ = time_part event.key.stamp in
-          let early : dest < length p.stations = omega (arith, exists) in
+          let now : ℕ = time_part step.event.key.stamp in
+          let early : step.dest < length p.stations = omega (arith, exists) in
           let st = station_step p t s told after fine step (serving p t s fine (n, refl)) early in
-          let x : Effect = step.step.effect in
-          let site : Site = site_of p dest event in
-          let station : Station = station_at p.stations dest in
-          let cells : CellData = cells_at s dest in
-          let r : Readings = readings_after site (routes_of p) station cells event x (readings_of cells) st.does_so in
-          let reads = reads_after site (routes_of p) station cells event st.at.lawful x st.does_so in
+          let x : Effect = step.effect in
+          let site : Site = site_of p step.dest step.event in
+          let station : Station = station_at p.stations step.dest in
+          let cells : CellData = cells_at s step.dest in
+          let r : Readings = readings_after site (routes_of p) station cells step.event x (readings_of cells) st.does_so in
+          let reads = reads_after site (routes_of p) station cells step.event st.at.lawful x st.does_so in
           let had : Rise now (line_of cells (since_line level)) =
-          subst (λ k. Rise now (line_of (cells_at s k) (since_line level))) is (before now (earlier p t fine n event step.step.rest step.step.pending)) in
-          let rises : Rise now (r.line (since_line level)) = since_rises site (routes_of p) station cells event level x st.does_so had in
+          subst (λ k. Rise now (line_of (cells_at s k) (since_line level))) is (before now (earlier p t fine n step.event step.rest step.pending)) in
+          let rises : Rise now (r.line (since_line level)) = since_rises site (routes_of p) station cells step.event level x st.does_so had in
           let later : Rise now (line_of (cells_after_all x.changes cells) (since_line level)) =
           subst (λ xs. Rise now xs) (sym (reads.line (since_line level) (λ e. absurd (omega arith)))) rises in
           subst (λ k. Rise clock (line_of (cells_at after k) (since_line level))) (sym is)

@@ -1,5 +1,5 @@
 -- What is read of the cells of a station after changes, one change after another.
-use Rattle.std.proofs.Common.{◌≡◌, ◌≢◌, ℕ, ◌+◌, ◌-◌, ◌%◌, ◌^◌, ◌<◌, Bool, true, false, List, [], ◌∷◌, ◌++◌, length, take, ⊎_elim, refl, sym, ap, ◌∙◌, subst, arith, get_or-set_same, get_or-set_other, eq-eqb, ne_eqb}
+use Rattle.std.proofs.Common.{◌≡◌, ◌≢◌, ℕ, ◌+◌, ◌-◌, ◌%◌, ◌^◌, ◌<◌, ◌≤◌, Bool, true, false, List, [], ◌∷◌, ◌++◌, length, take, ⊎_elim, refl, sym, ap, ◌∙◌, subst, arith, get_or-set_same, get_or-set_other, eq-eqb, ne_eqb}
 use Rattle.std.specs.Prelude.{if◌then◌else◌, ◌==◌, is_none, slice_set, slice_index}
 use Rattle.std.proofs.lemmas.Bool.{cases_eq}
 use Rattle.std.proofs.lemmas.List.{length-set}
@@ -99,80 +99,53 @@ reads_word r word value cells no_open no_held no_waiting no_down no_lag is = rec
   wide = is.wide;
 }
 
-pub reads_open : (r : Readings) (value : ℕ) (cells : CellData) → Reads cells r → Reads (record cells { words = slice_set cells.words OPEN value }) (record r { opened = value })
-reads_open r value cells is = record {
-  idle = is.idle;
-  line = is.line;
-  opened = get_or-set_same cells.words OPEN value 0 (omega (arith, is.words, is.long));
-  held = get_or-set_other cells.words OPEN HELD value 0 (λ e. absurd (omega arith)) ∙ is.held;
-  waiting = get_or-set_other cells.words OPEN WAITING value 0 (λ e. absurd (omega arith)) ∙ is.waiting;
-  down = get_or-set_other cells.words OPEN DOWN value 0 (λ e. absurd (omega arith)) ∙ is.down;
-  lag = get_or-set_other cells.words OPEN LAG value 0 (λ e. absurd (omega arith)) ∙ is.lag;
-  words = length-set cells.words OPEN value ∙ is.words;
-  lines = is.lines;
-  long = is.long;
-  wide = is.wide;
+-- one of the words that the laws read is set
+abbrev pub set_word : ℕ → ℕ → Readings → Readings
+set_word word value r = record r {
+  opened = if OPEN == word then value else r.opened;
+  held = if HELD == word then value else r.held;
+  waiting = if WAITING == word then value else r.waiting;
+  down = if DOWN == word then value else r.down;
+  lag = if LAG == word then value else r.lag;
 }
+
+word_after : (words : List ℕ) (word value k was : ℕ) → word < length words → slice_index words k ≡ was → slice_index (slice_set words word value) k ≡ (if k == word then value else was)
+word_after words word value k was there is = ⊎_elim
+    (λ (same : k ≡ word). ap (λ j. slice_index (slice_set words word value) j) same ∙ get_or-set_same words word value 0 there ∙ sym (ap (λ b. if b then value else was) (eq-eqb k word same)))
+    (λ (apart : k ≢ word). get_or-set_other words word k value 0 apart ∙ is ∙ sym (ap (λ b. if b then value else was) (ne_eqb k word apart)))
+    (cases_eq k word)
+
+reads_set : (r : Readings) (word value : ℕ) (cells : CellData) → word ≤ LAG → Reads cells r → Reads (record cells { words = slice_set cells.words word value }) (set_word word value r)
+reads_set r word value cells low is =
+    let there : word < length cells.words = omega (arith, is.words, is.long) in
+    record {
+      idle = is.idle;
+      line = is.line;
+      opened = word_after cells.words word value OPEN r.opened there is.opened;
+      held = word_after cells.words word value HELD r.held there is.held;
+      waiting = word_after cells.words word value WAITING r.waiting there is.waiting;
+      down = word_after cells.words word value DOWN r.down there is.down;
+      lag = word_after cells.words word value LAG r.lag there is.lag;
+      words = length-set cells.words word value ∙ is.words;
+      lines = is.lines;
+      long = is.long;
+      wide = is.wide;
+    }
+
+pub reads_open : (r : Readings) (value : ℕ) (cells : CellData) → Reads cells r → Reads (record cells { words = slice_set cells.words OPEN value }) (record r { opened = value })
+reads_open r value cells is = reads_set r OPEN value cells (omega arith) is
 
 pub reads_held : (r : Readings) (value : ℕ) (cells : CellData) → Reads cells r → Reads (record cells { words = slice_set cells.words HELD value }) (record r { held = value })
-reads_held r value cells is = record {
-  idle = is.idle;
-  line = is.line;
-  opened = get_or-set_other cells.words HELD OPEN value 0 (λ e. absurd (omega arith)) ∙ is.opened;
-  held = get_or-set_same cells.words HELD value 0 (omega (arith, is.words, is.long));
-  waiting = get_or-set_other cells.words HELD WAITING value 0 (λ e. absurd (omega arith)) ∙ is.waiting;
-  down = get_or-set_other cells.words HELD DOWN value 0 (λ e. absurd (omega arith)) ∙ is.down;
-  lag = get_or-set_other cells.words HELD LAG value 0 (λ e. absurd (omega arith)) ∙ is.lag;
-  words = length-set cells.words HELD value ∙ is.words;
-  lines = is.lines;
-  long = is.long;
-  wide = is.wide;
-}
+reads_held r value cells is = reads_set r HELD value cells (omega arith) is
 
 pub reads_waiting : (r : Readings) (value : ℕ) (cells : CellData) → Reads cells r → Reads (record cells { words = slice_set cells.words WAITING value }) (record r { waiting = value })
-reads_waiting r value cells is = record {
-  idle = is.idle;
-  line = is.line;
-  opened = get_or-set_other cells.words WAITING OPEN value 0 (λ e. absurd (omega arith)) ∙ is.opened;
-  held = get_or-set_other cells.words WAITING HELD value 0 (λ e. absurd (omega arith)) ∙ is.held;
-  waiting = get_or-set_same cells.words WAITING value 0 (omega (arith, is.words, is.long));
-  down = get_or-set_other cells.words WAITING DOWN value 0 (λ e. absurd (omega arith)) ∙ is.down;
-  lag = get_or-set_other cells.words WAITING LAG value 0 (λ e. absurd (omega arith)) ∙ is.lag;
-  words = length-set cells.words WAITING value ∙ is.words;
-  lines = is.lines;
-  long = is.long;
-  wide = is.wide;
-}
+reads_waiting r value cells is = reads_set r WAITING value cells (omega arith) is
 
 pub reads_down : (r : Readings) (value : ℕ) (cells : CellData) → Reads cells r → Reads (record cells { words = slice_set cells.words DOWN value }) (record r { down = value })
-reads_down r value cells is = record {
-  idle = is.idle;
-  line = is.line;
-  opened = get_or-set_other cells.words DOWN OPEN value 0 (λ e. absurd (omega arith)) ∙ is.opened;
-  held = get_or-set_other cells.words DOWN HELD value 0 (λ e. absurd (omega arith)) ∙ is.held;
-  waiting = get_or-set_other cells.words DOWN WAITING value 0 (λ e. absurd (omega arith)) ∙ is.waiting;
-  down = get_or-set_same cells.words DOWN value 0 (omega (arith, is.words, is.long));
-  lag = get_or-set_other cells.words DOWN LAG value 0 (λ e. absurd (omega arith)) ∙ is.lag;
-  words = length-set cells.words DOWN value ∙ is.words;
-  lines = is.lines;
-  long = is.long;
-  wide = is.wide;
-}
+reads_down r value cells is = reads_set r DOWN value cells (omega arith) is
 
 pub reads_lag : (r : Readings) (value : ℕ) (cells : CellData) → Reads cells r → Reads (record cells { words = slice_set cells.words LAG value }) (record r { lag = value })
-reads_lag r value cells is = record {
-  idle = is.idle;
-  line = is.line;
-  opened = get_or-set_other cells.words LAG OPEN value 0 (λ e. absurd (omega arith)) ∙ is.opened;
-  held = get_or-set_other cells.words LAG HELD value 0 (λ e. absurd (omega arith)) ∙ is.held;
-  waiting = get_or-set_other cells.words LAG WAITING value 0 (λ e. absurd (omega arith)) ∙ is.waiting;
-  down = get_or-set_other cells.words LAG DOWN value 0 (λ e. absurd (omega arith)) ∙ is.down;
-  lag = get_or-set_same cells.words LAG value 0 (omega (arith, is.words, is.long));
-  words = length-set cells.words LAG value ∙ is.words;
-  lines = is.lines;
-  long = is.long;
-  wide = is.wide;
-}
+reads_lag r value cells is = reads_set r LAG value cells (omega arith) is
 
 -- the servers that serve nobody become others
 pub reads_idle : (r : Readings) (servers : List ℕ) (cells : CellData) → Reads cells r → Reads (with_line cells FREE_SERVERS servers) (record r { idle = servers })
@@ -253,26 +226,20 @@ reads_placed r place next rest cells Q is follows =
 abbrev pub went_out : Order → ℕ → Readings → Readings
 went_out order level r = record r { line = four_put (out_of order) (out_of order) (out_of order) (out_of order) level r.line }
 
+reads_gone : (r : Readings) (order : Order) (gone level : ℕ) (cells : CellData) → until_line level < r.lines → Reads cells r
+    → (let c : CellData = four_lines (out_of order) (out_of order) (out_of order) (out_of order) level cells in Reads (record c { words = slice_set c.words (gone_word level) gone }) (went_out order level r))
+reads_gone r order gone level cells there is =
+    let out = out_of order in
+    reads_word (went_out order level r) (gone_word level) gone (four_lines out out out out level cells)
+    (λ e. absurd (omega arith)) (λ e. absurd (omega arith)) (λ e. absurd (omega arith)) (λ e. absurd (omega arith)) (λ e. absurd (omega arith))
+    (reads_level r out out out out level cells there is)
+
 pub reads_out : (r : Readings) (order : Order) (from : CellData) (level : ℕ) (rest : List Change) (cells : CellData) (Q : CellData → Type 0) → until_line level < r.lines → Reads cells r
     → ((c : CellData) → Reads c (went_out order level r) → Q (cells_after_all rest c)) → Q (cells_after_all (out_changes order from level ++ rest) cells)
 unfolding cells_after_all
-reads_out r Last from level rest cells Q there is follows =
-    let out = out_of Last in
-    follows (four_lines out out out out level cells) (reads_level r out out out out level cells there is)
-reads_out r First from level rest cells Q there is follows =
-    let out = out_of First in
-    let c : CellData = four_lines out out out out level cells in
-    follows (record c { words = slice_set c.words (gone_word level) ((slice_index from.words (gone_word level) + 1) % 2 ^ 64) })
-    (reads_word (went_out First level r) (gone_word level) ((slice_index from.words (gone_word level) + 1) % 2 ^ 64) c
-    (λ e. absurd (omega arith)) (λ e. absurd (omega arith)) (λ e. absurd (omega arith)) (λ e. absurd (omega arith)) (λ e. absurd (omega arith))
-    (reads_level r out out out out level cells there is))
-reads_out r Priority from level rest cells Q there is follows =
-    let out = out_of Priority in
-    let c : CellData = four_lines out out out out level cells in
-    follows (record c { words = slice_set c.words (gone_word level) ((slice_index from.words (gone_word level) + 1) % 2 ^ 64) })
-    (reads_word (went_out Priority level r) (gone_word level) ((slice_index from.words (gone_word level) + 1) % 2 ^ 64) c
-    (λ e. absurd (omega arith)) (λ e. absurd (omega arith)) (λ e. absurd (omega arith)) (λ e. absurd (omega arith)) (λ e. absurd (omega arith))
-    (reads_level r out out out out level cells there is))
+reads_out r Last from level rest cells Q there is follows = follows _ (reads_level r (out_of Last) (out_of Last) (out_of Last) (out_of Last) level cells there is)
+reads_out r First from level rest cells Q there is follows = follows _ (reads_gone r First ((slice_index from.words (gone_word level) + 1) % 2 ^ 64) level cells there is)
+reads_out r Priority from level rest cells Q there is follows = follows _ (reads_gone r Priority ((slice_index from.words (gone_word level) + 1) % 2 ^ 64) level cells there is)
 
 -- a server begins a job
 abbrev pub began : AVisit → Counts → Readings → Readings

@@ -224,106 +224,100 @@ pub record IsClassStep (p : ShopParts) (t : Terms) (s : State) (told : Key × No
       n.step.event n.step.effect
 
 module _ (p : ShopParts) (t : Terms) (s : State) (told : Key × Note) (after : State) (fine : IsShop p) (n : IsShopStep p t s told after) (before : Serving p s) where
-  abbrev event : Event
-  event = n.step.event
-
-  abbrev dest : ℕ
-  dest = n.step.event.key.dest
-
   abbrev here : CellData
-  here = cells_at s n.step.event.key.dest
+  here = cells_at s n.dest
 
   abbrev at : Site
-  at = site_of p n.step.event.key.dest n.step.event
+  at = site_of p n.dest n.event
 
-  event_fine : IsFine p dest event.kind event.a event.b
+  event_fine : IsFine p n.dest n.event.kind n.event.a n.event.b
   event_fine =
       let F : List Event → Type 0 = λ es. Each (λ (e : Event). IsFine p e.key.dest e.kind e.a e.b) es in
-      let all : F (event ∷ n.step.rest) = subst F n.step.pending before.fine in
+      let all : F (n.event ∷ n.rest) = subst F n.pending before.fine in
       all.0
 
-  rest_fine : Each (λ (e : Event). IsFine p e.key.dest e.kind e.a e.b) n.step.rest
+  rest_fine : Each (λ (e : Event). IsFine p e.key.dest e.kind e.a e.b) n.rest
   rest_fine =
       let F : List Event → Type 0 = λ es. Each (λ (e : Event). IsFine p e.key.dest e.kind e.a e.b) es in
-      let all : F (event ∷ n.step.rest) = subst F n.step.pending before.fine in
+      let all : F (n.event ∷ n.rest) = subst F n.pending before.fine in
       all.1
 
   -- where a service ends, its server isn't free
-  busy_there : dest < length p.stations → event.kind ≡ DONE → length (line_of here FREE_SERVERS) < (station_at p.stations dest).most
+  busy_there : n.dest < length p.stations → n.event.kind ≡ DONE → length (line_of here FREE_SERVERS) < (station_at p.stations n.dest).most
   busy_there early done =
       let w : ℕ → ℕ = λ (x : ℕ). 1 in
-      let most : ℕ = (station_at p.stations dest).most in
+      let most : ℕ = (station_at p.stations n.dest).most in
       omega (
         arith,
-        before.servers dest early w,
-        sum_before p t s told after n (serve_weight w dest),
-        service_there w dest dest event.kind event.a event.b done refl,
-        sum_ones (free_at s dest),
+        before.servers n.dest early w,
+        sum_before p t s told after n (serve_weight w n.dest),
+        service_there w n.dest n.dest n.event.kind n.event.a n.event.b done refl,
+        sum_ones (free_at s n.dest),
         sum_ones (range_with_len 0 most),
         length-range_with_len 0 most,
       )
 
-  pub station_step : dest < length p.stations → IsStationStep p t s told after n
+  pub station_step : n.dest < length p.stations → IsStationStep p t s told after n
   station_step early =
-      let shop = station_fine p dest fine early in
-      let is : IsEventAt at (routes_of p) (station_at p.stations dest) here event = record {
+      let shop = station_fine p n.dest fine early in
+      let is : IsEventAt at (routes_of p) (station_at p.stations n.dest) here n.event = record {
         routes_fine = fine.routes;
-        levels = has_levels p (station_at p.stations dest) shop;
+        levels = has_levels p (station_at p.stations n.dest) shop;
         some_levels = shop.numbers.some_levels;
         exists = early;
-        lawful = station_lawful p t s dest n.lawful early;
+        lawful = station_lawful p t s n.dest n.lawful early;
         comes = event_fine.comes;
         serves = λ done. let service = event_fine.serves done in (service.job, service.here, service.served);
         server = λ done. (event_fine.serves done).server;
         busy = busy_there early;
       } in
-      let Does : Effect → Type 0 = StationDoes at (routes_of p) (station_at p.stations dest) here event in
+      let Does : Effect → Type 0 = StationDoes at (routes_of p) (station_at p.stations n.dest) here n.event in
       record {
         exists = early;
-        at = record { routes = fine.routes; exists = early; lawful = station_lawful p t s dest n.lawful early };
+        at = record { routes = fine.routes; exists = early; lawful = station_lawful p t s n.dest n.lawful early };
         service = event_fine.serves;
-        does_so = subst Does (sym (n.does_so ∙ effect_station p dest here event early)) (station_does at (routes_of p) (station_at p.stations dest) here event is);
+        does_so = subst Does (sym (n.does_so ∙ effect_station p n.dest here n.event early)) (station_does at (routes_of p) (station_at p.stations n.dest) here n.event is);
       }
 
-  pub class_step : length p.stations ≤ dest → IsClassStep p t s told after n
+  pub class_step : length p.stations ≤ n.dest → IsClassStep p t s told after n
   class_step past =
-      let is : IsEventHome p at (class_of_object p dest) here event = record { routes = fine.routes; past = past; exists = n.exists; is = refl; comes = event_fine.comes } in
-      let Does : Effect → Type 0 = ClassDoes at (routes_of p) (class_of_object p dest) here event in
+      let is : IsEventHome p at (class_of_object p n.dest) here n.event = record { routes = fine.routes; past = past; exists = n.exists; is = refl; comes = event_fine.comes } in
+      let Does : Effect → Type 0 = ClassDoes at (routes_of p) (class_of_object p n.dest) here n.event in
       record {
         home = is;
-        no_service = λ done. absurd (let service = event_fine.serves done in let early : dest < length p.stations = service.station in omega arith);
-        does_so = subst Does (sym (n.does_so ∙ effect_class p dest here event past)) (class_does p at (class_of_object p dest) here event is);
+        no_service = λ done. absurd (let service = event_fine.serves done in let early : n.dest < length p.stations = service.station in omega arith);
+        does_so = subst Does (sym (n.does_so ∙ effect_class p n.dest here n.event past)) (class_does p at (class_of_object p n.dest) here n.event is);
       }
 
-  all_fine : Each (λ (e : Event). IsFine p e.key.dest e.kind e.a e.b) (first_firing s n.step.event n.step.effect).events
+  all_fine : Each (λ (e : Event). IsFine p e.key.dest e.kind e.a e.b) (first_firing s n.event n.effect).events
   all_fine =
-      each_emission (IsFine p) event.key.stamp dest (state_at s.objects dest).sent n.step.effect.sends
+      each_emission (IsFine p) n.event.key.stamp n.dest (state_at s.objects n.dest).sent n.effect.sends
       (⊎_elim
-      (λ (early : dest < length p.stations). let st = station_step early in sends_fine p at here event st.at n.step.effect st.does_so st.service)
-      (λ (past : length p.stations ≤ dest). let st = class_step past in class_sends_fine p at (class_of_object p dest) here event st.home n.step.effect st.does_so)
-      (cases_lt dest (length p.stations)))
+      (λ (early : n.dest < length p.stations). let st = station_step early in sends_fine p at here n.event st.at n.effect st.does_so st.service)
+      (λ (past : length p.stations ≤ n.dest). let st = class_step past in class_sends_fine p at (class_of_object p n.dest) here n.event st.home n.effect st.does_so)
+      (cases_lt n.dest (length p.stations)))
 
   -- a sum over the ends of services that are sent
-  pub services_sent : (w : ℕ → ℕ) (i : ℕ) → sum_by (serve_weight w i) (first_firing s n.step.event n.step.effect).events ≡ sum_by (serve_sent w i) n.step.effect.sends
-  services_sent w i = sum_emissions (serve_at w i) event.key.stamp dest (state_at s.objects dest).sent n.step.effect.sends
+  pub services_sent : (w : ℕ → ℕ) (i : ℕ) → sum_by (serve_weight w i) (first_firing s n.event n.effect).events ≡ sum_by (serve_sent w i) n.effect.sends
+  services_sent w i = sum_emissions (serve_at w i) n.event.key.stamp n.dest (state_at s.objects n.dest).sent n.effect.sends
 
   class_none : (w : ℕ → ℕ) (i : ℕ) (sends : List Send) → Each (λ (s : Send). s.kind ≢ DONE) sends → sum_by (serve_sent w i) sends ≡ 0
   class_none w i [] none = refl
   class_none w i (s ∷ rest) none = omega (arith, sum_by-cons (serve_sent w i) s rest, no_service w i s.dest s.kind s.a s.b none.0, class_none w i rest none.1)
 
-  -- what a station's services weigh after the event
-  sent_elsewhere : (w : ℕ → ℕ) (i : ℕ) → dest ≢ i → sum_by (serve_sent w i) n.step.effect.sends ≡ 0
+  -- what a station's services weigh after the n.event
+  sent_elsewhere : (w : ℕ → ℕ) (i : ℕ) → n.dest ≢ i → sum_by (serve_sent w i) n.effect.sends ≡ 0
   sent_elsewhere w i apart = ⊎_elim
-      (λ (early : dest < length p.stations).
+      (λ (early : n.dest < length p.stations).
       let st = station_step early in
-      sum_job_sent at (routes_of p) (station_at p.stations dest) here event n.step.effect st.does_so (serve_sent w i) (λ s no. no_service w i s.dest s.kind s.a s.b no.1)
-      ∙ serves_elsewhere w at (routes_of p) (station_at p.stations dest) here event n.step.effect st.does_so i apart)
-      (λ (past : length p.stations ≤ dest).
+      sum_job_sent at (routes_of p) (station_at p.stations n.dest) here n.event n.effect st.does_so (serve_sent w i) (λ s no. no_service w i s.dest s.kind s.a s.b no.1)
+      ∙ serves_elsewhere w at (routes_of p) (station_at p.stations n.dest) here n.event n.effect st.does_so i apart)
+      (λ (past : length p.stations ≤ n.dest).
       let st = class_step past in
-      class_none w i n.step.effect.sends (class_no_service p at (class_of_object p dest) here event st.home n.step.effect st.does_so))
-      (cases_lt dest (length p.stations))
+      class_none w i n.effect.sends (class_no_service p at (class_of_object p n.dest) here n.event st.home n.effect st.does_so))
+      (cases_lt n.dest (length p.stations))
 
-  servers_elsewhere : (i : ℕ) → i < length p.stations → i ≢ dest → (w : ℕ → ℕ)
+  servers_elsewhere : (i : ℕ) → i < length p.stations → i ≢ n.dest → (w : ℕ → ℕ)
       → sum_by w (free_at after i) + sum_by (serve_weight w i) after.pending ≡ sum_by w (range_with_len 0 (station_at p.stations i).most)
   servers_elsewhere i exists apart w =
       let same : sum_by w (free_at after i) ≡ sum_by w (free_at s i) = ap (λ (c : CellData). sum_by w (line_of c FREE_SERVERS)) (cells_elsewhere p t s told after n i apart) in
@@ -335,38 +329,38 @@ module _ (p : ShopParts) (t : Terms) (s : State) (told : Key × Note) (after : S
         sum_after p t s told after n (serve_weight w i),
         services_sent w i,
         sent_elsewhere w i (λ eq. apart (sym eq)),
-        service_elsewhere w i dest event.kind event.a event.b (λ eq. apart (sym eq)),
+        service_elsewhere w i n.dest n.event.kind n.event.a n.event.b (λ eq. apart (sym eq)),
       )
 
-  servers_here : dest < length p.stations → (w : ℕ → ℕ)
-      → sum_by w (free_at after dest) + sum_by (serve_weight w dest) after.pending ≡ sum_by w (range_with_len 0 (station_at p.stations dest).most)
+  servers_here : n.dest < length p.stations → (w : ℕ → ℕ)
+      → sum_by w (free_at after n.dest) + sum_by (serve_weight w n.dest) after.pending ≡ sum_by w (range_with_len 0 (station_at p.stations n.dest).most)
   servers_here early w =
       let st = station_step early in
-      let x : Effect = n.step.effect in
-      let r : Readings = readings_after at (routes_of p) (station_at p.stations dest) here event x (readings_of here) st.does_so in
-      let reads = reads_after at (routes_of p) (station_at p.stations dest) here event st.at.lawful x st.does_so in
-      let now : sum_by w (free_at after dest) ≡ sum_by w r.idle =
+      let x : Effect = n.effect in
+      let r : Readings = readings_after at (routes_of p) (station_at p.stations n.dest) here n.event x (readings_of here) st.does_so in
+      let reads = reads_after at (routes_of p) (station_at p.stations n.dest) here n.event st.at.lawful x st.does_so in
+      let now : sum_by w (free_at after n.dest) ≡ sum_by w r.idle =
       ap (λ (c : CellData). sum_by w (line_of c FREE_SERVERS)) (cells_here p t s told after n) ∙ ap (sum_by w) reads.idle in
       omega (
         arith,
-        before.servers dest early w,
+        before.servers n.dest early w,
         now,
-        sum_before p t s told after n (serve_weight w dest),
-        sum_after p t s told after n (serve_weight w dest),
-        services_sent w dest,
-        sum_job_sent at (routes_of p) (station_at p.stations dest) here event x st.does_so (serve_sent w dest) (λ s no. no_service w dest s.dest s.kind s.a s.b no.1),
-        serves w p at here event st.at x st.does_so,
+        sum_before p t s told after n (serve_weight w n.dest),
+        sum_after p t s told after n (serve_weight w n.dest),
+        services_sent w n.dest,
+        sum_job_sent at (routes_of p) (station_at p.stations n.dest) here n.event x st.does_so (serve_sent w n.dest) (λ s no. no_service w n.dest s.dest s.kind s.a s.b no.1),
+        serves w p at here n.event st.at x st.does_so,
       )
 
   pub serving_kept : Serving p after
   serving_kept = record {
     fine = step_keeps (shop_meaning p) t s told after (λ (e : Event). IsFine p e.key.dest e.kind e.a e.b) n.step all_fine rest_fine;
     servers = λ i exists w. ⊎_elim
-        (λ (same : i ≡ dest).
+        (λ (same : i ≡ n.dest).
         subst (λ k. sum_by w (free_at after k) + sum_by (serve_weight w k) after.pending ≡ sum_by w (range_with_len 0 (station_at p.stations k).most)) (sym same)
         (servers_here (let there : i < length p.stations = exists in omega (arith, same)) w))
-        (λ (apart : i ≢ dest). servers_elsewhere i exists apart w)
-        (cases_eq i dest);
+        (λ (apart : i ≢ n.dest). servers_elsewhere i exists apart w)
+        (cases_eq i n.dest);
   }
 
 pub sum_zero : (f : Event → ℕ) (es : List Event) → Each (λ e. f e ≡ 0) es → sum_by f es ≡ 0

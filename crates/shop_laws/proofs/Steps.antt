@@ -25,7 +25,7 @@ use Rattle.run_laws.specs.Reached.{Reaches, after_events, first_records}
 use Rattle.run_laws.proofs.OrderLaw.{records_first}
 use Rattle.run_laws.proofs.EnqueueSums.{sum_by-enqueue_all}
 use Rattle.run_laws.proofs.ReachedLemmas.{reached-lawful}
-use Rattle.run_laws.proofs.Steps.{IsStep, is_step, first_firing}
+use Rattle.run_laws.proofs.Steps.{IsStep, is_step, first_firing, object_here, object_elsewhere, pending_before, pending_after}
 use Rattle.shop_model.specs.Classes.{is_class_cells, first_class_cells}
 use Rattle.shop_model.specs.Lawful.{IsLawful, lawful_from}
 use Rattle.shop_model.specs.Meaning.{class_of_object, lawful_at, effect_at, first_at, shop_meaning}
@@ -37,6 +37,7 @@ use Rattle.shop_laws.specs.Told.{cells_at}
 -- an event of a shop, at a lawful state
 pub record IsShopStep (p : ShopParts) (t : Terms) (s : State) (told : Key × Note) (after : State) : Type 0 where
   pub step : IsStep (shop_meaning p) t s told after
+  pub open step use {event, rest, effect, pending, due, outcome, no_chain, tells, leaves, event.{key.{dest}}}
   pub lawful : Lawful (shop_meaning p) t s
   pub exists : step.event.key.dest < length p.stations + length p.classes
   pub long : length s.objects ≡ length p.stations + length p.classes
@@ -71,28 +72,22 @@ station_lawful p t s i lawful early =
 
 -- the object of the event has other cells, and each other object keeps its own
 pub cells_here : (p : ShopParts) (t : Terms) (s : State) (told : Key × Note) (after : State) (n : IsShopStep p t s told after)
-    → cells_at after n.step.event.key.dest ≡ cells_after_all n.step.effect.changes (cells_at s n.step.event.key.dest)
+    → cells_at after n.event.key.dest ≡ cells_after_all n.effect.changes (cells_at s n.event.key.dest)
 cells_here p t s told after n =
-    let i : ℕ = n.step.event.key.dest in
-    let inside : i < length s.objects = omega (arith, n.exists, n.long) in
-    ap (λ s. cells_at s i) n.step.leaves
-    ∙ ap (λ (o : ObjectState). o.cells) (get_or-set_same s.objects i (first_firing s n.step.event n.step.effect).state no_object inside)
+    ap (λ (o : ObjectState). o.cells) (object_here (shop_meaning p) t s told after n.step (omega (arith, n.exists, n.long)))
 
 pub cells_elsewhere : (p : ShopParts) (t : Terms) (s : State) (told : Key × Note) (after : State) (n : IsShopStep p t s told after) (i : ℕ)
-    → i ≢ n.step.event.key.dest → cells_at after i ≡ cells_at s i
-cells_elsewhere p t s told after n i apart =
-    ap (λ s. cells_at s i) n.step.leaves
-    ∙ ap (λ (o : ObjectState). o.cells) (get_or-set_other s.objects n.step.event.key.dest i (first_firing s n.step.event n.step.effect).state no_object apart)
+    → i ≢ n.event.key.dest → cells_at after i ≡ cells_at s i
+cells_elsewhere p t s told after n i apart = ap (λ (o : ObjectState). o.cells) (object_elsewhere (shop_meaning p) t s told after n.step i apart)
 
 -- a sum over what is pending: the event is taken off, and what it sends comes in
 pub sum_before : (p : ShopParts) (t : Terms) (s : State) (told : Key × Note) (after : State) (n : IsShopStep p t s told after) (f : Event → ℕ)
-    → sum_by f s.pending ≡ f n.step.event + sum_by f n.step.rest
-sum_before p t s told after n f = ap (sum_by f) n.step.pending ∙ sum_by-cons f n.step.event n.step.rest
+    → sum_by f s.pending ≡ f n.event + sum_by f n.rest
+sum_before p t s told after n f = pending_before (shop_meaning p) t s told after n.step f
 
 pub sum_after : (p : ShopParts) (t : Terms) (s : State) (told : Key × Note) (after : State) (n : IsShopStep p t s told after) (f : Event → ℕ)
-    → sum_by f after.pending ≡ sum_by f (first_firing s n.step.event n.step.effect).events + sum_by f n.step.rest
-sum_after p t s told after n f =
-    ap (λ (s : State). sum_by f s.pending) n.step.leaves ∙ sum_by-enqueue_all f (first_firing s n.step.event n.step.effect).events n.step.rest
+    → sum_by f after.pending ≡ sum_by f (first_firing s n.event n.effect).events + sum_by f n.rest
+sum_after p t s told after n f = pending_after (shop_meaning p) t s told after n.step f
 
 -- a station at the start
 pub station_at_start : (p : ShopParts) (i : ℕ) → i < length p.stations → cells_at (initial_state (shop_meaning p)) i ≡ first_station_cells (station_at p.stations i)

@@ -226,26 +226,20 @@ module _ (p : ShopParts) (t : Terms) (fine : IsShop p) (i : ℕ) (exists : i < l
     step : IsShopStep p t s told after
     step = shop_step p t s told after fine (n, refl) is_next
 
-    abbrev event : Event
-    event = step.step.event
-
-    abbrev dest : ℕ
-    dest = step.step.event.key.dest
-
     records_are : first_records (suc n) m t ≡ first_records n m t ++ told ∷ []
     records_are = gathered-more record_of m t n (does told after) is_next
 
-    told_dest : told.0.dest ≡ dest
-    told_dest = ap (λ (r : Key × Note). r.0.dest) step.step.tells
+    told_dest : told.0.dest ≡ step.dest
+    told_dest = ap (λ (r : Key × Note). r.0.dest) step.tells
 
-    -- what is told, and the cells, after the event
+    -- what is told, and the cells, after the step.event
     as_after : (clock : ℕ) → AddsUp here (told_at i (first_records n m t ++ told ∷ [])) (cells_at after i) clock
         → AddsUp here (told_of p t (suc n) i) (cells_at (after_events (suc n) m t) i) clock
     as_after clock adds =
         subst (λ (s : State). AddsUp here (told_of p t (suc n) i) (cells_at s i) clock) (sym (after_events-does m t n told after is_next))
         (subst (λ (rs : List (Key × Note)). AddsUp here (told_at i rs) (cells_at after i) clock) (sym records_are) adds)
 
-    elsewhere : i ≢ dest → (clock : ℕ) → AllBy clock (first_records n m t) → AddsUp here (told_of p t (suc n) i) (cells_at (after_events (suc n) m t) i) clock
+    elsewhere : i ≢ step.dest → (clock : ℕ) → AllBy clock (first_records n m t) → AddsUp here (told_of p t (suc n) i) (cells_at (after_events (suc n) m t) i) clock
     elsewhere apart clock by_then =
         let same : told_at i (first_records n m t ++ told ∷ []) ≡ told_at i (first_records n m t) = told_at-elsewhere i (first_records n m t) told (λ eq. apart (sym eq ∙ told_dest)) in
         as_after clock
@@ -253,28 +247,28 @@ module _ (p : ShopParts) (t : Terms) (fine : IsShop p) (i : ℕ) (exists : i < l
         (subst (λ (c : CellData). AddsUp here (told_at i (first_records n m t)) c clock) (sym (cells_elsewhere p t s told after step i apart)) (before clock by_then)))
 
     -- at its own tick
-    at_tick : i ≡ dest → AddsUp here (told_of p t (suc n) i) (cells_at (after_events (suc n) m t) i) (time_part event.key.stamp)
+    at_tick : i ≡ step.dest → AddsUp here (told_of p t (suc n) i) (cells_at (after_events (suc n) m t) i) (time_part step.event.key.stamp)
     at_tick is =
-        let now : ℕ = time_part event.key.stamp in
-        let early : dest < length p.stations = omega (arith, exists) in
+        let now : ℕ = time_part step.event.key.stamp in
+        let early : step.dest < length p.stations = omega (arith, exists) in
         let st = station_step p t s told after fine step (serving p t s fine (n, refl)) early in
-        let x : Effect = step.step.effect in
-        let site : Site = site_of p dest event in
-        let cells : CellData = cells_at s dest in
-        let there : Station = station_at p.stations dest in
+        let x : Effect = step.effect in
+        let site : Site = site_of p step.dest step.event in
+        let cells : CellData = cells_at s step.dest in
+        let there : Station = station_at p.stations step.dest in
         let later : CellData = cells_after_all x.changes cells in
-        let had : AddsUp there (told_at dest (first_records n m t)) cells now =
-        subst (λ k. AddsUp (station_at p.stations k) (told_at k (first_records n m t)) (cells_at s k) now) is (before now (earlier p t fine n event step.step.rest step.step.pending)) in
-        let now_so : AddsUp there (told_at dest (first_records n m t) ++ parts_at now x.note) later now =
-        adds_on p site cells event st.at x st.does_so (told_at dest (first_records n m t)) later
-        (reads_after site (routes_of p) there cells event st.at.lawful x st.does_so) had in
-        let parts : timed_parts told ≡ parts_at now x.note = ap (λ (r : Key × Note). timed_parts r) step.step.tells in
-        let same : told_at dest (first_records n m t ++ told ∷ []) ≡ told_at dest (first_records n m t) ++ parts_at now x.note =
-        told_at-here dest (first_records n m t) told told_dest ∙ ap (λ (more : List TimedPart). told_at dest (first_records n m t) ++ more) parts in
+        let had : AddsUp there (told_at step.dest (first_records n m t)) cells now =
+        subst (λ k. AddsUp (station_at p.stations k) (told_at k (first_records n m t)) (cells_at s k) now) is (before now (earlier p t fine n step.event step.rest step.pending)) in
+        let now_so : AddsUp there (told_at step.dest (first_records n m t) ++ parts_at now x.note) later now =
+        adds_on p site cells step.event st.at x st.does_so (told_at step.dest (first_records n m t)) later
+        (reads_after site (routes_of p) there cells step.event st.at.lawful x st.does_so) had in
+        let parts : timed_parts told ≡ parts_at now x.note = ap (λ (r : Key × Note). timed_parts r) step.tells in
+        let same : told_at step.dest (first_records n m t ++ told ∷ []) ≡ told_at step.dest (first_records n m t) ++ parts_at now x.note =
+        told_at-here step.dest (first_records n m t) told told_dest ∙ ap (λ (more : List TimedPart). told_at step.dest (first_records n m t) ++ more) parts in
         as_after now
         (subst (λ k. AddsUp (station_at p.stations k) (told_at k (first_records n m t ++ told ∷ [])) (cells_at after k) now) (sym is)
-        (subst (λ (parts : List TimedPart). AddsUp there parts (cells_at after dest) now) (sym same)
-        (subst (λ (c : CellData). AddsUp there (told_at dest (first_records n m t) ++ parts_at now x.note) c now) (sym (cells_here p t s told after step)) now_so)))
+        (subst (λ (parts : List TimedPart). AddsUp there parts (cells_at after step.dest) now) (sym same)
+        (subst (λ (c : CellData). AddsUp there (told_at step.dest (first_records n m t) ++ parts_at now x.note) c now) (sym (cells_here p t s told after step)) now_so)))
 
     stands_on : Stands (suc n)
     stands_on clock by_then =
@@ -282,18 +276,18 @@ module _ (p : ShopParts) (t : Terms) (fine : IsShop p) (i : ℕ) (exists : i < l
         let all : By (first_records n m t ++ told ∷ []) = subst By records_are by_then in
         let front : By (first_records n m t) = Each-front (λ (r : Key × Note). time_part r.0.stamp ≤ clock) (first_records n m t) (told ∷ []) all in
         let back : By (told ∷ []) = Each-back (λ (r : Key × Note). time_part r.0.stamp ≤ clock) (first_records n m t) (told ∷ []) all in
-        let now : ℕ = time_part event.key.stamp in
-        let time : time_part told.0.stamp ≡ now = ap (λ (r : Key × Note). time_part r.0.stamp) step.step.tells in
+        let now : ℕ = time_part step.event.key.stamp in
+        let time : time_part told.0.stamp ≡ now = ap (λ (r : Key × Note). time_part r.0.stamp) step.tells in
         let last : time_part told.0.stamp ≤ clock = back.0 in
         ⊎_elim
-        (λ (is : i ≡ dest).
+        (λ (is : i ≡ step.dest).
         let records : AllBy now (first_records (suc n) m t) =
         subst (AllBy now) (sym records_are)
-        (Each-append (λ (r : Key × Note). time_part r.0.stamp ≤ now) (first_records n m t) (told ∷ []) (earlier p t fine n event step.step.rest step.step.pending) ((omega arith), tt)) in
+        (Each-append (λ (r : Key × Note). time_part r.0.stamp ≤ now) (first_records n m t) (told ∷ []) (earlier p t fine n step.event step.rest step.pending) ((omega arith), tt)) in
         clock_passes here (told_of p t (suc n) i) (cells_at (after_events (suc n) m t) i) now clock (told_by_then i now (first_records (suc n) m t) records) (omega arith)
         (flow_law p t (suc n) i fine exists) (counts_lawful p t (after_events (suc n) m t) i fine (suc n, refl) exists) (at_tick is))
-        (λ (apart : i ≢ dest). elsewhere apart clock front)
-        (cases_eq i dest)
+        (λ (apart : i ≢ step.dest). elsewhere apart clock front)
+        (cases_eq i step.dest)
 
   all_stand : (n : ℕ) → Stands n
   unfolding after_events gathered told_at

@@ -1,5 +1,5 @@
 -- Events at hand, of which the first ones are done.
-use Rattle.std.proofs.Common.{◌≡◌, ℕ, zero, suc, ◌+◌, ◌-◌, ◌<◌, ◌≤◌, Bool, true, false, List, [], ◌∷◌, ◌++◌, length, take, drop, get_or, sym, refl, ap, ◌∙◌, subst, arith}
+use Rattle.std.proofs.Common.{◌≡◌, ◌≢◌, ℕ, zero, suc, ◌+◌, ◌-◌, ◌<◌, ◌≤◌, Bool, true, false, List, [], ◌∷◌, ◌++◌, length, take, drop, get_or, sym, refl, ap, ◌∙◌, subst, arith}
 use Rattle.std.specs.Prelude.{◌↔◌, IsTrue, insert, nat_eq}
 use Rattle.std.specs.Bool.{OnTrue, OnFalse}
 use Rattle.std.proofs.lemmas.Bool.Decides.{nat_tests}
@@ -133,6 +133,12 @@ inserted-first es at place e h le =
     let P : ℕ → Type 0 = λ n. AllBefore e.key (take n (drop at es)) in
     in_place es at place e h (subst P (sym none) tt)
 
+-- what is read behind the first ones
+read_behind : (es : List Event) (at i : ℕ) (x : Event) → at ≤ i → x ≡ get_or es i x → get_or (drop at es) (i - at) x ≡ x
+read_behind es at i x le read =
+    let there : at + (i - at) ≡ i = omega arith in
+    get_or-drop at es (i - at) x ∙ ap (λ n. get_or es n x) there ∙ sym read
+
 -- or it doesn't come before the one ahead of its place
 pub inserted : (es : List Event) (at place : ℕ) (e x : Event) → IsPlace e es at place → at < place → x ≡ get_or es (place - 1) x → key_lt e.key x.key ≡ false
     → IsAscending (drop at es) → IsNewKey e.key (drop at es) → drop at (insert es place e) ≡ enqueue e (drop at es)
@@ -140,34 +146,18 @@ inserted es at place e x h some read none up new =
     let upto = h.upto in
     let k : ℕ = place - 1 - at in
     let long = length-drop at es in
-    let there : at + k ≡ place - 1 = omega arith in
-    let is : get_or (drop at es) k x ≡ x = get_or-drop at es k x ∙ ap (λ n. get_or es n x) there ∙ sym read in
+    let is = read_behind es at (place - 1) x (omega arith) read in
     let Q : Event → Type 0 = λ y. key_lt e.key y.key ≡ false in
     let P : ℕ → Type 0 = λ n. AllBefore e.key (take n (drop at es)) in
     let next : k + 1 ≡ place - at = omega arith in
     in_place es at place e h (subst P next (before_place e (drop at es) k x up new (omega (arith, long)) (subst Q (sym is) none)))
 
 -- the last event decides
-pub last_before : (key : Key) (es : List Event) (at last : ℕ) (x : Event) (r : Bool) → at < length es → last + 1 ≡ length es → x ≡ get_or es last x → r ≡ key_lt x.key key → IsAscending (drop at es)
-    → OnTrue r (AllBefore key (drop at es))
-last_before key es at last x true lt is read test up =
-    let k : ℕ = last - at in
-    let long = length-drop at es in
-    let there : at + k ≡ last = omega arith in
-    let same : get_or (drop at es) k x ≡ x = get_or-drop at es k x ∙ ap (λ n. get_or es n x) there ∙ sym read in
+decides : (key : Key) (es : List Event) (k : ℕ) (x : Event) (r : Bool) → k + 1 ≡ length es → get_or es k x ≡ x → r ≡ key_lt x.key key → IsAscending es → OnTrue r (AllBefore key es) × OnFalse r (HasLater key es)
+decides key es k x true last read test up =
     let Q : Event → Type 0 = λ y. key_lt y.key key ≡ true in
-    all_before key (drop at es) k x up (omega (arith, long)) (subst Q (sym same) (sym test))
-last_before key es at last x false lt is read test up = tt
-
-pub last_later : (key : Key) (es : List Event) (at last : ℕ) (x : Event) (r : Bool) → at < length es → last + 1 ≡ length es → x ≡ get_or es last x → r ≡ key_lt x.key key
-    → OnFalse r (HasLater key (drop at es))
-last_later key es at last x true lt is read test = tt
-last_later key es at last x false lt is read test =
-    let k : ℕ = last - at in
-    let long = length-drop at es in
-    let there : at + k ≡ last = omega arith in
-    let same : get_or (drop at es) k x ≡ x = get_or-drop at es k x ∙ ap (λ n. get_or es n x) there ∙ sym read in
-    (x, (k, omega (arith, long), same), sym test)
+    (all_before key es k x up (sym last) (subst Q (sym read) (sym test)), tt)
+decides key es k x false last read test up = (tt, (x, (k, omega arith, read), sym test))
 
 -- the events at places, of which there are as many
 pub length-shown : (es : List Event) (places : List ℕ) → length (shown es places) ≡ length places
@@ -194,20 +184,31 @@ inside_more : (es : List Event) (places : List ℕ) (e : Event) → AreInside es
 inside_more es places e inside =
     Each-map (λ (p : ℕ). p < length es) (λ (p : ℕ). p < length (es ++ e ∷ [])) places (λ p lt. let long = length_push es e in omega (arith, long)) inside
 
-pub placed_insert : (done stop i : ℕ) (es : List Event) (places : List ℕ) (e : Event) → ArePlaced done stop es places → i ≤ length places → ArePlaced done stop (es ++ e ∷ []) (insert places i (length es))
-placed_insert done stop i es places e h le =
+-- an event was pushed, and its place put among the others
+pub record Inserted (es : List Event) (places : List ℕ) (i : ℕ) (e : Event) (es2 : List Event) (places2 : List ℕ) : Type 0 where
+  pub pushed : es2 ≡ es ++ e ∷ []
+  pub put : places2 ≡ insert places i (length es)
+
+pub as_inserted : {es room es2 : List Event} {places places2 : List ℕ} {i n : ℕ} {e : Event} → room ≡ es → es2 ≡ room ++ e ∷ [] → n ≡ length es → places2 ≡ insert places i n → Inserted es places i e es2 places2
+as_inserted {places = places} {i = i} {e = e} same pushed many put = record {
+  pushed = pushed ∙ ap (λ w. w ++ e ∷ []) same;
+  put = put ∙ ap (insert places i) many;
+}
+
+pub placed_insert : {done stop i : ℕ} {es es2 : List Event} {places places2 : List ℕ} {e : Event} → ArePlaced done stop es places → Inserted es places i e es2 places2 → i ≤ length places → ArePlaced done stop es2 places2
+placed_insert {i = i} {es} {places = places} {e = e} h at le =
     let few = h.few in
     let more = length-insert places i (length es) le in
     let long = length_push es e in
-    record {
+    rw (at.pushed, at.put) record {
       few = omega (arith, few, more);
       upto = (let upto = h.upto in omega (arith, more, upto));
       inside = each_insert (λ (p : ℕ). p < length (es ++ e ∷ [])) places i (length es) (inside_more es places e h.inside) (omega (arith, long));
     }
 
-pub shown_inserted : (done stop i : ℕ) (es : List Event) (places : List ℕ) (e : Event) → ArePlaced done stop es places → shown (es ++ e ∷ []) (insert places i (length es)) ≡ insert (shown es places) i e
-shown_inserted done stop i es places e h =
-    shown_insert (es ++ e ∷ []) places i (length es) ∙ (λ j. insert (shown_more es places e h.inside j) i (get_or_push es e no_event (length es) refl j))
+pub shown_inserted : {done stop i : ℕ} {es es2 : List Event} {places places2 : List ℕ} {e : Event} → ArePlaced done stop es places → Inserted es places i e es2 places2 → shown es2 places2 ≡ insert (shown es places) i e
+shown_inserted {i = i} {es} {places = places} {e = e} h at =
+    rw (at.pushed, at.put) (shown_insert (es ++ e ∷ []) places i (length es) ∙ (λ j. insert (shown_more es places e h.inside j) i (get_or_push es e no_event (length es) refl j)))
 
 pub placed_none : (es : List Event) (places : List ℕ) → places ≡ [] → ArePlaced 0 0 es places
 placed_none es places none =
@@ -232,3 +233,15 @@ empty_test es at n is le = (
   (λ yes. let same : at ≡ n = grind (arith, nat_tests) in drop_all at es (omega arith)),
   (λ none. let same : at ≡ length es = none_left es at le none in grind (arith, nat_tests)),
 )
+
+-- the last event that is left decides whether all come before a key
+pub last_decides : {done stop : ℕ} {es : List Event} {places : List ℕ} {seen : List Event} (key : Key) (m n : ℕ) (x : Event) (r : Bool) → ArePlaced done stop es places → drop done (shown es places) ≡ seen
+    → m ≡ length places → n ≡ length places → done ≢ m → x ≡ event_at (shown es places) (n - 1) → r ≡ key_lt x.key key → IsAscending seen → OnTrue r (AllBefore key seen) × OnFalse r (HasLater key seen)
+last_decides {done} {es = es} {places = places} key m n x r are view m_is n_is some read test up =
+    let long = length-shown es places in
+    let few = are.few in
+    let left = length-drop done (shown es places) in
+    let is = read_behind (shown es places) done (n - 1) x (omega arith) (read_as (shown es places) (n - 1) x (omega arith) read) in
+    let D : List Event → Type 0 = λ xs. OnTrue r (AllBefore key xs) × OnFalse r (HasLater key xs) in
+    let A : List Event → Type 0 = IsAscending in
+    subst D view (decides key (drop done (shown es places)) (n - 1 - done) x r (omega arith) is test (subst A (sym view) up))

@@ -27,7 +27,7 @@ use Rattle.key_order.proofs.MemberLemmas.{Each-permutation, each-contains}
 use Rattle.key_order.proofs.OrderLemmas.{by-permutation}
 use Rattle.tick_queue.specs.Levels.{LevelsView, IsOfTick, IsLaterThan, HasLeft, Advances}
 use Rattle.tick_queue.specs.Near.{AllBefore, LosesFirst, Refills, StartsWith, GoesLater, GoesNear}
-use Rattle.tick_queue.specs.Queues.{AreInOrder}
+use Rattle.tick_queue.specs.Queues.{QueueView, AreInOrder}
 
 abbrev pub pending_of : List Event → List Event → List Event
 pending_of near later = near ++ in_order later
@@ -81,34 +81,50 @@ pub pending-none : (near later : List Event) → near ≡ [] → later ≡ [] �
 unfolding enqueue_all
 pending-none near later no_near no_later = (λ i. no_near i ++ in_order (no_later i))
 
--- an event comes that is later than those at hand
-pub pushed_later : (near : List Event) (tick : ℕ) (later new : List Event) (e : Event) → AreInOrder near tick later → IsPermutation (e ∷ later) new → AllBefore e.key near
-    → IsNewKey e.key (pending_of near later) → length (pending_of near later) + 1 < 2 ^ 60 → AreInOrder near tick new
-pushed_later near tick later new e h moves before is_new room =
+-- an event comes whose key is new, and there is room for it
+pub record Comes (near : List Event) (tick : ℕ) (later : List Event) (e : Event) (old : List Event) : Type 0 where
+  pub held : AreInOrder near tick later
+  pub seen : pending_of near later ≡ old
+  pub new : IsNewKey e.key (pending_of near later)
+  pub room : length (pending_of near later) + 1 < 2 ^ 60
+
+pub comes : {near later : List Event} {tick hand least : ℕ} {seen : QueueView} (e : Event) → AreInOrder near tick later → record { pending = pending_of near later; at_hand = hand; fresh_least = least } ≡ seen
+    → IsNewKey e.key seen.pending → length seen.pending + 1 < 2 ^ 60 → Comes near tick later e seen.pending
+comes {near} {later} {tick} {seen = seen} e held view new room =
+    let same : pending_of near later ≡ seen.pending = ap (λ (v : QueueView). v.pending) view in
+    record { held = held; seen = same; new = rw same new; room = rw same room }
+
+-- it is later than those at hand
+pub pushed_later : {near later old : List Event} {tick : ℕ} {e : Event} (it : Comes near tick later e old) (was new : List Event) (now : ℕ) → was ≡ later → IsPermutation (e ∷ was) new → now ≡ tick → AllBefore e.key near
+    → AreInOrder near now new
+pushed_later {near} {later} {tick = tick} {e = e} it was new now same moved is before =
+    let moves : IsPermutation (e ∷ later) new = rw same at moved in
     let long = length_permutation (e ∷ later) new moves in
     let all = length-pending near later in
-    record {
-      up = h.up;
-      reached = h.reached;
+    rw is record {
+      up = it.held.up;
+      reached = it.held.reached;
       before = after_moved near (e ∷ later) new moves
-          (Each-both (λ (x : Event). key_lt x.key e.key ≡ true) (λ (x : Event). AllAfter x.key later) (λ (x : Event). AllAfter x.key (e ∷ later)) near (λ x first rest. (first, rest)) before h.before);
+          (Each-both (λ (x : Event). key_lt x.key e.key ≡ true) (λ (x : Event). AllAfter x.key later) (λ (x : Event). AllAfter x.key (e ∷ later)) near (λ x first rest. (first, rest)) before it.held.before);
       distinct = Differ-permutation key_of (near ++ (e ∷ later)) (near ++ new) (IsPermutation-append_right near (e ∷ later) new moves)
           (Differ-permutation key_of (e ∷ (near ++ later)) (near ++ (e ∷ later)) (IsPermutation-sym (near ++ (e ∷ later)) (e ∷ (near ++ later)) (IsPermutation-middle near e later))
-          (Differ-cons key_of e (near ++ later) (new_to_both e.key near later is_new) h.distinct));
-      few = omega (arith, long, all, room);
+          (Differ-cons key_of e (near ++ later) (new_to_both e.key near later it.new) it.held.distinct));
+      few = (let room = it.room in omega (arith, long, all, room));
     }
 
-pub later_in_place : (near : List Event) (tick : ℕ) (later new : List Event) (e : Event) → AreInOrder near tick later → IsPermutation (e ∷ later) new → AllBefore e.key near
-    → IsNewKey e.key (pending_of near later) → length (pending_of near later) + 1 < 2 ^ 60 → pending_of near new ≡ enqueue e (pending_of near later)
-later_in_place near tick later new e h moves before is_new room =
+pub later_in_place : {near later old : List Event} {tick : ℕ} {e : Event} (it : Comes near tick later e old) (was new : List Event) → was ≡ later → IsPermutation (e ∷ was) new → AllBefore e.key near
+    → pending_of near new ≡ enqueue e old
+later_in_place {near} {later} {tick = tick} {e = e} it was new same moved before =
     let old : List Event = pending_of near later in
     let now : List Event = pending_of near new in
-    let h2 = pushed_later near tick later new e h moves before is_new room in
-    by-permutation key_of now (enqueue e old) (pending_up near tick new h2) (IsAscending-enqueue e old is_new (pending_up near tick later h))
+    let moves : IsPermutation (e ∷ later) new = rw same at moved in
+    let h2 = pushed_later it was new tick same moved refl before in
+    by-permutation key_of now (enqueue e old) (pending_up near tick new h2) (IsAscending-enqueue e old it.new (pending_up near tick later it.held))
     (IsPermutation-trans now (near ++ new) (enqueue e old) (IsPermutation-sym (near ++ new) now (pending_moves near new))
     (IsPermutation-trans (near ++ new) (near ++ (e ∷ later)) (enqueue e old) (IsPermutation-sym (near ++ (e ∷ later)) (near ++ new) (IsPermutation-append_right near (e ∷ later) new moves))
     (IsPermutation-trans (near ++ (e ∷ later)) (e ∷ (near ++ later)) (enqueue e old) (IsPermutation-middle near e later)
     (IsPermutation-trans (e ∷ (near ++ later)) (e ∷ old) (enqueue e old) (IsPermutation-cons e (near ++ later) old (pending_moves near later)) (enqueue-permutation e old)))))
+    ∙ ap (enqueue e) it.seen
 
 -- an event of a later tick comes after those at hand
 later_tick : (near : List Event) (tick : ℕ) (e : Event) → Each (λ (x : Event). time_part x.key.stamp ≤ tick) near → tick < time_part e.key.stamp → AllBefore e.key near
@@ -127,21 +143,23 @@ enqueue-front e (x ∷ xs) ys after =
     elim (key_lt e.key x.key) as (λ b. cond b (e ∷ x ∷ (xs ++ ys)) (x ∷ enqueue e (xs ++ ys)) ≡ cond b (e ∷ x ∷ xs) (x ∷ enqueue e xs) ++ ys)
     [ true ↦ refl | false ↦ ap (λ w. x ∷ w) (enqueue-front e xs ys after) ]
 
-pub near_in_place : (near later : List Event) (e : Event) → AllAfter e.key later → pending_of (enqueue e near) later ≡ enqueue e (pending_of near later)
-near_in_place near later e after =
-    sym (enqueue-front e near (in_order later) (Each-permutation (λ (y : Event). key_lt e.key y.key ≡ true) later (in_order later) (in_order-permutation later) after))
+pub near_in_place : {near later old : List Event} {tick : ℕ} {e : Event} (it : Comes near tick later e old) (now : List Event) → AllAfter e.key later → now ≡ enqueue e near → pending_of now later ≡ enqueue e old
+near_in_place {near} {later} {e = e} it now after is =
+    ap (λ es. pending_of es later) is
+    ∙ sym (enqueue-front e near (in_order later) (Each-permutation (λ (y : Event). key_lt e.key y.key ≡ true) later (in_order later) (in_order-permutation later) after))
+    ∙ ap (enqueue e) it.seen
 
-pub pushed_near : (near : List Event) (tick : ℕ) (later : List Event) (e : Event) → AreInOrder near tick later → AllAfter e.key later → time_part e.key.stamp ≤ tick
-    → IsNewKey e.key (pending_of near later) → length (pending_of near later) + 1 < 2 ^ 60 → AreInOrder (enqueue e near) tick later
-pushed_near near tick later e h after le is_new room =
+pub pushed_near : {near later old : List Event} {tick : ℕ} {e : Event} (it : Comes near tick later e old) (now : List Event) → AllAfter e.key later → time_part e.key.stamp ≤ tick → now ≡ enqueue e near → AreInOrder now tick later
+pushed_near {near} {later} {tick = tick} {e = e} it now after le is =
     let long = length-enqueue e near in
     let all = length-pending near later in
-    record {
-      up = IsAscending-enqueue e near (new_near e.key near later is_new) h.up;
-      reached = Each-enqueue (λ (x : Event). time_part x.key.stamp ≤ tick) e near le h.reached;
-      before = Each-enqueue (λ (x : Event). AllAfter x.key later) e near after h.before;
+    let room = it.room in
+    rw is record {
+      up = IsAscending-enqueue e near (new_near e.key near later it.new) it.held.up;
+      reached = Each-enqueue (λ (x : Event). time_part x.key.stamp ≤ tick) e near le it.held.reached;
+      before = Each-enqueue (λ (x : Event). AllAfter x.key later) e near after it.held.before;
       distinct = Differ-permutation key_of (e ∷ (near ++ later)) (enqueue e near ++ later) (IsPermutation-append_left later (e ∷ near) (enqueue e near) (enqueue-permutation e near))
-          (Differ-cons key_of e (near ++ later) (new_to_both e.key near later is_new) h.distinct);
+          (Differ-cons key_of e (near ++ later) (new_to_both e.key near later it.new) it.held.distinct);
       few = omega (arith, long, all, room);
     }
 
@@ -255,10 +273,14 @@ at_hand_if near k None starts = tt
 at_hand_if near k (Some e) starts = starts_short near k e.now starts
 
 -- where an event goes
-pub goes_near : (near : List Event) (tick : ℕ) (later : List Event) (e : Event) → AreInOrder near tick later → Each (λ (x : Event). tick ≤ time_part x.key.stamp) later → IsNewKey e.key (pending_of near later)
+goes : (near : List Event) (tick : ℕ) (later : List Event) (e : Event) → AreInOrder near tick later → Each (λ (x : Event). tick ≤ time_part x.key.stamp) later → IsNewKey e.key (pending_of near later)
     → GoesNear near tick e → AllAfter e.key later × (time_part e.key.stamp ≤ tick)
-goes_near near tick later e h all is_new (inl early) = (earlier_tick tick later e all early, omega arith)
-goes_near near tick later e h all is_new (inr here) = (before_one near tick later e here.1.0 h is_new here.1.1 here.1.2, (let same = here.0 in omega arith))
+goes near tick later e h all is_new (inl early) = (earlier_tick tick later e all early, omega arith)
+goes near tick later e h all is_new (inr here) = (before_one near tick later e here.1.0 h is_new here.1.1 here.1.2, (let same = here.0 in omega arith))
+
+pub goes_near : {near later old : List Event} {tick : ℕ} {e : Event} (it : Comes near tick later e old) (now : ℕ) → Each (λ (x : Event). tick ≤ time_part x.key.stamp) later → now ≡ tick → GoesNear near now e
+    → AllAfter e.key later × (time_part e.key.stamp ≤ tick)
+goes_near {near} {later} {tick = tick} {e = e} it now all is near_now = goes near tick later e it.held all it.new (rw is at near_now)
 
 -- a queue that was settled, or that lost events
 pub settled_order : {T E : Type 0} (r : Result T E) (old new : LevelsView) (near : List Event) → KeysDiffer old.events → length old.events < 2 ^ 60 → OnOk r (Refills old new near) → OnErr r (near ≡ [])

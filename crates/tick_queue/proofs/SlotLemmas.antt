@@ -14,7 +14,7 @@ use Rattle.key_order.proofs.EachLemmas.{Each-append}
 use Rattle.key_order.specs.Joined.{joined}
 use Rattle.key_order.proofs.JoinedLemmas.{slot_first, slot_out}
 use Rattle.tick_queue.specs.Marks.{mark_of}
-use Rattle.tick_queue.specs.Slots.{AllEmpty, AreSlots}
+use Rattle.tick_queue.specs.Slots.{SlotsView, AllEmpty, AreSlots}
 
 -- an event comes into a slot
 pub slot_put : (rs : List (List Event)) (i : ℕ) (e : Event) → i < length rs → IsPermutation (e ∷ joined rs) (joined (slice_set rs i (e ∷ slice_index_or rs i [])))
@@ -111,36 +111,47 @@ read_other slots new slot i es ne is = ap (λ ss. slice_index_or ss i []) is ∙
 
 -- the front of one slot went to another
 pub record Moved (old new : List (List Event)) (from to : ℕ) : Type 0 where
+  pub some : slice_index_or old from [] ≢ []
   pub long : length new ≡ length old
   pub full : slice_index_or new to [] ≢ []
   pub others : (i : ℕ) → i ≢ to → i ≢ from → slice_index_or new i [] ≡ slice_index_or old i []
 
-pub slots_moved : (old new : List (List Event)) (from to : ℕ) → to < length old → slice_index_or old from [] ≢ [] → ((event : Event) → HasFront old from event → MovesFront old new from to event) → Moved old new from to
-slots_moved old new from to within some moves =
+pub slots_moved : {marks : List ℕ} {old : List (List Event)} {spare : ℕ} {seen : SlotsView} (new : List (List Event)) (from to : ℕ) → AreSlots marks old → record { slots = old; spare = spare } ≡ seen
+    → to < 512 → slice_index_or seen.slots from [] ≢ [] → ((event : Event) → HasFront old from event → MovesFront old new from to event) → Moved old new from to
+slots_moved {old = old} {seen = seen} new from to are view within seen_some moves =
+    let same : old ≡ seen.slots = ap (λ (v : SlotsView). v.slots) view in
+    let some : slice_index_or old from [] ≢ [] = λ none. seen_some (ap (λ ss. slice_index_or ss from []) (sym same) ∙ none) in
     let first = first_event (slice_index_or old from []) some in
     let moved = moves first.event (first.rest, first.is) in
     let between : List (List Event) = moved.0 in
     let rest : List Event = moved.1.0 in
     let long : length between ≡ length old = ap length moved.1.2 ∙ length-set old from rest in
     let front : List Event = first.event ∷ slice_index_or between to [] in
-    let here : slice_index_or new to [] ≡ front = read_same between new to front (omega (arith, long)) moved.2 in
+    let here : slice_index_or new to [] ≡ front = read_same between new to front (let all = are.long in omega (arith, long, all)) moved.2 in
     record {
+      some = some;
       long = ap length moved.2 ∙ length-set between to front ∙ long;
       full = λ none. let two : front ≡ [] = sym here ∙ none in cc two;
       others = λ i far apart. read_other between new to i front far moved.2 ∙ read_other old between from i rest apart moved.1.2;
     }
 
+pub moves_seen : {old new : List (List Event)} {spare : ℕ} {seen : SlotsView} (from to : ℕ) → record { slots = old; spare = spare } ≡ seen → ((event : Event) → HasFront old from event → MovesFront old new from to event)
+    → (event : Event) → HasFront seen.slots from event → MovesFront seen.slots new from to event
+moves_seen {new = new} from to view moves =
+    let P : SlotsView → Type 0 = λ v. (event : Event) → HasFront v.slots from event → MovesFront v.slots new from to event in
+    subst P view moves
+
 -- the marks still say which slots have events, where that one has more
-pub still_slots : (marks marks2 : List ℕ) (old new : List (List Event)) (from to : ℕ) → AreSlots marks old → Moved old new from to → slice_index_or old from [] ≢ [] → slice_index_or new from [] ≢ []
+pub still_slots : (marks marks2 : List ℕ) (old new : List (List Event)) (from to : ℕ) → AreSlots marks old → Moved old new from to → slice_index_or new from [] ≢ []
     → mark_of marks2 to ≡ 1 → ((i : ℕ) → i ≢ to → mark_of marks2 i ≡ mark_of marks i) → AreSlots marks2 new
-still_slots marks marks2 old new from to are moved some left set others = record {
+still_slots marks marks2 old new from to are moved left set others = record {
   long = moved.long ∙ are.long;
   clear = λ i zero. elim (cases_eq i to) [
     | inl same ↦ absurd (let one = ap (mark_of marks2) same ∙ set in omega (arith, one, zero))
     | inr far ↦
         let was : mark_of marks i ≡ 0 = sym (others i far) ∙ zero in
         elim (cases_eq i from) [
-          | inl here ↦ absurd (some (sym (ap (λ n. slice_index_or old n []) here) ∙ are.clear i was))
+          | inl here ↦ absurd (moved.some (sym (ap (λ n. slice_index_or old n []) here) ∙ are.clear i was))
           | inr apart ↦ moved.others i far apart ∙ are.clear i was
         ]
   ];

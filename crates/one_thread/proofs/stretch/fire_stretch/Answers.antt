@@ -104,5 +104,5 @@ loop-key-smaller g c =
     let done : P (Does c.in-Does.key) = subst P c.in-Does.is c.in_ok-key.ensures in
     let same = ap (λ (s : State). s.count) c.in_ok-settle.ensures.state in
     let count = done.count in
-    let free = done.free in
+    let free = done.went.free in
     omega (arith, same, count, free)

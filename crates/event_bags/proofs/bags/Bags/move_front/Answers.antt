@@ -1,39 +1,23 @@
-use Rattle.std.proofs.Common.{◌∷◌, [], rules}
+use Rattle.std.proofs.Common.{◌∷◌, [], arith}
 use Rattle.std.proofs.Math.ListN.{set}
 use Rattle.std.specs.Prelude.{slice_index_or}
-use Rattle.event_bags.proofs.Calls.{there, sees, some_if, front_within, moved, moved_front}
+use Rattle.event_bags.proofs.Calls.{sees, some_front, front_inside, moved, moved_front}
 use Rattle.event_bags.proofs.bags.Bags.move_front.Goals as goal
 
 pub index-requires : goal.index-requires
 index-requires g c =
-    let held = c.self.invariant.1 in
-    let within = there _ _ _ _ _ c.args.from c.self.view_is c.requires.from in
-    let some = some_if held c.args.from c.index-at.result.now within c.index-at.ensures (sees held c.self.view_is) c.requires.some in
-    let inside = front_within held c.args.from c.index-at.result.now within c.index-at.ensures some in
-    search rules
+    omega (arith, (front_inside c.self.invariant.1 c.args.from c.index-at.result.now c.self.view_is c.requires.from c.index-at.ensures (some_front c.self.invariant.1 c.args.from c.index-at.result.now c.self.view_is c.requires.from c.index-at.ensures c.requires.some)).1)
 
 pub index_mut-requires-2 : goal.index_mut-requires-2
 index_mut-requires-2 g c =
-    let held = c.self.invariant.1 in
-    let within = there _ _ _ _ _ c.args.from c.self.view_is c.requires.from in
-    let some = some_if held c.args.from c.index-at.result.now within c.index-at.ensures (sees held c.self.view_is) c.requires.some in
-    let inside = front_within held c.args.from c.index-at.result.now within c.index-at.ensures some in
-    search rules
+    omega (arith, (front_inside c.self.invariant.1 c.args.from c.index-at.result.now c.self.view_is c.requires.from c.index-at.ensures (some_front c.self.invariant.1 c.args.from c.index-at.result.now c.self.view_is c.requires.from c.index-at.ensures c.requires.some)).1)
 
 pub invariant_of-self : goal.invariant_of-self
 invariant_of-self g c =
-    let held = c.self.invariant.1 in
-    let within = there _ _ _ _ _ c.args.from c.self.view_is c.requires.from in
-    let within_to = there _ _ _ _ _ c.args.to c.self.view_is c.requires.to in
-    let some = some_if held c.args.from c.index-at.result.now within c.index-at.ensures (sees held c.self.view_is) c.requires.some in
-    let left = moved held c.args.from c.args.to c.index-at.result.now c.index.result.now c.index-2.result.now within within_to some c.index-at.ensures c.index.ensures c.index-2.ensures in
+    let left = moved c.self.invariant.1 c.args.from c.args.to c.index-at.result.now c.index.result.now c.index-2.result.now c.self.view_is c.requires.from c.requires.to c.requires.some c.index-at.ensures c.index.ensures c.index-2.ensures in
     (set (set c.self.invariant.0 c.args.from left.rest) c.args.to (left.value ∷ slice_index_or (set c.self.invariant.0 c.args.from left.rest) c.args.to []), left.held)
 
 pub returns-clause-moves : goal.returns-clause-moves
 returns-clause-moves g c = λ value front.
-    let held = c.self.invariant.1 in
-    let within = there _ _ _ _ _ c.args.from c.self.view_is c.requires.from in
-    let within_to = there _ _ _ _ _ c.args.to c.self.view_is c.requires.to in
-    let some = some_if held c.args.from c.index-at.result.now within c.index-at.ensures (sees held c.self.view_is) c.requires.some in
-    let left = moved held c.args.from c.args.to c.index-at.result.now c.index.result.now c.index-2.result.now within within_to some c.index-at.ensures c.index.ensures c.index-2.ensures in
-    moved_front left _ value (sees held c.self.view_is) front
+    let left = moved c.self.invariant.1 c.args.from c.args.to c.index-at.result.now c.index.result.now c.index-2.result.now c.self.view_is c.requires.from c.requires.to c.requires.some c.index-at.ensures c.index.ensures c.index-2.ensures in
+    moved_front left _ value (sees c.self.invariant.1 c.self.view_is) front

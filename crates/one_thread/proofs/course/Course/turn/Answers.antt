@@ -34,8 +34,13 @@ returns-then-self-terms g c =
       refl,
     )
 
-pub fire-requires-clause-due : goal.fire-requires-clause-due
-fire-requires-clause-due g c lives lasts =
+pub fire-requires-after_bounds : goal.fire-requires-after_bounds
+fire-requires-after_bounds g c lives lasts =
     let h = horizon_read c.args.terms.now c.args.self.now c.self.inside.objects.items c.self.inside.queue c.self.inside.count _ _ _ c.self.view_is c.min-horizon.ensures c.fresh_least.ensures c.end_bound.ensures in
-    is_due c.args.terms.now c.args.self.now c.min-horizon.result c.in-Some.event.now h
-    (starts_read c.args.self.now c.self.inside.objects.items c.self.inside.queue c.self.inside.count c.in-Some.event.now c.self.view_is c.in-Some.ensures.some) (omega arith)
+    record {
+      lawful = c.requires.lawful;
+      settled = c.requires.settled;
+      due = is_due c.args.terms.now c.args.self.now c.min-horizon.result c.in-Some.event.now h
+          (starts_read c.args.self.now c.self.inside.objects.items c.self.inside.queue c.self.inside.count c.in-Some.event.now c.self.view_is c.in-Some.ensures.some) (omega arith);
+      free = (let count = ap (λ (v : Course). v.count) c.self.view_is in let few = c.requires.lawful.count in omega arith);
+    }

@@ -19,14 +19,12 @@ first_tick-self-inside-requires-clause-some c =
 
 pub invariant_of-self-then-slot-lt64 : goal.invariant_of-self-then-slot-lt64
 invariant_of-self-then-slot-lt64 c =
-    let long = c.first.ensures.long in
-    let small = c.in-Some.ensures.some.small in
     let old = c.loop-slot.self-inside.slots in
     let new = c.take_all.new.self in
     levels-taken c.loop-slot.self-inside.tick c.in-Some.slot c.first_tick-self-inside.result old.slots new.slots
     c.loop-slot.invariant.levels c.in-Some.ensures.some c.first_tick-self-inside.ensures c.if-slot-lt64.true
     (taken_others c.take_all.result old new c.in-Some.slot c.take_all.ensures.slots c.take_all.ensures.err)
-    (taken_left c.take_all.result old new c.in-Some.slot (omega arith) c.take_all.ensures.slots c.take_all.ensures.err)
+    (taken_left c.take_all.result old new c.in-Some.slot (omega (arith, c.first.ensures.long, c.in-Some.ensures.some.small)) c.take_all.ensures.slots c.take_all.ensures.err)
 
 pub returns-then-slot-lt64-clause-advances : goal.returns-then-slot-lt64-clause-advances
 returns-then-slot-lt64-clause-advances c =
@@ -42,9 +40,7 @@ pub returns-then-slot-lt64-clause-left : goal.returns-then-slot-lt64-clause-left
 returns-then-slot-lt64-clause-left c =
     let old = c.loop-slot.self-inside.slots.slots in
     let new = c.take_all.new.self.slots in
-    let long = c.first.ensures.long in
-    let small = c.in-Some.ensures.some.small in
-    let within : c.in-Some.slot < length old = omega arith in
+    let within : c.in-Some.slot < length old = omega (arith, c.first.ensures.long, c.in-Some.ensures.some.small) in
     let others = taken_others c.take_all.result c.loop-slot.self-inside.slots c.take_all.new.self c.in-Some.slot c.take_all.ensures.slots c.take_all.ensures.err in
     let left = taken_left c.take_all.result c.loop-slot.self-inside.slots c.take_all.new.self c.in-Some.slot within c.take_all.ensures.slots c.take_all.ensures.err in
     let same = same_long old new c.in-Some.slot others in
