@@ -58,7 +58,8 @@ pub record SumsUpShop (p : ShopParts) (first : ℕ) (totals : ShopTotals) (recor
   pub few : length records ≤ MOST_EVENTS
   pub last : totals.last ≡ last_time 0 records
   pub station_count : length totals.stations.items ≡ length p.stations
-  pub stations : (k : ℕ) (none : StationTotals) → k < length p.stations → SumsUpAtStation p first records totals.last k (get_or totals.stations.items k none)
+  pub stations : (k : ℕ) (none : StationTotals) → k < length p.stations
+      → SumsUpAtStation p first records totals.last k (get_or totals.stations.items k none)
   pub class_count : length totals.classes.items ≡ length p.classes
   pub classes : (k : ℕ) (none : ClassSums) → k < length p.classes → SumsUpAtClass p first records totals.last k (get_or totals.classes.items k none)
 

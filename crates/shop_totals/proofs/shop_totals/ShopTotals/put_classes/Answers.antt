@@ -1,4 +1,4 @@
-use Rattle.std.proofs.Common.{◌≡◌, ◌∙◌, ℕ, ◌+◌, ◌*◌, ◌++◌, List, length, subst, sym, ap, arith}
+use Rattle.std.proofs.Common.{◌≡◌, ◌∙◌, ℕ, ◌+◌, ◌*◌, ◌<◌, ◌++◌, List, length, subst, sym, ap, arith}
 use Rattle.std.specs.List.{flat_map, range_with_len}
 use Rattle.shop_model.specs.Meaning.{shop_meaning}
 use Rattle.shop_model.specs.Views.{parts_of, counted_from}
@@ -8,7 +8,6 @@ use Rattle.shop_totals.specs.Forms.{named_line}
 use Rattle.shop_totals.specs.Records.{told_at}
 use Rattle.shop_totals.specs.ShopLines.{class_line}
 use Rattle.shop_totals.specs.Summed.{SumsUpAtClass}
-use Rattle.shop_totals.specs.Sums.{class_sums_of}
 use Rattle.shop_totals.proofs.ClassLemmas.{passed-class}
 use Rattle.shop_totals.proofs.LineLemmas.{numbered-next}
 use Rattle.shop_totals.proofs.ObjectLemmas.{class-object}
@@ -30,9 +29,10 @@ loop-number-preserved g c records is =
     let n = c.loop-number.number in
     let told = told_at (length p.stations + n) records in
     let f : ℕ → List ℕ = λ class. class_line form p first c.args.listing.now.clock (told_at (length p.stations + class) records) class in
+    let below : n < length p.classes = omega (arith, c.loop-number-test.true, c.len-number-end.ensures, is.class_count) in
     let At : ClassSums → Type 0 = SumsUpAtClass p first records c.args.self.now.last n in
     let own : At c.index.result.now =
-    subst At (sym c.index.ensures) (is.classes n c.index.result.now (omega (arith, c.loop-number-test.true, c.len-number-end.ensures, is.class_count))) in
+    subst At (sym c.index.ensures) (is.classes n c.index.result.now below) in
     let object : c.len.result + n ≡ length p.stations + n = omega (arith, c.len.ensures, is.station_count) in
     numbered-next f n c.args.into.now.items c.loop-number.into.items c.put_line.new.into.items
     (c.loop-number.invariant records is)
@@ -47,5 +47,6 @@ returns g c records is =
     let first = counted_from c.args.listing.now.shop.now in
     let form = g.F.LineForm.form c.args.listing.now.form.now in
     let f : ℕ → List ℕ = λ class. class_line form p first c.args.listing.now.clock (told_at (length p.stations + class) records) class in
-    let all : c.loop-number.number ≡ length p.classes = omega (arith, c.loop-number-test.false, c.loop-number.auto.number-end, c.len-number-end.ensures, is.class_count) in
+    let all : c.loop-number.number ≡ length p.classes =
+    omega (arith, c.loop-number-test.false, c.loop-number.auto.number-end, c.len-number-end.ensures, is.class_count) in
     c.loop-number.invariant records is ∙ ap (λ n. c.args.into.now.items ++ flat_map f (range_with_len 0 n)) all
