@@ -7,7 +7,7 @@ ghost use Rattle.btb_program.specs.SavedRuns.{IsSavedSo};
 
 use crate::top::btb;
 use model_program::Gate;
-use program_answers::{conclude, unread_words};
+use program_answers::conclude_unread;
 use sim_io::{Sink, Source};
 use std::alloc::AllocGlobal;
 use std::io::ErrorKind;
@@ -30,6 +30,6 @@ pub fn run_program<R: AllocGlobal + Threads + Sync, S: Source, K: Sink, N: Sink,
 {
     match words {
         Ok(words) => btb(rt, &words, source, out, notes, gate),
-        Err(kind) => conclude(&unread_words(kind), notes),
+        Err(kind) => conclude_unread(kind, notes),
     }
 }

@@ -20,13 +20,19 @@ use Rattle.program_answers.specs.declared.ending.Ending.{Ending}
 use Rattle.program_answers.specs.declared.status.TheConstants.{END}
 use Rattle.program_answers.specs.Answer.{Answer, status_of_stop}
 use Rattle.model_program.specs.Answer.{answer_from, answer_to_state}
-use Rattle.program_answers.specs.Endings.{status_of_ending, IsRefusal}
+use Rattle.sim_io.specs.declared.streams.reading.ReadEnd.{ReadEnd}
+use Rattle.program_answers.specs.Endings.{status_of_ending, ending_of_read, IsRefusal}
 use Rattle.model_program.specs.SavedRuns.{state_after, IsSavedSo, SavedRuns}
 
 -- a refusal is no end
 pub refused_none : (status : ℕ) (line : List ℕ) (ending : Ending) → status ≢ END → IsRefusal status line ending → status_of_ending ending ≢ END
 refused_none status line ending other (inl spent) is = let clash : ⊥ = let same = sym (ap status_of_ending spent) ∙ is in cc in clash
 refused_none status line ending other (inr told) is = other (sym told.0 ∙ is)
+
+-- nor is a read that ended early
+pub unread_none : (end : ReadEnd) (ending : Ending) → ending ≡ ending_of_read end → status_of_ending ending ≢ END
+unread_none ReadEnd.Failed ending same is = let clash : ⊥ = let status = sym (ap status_of_ending same) ∙ is in cc in clash
+unread_none ReadEnd.OutOfMemory ending same is = let clash : ⊥ = let status = sym (ap status_of_ending same) ∙ is in cc in clash
 
 module _ (model_of : List ℕ → models.Checked ModelOf) where
   pub saved_runs : ReadingLaws model_of → (model : ModelOf) → MeaningLaws model.meaning → Lawful model.meaning model.terms (initial_state model.meaning) → GoesOnAfterCycles model.meaning model.terms

@@ -9,7 +9,7 @@ use crate::run::Stage;
 use crate::running::run_words;
 use model_reader::ModelReader;
 use node_team::Gate;
-use program_answers::{conclude, unread_words};
+use program_answers::{conclude, conclude_unread};
 use sim_io::{Sink, Source};
 use std::alloc::AllocGlobal;
 use std::io::ErrorKind;
@@ -70,6 +70,6 @@ where
             let ending = run_words(stage, program.reader, &words, source, out);
             conclude(&ending, notes)
         }
-        Err(kind) => conclude(&unread_words(kind), notes),
+        Err(kind) => conclude_unread(kind, notes),
     }
 }

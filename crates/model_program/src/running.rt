@@ -15,7 +15,7 @@ use crate::setting::{machine_of, telling_of};
 use model_reader::{ModelReader, Refusal};
 use node_team::Gate;
 use program_answers::{Ending, ending_of, refused};
-use sim_io::{ReadEnd, Settings, Sink, Source, read_all, read_model_words};
+use sim_io::{Settings, Sink, Source, read_all, read_model_words};
 use sim_spec::Terms;
 use std::alloc::Global;
 use std::thread::Threads;
@@ -63,8 +63,7 @@ fn model_command<T: ModelReader, R: Threads + Sync, G: Gate, S: Source, K: Sink>
 {
     let bytes = match read_all(stage.alloc, source) {
         Ok(bytes) => bytes,
-        Err(ReadEnd::Failed) => return Ending::ReadFault,
-        Err(ReadEnd::OutOfMemory) => return Ending::OutOfMemory,
+        Err(end) => return Ending::from(end),
     };
     let bytes = bytes.as_slice();
     match reader.read(stage.alloc, bytes) {

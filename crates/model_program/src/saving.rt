@@ -23,7 +23,7 @@ use model_reader::ModelReader;
 use node_team::Gate;
 use program_answers::{Ending, ending_of};
 use run_save::{MOST_STATE_BYTES, Saved, StateCause, StateRefusal, put_state, read_state};
-use sim_io::{Failed, ReadEnd, Settings, Sink, Source, read_some, write_all};
+use sim_io::{Failed, Settings, Sink, Source, read_some, write_all};
 use sim_spec::{State, Terms};
 use std::alloc::Global;
 use std::thread::Threads;
@@ -93,8 +93,7 @@ pub fn resume_command<T: ModelReader, R: Threads + Sync, G: Gate, S: Source, K: 
 {
     let bytes = match read_some(stage.alloc, source, MOST_STATE_BYTES) {
         Ok(bytes) => bytes,
-        Err(ReadEnd::Failed) => return Ending::ReadFault,
-        Err(ReadEnd::OutOfMemory) => return Ending::OutOfMemory,
+        Err(end) => return Ending::from(end),
     };
     match read_state(reader, stage.alloc, bytes.as_slice()) {
         Ok(

@@ -40,7 +40,8 @@ known_status WriteFault = omega arith
 known_status OutOfMemory = omega arith
 
 -- the line of an ending is what is noted with its status
-pub noted : (ending : Ending) (notes : List ℕ) → (IsAnswering (status_of_ending ending) → line_of_ending ending ≡ notes) → line_of_ending ending ≡ noted_line (status_of_ending ending) notes
+pub noted : (ending : Ending) (notes : List ℕ) → (IsAnswering (status_of_ending ending) → line_of_ending ending ≡ notes)
+    → line_of_ending ending ≡ noted_line (status_of_ending ending) notes
 noted (Stopped End) notes line = line ((λ is. cc), (λ is. cc), (λ is. cc))
 noted (Stopped (Fault key code)) notes line = line ((λ is. cc), (λ is. cc), (λ is. cc))
 noted (Stopped Limit) notes line = line ((λ is. cc), (λ is. cc), (λ is. cc))
@@ -52,8 +53,10 @@ noted ReadFault notes line = refl
 noted WriteFault notes line = refl
 noted OutOfMemory notes line = refl
 
-pub completes : (ending : Ending) (answered : ℕ) (read_fault write_fault : Type 0) → (IsAnswering (status_of_ending ending) → status_of_ending ending ≡ answered)
-    → (status_of_ending ending ≡ READ_FAULT → read_fault) → (status_of_ending ending ≡ WRITE_FAULT → write_fault) → IsComplete (status_of_ending ending) answered read_fault write_fault
+pub completes : (ending : Ending) (answered : ℕ) (read_fault write_fault : Type 0)
+    → (IsAnswering (status_of_ending ending) → status_of_ending ending ≡ answered)
+    → (status_of_ending ending ≡ READ_FAULT → read_fault) → (status_of_ending ending ≡ WRITE_FAULT → write_fault)
+    → IsComplete (status_of_ending ending) answered read_fault write_fault
 completes (Stopped End) answered rf wf same r w = inl (same ((λ is. cc), (λ is. cc), (λ is. cc)))
 completes (Stopped (Fault key code)) answered rf wf same r w = inl (same ((λ is. cc), (λ is. cc), (λ is. cc)))
 completes (Stopped Limit) answered rf wf same r w = inl (same ((λ is. cc), (λ is. cc), (λ is. cc)))
@@ -67,8 +70,10 @@ completes OutOfMemory answered rf wf same r w = inr (inr (inr refl))
 
 module _ {K : Type 0} (sink : Sink K) (old new : K) where
   -- all of the output was written, and handed on
-  pub whole_ends : (ending : Ending) (a : Answer) → TellsOfModel (status_of_ending ending) → Appends (sink.told old) (sink.told new) a.output → status_of_ending ending ≡ a.status → line_of_ending ending ≡ a.notes
-      → sink.faults new ≡ sink.faults old → (Keeps (sink.told old) (sink.handed old) → Keeps (sink.told new) (sink.handed new)) → EndsModel sink old new ending a
+  pub whole_ends : (ending : Ending) (a : Answer) → TellsOfModel (status_of_ending ending) → Appends (sink.told old) (sink.told new) a.output
+      → status_of_ending ending ≡ a.status → line_of_ending ending ≡ a.notes
+      → sink.faults new ≡ sink.faults old → (Keeps (sink.told old) (sink.handed old) → Keeps (sink.told new) (sink.handed new))
+      → EndsModel sink old new ending a
   whole_ends ending a tells all same_status line quiet handed = record {
     answer = record { given = record { output = λ _. all; same_status = λ _. same_status; prefix = all_prefix _ _ _ all }; line = λ _. line };
     writing = record { write_fault = λ is. absurd (tells.no_write_fault is); write_quiet = λ _. quiet; handed = λ _. handed };
@@ -77,7 +82,8 @@ module _ {K : Type 0} (sink : Sink K) (old new : K) where
   }
 
   -- a write failed
-  pub write_fault_ends : (a : Answer) → AppendsPrefix (sink.told old) (sink.told new) a.output → Rose (sink.faults old) (sink.faults new) → EndsModel sink old new WriteFault a
+  pub write_fault_ends : (a : Answer) → AppendsPrefix (sink.told old) (sink.told new) a.output → Rose (sink.faults old) (sink.faults new)
+      → EndsModel sink old new WriteFault a
   write_fault_ends a part rose = record {
     answer = record { given = record { output = λ done. absurd (done.1 refl); same_status = λ done. absurd (done.1 refl); prefix = part }; line = λ done. absurd (done.1 refl) };
     writing = record { write_fault = λ _. rose; write_quiet = λ other. absurd (other refl); handed = λ other. absurd (other refl) };
@@ -101,16 +107,20 @@ module _ {K : Type 0} (sink : Sink K) (out : K) where
   no_memory_left a = no_memory_ends sink out out a (no_prefix _ _) refl (λ kept. kept)
 
   -- what was given is refused
-  pub refusal_ends : (status : ℕ) (line : List ℕ) (ending : Ending) → IsRefusal status line ending → TellsOfModel status → EndsModel sink out out ending (record { output = []; notes = line; status = status })
-  refusal_ends status line ending (inl spent) tells = subst (λ e. EndsModel sink out out e (record { output = []; notes = line; status = status })) (sym spent) (no_memory_left _)
+  pub refusal_ends : (status : ℕ) (line : List ℕ) (ending : Ending) → IsRefusal status line ending → TellsOfModel status
+      → EndsModel sink out out ending (record { output = []; notes = line; status = status })
+  refusal_ends status line ending (inl spent) tells =
+      subst (λ e. EndsModel sink out out e (record { output = []; notes = line; status = status })) (sym spent) (no_memory_left _)
   refusal_ends status line ending (inr told) tells =
       whole_ends sink out out ending _ (subst TellsOfModel (sym told.0) tells) (Appends-nil _) told.0 told.1 refl (λ kept. kept)
 
 -- a refusal with the same code and item is the same
-pub same_refusal : (ending : Ending) (code code' : ℕ) (name name' : List ℕ) (item item' : ℕ) → IsRefusal MODEL (refusal_line code name item) ending → code ≡ code' → name ≡ name' → item ≡ item'
+pub same_refusal : (ending : Ending) (code code' : ℕ) (name name' : List ℕ) (item item' : ℕ) → IsRefusal MODEL (refusal_line code name item) ending
+    → code ≡ code' → name ≡ name' → item ≡ item'
     → IsRefusal MODEL (refusal_line code' name' item') ending
 same_refusal ending code code' name name' item item' refusal same_code same_name same_item =
-    subst (λ line. IsRefusal MODEL line ending) (ap (λ n. refusal_line n name item) same_code ∙ ap (λ told. refusal_line code' told item) same_name ∙ ap (refusal_line code' name') same_item) refusal
+    subst (λ line. IsRefusal MODEL line ending)
+    (ap (λ n. refusal_line n name item) same_code ∙ ap (λ told. refusal_line code' told item) same_name ∙ ap (refusal_line code' name') same_item) refusal
 
 pub end_status : TellsOfModel END
 end_status = record { no_words = λ is. cc; no_read_fault = λ is. cc; no_write_fault = λ is. cc }

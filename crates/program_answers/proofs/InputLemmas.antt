@@ -6,12 +6,14 @@ use Rattle.sim_io.specs.declared.streams.sink.Sink.{Ghosts as Sink}
 use Rattle.sim_io.specs.declared.streams.source.Source.{Ghosts as Source}
 use Rattle.sim_io.specs.declared.words.WordFault.{WordFault}
 use Rattle.sim_io.specs.Causes.{Rose}
+use Rattle.sim_io.specs.declared.streams.reading.ReadEnd.{ReadEnd}
 use Rattle.sim_io.specs.Transfers.{TakesUpTo}
 use Rattle.sim_text.proofs.WrittenLemmas.{no_prefix}
 use Rattle.program_answers.specs.declared.ending.Ending.{Ending}
 use Rattle.program_answers.specs.declared.ending.Ending.TheVariants.{RefusedWords, ReadFault, OutOfMemory}
 use Rattle.program_answers.specs.Answer.{Answer, Asked, answer_to_fault}
 use Rattle.program_answers.specs.Answered.{EndsWith, EndsModel, EndsInput, EndsAsked, HasGiven}
+use Rattle.program_answers.specs.Endings.{ending_of_read}
 use Rattle.program_answers.proofs.EndingLemmas.{no_memory_left}
 
 -- what holds of each value, or follows from what does
@@ -34,8 +36,10 @@ both_ways b is isnt = let clash : ◌≡◌ {A = Bool} true false = sym is ∙ i
 module _ {S K : Type 0} (source : Source S) (sink : Sink K) (from to : S) where
   module _ (most : ℕ) (answer_to : List ℕ → Answer) where
     -- the answer to what was read is the one to the whole input
-    pub model_input : (old new : K) (ending : Ending) (a : Answer) → EndsModel sink old new ending a → IfSome (source.left from) (λ bytes. a ≡ answer_to bytes)
-        → source.faults to ≡ source.faults from → IfSome (source.left from) (λ bytes. source.left to ≡ Some (drop most bytes)) → (bytes : List ℕ) → HasGiven source from to most bytes
+    pub model_input : (old new : K) (ending : Ending) (a : Answer) → EndsModel sink old new ending a
+        → IfSome (source.left from) (λ bytes. a ≡ answer_to bytes)
+        → source.faults to ≡ source.faults from → IfSome (source.left from) (λ bytes. source.left to ≡ Some (drop most bytes)) → (bytes : List ℕ)
+        → HasGiven source from to most bytes
         → a ≡ answer_to bytes → EndsInput source sink from to old new ending most answer_to
     model_input old new ending a ends same quiet taken bytes gives is = record {
       given = inl (record { bytes = bytes; given = gives; answer = subst (EndsWith sink old new ending) is ends.answer });
@@ -62,7 +66,7 @@ module _ {S K : Type 0} (source : Source S) (sink : Sink K) (from to : S) where
         }
 
     -- a read failed
-    pub read_fault_input : (out : K) → Rose (source.faults from) (source.faults to) → EndsInput source sink from to out out ReadFault most answer_to
+    read_fault_input : (out : K) → Rose (source.faults from) (source.faults to) → EndsInput source sink from to out out ReadFault most answer_to
     read_fault_input out rose = record {
       answer = some_all (source.left from) (λ bytes. record {
         given = record { output = λ done. absurd (done.0 refl); same_status = λ done. absurd (done.0 refl); prefix = no_prefix _ _ };
@@ -76,15 +80,30 @@ module _ {S K : Type 0} (source : Source S) (sink : Sink K) (from to : S) where
       no_words = λ is. cc;
     }
 
+    -- reading ended early
+    pub unread_input : (out : K) (end : ReadEnd) (ending : Ending) → ending ≡ ending_of_read end
+        → (end ≡ ReadEnd.Failed → Rose (source.faults from) (source.faults to))
+        → (end ≡ ReadEnd.OutOfMemory → source.faults to ≡ source.faults from) → EndsInput source sink from to out out ending most answer_to
+    unread_input out end ending is rose quiet =
+        subst (λ ending. EndsInput source sink from to out out ending most answer_to) (sym is) (by end rose quiet)
+      where
+        by : (end : ReadEnd) → (end ≡ ReadEnd.Failed → Rose (source.faults from) (source.faults to))
+            → (end ≡ ReadEnd.OutOfMemory → source.faults to ≡ source.faults from)
+            → EndsInput source sink from to out out (ending_of_read end) most answer_to
+        by ReadEnd.Failed rose quiet = read_fault_input out (rose refl)
+        by ReadEnd.OutOfMemory rose quiet = no_memory_input out (quiet refl)
+
 -- what is left is what comes behind
-pub leaves_rest : (most : ℕ) (old new : Option (List ℕ)) (taken : List ℕ) → TakesUpTo most old new taken → IfSome old (λ bytes. new ≡ Some (drop most bytes))
+pub leaves_rest : (most : ℕ) (old new : Option (List ℕ)) (taken : List ℕ) → TakesUpTo most old new taken
+    → IfSome old (λ bytes. new ≡ Some (drop most bytes))
 leaves_rest most None new taken took = tt
 leaves_rest most (Some bytes) None taken took = absurd took
 leaves_rest most (Some bytes) (Some rest) taken took = ap Some took.1
 
 module _ {S K : Type 0} (source : Source S) (sink : Sink K) (asked : Asked) where
   -- the words are refused
-  pub refused_ends : (from : S) (out : K) (fault : WordFault) → asked.refused ≡ true → asked.takes ≡ false → ((bytes : List ℕ) → answer_to_fault fault ≡ asked.answer bytes)
+  pub refused_ends : (from : S) (out : K) (fault : WordFault) → asked.refused ≡ true → asked.takes ≡ false
+      → ((bytes : List ℕ) → answer_to_fault fault ≡ asked.answer bytes)
       → EndsAsked source sink from from out out (RefusedWords fault) asked
   refused_ends from out fault refused untaken same = record {
     answer = λ bytes _. subst (EndsWith sink out out (RefusedWords fault)) (same bytes) (record {
@@ -105,7 +124,8 @@ module _ {S K : Type 0} (source : Source S) (sink : Sink K) (asked : Asked) wher
 
   module _ (accepted : asked.refused ≡ false) where
     -- they ask for a command that reads nothing
-    pub model_ends : (from : S) (old new : K) (ending : Ending) (a : Answer) → EndsModel sink old new ending a → asked.takes ≡ false → ((bytes : List ℕ) → a ≡ asked.answer bytes)
+    pub model_ends : (from : S) (old new : K) (ending : Ending) (a : Answer) → EndsModel sink old new ending a → asked.takes ≡ false
+        → ((bytes : List ℕ) → a ≡ asked.answer bytes)
         → EndsAsked source sink from from old new ending asked
     model_ends from old new ending a ends untaken same = record {
       answer = λ bytes _. subst (EndsWith sink old new ending) (same bytes) ends.answer;
@@ -122,7 +142,8 @@ module _ {S K : Type 0} (source : Source S) (sink : Sink K) (asked : Asked) wher
     }
 
     -- they ask for one that reads its input
-    pub input_ends : (from to : S) (old new : K) (ending : Ending) (most : ℕ) (answer_to : List ℕ → Answer) → EndsInput source sink from to old new ending most answer_to → asked.takes ≡ true
+    pub input_ends : (from to : S) (old new : K) (ending : Ending) (most : ℕ) (answer_to : List ℕ → Answer)
+        → EndsInput source sink from to old new ending most answer_to → asked.takes ≡ true
         → asked.most ≡ most → ((bytes : List ℕ) → answer_to bytes ≡ asked.answer bytes) → EndsAsked source sink from to old new ending asked
     input_ends from to old new ending most answer_to ends takes taken same = record {
       answer = λ bytes given. elim given [

@@ -38,7 +38,8 @@ nothing_gathered None gathered none = tt
 nothing_gathered (Some bytes) gathered none = sym (ap (λ xs. bytes ++ xs) none ∙ append-nil bytes)
 
 -- a status that tells of faults tells of those that came since there were none
-tells_some : (status fault before now faults : ℕ) → before ≡ 0 → faults ≡ now → (status ≡ fault → Rose before now) → (status ≢ fault → now ≡ before) → (status ≡ fault) ↔ (0 < faults)
+tells_some : (status fault before now faults : ℕ) → before ≡ 0 → faults ≡ now → (status ≡ fault → Rose before now) → (status ≢ fault → now ≡ before)
+    → (status ≡ fault) ↔ (0 < faults)
 tells_some status fault before now faults none count rose quiet = (
   (λ is. subst (λ n. 0 < n) (sym count) (subst (λ n. Rose n now) none (rose is))),
   (λ some. elim (cases_eq status fault) [
@@ -49,9 +50,12 @@ tells_some status fault before now faults none count rose quiet = (
 
 module _ {S K L I O N : Type 0} (source : Source S) (sink : Sink K) (notes : Sink L) (remaining : I → Option (List ℕ)) (contents : O → Option (List ℕ)) (noted : N → Option (List ℕ))
     (from to : Streams S K L) (old : Streams I O N) (status : ℕ) (ended : ProcessEnd I O N)
-    (made : AreMadeOf source sink notes remaining contents noted from old) (ends : EndsBy source sink notes remaining contents noted status to ended) where
+    (made : AreMadeOf source sink notes remaining contents noted from old)
+    (ends : EndsBy source sink notes remaining contents noted status to ended) where
   as_noted : (bytes : List ℕ) → Appends (notes.told from.notes) (notes.told to.notes) bytes → AppendsKnown (noted old.notes) (noted ended.notes) bytes
-  as_noted bytes all = subst (λ told. AppendsKnown told (noted ended.notes) bytes) made.stand.told (subst (λ told. AppendsKnown (notes.told from.notes).known told bytes) ends.stand.told all.known)
+  as_noted bytes all =
+      subst (λ told. AppendsKnown told (noted ended.notes) bytes) made.stand.told
+      (subst (λ told. AppendsKnown (notes.told from.notes).known told bytes) ends.stand.told all.known)
 
   noted_so : (line : List ℕ) → AppendsPrefix (notes.told from.notes) (notes.told to.notes) (noted_line ended.status line)
       → Appends (notes.told from.notes) (notes.told to.notes) (noted_line ended.status line) ⊎ Rose (notes.faults from.notes) (notes.faults to.notes)
@@ -97,10 +101,10 @@ module _ {S K L I O N : Type 0} (source : Source S) (sink : Sink K) (notes : Sin
 
   streams_left_so : (kind : ErrorKind) → AnswersNoWords notes ended.status from to kind → LeavesStreams remaining contents noted old ended kind
   streams_left_so kind answers = record {
-    known = answers.known;
-    no_memory = answers.no_memory;
-    no_text = answers.no_text;
-    notes = noted_so (words_line BadValue) answers.line_prefix answers.line_whole;
+    known = omega (arith, answers.noted.known);
+    no_memory = answers.noted.no_memory;
+    no_text = answers.noted.no_text;
+    notes = noted_so (words_line BadValue) answers.noted.line_prefix answers.noted.line_whole;
     unread = sym ends.stand.left ∙ ap source.left answers.unread ∙ made.stand.left;
     unwritten = sym ends.stand.handed ∙ ap (λ out. (sink.handed out).known) answers.unwritten ∙ made.stand.handed;
     no_read_faults = ends.read_faults ∙ ap source.faults answers.unread ∙ made.no_read_faults;
@@ -113,16 +117,20 @@ module _ {S K L I O N : Type 0} (source : Source S) (sink : Sink K) (notes : Sin
 
   -- what a status says of the input that was left is so with the status of the process, and of the input that it had
   pub said_of_input : (P : ℕ → List ℕ → Type 0) → IfSome (source.left from.source) (P status) → IfSome (remaining old.source) (P ended.status)
-  said_of_input P said = subst (λ left. IfSome left (P ended.status)) made.stand.left (subst (λ n. IfSome (source.left from.source) (P n)) (sym ends.same_status) said)
+  said_of_input P said =
+      subst (λ left. IfSome left (P ended.status)) made.stand.left
+      (subst (λ n. IfSome (source.left from.source) (P n)) (sym ends.same_status) said)
 
 -- a process whose words were read has answered to them, and one whose words couldn't be read to none
 module _ {I O N W : Type 0} (remaining : I → Option (List ℕ)) (contents : O → Option (List ℕ)) (noted : N → Option (List ℕ)) (asked_by : List (String Global) → Asked) (items : W → List (String Global))
     (old : Streams I O N) (ended : ProcessEnd I O N) where
-  some_words : (words : Result W ErrorKind) → IfOk words (λ list. AnswersStreams remaining contents noted old ended (asked_by (items list))) → IfErr words (LeavesStreams remaining contents noted old ended)
+  some_words : (words : Result W ErrorKind) → IfOk words (λ list. AnswersStreams remaining contents noted old ended (asked_by (items list)))
+      → IfErr words (LeavesStreams remaining contents noted old ended)
       → ((words : List (String Global)) × AnswersStreams remaining contents noted old ended (asked_by words)) ⊎ ((kind : ErrorKind) × LeavesStreams remaining contents noted old ended kind)
   some_words (Ok list) read unread = inl (items list, read)
   some_words (Err kind) read unread = inr (kind, unread)
 
-  pub process_ends : (told : ℕ) (words : Result W ErrorKind) → told ≡ ended.status → IfOk words (λ list. AnswersStreams remaining contents noted old ended (asked_by (items list)))
+  pub process_ends : (told : ℕ) (words : Result W ErrorKind) → told ≡ ended.status
+      → IfOk words (λ list. AnswersStreams remaining contents noted old ended (asked_by (items list)))
       → IfErr words (LeavesStreams remaining contents noted old ended) → EndsProcess remaining contents noted told old asked_by
   process_ends told words same read unread = record { ended = ended; same_status = sym same; answers = some_words words read unread }

@@ -137,14 +137,26 @@ module _ {S K N : Type 0} (source : Source S) (sink : Sink K) (notes : Sink N) (
     pub complete : OfAccepted asked (source.left old.source) (λ a.
         IsComplete status a.status (Rose (source.faults old.source) (source.faults new.source)) (Rose (sink.faults old.out) (sink.faults new.out)))
 
-module _ {S K N : Type 0} (notes : Sink N) (status : ℕ) (old new : Streams S K N) where
-  -- where the words can't be read, why is noted and nothing else is done: there was no memory, or one of them is no text
-  pub record AnswersNoWords (kind : ErrorKind) : Type 0 where
-    pub known : status ≤ STATE
+module _ {N : Type 0} (notes : Sink N) (old new : N) (status : ℕ) where
+  -- the line of an ending is noted, as far as it can be, and its status answered
+  pub record NotesEnding (ending : Ending) : Type 0 where
+    pub same_status : status ≡ status_of_ending ending
+    pub line_prefix : AppendsPrefix (notes.told old) (notes.told new) (line_of_ending ending)
+    pub line_whole : Appends (notes.told old) (notes.told new) (line_of_ending ending) ⊎ Rose (notes.faults old) (notes.faults new)
+    pub noted_on : HandsOnNotes notes old new
+
+  -- why the words can't be read is noted, and answered by a status: there was no memory, or one of them is no text
+  pub record NotesNoWords (kind : ErrorKind) : Type 0 where
+    pub known : status ≤ OUT_OF_MEMORY
     pub no_memory : kind ≡ ErrorKind.OutOfMemory → status ≡ OUT_OF_MEMORY
     pub no_text : kind ≢ ErrorKind.OutOfMemory → status ≡ WORDS
-    pub line_prefix : AppendsPrefix (notes.told old.notes) (notes.told new.notes) (noted_line status (words_line BadValue))
-    pub line_whole : Appends (notes.told old.notes) (notes.told new.notes) (noted_line status (words_line BadValue)) ⊎ Rose (notes.faults old.notes) (notes.faults new.notes)
-    pub noted_on : HandsOnNotes notes old.notes new.notes
+    pub line_prefix : AppendsPrefix (notes.told old) (notes.told new) (noted_line status (words_line BadValue))
+    pub line_whole : Appends (notes.told old) (notes.told new) (noted_line status (words_line BadValue)) ⊎ Rose (notes.faults old) (notes.faults new)
+    pub noted_on : HandsOnNotes notes old new
+
+module _ {S K N : Type 0} (notes : Sink N) (status : ℕ) (old new : Streams S K N) where
+  -- where the words can't be read, nothing else is done
+  pub record AnswersNoWords (kind : ErrorKind) : Type 0 where
+    pub noted : NotesNoWords notes old.notes new.notes status kind
     pub unread : new.source ≡ old.source
     pub unwritten : new.out ≡ old.out

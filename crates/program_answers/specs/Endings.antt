@@ -2,6 +2,7 @@
 use Rattle.std.specs.Prelude.{◌≡◌, ◌≢◌, ◌⊎◌, ◌==◌, if◌then◌else◌, ℕ, List, [], Result, Ok, Err, codes}
 use Rattle.sim_io.specs.Taken.{Taken, Appends}
 use Rattle.sim_io.specs.Transfers.{AppendsPrefix}
+use Rattle.sim_io.specs.declared.streams.reading.ReadEnd.{ReadEnd}
 use Rattle.sim_spec.specs.declared.stop.Stop.{Stop}
 use Rattle.sim_text.specs.declared.unfinished.Unfinished.{Unfinished}
 use Rattle.program_answers.specs.declared.ending.Ending.{Ending}
@@ -33,6 +34,11 @@ line_of_ending OutOfMemory = codes "out of memory\n"
 abbrev pub ending_of_cause : Unfinished → Ending
 ending_of_cause Unfinished.WriteFault = WriteFault
 ending_of_cause Unfinished.OutOfMemory = OutOfMemory
+
+-- why reading ended early
+abbrev pub ending_of_read : ReadEnd → Ending
+ending_of_read ReadEnd.Failed = ReadFault
+ending_of_read ReadEnd.OutOfMemory = OutOfMemory
 
 abbrev pub ending_of : Result Stop Unfinished → Ending
 ending_of (Ok stop) = Stopped stop

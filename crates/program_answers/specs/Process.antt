@@ -54,7 +54,8 @@ module _ {I O N : Type 0} (remaining : I → Option (List ℕ)) (contents : O �
     pub reading : (ended.status ≡ READ_FAULT) ↔ (0 < ended.read_faults)
     pub writing : (ended.status ≡ WRITE_FAULT) ↔ (0 < ended.write_faults)
     pub unread : asked.takes ≡ false → remaining ended.input ≡ remaining old.source
-    pub read : IsAnswering ended.status → asked.takes ≡ true → IfSome (remaining old.source) (λ bytes. remaining ended.input ≡ Some (drop asked.most bytes))
+    pub read : IsAnswering ended.status → asked.takes ≡ true
+        → IfSome (remaining old.source) (λ bytes. remaining ended.input ≡ Some (drop asked.most bytes))
     pub reads : ended.status ≡ READ_FAULT → asked.takes ≡ true
     pub unwritten : (ended.status ≡ WORDS) ⊎ (ended.status ≡ READ_FAULT) → contents ended.output ≡ contents old.out
     pub notes : OfAnswer asked (remaining old.source) (λ a. NotesStreams a.notes)

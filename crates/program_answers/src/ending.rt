@@ -5,7 +5,7 @@ ghost use Rattle.program_answers.specs.Endings.{ending_of};
 use crate::status::{
     END, EVENT_FAULT, EVENT_LIMIT, MODEL, OUT_OF_MEMORY, READ_FAULT, STATE, WORDS, WRITE_FAULT,
 };
-use sim_io::WordFault;
+use sim_io::{ReadEnd, WordFault};
 use sim_spec::Stop;
 use sim_text::Unfinished;
 
@@ -61,6 +61,20 @@ impl From<Unfinished> for Ending {
         match cause {
             Unfinished::WriteFault => Ending::WriteFault,
             Unfinished::OutOfMemory => Ending::OutOfMemory,
+        }
+    }
+}
+
+impl From<ReadEnd> for Ending {
+    ghost use Rattle.std.specs.Prelude.{◌≡◌};
+    ghost use Rattle.program_answers.specs.Endings.{ending_of_read};
+
+    ghost from_gives = { λ end ending. ending ≡ ending_of_read end };
+
+    fn from(end: ReadEnd) -> Ending {
+        match end {
+            ReadEnd::Failed => Ending::ReadFault,
+            ReadEnd::OutOfMemory => Ending::OutOfMemory,
         }
     }
 }

@@ -9,7 +9,7 @@ mod std_streams;
 mod words;
 
 pub use ending::{Ending, ending_of};
-pub use notes::{conclude, refused};
+pub use notes::{conclude, conclude_unread, refused};
 pub use process_end::ProcessEnd;
 pub use std_streams::StdStreams;
-pub use words::{program_words, unread_words};
+pub use words::program_words;

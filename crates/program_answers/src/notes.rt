@@ -1,17 +1,19 @@
 //! What is noted of how the program ends.
-ghost use Rattle.std.specs.Prelude.{◌≡◌, ◌⊎◌, IfOk, OnOk, OnErr};
+ghost use Rattle.std.specs.Prelude.{◌≡◌, IfOk, OnOk, OnErr};
 ghost use Rattle.sim_io.specs.Taken.{Appends, Keeps};
-ghost use Rattle.sim_io.specs.Causes.{HasCause, Rose};
+ghost use Rattle.sim_io.specs.Causes.{HasCause};
 ghost use Rattle.sim_io.specs.Transfers.{AppendsPrefix};
 ghost use Rattle.program_answers.specs.Answer.{words_line, refusal_line};
-ghost use Rattle.program_answers.specs.Answered.{HandsOnNotes};
-ghost use Rattle.program_answers.specs.Endings.{status_of_ending, line_of_ending, IsRefusal};
+ghost use Rattle.program_answers.specs.Answered.{NotesEnding, NotesNoWords};
+ghost use Rattle.program_answers.specs.Endings.{line_of_ending, IsRefusal};
 ghost use Rattle.program_answers.specs.declared.status.TheConstants.{MODEL};
 
 use crate::ending::Ending;
+use crate::words::unread_words;
 use delta_exchange::OutOfMemory;
 use sim_io::{Failed, Sink, WordFault, write_all};
 use std::alloc::Global;
+use std::io::ErrorKind;
 
 /// The line for a model that is refused with a code of this name at this item.
 #[tactic(auto, unfolding(crate::specs::Answer::refusal_line))]
@@ -74,11 +76,15 @@ fn hand_on_note<N: Sink>(notes: &mut N, ending: &Ending) -> Result<(), Failed>
 
 /// Notes how the program ends, as far as that can be written and handed on, and answers its status.
 pub fn conclude<N: Sink>(ending: &Ending, notes: &mut N) -> u8
-    ensures status { result ≡ status_of_ending ending.now }
-    ensures prefix { AppendsPrefix (N.told notes.old) (N.told notes.new) (line_of_ending ending.now) }
-    ensures whole { Appends (N.told notes.old) (N.told notes.new) (line_of_ending ending.now) ⊎ Rose (N.faults notes.old) (N.faults notes.new) }
-    ensures handed { HandsOnNotes N.Sink notes.old notes.new }
+    ensures { NotesEnding N.Sink notes.old notes.new result ending.now }
 {
     let _told = hand_on_note(notes, ending);
     ending.status()
+}
+
+/// Notes why the words of a program can't be read, and answers the status. A program does nothing else with such words.
+pub fn conclude_unread<N: Sink>(kind: ErrorKind, notes: &mut N) -> u8
+    ensures { NotesNoWords N.Sink notes.old notes.new result kind }
+{
+    conclude(&unread_words(kind), notes)
 }

@@ -20,7 +20,7 @@ pub fn program_words<R: AllocGlobal + Env>(rt: &R) -> io::Result<Vec<String>> {
 
 /// How the program ends where its words can't be read, for this reason: one that is no text is refused like any faulty
 /// word.
-pub fn unread_words(kind: ErrorKind) -> Ending
+pub(crate) fn unread_words(kind: ErrorKind) -> Ending
     ensures no_memory { kind ≡ ErrorKind.OutOfMemory → result ≡ Ending.OutOfMemory }
     ensures no_text { kind ≢ ErrorKind.OutOfMemory → result ≡ Ending.RefusedWords BadValue }
     ensures refusal { IsRefusal WORDS (words_line BadValue) result }

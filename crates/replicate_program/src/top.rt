@@ -5,7 +5,7 @@ ghost use Rattle.program_answers.specs.declared.status.TheConstants.{EVENT_LIMIT
 ghost use Rattle.replicate_program.specs.TableAnswers.{table_asked_by};
 
 use crate::reader::ReplicateTexts;
-use program_answers::{conclude, unread_words};
+use program_answers::{conclude, conclude_unread};
 use sim_io::{Sink, Source};
 use std::alloc::AllocGlobal;
 use std::io::ErrorKind;
@@ -54,6 +54,6 @@ pub fn replicate<R: AllocGlobal + Threads + Sync, S: Source, K: Sink, N: Sink>(
             );
             conclude(&ending, notes)
         }
-        Err(kind) => conclude(&unread_words(kind), notes),
+        Err(kind) => conclude_unread(kind, notes),
     }
 }

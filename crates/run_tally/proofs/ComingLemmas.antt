@@ -16,11 +16,13 @@ last_time-append time [] more = refl
 last_time-append time (first ∷ rest) more = last_time-append (time_part first.0.stamp) rest more
 
 -- the record at a place comes no earlier than those before it
-in_time-at : (time : ℕ) (records : List (Key × Note)) (i : ℕ) (told : Key × Note) → i < length records → told ≡ get_or records i told → IsInTime time records
+in_time-at : (time : ℕ) (records : List (Key × Note)) (i : ℕ) (told : Key × Note) → i < length records → told ≡ get_or records i told
+    → IsInTime time records
     → last_time time (take i records) ≤ time_part told.0.stamp
 unfolding IsInTime last_time
 in_time-at time [] i told within is in_time = omega (arith, within)
-in_time-at time (first ∷ rest) zero told within is in_time = let P : Key × Note → Type 0 = λ told. time ≤ time_part told.0.stamp in subst P (sym is) in_time.0
+in_time-at time (first ∷ rest) zero told within is in_time =
+    let P : Key × Note → Type 0 = λ told. time ≤ time_part told.0.stamp in subst P (sym is) in_time.0
 in_time-at time (first ∷ rest) (suc i) told within is in_time = in_time-at (time_part first.0.stamp) rest i told (omega (arith, within)) is in_time.1
 
 module _ (m : Meaning) (before records : List (Key × Note)) (i : ℕ) (told : Key × Note) (within : i < length records) (is : told ≡ get_or records i told) where
@@ -41,13 +43,17 @@ module _ (m : Meaning) (before records : List (Key × Note)) (i : ℕ) (told : K
   one_more : (before ++ take i records) ++ told ∷ [] ≡ before ++ take (i + 1) records
   one_more =
       append_assoc before (take i records) (told ∷ [])
-      ∙ ap (λ (more : List (Key × Note)). before ++ more) (ap (λ (last : Key × Note). take i records ++ last ∷ []) is ∙ sym (take_more records i told within))
+      ∙ ap (λ (more : List (Key × Note)). before ++ more)
+      (ap (λ (last : Key × Note). take i records ++ last ∷ []) is ∙ sym (take_more records i told within))
 
 -- so it is with the record that is read at a place
-pub read-comes : (m : Meaning) (before records : List (Key × Note)) (i : ℕ) (told : Key × Note) → slice_get records i ≡ Some told → length told.1 ≤ 4 → CanAllCome m before records
+pub read-comes : (m : Meaning) (before records : List (Key × Note)) (i : ℕ) (told : Key × Note) → slice_get records i ≡ Some told → length told.1 ≤ 4
+    → CanAllCome m before records
     → CanCome m (before ++ take i records) told
-read-comes m before records i told at few all = can_come m before records i told (slice_get_within records i told at) (sym (get_or_from_slice_get records i told told at)) few all
+read-comes m before records i told at few all =
+    can_come m before records i told (slice_get_within records i told at) (sym (get_or_from_slice_get records i told told at)) few all
 
 pub read-more : (m : Meaning) (before records : List (Key × Note)) (i : ℕ) (told : Key × Note) → slice_get records i ≡ Some told
     → (before ++ take i records) ++ told ∷ [] ≡ before ++ take (i + 1) records
-read-more m before records i told at = one_more m before records i told (slice_get_within records i told at) (sym (get_or_from_slice_get records i told told at))
+read-more m before records i told at =
+    one_more m before records i told (slice_get_within records i told at) (sym (get_or_from_slice_get records i told told at))

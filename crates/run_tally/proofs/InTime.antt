@@ -26,7 +26,8 @@ in_time-front time [] behind in_time = tt
 in_time-front time (first ∷ rest) behind in_time = (in_time.0, in_time-front (time_part first.0.stamp) rest behind in_time.1)
 
 -- records in ascending order of their keys come in time
-pub in_time-ascending : (time : ℕ) (records : List (Key × Note)) → ((told : Key × Note) (rest : List (Key × Note)) → records ≡ told ∷ rest → time ≤ time_part told.0.stamp)
+pub in_time-ascending : (time : ℕ) (records : List (Key × Note))
+    → ((told : Key × Note) (rest : List (Key × Note)) → records ≡ told ∷ rest → time ≤ time_part told.0.stamp)
     → AllPairs (λ (earlier later : Key × Note). key_lt earlier.0 later.0 ≡ true) records → IsInTime time records
 unfolding IsInTime
 in_time-ascending time [] first ascend = tt

@@ -13,7 +13,8 @@ unfolding after_replicate model_settings
 no_model_command [] rest is = absurd (cc)
 no_model_command (word ∷ words) rest is = by (bytes_eq word (codes "replicate")) refl is
   where
-    by : (b : Bool) → bytes_eq word (codes "replicate") ≡ b → cond b (Some words) None ≡ Some rest → model_settings (word ∷ words) ≡ Err UnknownCommand
+    by : (b : Bool) → bytes_eq word (codes "replicate") ≡ b → cond b (Some words) None ≡ Some rest
+        → model_settings (word ∷ words) ≡ Err UnknownCommand
     by true here is =
         let same : word ≡ codes "replicate" = (bytes_eq-Decides word (codes "replicate")).0 here in
         ap (λ (word : List ℕ). model_settings (word ∷ words)) same

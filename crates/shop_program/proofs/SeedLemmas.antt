@@ -9,11 +9,13 @@ use Rattle.shop_model.specs.Views.{parts_of}
 use Rattle.shop_program.specs.declared.seeded.SeededShop.{SeededShop}
 use Rattle.shop_program.specs.SeededShops.{shop_seeded, seeded_meaning}
 
-objects-seeded : (seeded : SeededShop) (shop : Shop) → shop ≡ shop_seeded seeded → (seeded_meaning seeded).objects ≡ (shop_meaning (parts_of shop)).objects
+objects-seeded : (seeded : SeededShop) (shop : Shop) → shop ≡ shop_seeded seeded
+    → (seeded_meaning seeded).objects ≡ (shop_meaning (parts_of shop)).objects
 unfolding shop_meaning
 objects-seeded seeded shop is = ap (λ (shop : Shop). length (parts_of shop).stations + length (parts_of shop).classes) (sym is)
 
-pub can_come-seeded : (seeded : SeededShop) (shop : Shop) (records : List (Key × Note)) (told : Key × Note) → shop ≡ shop_seeded seeded → CanCome (seeded_meaning seeded) records told
+pub can_come-seeded : (seeded : SeededShop) (shop : Shop) (records : List (Key × Note)) (told : Key × Note) → shop ≡ shop_seeded seeded
+    → CanCome (seeded_meaning seeded) records told
     → CanCome (shop_meaning (parts_of shop)) records told
 can_come-seeded seeded shop records told is can = record {
   object = (let At : ℕ → Type 0 = λ n. told.0.dest < n in subst At (objects-seeded seeded shop is) can.object);

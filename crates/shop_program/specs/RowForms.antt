@@ -6,6 +6,8 @@ use Rattle.replications.specs.Rows.{field, seed_text, end_text}
 use Rattle.shop_model.specs.ShopParts.{ShopParts}
 use Rattle.shop_totals.specs.declared.class_sums.ClassSums.{ClassSums}
 use Rattle.shop_totals.specs.declared.flow.Flow.{Flow}
+use Rattle.shop_totals.specs.declared.line.Line.{Line}
+use Rattle.shop_totals.specs.declared.line.Line.TheVariants.{Station, Visit, Class}
 use Rattle.shop_totals.specs.declared.station_sums.StationSums.{StationSums}
 use Rattle.shop_totals.specs.declared.visit_sums.VisitSums.{VisitSums}
 use Rattle.shop_totals.specs.Forms.{Form}
@@ -30,14 +32,14 @@ count_fields sums = codes ",,,,,,,,,,," ++ (field sums.made ++ (field sums.left 
 unfoldable pub class_fields : ClassSums → List ℕ
 class_fields sums = count_fields sums ++ (field sums.ages ++ field sums.inside.ticks)
 
+abbrev pub line_fields : Line → List ℕ
+line_fields (Station sums) = flow_fields sums.flow ++ station_fields sums
+line_fields (Visit sums) = flow_fields sums.flow ++ visit_fields sums
+line_fields (Class sums) = class_fields sums
+
 -- rows begin with the seed, and end with how many ticks count and how the run ended
 abbrev pub row_form : ℕ → RunEnd → Form
-row_form ticks end = record {
-  before = seed_text end.seed;
-  station = λ sums. (flow_fields sums.flow ++ station_fields sums) ++ end_text ticks end;
-  visit = λ sums. (flow_fields sums.flow ++ visit_fields sums) ++ end_text ticks end;
-  class = λ sums. class_fields sums ++ end_text ticks end;
-}
+row_form ticks end = record { before = seed_text end.seed; line = λ line. line_fields line ++ end_text ticks end }
 
 -- the rows of a shop whose totals count from a tick on, wherever the words would have a window begin
 abbrev pub shop_rows : ShopParts → ℕ → RowsOf

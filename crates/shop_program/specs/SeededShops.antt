@@ -19,4 +19,5 @@ abbrev pub seeded_meaning : SeededShop → Meaning
 seeded_meaning seeded = shop_meaning (parts_seeded seeded)
 
 pub seeded_laws : (seeded : SeededShop) → MeaningLaws (seeded_meaning seeded)
-seeded_laws seeded = shop_laws (parts_seeded seeded) (is_shop_under seeded.seed seeded.in_range (parts_of (shop_seeded seeded)) (shop_seeded seeded).in_range)
+seeded_laws seeded =
+    shop_laws (parts_seeded seeded) (is_shop_under seeded.seed seeded.in_range (parts_of (shop_seeded seeded)) (shop_seeded seeded).in_range)

@@ -8,7 +8,7 @@ ghost use Rattle.shop_program.specs.Answer.{asked_by};
 
 use crate::running::run_words;
 use model_program::{Gate, Stage};
-use program_answers::{conclude, unread_words};
+use program_answers::{conclude, conclude_unread};
 use sim_io::{Sink, Source};
 use std::alloc::AllocGlobal;
 use std::io::ErrorKind;
@@ -56,6 +56,6 @@ pub fn run_program<R: AllocGlobal + Threads + Sync, S: Source, K: Sink, N: Sink,
             let ending = run_words(stage, &words, source, out);
             conclude(&ending, notes)
         }
-        Err(kind) => conclude(&unread_words(kind), notes),
+        Err(kind) => conclude_unread(kind, notes),
     }
 }

@@ -1,10 +1,10 @@
 //! The rows of a table of a shop.
 ghost use Rattle.std.specs.Prelude.{◌≡◌, ◌++◌, OnOk};
-ghost use Rattle.shop_program.specs.RowForms.{flow_fields, station_fields, visit_fields, count_fields, class_fields};
+ghost use Rattle.shop_program.specs.RowForms.{flow_fields, station_fields, visit_fields, count_fields, class_fields, line_fields};
 
 use model_core::OutOfMemory;
 use replications::{RunEnd, put_end, put_field, put_seed};
-use shop_totals::{ClassSums, Flow, LineForm, StationSums, VisitSums};
+use shop_totals::{ClassSums, Flow, Line, LineForm, StationSums, VisitSums};
 use std::alloc::Global;
 
 /// The head line of a table.
@@ -78,6 +78,23 @@ fn put_class_fields(sums: &ClassSums, into: &mut Vec<u8>) -> Result<(), OutOfMem
     put_field(sums.inside.ticks, into)
 }
 
+/// Appends the columns of a line.
+fn put_fields(line: &Line, into: &mut Vec<u8>) -> Result<(), OutOfMemory>
+    ensures { OnOk result (into.new.items ≡ into.old.items ++ line_fields line.now) }
+{
+    match line {
+        Line::Station(sums) => {
+            put_flow(&sums.flow, into)?;
+            put_station_fields(sums, into)
+        }
+        Line::Visit(sums) => {
+            put_flow(&sums.flow, into)?;
+            put_visit_fields(sums, into)
+        }
+        Line::Class(sums) => put_class_fields(sums, into),
+    }
+}
+
 impl LineForm for RowForm {
     ghost use Rattle.shop_program.specs.RowForms.{row_form};
 
@@ -87,35 +104,8 @@ impl LineForm for RowForm {
         put_seed(self.end.seed, into)
     }
 
-    fn put_station(
-        &self,
-        _alloc: Global,
-        sums: &StationSums,
-        into: &mut Vec<u8>,
-    ) -> Result<(), OutOfMemory> {
-        put_flow(&sums.flow, into)?;
-        put_station_fields(sums, into)?;
-        put_end(self.ticks, &self.end, into)
-    }
-
-    fn put_visit(
-        &self,
-        _alloc: Global,
-        sums: &VisitSums,
-        into: &mut Vec<u8>,
-    ) -> Result<(), OutOfMemory> {
-        put_flow(&sums.flow, into)?;
-        put_visit_fields(sums, into)?;
-        put_end(self.ticks, &self.end, into)
-    }
-
-    fn put_class(
-        &self,
-        _alloc: Global,
-        sums: &ClassSums,
-        into: &mut Vec<u8>,
-    ) -> Result<(), OutOfMemory> {
-        put_class_fields(sums, into)?;
+    fn put_line(&self, _alloc: Global, line: &Line, into: &mut Vec<u8>) -> Result<(), OutOfMemory> {
+        put_fields(line, into)?;
         put_end(self.ticks, &self.end, into)
     }
 }

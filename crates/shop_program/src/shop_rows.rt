@@ -6,7 +6,7 @@ use model_core::{OutOfMemory, Part};
 use replications::{Rows, RunEnd};
 use run_tally::Tally;
 use shop_model::Shop;
-use shop_totals::ShopTotals;
+use shop_totals::{Listing, ShopTotals};
 use sim_spec::Terms;
 use std::alloc::Global;
 
@@ -20,11 +20,11 @@ impl Rows<SeededShop> for ShopRows {
     ghost use Rattle.shop_model.specs.Views.{parts_of, counted_from};
     ghost use Rattle.shop_program.specs.RowForms.{shop_rows};
     ghost use Rattle.shop_program.specs.SeededShops.{shop_seeded};
-    ghost use Rattle.shop_totals.specs.Summed.{SumsUpShop};
+    ghost use Rattle.shop_totals.specs.Summed.{SumsUp};
 
     ghost rows_of = { λ seeded. shop_rows (parts_of (shop_seeded seeded)) (counted_from (shop_seeded seeded)) };
 
-    ghost sums_up = { λ seeded _ kept records. SumsUpShop (parts_of (shop_seeded seeded)) (counted_from (shop_seeded seeded)) kept.totals records };
+    ghost sums_up = { λ seeded _ kept records. SumsUp (shop_seeded seeded) kept.totals records };
 
     fn new(alloc: Global, model: &SeededShop, _first_tick: u64) -> Result<ShopRows, OutOfMemory> {
         let totals = <ShopTotals as Tally<Shop>>::new(alloc, model.shop())?;
@@ -49,7 +49,13 @@ impl Rows<SeededShop> for ShopRows {
             ticks: clock.saturating_sub(shop.counted_from()),
             end: *end,
         };
-        self.totals.put_by(alloc, &form, shop, clock, into)?;
+        let listing = Listing {
+            alloc,
+            form: &form,
+            shop,
+            clock,
+        };
+        self.totals.put_by(&listing, into)?;
         Ok(())
     }
 }

@@ -50,7 +50,8 @@ class-within parts more sums le within = record {
 }
 
 pub visits-within : (parts more : ℕ) (visits : List VisitSums) → parts ≤ more → All (IsVisitWithin parts) visits → All (IsVisitWithin more) visits
-visits-within parts more visits le within = All-weaker (IsVisitWithin parts) (IsVisitWithin more) (λ sums small. visit-within parts more sums le small) visits within
+visits-within parts more visits le within =
+    All-weaker (IsVisitWithin parts) (IsVisitWithin more) (λ sums small. visit-within parts more sums le small) visits within
 
 pub sums_up-within : (first servers : ℕ) (classes : List ℕ) (told : List TimedPart) (parts more : ℕ) (totals : StationTotals) → parts ≤ more
     → SumsUpStation first servers classes told parts totals → SumsUpStation first servers classes told more totals

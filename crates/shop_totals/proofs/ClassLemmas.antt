@@ -7,10 +7,12 @@ use Rattle.shop_totals.specs.Sums.{class_sums_of, IsClassWithin}
 use Rattle.shop_totals.specs.Told.{TimedPart, AreBy}
 use Rattle.shop_totals.proofs.StationLemmas.{by-later, by-more}
 
-own-sums : (first : ℕ) (told : List TimedPart) (parts : ℕ) (totals : ClassSums) → SumsUpClass first told parts totals → totals ≡ class_sums_of totals.first told totals.clock
+own-sums : (first : ℕ) (told : List TimedPart) (parts : ℕ) (totals : ClassSums) → SumsUpClass first told parts totals
+    → totals ≡ class_sums_of totals.first told totals.clock
 own-sums first told parts totals is = is.sums ∙ ap (λ first. class_sums_of first told totals.clock) (sym is.since)
 
-pub class_sums_up-pass : (first : ℕ) (told : List TimedPart) (parts time : ℕ) (totals new : ClassSums) → SumsUpClass first told parts totals → totals.clock ≤ time
+pub class_sums_up-pass : (first : ℕ) (told : List TimedPart) (parts time : ℕ) (totals new : ClassSums) → SumsUpClass first told parts totals
+    → totals.clock ≤ time
     → new.clock ≡ time → new.first ≡ totals.first
     → ((told : List TimedPart) → AreBy totals.clock told → totals ≡ class_sums_of totals.first told totals.clock → new ≡ class_sums_of totals.first told time)
     → ((parts : ℕ) → IsClassWithin parts totals → IsClassWithin parts new) → SumsUpClass first told parts new
@@ -22,7 +24,8 @@ class_sums_up-pass first told parts time totals new is le clock since passes wit
   within = within parts is.within;
 }
 
-pub class_sums_up-part : (first : ℕ) (told : List TimedPart) (parts time : ℕ) (part : Part) (totals new : ClassSums) → SumsUpClass first told parts totals → totals.clock ≡ time
+pub class_sums_up-part : (first : ℕ) (told : List TimedPart) (parts time : ℕ) (part : Part) (totals new : ClassSums)
+    → SumsUpClass first told parts totals → totals.clock ≡ time
     → new.clock ≡ totals.clock → new.first ≡ totals.first
     → ((told : List TimedPart) → AreBy totals.clock told → totals ≡ class_sums_of totals.first told totals.clock
     → new ≡ class_sums_of totals.first (told ++ record { time = totals.clock; part = part } ∷ []) totals.clock)
@@ -41,7 +44,8 @@ class_sums_up-part first told parts time part totals new is at clock since more 
     }
 
 -- the same parts, told as another list
-pub class_sums_up-told : (first : ℕ) (told same : List TimedPart) (parts : ℕ) (totals : ClassSums) → told ≡ same → SumsUpClass first told parts totals → SumsUpClass first same parts totals
+pub class_sums_up-told : (first : ℕ) (told same : List TimedPart) (parts : ℕ) (totals : ClassSums) → told ≡ same → SumsUpClass first told parts totals
+    → SumsUpClass first same parts totals
 class_sums_up-told first told same parts totals are is =
     let P : List TimedPart → Type 0 = λ told. SumsUpClass first told parts totals in
     subst P are is

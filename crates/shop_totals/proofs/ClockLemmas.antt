@@ -59,12 +59,14 @@ fault_at : (m : Meaning) (t : Terms) (s : State) (key : Key) (code : ℕ) → ne
 unfolding next next_of next_fired
 fault_at m t s key code is = by s.pending refl is
   where
-    by_fired : (e : Event) (rest : List Event) → s.pending ≡ e ∷ rest → e.key.stamp < end_stamp t.end → (fired : Fired) → next_fired s e rest fired ≡ stops (Fault key code) → FaultAt t s key
+    by_fired : (e : Event) (rest : List Event) → s.pending ≡ e ∷ rest → e.key.stamp < end_stamp t.end → (fired : Fired)
+        → next_fired s e rest fired ≡ stops (Fault key code) → FaultAt t s key
     by_fired e rest pending due (fails met) is = (let same : e.key ≡ key = cc in record { event = e; rest = rest; pending = pending; fails_there = same; due = due })
     by_fired e rest pending due (goes x) is = absurd (cc)
 
     by_limit : (e : Event) (rest : List Event) → s.pending ≡ e ∷ rest → e.key.stamp < end_stamp t.end → (full : Bool)
-        → cond full (stops Limit) (next_fired s e rest (fire m e.key.dest (object_at s.objects e.key.dest) e)) ≡ stops (Fault key code) → FaultAt t s key
+        → cond full (stops Limit) (next_fired s e rest (fire m e.key.dest (object_at s.objects e.key.dest) e)) ≡ stops (Fault key code)
+        → FaultAt t s key
     by_limit e rest pending due true is = absurd (cc)
     by_limit e rest pending due false is = by_fired e rest pending due (fire m e.key.dest (object_at s.objects e.key.dest) e) is
 
@@ -80,7 +82,8 @@ fault_at m t s key code is = by s.pending refl is
 abbrev StandsWell : Terms → List (Key × Note) → Stop → Type 0
 StandsWell t records stop = (last_time 0 records ≤ clock_of t records stop) × (clock_of t records stop ≤ t.end)
 
-stands : (m : Meaning) (t : Terms) → MeaningLaws m → (n : ℕ) (stop : Stop) → next m t (after_events n m t) ≡ stops stop → StandsWell t (first_records n m t) stop
+stands : (m : Meaning) (t : Terms) → MeaningLaws m → (n : ℕ) (stop : Stop) → next m t (after_events n m t) ≡ stops stop
+    → StandsWell t (first_records n m t) stop
 stands m t laws n End is = (last_time-bound 0 t.end (first_records n m t) (omega arith) (records-by_end m t n), omega arith)
 stands m t laws n Limit is = (omega arith, last_time-bound 0 t.end (first_records n m t) (omega arith) (records-by_end m t n))
 stands m t laws n (Fault key code) is =

@@ -9,7 +9,8 @@ use Rattle.shop_totals.specs.declared.flow.Flow.{Flow}
 use Rattle.shop_totals.specs.Flows.{is_coming, is_beginning, is_end, is_loss, is_reneging, count_told, flow_of, flow_more}
 use Rattle.shop_totals.specs.Told.{TimedPart, told_from}
 
-pub count_more : (is_one : ℕ → Bool) (told : List TimedPart) (one : TimedPart) → count_told is_one (told ++ one ∷ []) ≡ count_told is_one told + from_bool (is_one one.part.word)
+pub count_more : (is_one : ℕ → Bool) (told : List TimedPart) (one : TimedPart)
+    → count_told is_one (told ++ one ∷ []) ≡ count_told is_one told + from_bool (is_one one.part.word)
 count_more is_one told one = sum_by_push (λ (one : TimedPart). cond (is_one one.part.word) 1 0) told one ∙ by (is_one one.part.word)
   where
     by : (b : Bool) → count_told is_one told + cond b 1 0 ≡ count_told is_one told + from_bool b
@@ -27,12 +28,14 @@ flow_of-more told one =
     cc
 
 -- a part more counts if it is told from the first tick on
-pub told_from-counts : (first : ℕ) (told : List TimedPart) (one : TimedPart) → first ≤ one.time → told_from first (told ++ one ∷ []) ≡ told_from first told ++ one ∷ []
+pub told_from-counts : (first : ℕ) (told : List TimedPart) (one : TimedPart) → first ≤ one.time
+    → told_from first (told ++ one ∷ []) ≡ told_from first told ++ one ∷ []
 told_from-counts first told one counts =
     filter-append (λ (one : TimedPart). nat_le first one.time) told (one ∷ [])
     ∙ ap (λ b. told_from first told ++ cond b (one ∷ []) []) (le-leb first one.time counts)
 
-pub told_from-passes : (first : ℕ) (told : List TimedPart) (one : TimedPart) → one.time < first → told_from first (told ++ one ∷ []) ≡ told_from first told
+pub told_from-passes : (first : ℕ) (told : List TimedPart) (one : TimedPart) → one.time < first
+    → told_from first (told ++ one ∷ []) ≡ told_from first told
 told_from-passes first told one early =
     filter-append (λ (one : TimedPart). nat_le first one.time) told (one ∷ [])
     ∙ ap (λ b. told_from first told ++ cond b (one ∷ []) []) (lt-leb first one.time early)

@@ -23,7 +23,8 @@ sums_split f a (suc n) m =
     let whole : sum_by f (range_with_len a (suc n + m)) ≡ f a + sum_by f (range_with_len (a + 1) (n + m)) =
     ap (λ k. sum_by f (range_with_len a k)) more ∙ sum_by-cons f a (range_with_len (a + 1) (n + m)) in
     let first : sum_by f (range_with_len a (suc n)) ≡ f a + sum_by f (range_with_len (a + 1) n) = sum_by-cons f a (range_with_len (a + 1) n) in
-    let rest : sum_by f (range_with_len (a + 1) (n + m)) ≡ sum_by f (range_with_len (a + 1) n) + sum_by f (range_with_len (a + 1 + n) m) = sums_split f (a + 1) n m in
+    let rest : sum_by f (range_with_len (a + 1) (n + m)) ≡ sum_by f (range_with_len (a + 1) n) + sum_by f (range_with_len (a + 1 + n) m) =
+    sums_split f (a + 1) n m in
     let last : sum_by f (range_with_len (a + suc n) m) ≡ sum_by f (range_with_len (a + 1 + n) m) = ap (λ k. sum_by f (range_with_len k m)) next in
     omega (arith, whole, first, rest, last)
 
@@ -75,7 +76,8 @@ ticks_more : (after : ℕ → Part → ℕ) (now first : ℕ) (told : List Timed
     → ticks_of after now first (told ++ one ∷ []) one.time ≡ ticks_of after now first told one.time
 unfolding ticks_of
 ticks_more after now first told one =
-    sums_same (λ tick. number_after after now (told_by tick told)) (λ tick. number_after after now (told_by tick (told ++ one ∷ []))) first (one.time - first)
+    sums_same (λ tick. number_after after now (told_by tick told)) (λ tick. number_after after now (told_by tick (told ++ one ∷ []))) first
+    (one.time - first)
     (λ tick from to. ap (λ told. number_after after now told) (told_by-later tick told one (omega arith)))
 
 -- before anything is told
@@ -83,17 +85,20 @@ pub kept_none : (after : ℕ → Part → ℕ) (now first : ℕ) (kept : Kept) �
 unfolding number_after ticks_of
 kept_none after now first kept is =
     let none : 0 - first ≡ 0 = omega arith in
-    is ∙ ap (λ n. let more : Kept = record { number = now; ticks = sum_by (λ tick. number_after after now (told_by tick [])) (range_with_len first n) } in more) (sym none)
+    is
+    ∙ ap (λ n. let more : Kept = record { number = now; ticks = sum_by (λ tick. number_after after now (told_by tick [])) (range_with_len first n) } in more) (sym none)
 
 -- the time goes on
-pub kept_pass : (after : ℕ → Part → ℕ) (now first : ℕ) (told : List TimedPart) (earlier later ticks : ℕ) (kept passed : Kept) → AreBy earlier told → earlier ≤ later
+pub kept_pass : (after : ℕ → Part → ℕ) (now first : ℕ) (told : List TimedPart) (earlier later ticks : ℕ) (kept passed : Kept) → AreBy earlier told
+    → earlier ≤ later
     → kept ≡ kept_of after now first told earlier → ticks ≡ ticks_between first earlier later
     → passed ≡ record kept { ticks = kept.ticks + kept.number * ticks } → passed ≡ kept_of after now first told later
 kept_pass after now first told earlier later ticks kept passed are le is between passes =
     passes
     ∙ ap (λ n. let more : Kept = record kept { ticks = kept.ticks + kept.number * n } in more) between
     ∙ ap (λ (k : Kept). let more : Kept = record k { ticks = k.ticks + k.number * ticks_between first earlier later } in more) is
-    ∙ ap (λ ticks. let more : Kept = record { number = number_after after now told; ticks = ticks } in more) (sym (ticks_pass after now first told earlier later are le))
+    ∙ ap (λ ticks. let more : Kept = record { number = number_after after now told; ticks = ticks } in more)
+    (sym (ticks_pass after now first told earlier later are le))
 
 -- a part more is told
 pub kept_more : (after : ℕ → Part → ℕ) (now first : ℕ) (told : List TimedPart) (one : TimedPart) (kept : Kept) (number : ℕ)
@@ -104,7 +109,8 @@ kept_more after now first told one kept number is same =
     ap (λ (k : Kept). after k.number one.part) is ∙ sym (number_after-more after now told one) in
     ap (λ n. let more : Kept = record kept { number = n } in more) (same ∙ was)
     ∙ ap (λ (k : Kept). let more : Kept = record k { number = number_after after now (told ++ one ∷ []) } in more) is
-    ∙ ap (λ ticks. let more : Kept = record { number = number_after after now (told ++ one ∷ []); ticks = ticks } in more) (sym (ticks_more after now first told one))
+    ∙ ap (λ ticks. let more : Kept = record { number = number_after after now (told ++ one ∷ []); ticks = ticks } in more)
+    (sym (ticks_more after now first told one))
 
 -- a number below 2 ^ 64, summed up over the ticks of the time that goes by
 pub ticks_within : (first earlier later ticks : ℕ) (kept passed : Kept) → kept.number < 2 ^ 64 → kept.ticks ≤ 2 ^ 64 * earlier → earlier ≤ later

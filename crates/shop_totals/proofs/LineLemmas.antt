@@ -6,35 +6,33 @@ use Rattle.std.proofs.lemmas.List.{take_more}
 use Rattle.model_core.proofs.Numbers.{flat_map-numbers-more}
 use Rattle.shop_model.specs.Meaning.{name_at}
 use Rattle.shop_model.specs.ShopParts.{ShopParts}
+use Rattle.shop_totals.specs.declared.line.Line.TheVariants.{Visit}
 use Rattle.shop_totals.specs.declared.visit_sums.VisitSums.{VisitSums}
 use Rattle.shop_totals.specs.Forms.{Form, named}
 use Rattle.shop_totals.specs.ShopLines.{visit_line}
 use Rattle.shop_totals.specs.Summed.{visit_of}
 use Rattle.shop_totals.specs.Told.{TimedPart}
 
-pub visit_line-put : (form : Form) (p : ShopParts) (first : ℕ) (told : List TimedPart) (station class : ℕ) (before begun parted both all : List ℕ) (sums : VisitSums)
-    → begun ≡ before ++ named form p station → parted ≡ begun ++ 47 ∷ [] → both ≡ parted ++ name_at p (length p.stations + class) → all ≡ both ++ form.visit sums
-    → sums ≡ visit_of first told class → all ≡ before ++ visit_line form p first told station class
+pub visit_line-put : (form : Form) (p : ShopParts) (first : ℕ) (told : List TimedPart) (station class : ℕ) (before begun parted both all : List ℕ)
+    (sums : VisitSums) → begun ≡ before ++ named form p station → parted ≡ begun ++ 47 ∷ [] → both ≡ parted ++ name_at p (length p.stations + class)
+    → all ≡ both ++ form.line (Visit sums) → sums ≡ visit_of first told class → all ≡ before ++ visit_line form p first told station class
 unfolding visit_line
 visit_line-put form p first told station class before begun parted both all sums names parts names_too ends is =
     let name = named form p station in
     let other = name_at p (length p.stations + class) in
-    let text = form.visit (visit_of first told class) in
+    let text = form.line (Visit (visit_of first told class)) in
     ends
-    ∙ ap (λ (xs : List ℕ). xs ++ form.visit sums) (names_too ∙ ap (λ (xs : List ℕ). xs ++ other) (parts ∙ ap (λ (xs : List ℕ). xs ++ 47 ∷ []) names))
-    ∙ ap (λ (s : VisitSums). (((before ++ name) ++ 47 ∷ []) ++ other) ++ form.visit s) is
+    ∙ ap (λ (xs : List ℕ). xs ++ form.line (Visit sums))
+    (names_too ∙ ap (λ (xs : List ℕ). xs ++ other) (parts ∙ ap (λ (xs : List ℕ). xs ++ 47 ∷ []) names))
+    ∙ ap (λ (s : VisitSums). (((before ++ name) ++ 47 ∷ []) ++ other) ++ form.line (Visit s)) is
     ∙ append_assoc ((before ++ name) ++ 47 ∷ []) other text
     ∙ append_assoc (before ++ name) (47 ∷ []) (other ++ text)
     ∙ append_assoc before name (47 ∷ [] ++ (other ++ text))
 
--- a name and a text behind it
-pub named-put : (before begun all name text shown : List ℕ) → begun ≡ before ++ name → all ≡ begun ++ shown → shown ≡ text → all ≡ before ++ (name ++ text)
-named-put before begun all name text shown names ends is =
-    ends ∙ ap (λ (xs : List ℕ). xs ++ shown) names ∙ ap (λ (shown : List ℕ). (before ++ name) ++ shown) is ∙ append_assoc before name text
-
 -- what is told of one more of a list, behind its head
 pub lines-next : (f : ℕ → List ℕ) (numbers : List ℕ) (place : ℕ) (before head into new : List ℕ) → place < length numbers
-    → into ≡ before ++ (head ++ flat_map f (take place numbers)) → new ≡ into ++ f (get_or numbers place 0) → new ≡ before ++ (head ++ flat_map f (take (place + 1) numbers))
+    → into ≡ before ++ (head ++ flat_map f (take place numbers)) → new ≡ into ++ f (get_or numbers place 0)
+    → new ≡ before ++ (head ++ flat_map f (take (place + 1) numbers))
 lines-next f numbers place before head into new within are more =
     let so_far = flat_map f (take place numbers) in
     let line = f (get_or numbers place 0) in

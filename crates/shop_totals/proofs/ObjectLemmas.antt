@@ -17,8 +17,10 @@ unfolding shop_meaning
 class-object p class is = omega arith
 
 -- a class that visits a station is one of few
-pub visitor-few : (p : ShopParts) (station place class : ℕ) (first servers : ℕ) (told : List TimedPart) (parts : ℕ) (totals : StationTotals) → IsShop p
-    → SumsUpStation first servers (classes_at p station) told parts totals → place < length (classes_at p station) → class ≡ get_or totals.classes.items place class
+pub visitor-few : (p : ShopParts) (station place class : ℕ) (first servers : ℕ) (told : List TimedPart) (parts : ℕ) (totals : StationTotals)
+    → IsShop p
+    → SumsUpStation first servers (classes_at p station) told parts totals → place < length (classes_at p station)
+    → class ≡ get_or totals.classes.items place class
     → (class < length p.classes) × (length p.stations + class < 2 ^ 17)
 visitor-few p station place class first servers told parts totals shop is within read =
     let Below : ℕ → Type 0 = λ class. class < length p.classes in

@@ -28,7 +28,8 @@ told_at-here object records told here =
     ap (λ b. flat_map timed_parts (cond b (told ∷ []) [])) (eq-eqb told.0.dest object here) ∙ append-nil (timed_parts told) in
     told_at-more object records told ∙ ap (λ (parts : List TimedPart). told_at object records ++ parts) its_own
 
-pub told_at-elsewhere : (object : ℕ) (records : List (Key × Note)) (told : Key × Note) → told.0.dest ≢ object → told_at object (records ++ told ∷ []) ≡ told_at object records
+pub told_at-elsewhere : (object : ℕ) (records : List (Key × Note)) (told : Key × Note) → told.0.dest ≢ object
+    → told_at object (records ++ told ∷ []) ≡ told_at object records
 unfolding told_at
 told_at-elsewhere object records told apart =
     let none : told_at object (told ∷ []) ≡ [] = ap (λ b. flat_map timed_parts (cond b (told ∷ []) [])) (ne_eqb told.0.dest object apart) in
@@ -39,18 +40,21 @@ pub parts_at-more : (told : List TimedPart) (time : ℕ) (note : Note) (i : ℕ)
     → (told ++ parts_at time (take i note)) ++ record { time = time; part = get_or note i none } ∷ [] ≡ told ++ parts_at time (take (i + 1) note)
 parts_at-more told time note i none within =
     let timed_at : Part → TimedPart = λ part. record { time = time; part = part } in
-    append_assoc told (parts_at time (take i note)) (timed_at (get_or note i none) ∷ []) ∙ ap (λ (parts : List TimedPart). told ++ parts) (sym (map_more timed_at note i none within))
+    append_assoc told (parts_at time (take i note)) (timed_at (get_or note i none) ∷ [])
+    ∙ ap (λ (parts : List TimedPart). told ++ parts) (sym (map_more timed_at note i none within))
 
 pub told_at-none : (object : ℕ) → told_at object [] ≡ []
 unfolding told_at
 told_at-none object = refl
 
-pub of_class-here : (class : ℕ) (told : List TimedPart) (one : TimedPart) → one.part.a / JOBS_A_CLASS ≡ class → of_class class (told ++ one ∷ []) ≡ of_class class told ++ one ∷ []
+pub of_class-here : (class : ℕ) (told : List TimedPart) (one : TimedPart) → one.part.a / JOBS_A_CLASS ≡ class
+    → of_class class (told ++ one ∷ []) ≡ of_class class told ++ one ∷ []
 of_class-here class told one here =
     filter-append (λ (one : TimedPart). one.part.a / JOBS_A_CLASS == class) told (one ∷ [])
     ∙ ap (λ b. of_class class told ++ cond b (one ∷ []) []) (eq-eqb (one.part.a / JOBS_A_CLASS) class here)
 
-pub of_class-elsewhere : (class : ℕ) (told : List TimedPart) (one : TimedPart) → one.part.a / JOBS_A_CLASS ≢ class → of_class class (told ++ one ∷ []) ≡ of_class class told
+pub of_class-elsewhere : (class : ℕ) (told : List TimedPart) (one : TimedPart) → one.part.a / JOBS_A_CLASS ≢ class
+    → of_class class (told ++ one ∷ []) ≡ of_class class told
 of_class-elsewhere class told one apart =
     filter-append (λ (one : TimedPart). one.part.a / JOBS_A_CLASS == class) told (one ∷ [])
     ∙ ap (λ b. of_class class told ++ cond b (one ∷ []) []) (ne_eqb (one.part.a / JOBS_A_CLASS) class apart)

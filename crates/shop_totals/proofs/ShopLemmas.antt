@@ -24,10 +24,12 @@ use Rattle.shop_totals.proofs.StationLemmas.{sums_up-told}
 one-more : (records : List (Key × Note)) (told : Key × Note) → length (records ++ told ∷ []) ≡ length records + 1
 one-more records told = length_push records told
 
-station-elsewhere : (p : ShopParts) (first : ℕ) (records : List (Key × Note)) (told : Key × Note) (last k : ℕ) (totals : StationTotals) → told.0.dest ≢ k → last ≤ time_part told.0.stamp
+station-elsewhere : (p : ShopParts) (first : ℕ) (records : List (Key × Note)) (told : Key × Note) (last k : ℕ) (totals : StationTotals)
+    → told.0.dest ≢ k → last ≤ time_part told.0.stamp
     → SumsUpAtStation p first records last k totals → SumsUpAtStation p first (records ++ told ∷ []) (time_part told.0.stamp) k totals
 station-elsewhere p first records told last k totals apart le is = (
-  sums_up-within first (station_at p.stations k).servers (classes_at p k) (told_at k (records ++ told ∷ [])) (4 * length records) (4 * length (records ++ told ∷ [])) totals
+  sums_up-within first (station_at p.stations k).servers (classes_at p k) (told_at k (records ++ told ∷ [])) (4 * length records)
+      (4 * length (records ++ told ∷ [])) totals
       (omega (arith, one-more records told))
       (sums_up-told first (station_at p.stations k).servers (classes_at p k) (told_at k records) (told_at k (records ++ told ∷ [])) (4 * length records) totals
       (sym (told_at-elsewhere k records told apart)) is.0),
@@ -38,15 +40,18 @@ station-here : (p : ShopParts) (first : ℕ) (records : List (Key × Note)) (tol
     → SumsUpShopStation p first k (told_at k records ++ timed_parts told) (4 * length records + 4) totals
     → totals.sums.clock ≡ time_part told.0.stamp → SumsUpAtStation p first (records ++ told ∷ []) (time_part told.0.stamp) k totals
 station-here p first records told k totals here is clock = (
-  sums_up-within first (station_at p.stations k).servers (classes_at p k) (told_at k (records ++ told ∷ [])) (4 * length records + 4) (4 * length (records ++ told ∷ [])) totals
+  sums_up-within first (station_at p.stations k).servers (classes_at p k) (told_at k (records ++ told ∷ [])) (4 * length records + 4)
+      (4 * length (records ++ told ∷ [])) totals
       (omega (arith, one-more records told))
       (sums_up-told first (station_at p.stations k).servers (classes_at p k) (told_at k records ++ timed_parts told) (told_at k (records ++ told ∷ [])) (4 * length records + 4) totals
       (sym (told_at-here k records told here)) is),
   omega (arith, clock),
 )
 
-class-elsewhere : (p : ShopParts) (first : ℕ) (records : List (Key × Note)) (told : Key × Note) (last k : ℕ) (totals : ClassSums) → told.0.dest ≢ length p.stations + k
-    → last ≤ time_part told.0.stamp → SumsUpAtClass p first records last k totals → SumsUpAtClass p first (records ++ told ∷ []) (time_part told.0.stamp) k totals
+class-elsewhere : (p : ShopParts) (first : ℕ) (records : List (Key × Note)) (told : Key × Note) (last k : ℕ) (totals : ClassSums)
+    → told.0.dest ≢ length p.stations + k
+    → last ≤ time_part told.0.stamp → SumsUpAtClass p first records last k totals
+    → SumsUpAtClass p first (records ++ told ∷ []) (time_part told.0.stamp) k totals
 class-elsewhere p first records told last k totals apart le is = (
   class_sums_up-within first (told_at (length p.stations + k) (records ++ told ∷ [])) (4 * length records) (4 * length (records ++ told ∷ [])) totals
       (omega (arith, one-more records told))
@@ -55,11 +60,13 @@ class-elsewhere p first records told last k totals apart le is = (
   omega (arith, is.1),
 )
 
-class-here : (p : ShopParts) (first : ℕ) (records : List (Key × Note)) (told : Key × Note) (k : ℕ) (totals : ClassSums) → told.0.dest ≡ length p.stations + k
+class-here : (p : ShopParts) (first : ℕ) (records : List (Key × Note)) (told : Key × Note) (k : ℕ) (totals : ClassSums)
+    → told.0.dest ≡ length p.stations + k
     → SumsUpClass first (told_at (length p.stations + k) records ++ timed_parts told) (4 * length records + 4) totals
     → totals.clock ≡ time_part told.0.stamp → SumsUpAtClass p first (records ++ told ∷ []) (time_part told.0.stamp) k totals
 class-here p first records told k totals here is clock = (
-  class_sums_up-within first (told_at (length p.stations + k) (records ++ told ∷ [])) (4 * length records + 4) (4 * length (records ++ told ∷ [])) totals
+  class_sums_up-within first (told_at (length p.stations + k) (records ++ told ∷ [])) (4 * length records + 4)
+      (4 * length (records ++ told ∷ [])) totals
       (omega (arith, one-more records told))
       (class_sums_up-told first (told_at (length p.stations + k) records ++ timed_parts told) (told_at (length p.stations + k) (records ++ told ∷ [])) (4 * length records + 4) totals
       (sym (told_at-here (length p.stations + k) records told here)) is),
@@ -67,7 +74,8 @@ class-here p first records told k totals here is clock = (
 )
 
 -- a record of a station
-pub shop-station : (p : ShopParts) (first : ℕ) (records : List (Key × Note)) (told : Key × Note) (totals new : ShopTotals) (one : StationTotals) → SumsUpShop p first totals records
+pub shop-station : (p : ShopParts) (first : ℕ) (records : List (Key × Note)) (told : Key × Note) (totals new : ShopTotals) (one : StationTotals)
+    → SumsUpShop p first totals records
     → length records < MOST_EVENTS → told.0.dest < length p.stations → last_time 0 records ≤ time_part told.0.stamp
     → new.stations.items ≡ set totals.stations.items told.0.dest one → new.classes.items ≡ totals.classes.items → new.last ≡ time_part told.0.stamp
     → SumsUpShopStation p first told.0.dest (told_at told.0.dest records ++ timed_parts told) (4 * length records + 4) one
@@ -102,15 +110,18 @@ shop-station p first records told totals new one is few exists in_time stations 
         (station-elsewhere p first records told totals.last k (get_or totals.stations.items k none) (λ same. apart (sym same)) (omega (arith, is.last)) (is.stations k none within))
 
 -- what is kept of the class of an object that stands behind the stations
-pub class-before : (p : ShopParts) (first : ℕ) (records : List (Key × Note)) (totals : ShopTotals) (object stations : ℕ) (own : ClassSums) → SumsUpShop p first totals records
-    → object < length p.stations + length p.classes → stations ≡ length p.stations → stations ≤ object → own ≡ get_or totals.classes.items (object - stations) own
+pub class-before : (p : ShopParts) (first : ℕ) (records : List (Key × Note)) (totals : ShopTotals) (object stations : ℕ) (own : ClassSums)
+    → SumsUpShop p first totals records
+    → object < length p.stations + length p.classes → stations ≡ length p.stations → stations ≤ object
+    → own ≡ get_or totals.classes.items (object - stations) own
     → SumsUpAtClass p first records totals.last (object - stations) own
 class-before p first records totals object stations own is exists many behind same =
     let At : ClassSums → Type 0 = SumsUpAtClass p first records totals.last (object - stations) in
     subst At (sym same) (is.classes (object - stations) own (omega arith))
 
 -- a record of a class
-pub shop-class : (p : ShopParts) (first : ℕ) (records : List (Key × Note)) (told : Key × Note) (class : ℕ) (totals new : ShopTotals) (one : ClassSums) → SumsUpShop p first totals records
+pub shop-class : (p : ShopParts) (first : ℕ) (records : List (Key × Note)) (told : Key × Note) (class : ℕ) (totals new : ShopTotals) (one : ClassSums)
+    → SumsUpShop p first totals records
     → length records < MOST_EVENTS → told.0.dest ≡ length p.stations + class → class < length p.classes → last_time 0 records ≤ time_part told.0.stamp
     → new.stations.items ≡ totals.stations.items → new.classes.items ≡ set totals.classes.items class one → new.last ≡ time_part told.0.stamp
     → SumsUpClass first (told_at told.0.dest records ++ timed_parts told) (4 * length records + 4) one
@@ -148,7 +159,8 @@ shop-class p first records told class totals new one is few dest exists in_time 
         (class-elsewhere p first records told totals.last k (get_or totals.classes.items k none) (λ same. apart (omega (arith, same, dest))) (omega (arith, is.last)) (is.classes k none within))
 
 -- one station more, of which nothing was told
-pub stations-more : (p : ShopParts) (first n : ℕ) (all : List StationTotals) (one : StationTotals) → AreNewStations p first n all → IsNewStation p first n one
+pub stations-more : (p : ShopParts) (first n : ℕ) (all : List StationTotals) (one : StationTotals) → AreNewStations p first n all
+    → IsNewStation p first n one
     → AreNewStations p first (n + 1) (all ++ one ∷ [])
 stations-more p first n all one are is = (length_push all one ∙ ap (λ n. n + 1) are.0, λ k none within. by k none within (eqb k n) refl)
   where
@@ -165,7 +177,8 @@ stations-more p first n all one are is = (length_push all one ∙ ap (λ n. n + 
 
 -- before anything is told
 pub shop-new : (p : ShopParts) (first : ℕ) (totals : ShopTotals) (one : ClassSums) → AreNewStations p first (length p.stations) totals.stations.items
-    → totals.classes.items ≡ replicate (length p.classes) one → SumsUpClass first [] 0 one → one.clock ≡ 0 → totals.last ≡ 0 → SumsUpShop p first totals []
+    → totals.classes.items ≡ replicate (length p.classes) one → SumsUpClass first [] 0 one → one.clock ≡ 0 → totals.last ≡ 0
+    → SumsUpShop p first totals []
 unfolding told_at last_time
 shop-new p first totals one stations classes sums clock last = record {
   few = omega arith;
@@ -175,5 +188,6 @@ shop-new p first totals one stations classes sums clock last = record {
   class_count = ap (λ (all : List ClassSums). length all) classes ∙ length-replicate (length p.classes) one;
   classes = λ k none within.
       let At : ClassSums → Type 0 = SumsUpAtClass p first [] totals.last k in
-      subst At (sym (ap (λ (all : List ClassSums). get_or all k none) classes ∙ get_or-replicate (length p.classes) k one none within)) (sums, omega (arith, clock));
+      subst At (sym (ap (λ (all : List ClassSums). get_or all k none) classes ∙ get_or-replicate (length p.classes) k one none within))
+      (sums, omega (arith, clock));
 }

@@ -13,11 +13,13 @@ pub by-later : (clock later : ℕ) (told : List TimedPart) → clock ≤ later �
 by-later clock later told le are =
     All-weaker (λ (one : TimedPart). one.time ≤ clock) (λ (one : TimedPart). one.time ≤ later) (λ one by. omega (arith, by)) told are
 
-pub by-more : (clock later : ℕ) (told : List TimedPart) (one : TimedPart) → clock ≤ later → one.time ≤ later → AreBy clock told → AreBy later (told ++ one ∷ [])
+pub by-more : (clock later : ℕ) (told : List TimedPart) (one : TimedPart) → clock ≤ later → one.time ≤ later → AreBy clock told
+    → AreBy later (told ++ one ∷ [])
 by-more clock later told one le by are = All-push (λ (one : TimedPart). one.time ≤ later) told one (by-later clock later told le are) by
 
 -- the sums from the first tick of these totals on are those from that tick on
-own-sums : (first servers : ℕ) (classes : List ℕ) (told : List TimedPart) (parts : ℕ) (totals : StationTotals) → SumsUpStation first servers classes told parts totals
+own-sums : (first servers : ℕ) (classes : List ℕ) (told : List TimedPart) (parts : ℕ) (totals : StationTotals)
+    → SumsUpStation first servers classes told parts totals
     → totals.sums ≡ station_sums_of totals.sums.first servers told totals.sums.clock
 own-sums first servers classes told parts totals is =
     is.sums ∙ ap (λ first. station_sums_of first servers told totals.sums.clock) (sym is.since)
@@ -47,7 +49,8 @@ pub sums_up-part : (first servers : ℕ) (classes : List ℕ) (told : List Timed
     → new.sums ≡ station_sums_of totals.sums.first servers (told ++ record { time = totals.sums.clock; part = part } ∷ []) totals.sums.clock)
     → ((parts : ℕ) → IsWithin parts totals.sums → IsWithin (parts + 1) new.sums)
     → new.classes.items ≡ totals.classes.items
-    → new.visits.items ≡ map (visit_of first (told ++ record { time = totals.sums.clock; part = part } ∷ [])) classes → All (IsVisitWithin (parts + 1)) new.visits.items
+    → new.visits.items ≡ map (visit_of first (told ++ record { time = totals.sums.clock; part = part } ∷ [])) classes
+    → All (IsVisitWithin (parts + 1)) new.visits.items
     → SumsUpStation first servers classes (told ++ record { time = totals.sums.clock; part = part } ∷ []) (parts + 1) new
 sums_up-part first servers classes told parts part totals new is clock since more within visitors visits visits_within =
     let one : TimedPart = record { time = totals.sums.clock; part = part } in

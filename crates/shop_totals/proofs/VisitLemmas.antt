@@ -13,7 +13,8 @@ use Rattle.shop_totals.specs.Told.{TimedPart, told_from}
 use Rattle.shop_totals.proofs.FlowLemmas.{told_from-counts, told_from-passes}
 use Rattle.shop_totals.proofs.RecordLemmas.{of_class-here, of_class-elsewhere}
 
-map_same : {X : Type 0} (f g : ℕ → X) (keys : List ℕ) → ((k : ℕ) → k < length keys → f (get_or keys k 0) ≡ g (get_or keys k 0)) → map f keys ≡ map g keys
+map_same : {X : Type 0} (f g : ℕ → X) (keys : List ℕ) → ((k : ℕ) → k < length keys → f (get_or keys k 0) ≡ g (get_or keys k 0))
+    → map f keys ≡ map g keys
 map_same f g keys same =
     same_lists (map f keys) (map g keys) (length-map keys f ∙ sym (length-map keys g))
     (λ k d within.
@@ -37,7 +38,8 @@ map_set {X} f g keys place new exists here elsewhere =
         let apart : k ≢ place = λ same. let yes = eq-eqb k place same in cc in
         get_or-set_other (map f keys) place k new d apart ∙ get_or-map f keys k 0 d below ∙ elsewhere k below apart
 
-visit_of-early : (first : ℕ) (told : List TimedPart) (one : TimedPart) (class : ℕ) → one.time < first → visit_of first told class ≡ visit_of first (told ++ one ∷ []) class
+visit_of-early : (first : ℕ) (told : List TimedPart) (one : TimedPart) (class : ℕ) → one.time < first
+    → visit_of first told class ≡ visit_of first (told ++ one ∷ []) class
 visit_of-early first told one class early = by (eqb (one.part.a / JOBS_A_CLASS) class) refl
   where
     by : (b : Bool) → eqb (one.part.a / JOBS_A_CLASS) class ≡ b → visit_of first told class ≡ visit_of first (told ++ one ∷ []) class
@@ -65,7 +67,8 @@ pub visits-nowhere : (first : ℕ) (told : List TimedPart) (one : TimedPart) (cl
     → ((k : ℕ) → k < length classes → get_or classes k 0 ≢ one.part.a / JOBS_A_CLASS)
     → map (visit_of first told) classes ≡ map (visit_of first (told ++ one ∷ [])) classes
 visits-nowhere first told one classes nowhere =
-    map_same (visit_of first told) (visit_of first (told ++ one ∷ [])) classes (λ k within. visit_of-elsewhere first told one (get_or classes k 0) (nowhere k within))
+    map_same (visit_of first told) (visit_of first (told ++ one ∷ [])) classes
+    (λ k within. visit_of-elsewhere first told one (get_or classes k 0) (nowhere k within))
 
 rising-apart : (classes : List ℕ) (k place : ℕ) → AllPairs (λ (a b : ℕ). a < b) classes → k < length classes → place < length classes → k ≢ place
     → get_or classes k 0 ≢ get_or classes place 0
@@ -75,7 +78,8 @@ rising-apart classes k place rising within exists apart same = by (ltb k place) 
     by true is = let lt = rising k place 0 (ltb-true k place is) exists in omega arith
     by false is = let most : place ≤ k = ltb-false k place is in let lt = rising place k 0 (omega arith) within in omega arith
 
-pub rising-up : (classes : List ℕ) → AllPairs (λ (a b : ℕ). a < b) classes → (i j : ℕ) → i ≤ j → j < length classes → get_or classes i 0 ≤ get_or classes j 0
+pub rising-up : (classes : List ℕ) → AllPairs (λ (a b : ℕ). a < b) classes → (i j : ℕ) → i ≤ j → j < length classes
+    → get_or classes i 0 ≤ get_or classes j 0
 rising-up classes rising i j le within = by (eqb i j) refl
   where
     by : (b : Bool) → eqb i j ≡ b → get_or classes i 0 ≤ get_or classes j 0
@@ -86,7 +90,8 @@ rising-up classes rising i j le within = by (eqb i j) refl
         omega (arith, lt)
 
 -- a number that lies between two neighbours is none of them
-pub around-apart : (classes : List ℕ) (class place : ℕ) → ((k : ℕ) → k < place → get_or classes k 0 < class) → ((k : ℕ) → place ≤ k → k < length classes → class < get_or classes k 0)
+pub around-apart : (classes : List ℕ) (class place : ℕ) → ((k : ℕ) → k < place → get_or classes k 0 < class)
+    → ((k : ℕ) → place ≤ k → k < length classes → class < get_or classes k 0)
     → (k : ℕ) → k < length classes → get_or classes k 0 ≢ class
 around-apart classes class place below above k within same = by (ltb k place) refl
   where

@@ -16,11 +16,13 @@ use Rattle.shop_totals.specs.Visits.{has_visit, classes_at}
 abbrev pub visitors : ShopParts → ℕ → ℕ → List ℕ
 visitors p station n = filter (λ class. has_visit station (class_at (routes_of p) class)) (range_with_len 0 n)
 
-pub visitors-more : (p : ShopParts) (station n : ℕ) (classes : List Class) (class : Class) → classes ≡ p.classes → n < length classes → class ≡ get_or classes n class
+pub visitors-more : (p : ShopParts) (station n : ℕ) (classes : List Class) (class : Class) → classes ≡ p.classes → n < length classes
+    → class ≡ get_or classes n class
     → visitors p station (n + 1) ≡ visitors p station n ++ cond (has_visit station class) (n ∷ []) []
 visitors-more p station n classes class are within is =
     let visits : ℕ → Bool = λ class. has_visit station (class_at (routes_of p) class) in
-    let read : class_at (routes_of p) n ≡ class = ap (λ (classes : List Class). get_or classes n no_class) (sym are) ∙ sym (get_or_read classes n class within is no_class) in
+    let read : class_at (routes_of p) n ≡ class =
+    ap (λ (classes : List Class). get_or classes n no_class) (sym are) ∙ sym (get_or_read classes n class within is no_class) in
     ap (λ (numbers : List ℕ). filter visits numbers) (numbers-more 0 n n (omega arith))
     ∙ filter-append visits (range_with_len 0 n) (n ∷ [])
     ∙ ap (λ (class : Class). visitors p station n ++ cond (has_visit station class) (n ∷ []) []) read
@@ -38,7 +40,8 @@ visitors-rise p station =
 pub visitors-exist : (p : ShopParts) (station : ℕ) → All (λ (class : ℕ). class < length p.classes) (classes_at p station)
 unfolding classes_at
 visitors-exist p station =
-    All-filter (λ class. has_visit station (class_at (routes_of p) class)) (λ (class : ℕ). class < length p.classes) (range_with_len 0 (length p.classes))
+    All-filter (λ class. has_visit station (class_at (routes_of p) class)) (λ (class : ℕ). class < length p.classes)
+    (range_with_len 0 (length p.classes))
     (λ i d within.
     let many = length-range_with_len 0 (length p.classes) in
     let a = get_or-range_with_len 0 (length p.classes) i d (omega arith) in

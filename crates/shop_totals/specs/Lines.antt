@@ -2,6 +2,8 @@
 use Rattle.std.specs.Prelude.{ℕ, List, ◌++◌, codes, decimal}
 use Rattle.shop_totals.specs.declared.class_sums.ClassSums.{ClassSums}
 use Rattle.shop_totals.specs.declared.flow.Flow.{Flow}
+use Rattle.shop_totals.specs.declared.line.Line.{Line}
+use Rattle.shop_totals.specs.declared.line.Line.TheVariants.{Station, Visit, Class}
 use Rattle.shop_totals.specs.declared.station_sums.StationSums.{StationSums}
 use Rattle.shop_totals.specs.declared.visit_sums.VisitSums.{VisitSums}
 
@@ -26,3 +28,8 @@ counts_text sums =
 
 unfoldable pub class_text : ClassSums → List ℕ
 class_text sums = counts_text sums ++ (codes " ages " ++ (decimal sums.ages ++ (codes " inside " ++ (decimal sums.inside.ticks ++ codes "\n"))))
+
+abbrev pub line_text : Line → List ℕ
+line_text (Station sums) = station_text sums
+line_text (Visit sums) = visit_text sums
+line_text (Class sums) = class_text sums

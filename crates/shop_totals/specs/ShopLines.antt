@@ -7,7 +7,8 @@ use Rattle.model_core.specs.declared.note.Note.{Note}
 use Rattle.run_tally.specs.Tallies.{TotalsOf, last_time}
 use Rattle.shop_model.specs.Meaning.{name_at}
 use Rattle.shop_model.specs.ShopParts.{ShopParts, station_at}
-use Rattle.shop_totals.specs.Forms.{Form, named, total_lines}
+use Rattle.shop_totals.specs.declared.line.Line.TheVariants.{Station, Visit, Class}
+use Rattle.shop_totals.specs.Forms.{Form, named, named_line, total_lines}
 use Rattle.shop_totals.specs.Records.{told_at, of_class}
 use Rattle.shop_totals.specs.Sums.{station_sums_of, visit_sums_of, class_sums_of}
 use Rattle.shop_totals.specs.Told.{TimedPart, told_from}
@@ -28,16 +29,16 @@ class_name p class = name_at p (length p.stations + class)
 -- the line of a class at a station, of which this is told
 unfoldable pub visit_line : Form → ShopParts → ℕ → List TimedPart → ℕ → ℕ → List ℕ
 visit_line form p first told station class =
-    named form p station ++ (codes "/" ++ (class_name p class ++ form.visit (visit_sums_of (told_from first (of_class class told)))))
+    named form p station ++ (codes "/" ++ (class_name p class ++ form.line (Visit (visit_sums_of (told_from first (of_class class told))))))
 
 -- the line of a station, of which this is told, and those of the classes that visit it
 unfoldable pub station_lines : Form → ShopParts → ℕ → ℕ → List TimedPart → ℕ → List ℕ
 station_lines form p first clock told station =
-    (named form p station ++ form.station (station_sums_of first (station_at p.stations station).servers told clock))
+    named_line form p station (Station (station_sums_of first (station_at p.stations station).servers told clock))
     ++ flat_map (visit_line form p first told station) (classes_at p station)
 
 unfoldable pub class_line : Form → ShopParts → ℕ → ℕ → List TimedPart → ℕ → List ℕ
-class_line form p first clock told class = named form p (length p.stations + class) ++ form.class (class_sums_of first told clock)
+class_line form p first clock told class = named_line form p (length p.stations + class) (Class (class_sums_of first told clock))
 
 abbrev pub all_station_lines : Form → ShopParts → ℕ → ℕ → List (Key × Note) → List ℕ
 all_station_lines form p first clock records =

@@ -1,11 +1,13 @@
 -- What totals keep has summed up what is told.
-use Rattle.std.specs.Prelude.{◌≡◌, ℕ, ◌+◌, ◌*◌, ◌<◌, ◌≤◌, List, [], All, get_or, length, map}
+use Rattle.std.specs.Prelude.{◌≡◌, ℕ, ◌+◌, ◌*◌, ◌<◌, ◌≤◌, List, [], All, get_or, length, map, ◌++◌}
 use Rattle.std.specs.List.{AllPairs}
 use Rattle.event_key.specs.declared.key.Key.{Key}
 use Rattle.model_core.specs.declared.limits.TheConstants.{MOST_EVENTS}
 use Rattle.model_core.specs.declared.note.Note.{Note}
 use Rattle.run_tally.specs.Tallies.{last_time}
+use Rattle.shop_model.specs.declared.shop.Shop.{Shop}
 use Rattle.shop_model.specs.ShopParts.{ShopParts, station_at}
+use Rattle.shop_model.specs.Views.{parts_of, counted_from}
 use Rattle.shop_totals.specs.declared.class_sums.ClassSums.{ClassSums}
 use Rattle.shop_totals.specs.declared.shop_totals.ShopTotals.{ShopTotals}
 use Rattle.shop_totals.specs.declared.station_totals.StationTotals.{StationTotals}
@@ -56,9 +58,18 @@ pub record SumsUpShop (p : ShopParts) (first : ℕ) (totals : ShopTotals) (recor
   pub few : length records ≤ MOST_EVENTS
   pub last : totals.last ≡ last_time 0 records
   pub station_count : length totals.stations.items ≡ length p.stations
-  pub stations : (k : ℕ) (none : StationTotals) → k < length p.stations → SumsUpAtStation p first records totals.last k (get_or totals.stations.items k none)
+  pub stations : (k : ℕ) (none : StationTotals) → k < length p.stations
+      → SumsUpAtStation p first records totals.last k (get_or totals.stations.items k none)
   pub class_count : length totals.classes.items ≡ length p.classes
   pub classes : (k : ℕ) (none : ClassSums) → k < length p.classes → SumsUpAtClass p first records totals.last k (get_or totals.classes.items k none)
+
+-- so they do for the parts of this shop, from the tick on from which it counts
+abbrev pub SumsUp : Shop → ShopTotals → List (Key × Note) → Type 0
+SumsUp shop totals records = SumsUpShop (parts_of shop) (counted_from shop) totals records
+
+-- what such records give is appended
+abbrev pub AppendsSummed : Shop → ShopTotals → (List (Key × Note) → List ℕ) → List ℕ → List ℕ → Type 0
+AppendsSummed shop totals text before after = (records : List (Key × Note)) → SumsUp shop totals records → after ≡ before ++ text records
 
 -- of a station nothing was told yet
 abbrev pub IsNewStation : ShopParts → ℕ → ℕ → StationTotals → Type 0

@@ -6,10 +6,12 @@ ghost use Rattle.run_tally.specs.Tallies.{last_time};
 ghost use Rattle.shop_model.specs.ShopParts.{ShopParts};
 ghost use Rattle.shop_model.specs.Views.{parts_of, counted_from};
 ghost use Rattle.shop_totals.specs.ShopLines.{clock_of, all_station_lines, all_class_lines, lines_by};
-ghost use Rattle.shop_totals.specs.Summed.{SumsUpShop, IsNewStation, AreNewStations};
+ghost use Rattle.shop_totals.specs.Summed.{SumsUp, SumsUpShop, AppendsSummed, IsNewStation, AreNewStations};
 
 use crate::class_sums::ClassSums;
-use crate::form::{LineForm, TotalLines, put_named};
+use crate::form::{LineForm, TotalLines};
+use crate::line::Line;
+use crate::listing::Listing;
 use crate::station_totals::StationTotals;
 use crate::visits::classes_at;
 use event_key::{Key, time_of};
@@ -68,21 +70,18 @@ impl ShopTotals {
     /// Appends the lines of the stations.
     fn put_stations<F: LineForm>(
         &self,
-        alloc: Global,
-        form: &F,
-        shop: &Shop,
-        clock: u64,
+        listing: &Listing<F>,
         into: &mut Vec<u8>,
     ) -> Result<(), OutOfMemory>
-        requires clock { self.now.last ≤ clock }
-        requires soon { clock < 2 ^ 48 }
-        requires sums { (records : List (Key × Note)) × SumsUpShop (parts_of shop.now) (counted_from shop.now) self.now records }
-        ensures { OnOk result ((records : List (Key × Note)) → SumsUpShop (parts_of shop.now) (counted_from shop.now) self.now records
-            → into.new.items ≡ into.old.items ++ all_station_lines (F.form form.now) (parts_of shop.now) (counted_from shop.now) clock records) }
+        requires clock { self.now.last ≤ listing.now.clock }
+        requires sums { (records : List (Key × Note)) × SumsUp listing.now.shop.now self.now records }
+        ensures { let at = listing.now in
+            let text = all_station_lines (F.form at.form.now) (parts_of at.shop.now) (counted_from at.shop.now) at.clock in
+            OnOk result (AppendsSummed at.shop.now self.now text into.old.items into.new.items) }
     {
         for number in 0..self.stations.len() {
             let station = &self.stations[number];
-            station.put(alloc, form, shop, number as u32, clock, into)?;
+            station.put(listing, number as u32, into)?;
         }
         Ok(())
     }
@@ -90,24 +89,19 @@ impl ShopTotals {
     /// Appends the lines of the classes.
     fn put_classes<F: LineForm>(
         &self,
-        alloc: Global,
-        form: &F,
-        shop: &Shop,
-        clock: u64,
+        listing: &Listing<F>,
         into: &mut Vec<u8>,
     ) -> Result<(), OutOfMemory>
-        requires clock { self.now.last ≤ clock }
-        requires soon { clock < 2 ^ 48 }
-        requires sums { (records : List (Key × Note)) × SumsUpShop (parts_of shop.now) (counted_from shop.now) self.now records }
-        ensures { OnOk result ((records : List (Key × Note)) → SumsUpShop (parts_of shop.now) (counted_from shop.now) self.now records
-            → into.new.items ≡ into.old.items ++ all_class_lines (F.form form.now) (parts_of shop.now) (counted_from shop.now) clock records) }
+        requires clock { self.now.last ≤ listing.now.clock }
+        requires sums { (records : List (Key × Note)) × SumsUp listing.now.shop.now self.now records }
+        ensures { let at = listing.now in
+            let text = all_class_lines (F.form at.form.now) (parts_of at.shop.now) (counted_from at.shop.now) at.clock in
+            OnOk result (AppendsSummed at.shop.now self.now text into.old.items into.new.items) }
     {
         for number in 0..self.classes.len() {
             let object = self.stations.len() as u32 + number as u32;
-            put_named(alloc, form, shop, object, into)?;
-            let class = &self.classes[number];
-            let sums = class.pass(clock);
-            form.put_class(alloc, &sums, into)?;
+            let sums = self.classes[number].pass(listing.clock);
+            listing.put_line(object, &Line::Class(sums), into)?;
         }
         Ok(())
     }
@@ -117,19 +111,17 @@ impl ShopTotals {
     #[tactic(auto, unfolding(crate::specs::ShopLines::lines_by))]
     pub fn put_by<F: LineForm>(
         &self,
-        alloc: Global,
-        form: &F,
-        shop: &Shop,
-        clock: u64,
+        listing: &Listing<F>,
         into: &mut Vec<u8>,
     ) -> Result<(), OutOfMemory>
-        requires sums { (records : List (Key × Note)) × SumsUpShop (parts_of shop.now) (counted_from shop.now) self.now records × (last_time 0 records ≤ clock) }
-        requires soon { clock < 2 ^ 48 }
-        ensures { OnOk result ((records : List (Key × Note)) → SumsUpShop (parts_of shop.now) (counted_from shop.now) self.now records
-            → into.new.items ≡ into.old.items ++ lines_by (F.form form.now) (parts_of shop.now) (counted_from shop.now) clock records) }
+        requires { (records : List (Key × Note)) × SumsUp listing.now.shop.now self.now records
+            × (last_time 0 records ≤ listing.now.clock) }
+        ensures { let at = listing.now in
+            let text = lines_by (F.form at.form.now) (parts_of at.shop.now) (counted_from at.shop.now) at.clock in
+            OnOk result (AppendsSummed at.shop.now self.now text into.old.items into.new.items) }
     {
-        self.put_stations(alloc, form, shop, clock, into)?;
-        self.put_classes(alloc, form, shop, clock, into)?;
+        self.put_stations(listing, into)?;
+        self.put_classes(listing, into)?;
         Ok(())
     }
 }
@@ -177,8 +169,13 @@ impl Tally<Shop> for ShopTotals {
         stop: &Stop,
         into: &mut Vec<u8>,
     ) -> Result<(), OutOfMemory> {
-        let clock = self.clock(terms, stop);
-        self.put_by(alloc, &TotalLines, model, clock, into)?;
+        let listing = Listing {
+            alloc,
+            form: &TotalLines,
+            shop: model,
+            clock: self.clock(terms, stop),
+        };
+        self.put_by(&listing, into)?;
         Ok(())
     }
 }

@@ -9,7 +9,9 @@ ghost use Rattle.shop_totals.specs.Sums.{IsVisitWithin};
 ghost use Rattle.shop_totals.specs.Told.{TimedPart};
 ghost use Rattle.shop_totals.specs.Visits.{classes_at};
 
-use crate::form::{LineForm, put_named};
+use crate::form::LineForm;
+use crate::line::Line;
+use crate::listing::Listing;
 use crate::station_sums::StationSums;
 use crate::visit_sums::VisitSums;
 use model_core::model::Model;
@@ -102,27 +104,26 @@ impl StationTotals {
     /// Appends the line of a class. Where memory runs out, it may have appended some of it.
     fn put_visit<F: LineForm>(
         &self,
-        alloc: Global,
-        form: &F,
-        shop: &Shop,
+        listing: &Listing<F>,
         visit: Visit,
         into: &mut Vec<u8>,
     ) -> Result<(), OutOfMemory>
-        requires station { visit.station < length (parts_of shop.now).stations }
-        requires place { visit.place < length (classes_at (parts_of shop.now) visit.station) }
-        requires sums { (first : ℕ) × (told : List TimedPart) × SumsUpShopStation (parts_of shop.now) first visit.station told (2 ^ 62) self.now }
+        requires station { visit.station < length (parts_of listing.now.shop.now).stations }
+        requires place { visit.place < length (classes_at (parts_of listing.now.shop.now) visit.station) }
+        requires sums { (first : ℕ) × (told : List TimedPart)
+            × SumsUpShopStation (parts_of listing.now.shop.now) first visit.station told (2 ^ 62) self.now }
         ensures { OnOk result ((first parts : ℕ) (told : List TimedPart)
-            → SumsUpShopStation (parts_of shop.now) first visit.station told parts self.now
-            → into.new.items ≡ into.old.items ++ visit_line (F.form form.now) (parts_of shop.now) first told visit.station
-            (get_or (classes_at (parts_of shop.now) visit.station) visit.place 0)) }
+            → SumsUpShopStation (parts_of listing.now.shop.now) first visit.station told parts self.now
+            → into.new.items ≡ into.old.items ++ visit_line (F.form listing.now.form.now) (parts_of listing.now.shop.now) first told visit.station
+            (get_or (classes_at (parts_of listing.now.shop.now) visit.station) visit.place 0)) }
     {
-        let first = shop.stations().len() as u32;
+        let first = listing.shop.stations().len() as u32;
         let class = self.classes[visit.place] as u32;
-        put_named(alloc, form, shop, visit.station, into)?;
+        listing.put_named(visit.station, into)?;
         into.push(b'/')?;
-        shop.put_name(alloc, first + class, into)?;
-        let sums = &self.visits[visit.place];
-        form.put_visit(alloc, sums, into)?;
+        listing.shop.put_name(listing.alloc, first + class, into)?;
+        let line = Line::Visit(self.visits[visit.place]);
+        listing.form.put_line(listing.alloc, &line, into)?;
         Ok(())
     }
 
@@ -130,26 +131,23 @@ impl StationTotals {
     /// some of them.
     pub fn put<F: LineForm>(
         &self,
-        alloc: Global,
-        form: &F,
-        shop: &Shop,
+        listing: &Listing<F>,
         station: u32,
-        clock: u64,
         into: &mut Vec<u8>,
     ) -> Result<(), OutOfMemory>
-        requires station { station < length (parts_of shop.now).stations }
-        requires clock { self.now.sums.clock ≤ clock }
-        requires soon { clock < 2 ^ 48 }
-        requires sums { (first : ℕ) × (told : List TimedPart) × SumsUpShopStation (parts_of shop.now) first station told (2 ^ 62) self.now }
+        requires station { station < length (parts_of listing.now.shop.now).stations }
+        requires clock { self.now.sums.clock ≤ listing.now.clock }
+        requires sums { (first : ℕ) × (told : List TimedPart)
+            × SumsUpShopStation (parts_of listing.now.shop.now) first station told (2 ^ 62) self.now }
         ensures { OnOk result ((first parts : ℕ) (told : List TimedPart)
-            → SumsUpShopStation (parts_of shop.now) first station told parts self.now
-            → into.new.items ≡ into.old.items ++ station_lines (F.form form.now) (parts_of shop.now) first clock told station) }
+            → SumsUpShopStation (parts_of listing.now.shop.now) first station told parts self.now
+            → into.new.items ≡ into.old.items
+            ++ station_lines (F.form listing.now.form.now) (parts_of listing.now.shop.now) first listing.now.clock told station) }
     {
-        put_named(alloc, form, shop, station, into)?;
-        let sums = self.sums.pass(clock);
-        form.put_station(alloc, &sums, into)?;
+        let line = Line::Station(self.sums.pass(listing.clock));
+        listing.put_line(station, &line, into)?;
         for place in 0..self.classes.len() {
-            self.put_visit(alloc, form, shop, Visit { station, place }, into)?;
+            self.put_visit(listing, Visit { station, place }, into)?;
         }
         Ok(())
     }

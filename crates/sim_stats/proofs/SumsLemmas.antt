@@ -9,7 +9,8 @@ use Rattle.sim_stats.specs.Occupancies.{nobody, after_word, after_words, Interva
 use Rattle.sim_stats.specs.Sums.{count_told, last_told, sums_of, IsWithin}
 use Rattle.sim_stats.specs.Words.{is_arrival, is_service, is_loss, TimedWord}
 
-after_words-more : (now : Occupancy) (told : List TimedWord) (one : TimedWord) → after_words now (told ++ one ∷ []) ≡ after_word (after_words now told) one.word
+after_words-more : (now : Occupancy) (told : List TimedWord) (one : TimedWord)
+    → after_words now (told ++ one ∷ []) ≡ after_word (after_words now told) one.word
 unfolding after_words
 after_words-more now [] one = refl
 after_words-more now (first ∷ rest) one = after_words-more (after_word now first.word) rest one
@@ -24,7 +25,8 @@ intervals_from-more : (now : Occupancy) (time : ℕ) (told : List TimedWord) (on
 unfolding intervals_from after_words last_told
 intervals_from-more now time [] one = refl
 intervals_from-more now time (first ∷ rest) one =
-    ap (λ (more : List Interval). record { occupancy = now; ticks = first.time - time } ∷ more) (intervals_from-more (after_word now first.word) first.time rest one)
+    ap (λ (more : List Interval). record { occupancy = now; ticks = first.time - time } ∷ more)
+    (intervals_from-more (after_word now first.word) first.time rest one)
 
 -- a sum over intervals of something of which there is none where nobody is
 ticks-more : (f : Occupancy → ℕ) → f nobody ≡ 0 → (told : List TimedWord) (one : TimedWord)
@@ -67,7 +69,8 @@ sums_of-more told one =
 
 -- the sums of more words are these, part by part
 pub adds_word : (old : Sums) (told : List TimedWord) (one : TimedWord) (arrivals served lost busy waiting : ℕ) (after : Occupancy)
-    → arrivals ≡ old.arrivals + from_bool (is_arrival one.word) → served ≡ old.served + from_bool (is_service one.word) → lost ≡ old.lost + from_bool (is_loss one.word)
+    → arrivals ≡ old.arrivals + from_bool (is_arrival one.word) → served ≡ old.served + from_bool (is_service one.word)
+    → lost ≡ old.lost + from_bool (is_loss one.word)
     → busy ≡ old.busy_ticks + (one.time - old.last) * old.occupancy.busy → waiting ≡ old.waiting_ticks + (one.time - old.last) * old.occupancy.waiting
     → after ≡ after_word old.occupancy one.word → old ≡ sums_of told
     → ◌≡◌ {A = Sums} (record { arrivals = arrivals; served = served; lost = lost; busy_ticks = busy; waiting_ticks = waiting; occupancy = after; last = one.time }) (sums_of (told ++ one ∷ []))

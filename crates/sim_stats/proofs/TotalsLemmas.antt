@@ -20,16 +20,19 @@ use Rattle.sim_stats.specs.Sums.{last_told, sums_of, sums_text, IsWithin}
 use Rattle.sim_stats.specs.Totals.{Summed, totals_of, lines_of_sums}
 use Rattle.sim_stats.specs.Words.{TimedWord, timed_words, words_told}
 
-pub words_told-here : (records : List (Key × Note)) (told : Key × Note) → words_told told.0.dest (records ++ told ∷ []) ≡ words_told told.0.dest records ++ timed_words told
+pub words_told-here : (records : List (Key × Note)) (told : Key × Note)
+    → words_told told.0.dest (records ++ told ∷ []) ≡ words_told told.0.dest records ++ timed_words told
 unfolding words_told
 words_told-here records told = told-here timed_words records told
 
-pub words_told-elsewhere : (object : ℕ) (records : List (Key × Note)) (told : Key × Note) → object ≢ told.0.dest → words_told object (records ++ told ∷ []) ≡ words_told object records
+pub words_told-elsewhere : (object : ℕ) (records : List (Key × Note)) (told : Key × Note) → object ≢ told.0.dest
+    → words_told object (records ++ told ∷ []) ≡ words_told object records
 unfolding words_told
 words_told-elsewhere object records told apart = told-elsewhere timed_words object records told apart
 
 -- a list of what is so at each place, where that changes at one place
-pub map-range-set : {X : Type 0} (f g : ℕ → X) (n place : ℕ) (new : X) → new ≡ g place → ((i : ℕ) → i ≢ place → g i ≡ f i) → set (map f (range_with_len 0 n)) place new ≡ map g (range_with_len 0 n)
+pub map-range-set : {X : Type 0} (f g : ℕ → X) (n place : ℕ) (new : X) → new ≡ g place → ((i : ℕ) → i ≢ place → g i ≡ f i)
+    → set (map f (range_with_len 0 n)) place new ≡ map g (range_with_len 0 n)
 map-range-set f g n place new here elsewhere =
     let old = map f (range_with_len 0 n) in
     let long : length old ≡ n = length-map-range_with_len f 0 n in
@@ -43,12 +46,14 @@ map-range-set f g n place new here elsewhere =
         get_or-set_at (map f (range_with_len 0 n)) place i new new same (omega (arith, long)) ∙ here ∙ ap g (sym same)
     by i false is below =
         let apart : i ≢ place = λ same. let yes = eq-eqb i place same in cc in
-        get_or-set_other (map f (range_with_len 0 n)) place i new new apart ∙ get_or-map-range_with_len f 0 n i i new below (omega arith) ∙ sym (elsewhere i apart)
+        get_or-set_other (map f (range_with_len 0 n)) place i new new apart ∙ get_or-map-range_with_len f 0 n i i new below (omega arith)
+        ∙ sym (elsewhere i apart)
 
 sums_at : List (Key × Note) → ℕ → Sums
 sums_at records object = sums_of (words_told object records)
 
-pub totals_of-more : (objects : ℕ) (records : List (Key × Note)) (told : Key × Note) (now : Sums) → now ≡ sums_of (words_told told.0.dest records ++ timed_words told)
+pub totals_of-more : (objects : ℕ) (records : List (Key × Note)) (told : Key × Note) (now : Sums)
+    → now ≡ sums_of (words_told told.0.dest records ++ timed_words told)
     → record { objects = set (totals_of objects records).objects told.0.dest now; records = (totals_of objects records).records + 1; last = time_part told.0.stamp }
     ≡ totals_of objects (records ++ told ∷ [])
 unfolding totals_of sums_at
@@ -98,7 +103,8 @@ none_is_small = (
   omega arith,
 )
 
-pub sums_of_none_are_small : (objects : ℕ) (sums : List Sums) → sums ≡ replicate objects (sums_of []) → All (λ (sums : Sums). IsWithin 0 sums × (sums.last ≤ 0)) sums
+pub sums_of_none_are_small : (objects : ℕ) (sums : List Sums) → sums ≡ replicate objects (sums_of [])
+    → All (λ (sums : Sums). IsWithin 0 sums × (sums.last ≤ 0)) sums
 unfolding IsSmall
 sums_of_none_are_small objects sums are k d within =
     subst IsSmall (sym (ap (λ (sums : List Sums). get_or sums k d) are ∙ get_or-replicate objects k (sums_of []) d (omega (arith, ap length are, length-replicate objects (sums_of []))))) none_is_small
@@ -114,7 +120,8 @@ lines_of_sums-more m from (first ∷ rest) one =
 
 -- the line of the next object, behind what was there
 pub lines_of_sums-next : (m : Meaning) (sums : List Sums) (i : ℕ) (one : Sums) (old named lines : List ℕ) → i < length sums → one ≡ get_or sums i one
-    → named ≡ (old ++ lines_of_sums m 0 (take i sums)) ++ m.label i → lines ≡ named ++ sums_text one → lines ≡ old ++ lines_of_sums m 0 (take (i + 1) sums)
+    → named ≡ (old ++ lines_of_sums m 0 (take i sums)) ++ m.label i → lines ≡ named ++ sums_text one
+    → lines ≡ old ++ lines_of_sums m 0 (take (i + 1) sums)
 lines_of_sums-next m sums i one old named lines within is name line =
     line ∙ ap (λ (before : List ℕ). before ++ sums_text one) name
     ∙ append_assoc (old ++ lines_of_sums m 0 (take i sums)) (m.label i) (sums_text one)

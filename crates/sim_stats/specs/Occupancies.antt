@@ -34,7 +34,8 @@ pub record Interval : Type 0 where
 -- the intervals up to each of these words, from a time on
 unfoldable pub intervals_from : Occupancy → ℕ → List TimedWord → List Interval
 intervals_from now time [] = []
-intervals_from now time (told ∷ rest) = record { occupancy = now; ticks = told.time - time } ∷ intervals_from (after_word now told.word) told.time rest
+intervals_from now time (told ∷ rest) =
+    record { occupancy = now; ticks = told.time - time } ∷ intervals_from (after_word now told.word) told.time rest
 
 -- between each word and the next: what the earlier one leaves lasts until the later one
 unfoldable pub intervals : List TimedWord → List Interval

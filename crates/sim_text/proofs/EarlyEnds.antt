@@ -20,8 +20,11 @@ use Rattle.sim_text.proofs.UnderWay.{RunsOn}
 use Rattle.sim_text.proofs.WrittenLemmas.{simulated_before}
 
 -- no memory was left, once the buckets so far were told
-pub simulated_early : {K : Type 0} (sink : Sink K) (old new : K) (m : Meaning) (t : Terms) (totals : TotalsOf) (telling : Telling) (from : State) {E : Type 0} (StandsIn : E → Standing → Type 0) (engine : E)
+pub simulated_early : {K : Type 0} (sink : Sink K) (old new : K) (m : Meaning) (t : Terms) (totals : TotalsOf) (telling : Telling) (from : State)
+    {E : Type 0} (StandsIn : E → Standing → Type 0) (engine : E)
     (so_far : List Bucket) (result : Result Stop Unfinished) → RunsOn m t StandsIn engine so_far from → IsErrAnd result (λ e. e ≡ OutOfMemory)
-    → Appends (sink.told old) (sink.told new) (lines_so_far m telling so_far) → sink.faults new ≡ sink.faults old → HasSimulated sink old new result m t totals telling from
+    → Appends (sink.told old) (sink.told new) (lines_so_far m telling so_far) → sink.faults new ≡ sink.faults old
+    → HasSimulated sink old new result m t totals telling from
 simulated_early sink old new m t totals telling from StandsIn engine so_far result r lacks told same =
-    simulated_before sink old new m t totals telling from result lacks (told-prefix m t totals from telling (sink.told old) (sink.told new) so_far told _ r.way.buckets) same
+    simulated_before sink old new m t totals telling from result lacks
+    (told-prefix m t totals from telling (sink.told old) (sink.told new) so_far told _ r.way.buckets) same

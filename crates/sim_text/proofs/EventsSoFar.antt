@@ -46,7 +46,8 @@ pub record ComesOn (m : Meaning) (t : Terms) {E : Type 0} (StandsIn : E → Stan
   pub stands : StandsIn engine at
   pub way : HasCome m t from at done number
 
-pub comes_from : (m : Meaning) (t : Terms) (from : State) {E : Type 0} (StandsIn : E → Standing → Type 0) (engine : E) → BeginsAt m t StandsIn engine from → ComesOn m t StandsIn engine [] 1 from
+pub comes_from : (m : Meaning) (t : Terms) (from : State) {E : Type 0} (StandsIn : E → Standing → Type 0) (engine : E)
+    → BeginsAt m t StandsIn engine from → ComesOn m t StandsIn engine [] 1 from
 unfolding Leads
 comes_from m t from StandsIn engine starts = record {
   lawful = starts.lawful;
@@ -75,7 +76,8 @@ text-leads m t done s last room leads =
     ∙ append_assoc (record_lines m done) (record_lines m rest.records) (stop_line m t rest.last.count rest.stop)
 
 -- where it has stopped only its stop line is left
-text-stops : (m : Meaning) (t : Terms) (s : State) (stop : Stop) (count : ℕ) → next m t s ≡ stops stop → count ≡ s.count → text_of_run m t (run m t s) ≡ stop_line m t count stop
+text-stops : (m : Meaning) (t : Terms) (s : State) (stop : Stop) (count : ℕ) → next m t s ≡ stops stop → count ≡ s.count
+    → text_of_run m t (run m t s) ≡ stop_line m t count stop
 unfolding text_of_run record_lines
 text-stops m t s stop count is_next counted = ap (text_of_run m t) (run-stops m t s stop is_next) ∙ ap (λ n. stop_line m t n stop) (sym counted)
 
@@ -89,10 +91,12 @@ module _ (m : Meaning) (t : Terms) (from : State) (at : Standing) (done : List (
 
   pub stop-of_run : (stop : Stop) → from.count ≤ t.limit → ended m t at ≡ Some stop → (run m t from).stop ≡ stop
   stop-of_run stop room is_stop =
-      ap (λ (r : Run). r.stop) (run-leads m t done from way.state room way.leads) ∙ ap (λ (r : Run). r.stop) (run-stops m t way.state stop (next-here stop is_stop))
+      ap (λ (r : Run). r.stop) (run-leads m t done from way.state room way.leads)
+      ∙ ap (λ (r : Run). r.stop) (run-stops m t way.state stop (next-here stop is_stop))
 
   -- the text is the lines of the events so far, and what is told from there on
-  pub text-so_far : (totals : TotalsOf) → PlainText m t → Lawful m t from → text_from m t totals (Lines false) from ≡ record_lines m done ++ text_of_run m t (run m t way.state)
+  pub text-so_far : (totals : TotalsOf) → PlainText m t → Lawful m t from
+      → text_from m t totals (Lines false) from ≡ record_lines m done ++ text_of_run m t (run m t way.state)
   unfolding text_from run_text
   text-so_far totals plain lawful = plain from lawful ∙ text-leads m t done from way.state lawful.count way.leads
 
@@ -113,7 +117,8 @@ module _ (m : Meaning) (t : Terms) (from : State) (at : Standing) (done : List (
   told_events old now told = record { done = done; state = way.state; fault = way.fault; at_state = way.at_state; leads = way.leads; told = told }
 
   -- a stretch more
-  pub comes_on : MeaningLaws m → (more : List (Key × Note)) (new : Standing) → ended m t at ≡ None → IsStretch m t at more new → HasCome m t from new (done ++ more) (number + 1)
+  pub comes_on : MeaningLaws m → (more : List (Key × Note)) (new : Standing) → ended m t at ≡ None → IsStretch m t at more new
+      → HasCome m t from new (done ++ more) (number + 1)
   comes_on laws more new goes stretch =
       let same = stands-injective stretch.from way.state None way.fault (sym stretch.begins ∙ way.at_state) in
       let L : State → Type 0 = λ s. Leads m t s more stretch.last in
@@ -137,9 +142,12 @@ pub record HasComeOn (m : Meaning) (t : Terms) {E : Type 0} (meaning : E → Mea
   pub terms_is : terms new ≡ t
   pub comes : ComesOn m t StandsIn new done number from
 
-pub has_come_on : (m : Meaning) (t : Terms) {E : Type 0} (meaning : E → Meaning) (terms : E → Terms) (StandsIn : E → Standing → Type 0) (old new : E) (done : List (Key × Note)) (number : ℕ) (from : State) (stop : Option Stop)
-    (lines : List ℕ) → MeaningLaws m → meaning old ≡ m → terms old ≡ t → (r : ComesOn m t StandsIn old done number from) → stop ≡ ended (meaning old) (terms old) r.at → stop ≡ None
-    → (written : HasWrittenStretch meaning terms StandsIn old new lines) → HasComeOn m t meaning terms StandsIn new (done ++ written.done) (number + 1) from
+pub has_come_on : (m : Meaning) (t : Terms) {E : Type 0} (meaning : E → Meaning) (terms : E → Terms) (StandsIn : E → Standing → Type 0) (old new : E)
+    (done : List (Key × Note)) (number : ℕ) (from : State) (stop : Option Stop)
+    (lines : List ℕ) → MeaningLaws m → meaning old ≡ m → terms old ≡ t → (r : ComesOn m t StandsIn old done number from)
+        → stop ≡ ended (meaning old) (terms old) r.at → stop ≡ None
+    → (written : HasWrittenStretch meaning terms StandsIn old new lines)
+    → HasComeOn m t meaning terms StandsIn new (done ++ written.done) (number + 1) from
 has_come_on m t meaning terms StandsIn old new done number from stop lines laws same_meaning same_terms r is_stop none written =
     let own_none : ended (meaning old) (terms old) r.at ≡ None = sym is_stop ∙ none in
     let made : DoesStretch meaning terms StandsIn old r.at written.done new = written.does r.at r.stands own_none in
@@ -164,20 +172,24 @@ module _ (m : Meaning) (start now : Taken) (done : List (Key × Note)) (text : L
   so_far-prefix behind is = (record_lines m done, behind, is, told)
 
   -- so it is where the end is told in part
-  pub end-prefix : (later : Taken) (line : List ℕ) → text ≡ record_lines m done ++ line → AppendsPrefix now later line → AppendsPrefix start later text
+  pub end-prefix : (later : Taken) (line : List ℕ) → text ≡ record_lines m done ++ line → AppendsPrefix now later line
+      → AppendsPrefix start later text
   end-prefix later line is part = writes_prefix start now later text line line [] (record_lines m done, told, is) (sym (append-nil line)) part
 
   pub end-told : (later : Taken) (line : List ℕ) → text ≡ record_lines m done ++ line → Appends now later line → Appends start later text
   end-told later line is written = writes_last start now later text line (record_lines m done, told, is) written
 
   -- or a stretch
-  pub stretch-prefix : (more : List (Key × Note)) (behind : List ℕ) (later : Taken) → text ≡ record_lines m (done ++ more) ++ behind → AppendsPrefix now later (record_lines m more) → AppendsPrefix start later text
+  pub stretch-prefix : (more : List (Key × Note)) (behind : List ℕ) (later : Taken) → text ≡ record_lines m (done ++ more) ++ behind
+      → AppendsPrefix now later (record_lines m more) → AppendsPrefix start later text
   stretch-prefix more behind later is part =
       let next : List ℕ = record_lines m more in
       let whole : text ≡ record_lines m done ++ (next ++ behind) =
       is ∙ ap (λ lines. lines ++ behind) (record_lines-append m done more) ∙ append_assoc (record_lines m done) next behind in
       writes_prefix start now later text (next ++ behind) next behind (record_lines m done, told, whole) refl part
 
-  pub stretch-told : (more : List (Key × Note)) (later : Taken) → Appends now later (record_lines m more) → Appends start later (record_lines m (done ++ more))
+  pub stretch-told : (more : List (Key × Note)) (later : Taken) → Appends now later (record_lines m more)
+      → Appends start later (record_lines m (done ++ more))
   stretch-told more later written =
-      subst (Appends start later) (sym (record_lines-append m done more)) (Appends-trans start now later (record_lines m done) (record_lines m more) told written)
+      subst (Appends start later) (sym (record_lines-append m done more))
+      (Appends-trans start now later (record_lines m done) (record_lines m more) told written)

@@ -32,7 +32,8 @@ rest_for n m t s None = cycles_for n m t s
 rest_for n m t s (Some fault) = no_cycles s (Fault fault.0 fault.1)
 
 -- none of them comes where none may
-none_yet : (m : Meaning) (t : Terms) (s : State) (fault : Option (Key × ℕ)) → ((rest_for 0 m t s fault).buckets ≡ []) × ((rest_for 0 m t s fault).last ≡ s)
+none_yet : (m : Meaning) (t : Terms) (s : State) (fault : Option (Key × ℕ))
+    → ((rest_for 0 m t s fault).buckets ≡ []) × ((rest_for 0 m t s fault).last ≡ s)
 unfolding rest_for cycles_for
 none_yet m t s None = (refl, refl)
 none_yet m t s (Some fault) = (refl, refl)
@@ -47,7 +48,8 @@ unfolding cycles_for cycles_on
 limited-for zero m t s full = refl
 limited-for (suc n) m t s full = ap (cycles_on s (cut m t s) (after m t s) (cycles_for n m t)) full
 
-behind-for : (n : ℕ) (m : Meaning) (t : Terms) (later : State) (fault : Option (Key × ℕ)) (limited : Bool) → (limited ≡ true → next m t later ≡ stops Limit)
+behind-for : (n : ℕ) (m : Meaning) (t : Terms) (later : State) (fault : Option (Key × ℕ)) (limited : Bool)
+    → (limited ≡ true → next m t later ≡ stops Limit)
     → cycles_behind later (cycles_for n m t) fault limited ≡ rest_for n m t later fault
 unfolding rest_for cycles_behind
 behind-for n m t later (Some f) limited full = refl
@@ -99,11 +101,13 @@ pub record StandsAfter (m : Meaning) (t : Terms) {E : Type 0} (StandsIn : E → 
 
 pub none_first : (m : Meaning) (t : Terms) (from : State) → Lawful m t from → AreFirst m t from (stands from None) []
 unfolding rest_for
-none_first m t from lawful = record { state = from; fault = None; at_state = refl; lawful = lawful; first = λ n. ap (λ k. cycles_for k m t from) (omega arith) }
+none_first m t from lawful =
+    record { state = from; fault = None; at_state = refl; lawful = lawful; first = λ n. ap (λ k. cycles_for k m t from) (omega arith) }
 
 module _ (m : Meaning) (t : Terms) (from : State) (standing : Standing) (so_far : List Bucket) (are : AreFirst m t from standing so_far) where
   -- what is told of the first cycles, by what was told so far
-  first-lines : (n : ℕ) → first_lines m t (length so_far + n) from ≡ record_lines m (records_of_buckets so_far) ++ record_lines m (records_of_buckets (rest_for n m t are.state are.fault).buckets)
+  first-lines : (n : ℕ)
+      → first_lines m t (length so_far + n) from ≡ record_lines m (records_of_buckets so_far) ++ record_lines m (records_of_buckets (rest_for n m t are.state are.fault).buckets)
   unfolding first_lines
   first-lines n =
       ap (λ (c : Cycles). record_lines m (records_of_buckets c.buckets)) (are.first n)
@@ -111,14 +115,16 @@ module _ (m : Meaning) (t : Terms) (from : State) (standing : Standing) (so_far 
       ∙ record_lines-append m (records_of_buckets so_far) (records_of_buckets (rest_for n m t are.state are.fault).buckets)
 
   -- they begin with it
-  pub lines-begin : (most : ℕ) → length so_far ≤ most → (behind : List ℕ) × (first_lines m t most from ≡ record_lines m (records_of_buckets so_far) ++ behind)
+  pub lines-begin : (most : ℕ) → length so_far ≤ most
+      → (behind : List ℕ) × (first_lines m t most from ≡ record_lines m (records_of_buckets so_far) ++ behind)
   lines-begin most few = (
     record_lines m (records_of_buckets (rest_for (most - length so_far) m t are.state are.fault).buckets),
     ap (λ n. first_lines m t n from) (omega (arith, few)) ∙ first-lines (most - length so_far),
   )
 
   -- so it is a prefix of them
-  pub lines-prefix : (old new : Taken) (most : ℕ) → length so_far ≤ most → Appends old new (record_lines m (records_of_buckets so_far)) → AppendsPrefix old new (first_lines m t most from)
+  pub lines-prefix : (old new : Taken) (most : ℕ) → length so_far ≤ most → Appends old new (record_lines m (records_of_buckets so_far))
+      → AppendsPrefix old new (first_lines m t most from)
   lines-prefix old new most few told = let begins = lines-begin most few in (record_lines m (records_of_buckets so_far), begins.0, begins.1, told)
 
   -- where no cycle comes any more, they are all that is told, and the engine stands at the state after them
@@ -126,7 +132,8 @@ module _ (m : Meaning) (t : Terms) (from : State) (standing : Standing) (so_far 
     pub lines : first_lines m t most from ≡ record_lines m (records_of_buckets so_far)
     pub last : (cycles_for most m t from).last ≡ are.state
 
-  all-so_far : (n : ℕ) → ((rest_for n m t are.state are.fault).buckets ≡ []) × ((rest_for n m t are.state are.fault).last ≡ are.state) → AreAll (length so_far + n)
+  all-so_far : (n : ℕ) → ((rest_for n m t are.state are.fault).buckets ≡ []) × ((rest_for n m t are.state are.fault).last ≡ are.state)
+      → AreAll (length so_far + n)
   unfolding record_lines records_of_buckets
   all-so_far n none = record {
     lines = first-lines n
@@ -194,7 +201,8 @@ module _ (m : Meaning) (t : Terms) (from : State) (standing : Standing) (so_far 
               ap (λ k. cycles_for k m t from) (omega (arith, long))
               ∙ are.first (suc n)
               ∙ ap (after_buckets so_far) (one n)
-              ∙ ap (λ (bs : List Bucket). record (rest_for n m t later bucket.fault) { buckets = bs }) (sym (append_assoc so_far (bucket ∷ []) (rest_for n m t later bucket.fault).buckets));
+              ∙ ap (λ (bs : List Bucket). record (rest_for n m t later bucket.fault) { buckets = bs })
+              (sym (append_assoc so_far (bucket ∷ []) (rest_for n m t later bucket.fault).buckets));
         }
 
     -- its records are of objects of the model
@@ -227,11 +235,13 @@ is_none None h = refl
 is_none (Some x) h = cc
 
 -- an engine that stands somewhere stands at that state
-pub stands_so : {E : Type 0} (StandsIn : E → Standing → Type 0) (engine : E) (at : Standing) → StandsIn engine at → (last state : State) (fault : Option (Key × ℕ)) → at ≡ stands state fault
+pub stands_so : {E : Type 0} (StandsIn : E → Standing → Type 0) (engine : E) (at : Standing) → StandsIn engine at
+    → (last state : State) (fault : Option (Key × ℕ)) → at ≡ stands state fault
     → last ≡ state → StandsAtState StandsIn engine last
 stands_so StandsIn engine at here last state fault is_at is_last =
     (fault, subst (StandsIn engine) (is_at ∙ ap (λ s. stands s fault) (sym is_last)) here)
 
 -- what was put of these records, which a slice holds
-pub put_told : (m : Meaning) (before after : List ℕ) (slice records : List (Key × Note)) → slice ≡ records → after ≡ before ++ record_lines m slice → after ≡ before ++ record_lines m records
+pub put_told : (m : Meaning) (before after : List ℕ) (slice records : List (Key × Note)) → slice ≡ records → after ≡ before ++ record_lines m slice
+    → after ≡ before ++ record_lines m records
 put_told m before after slice records is put = put ∙ ap (λ records. before ++ record_lines m records) is

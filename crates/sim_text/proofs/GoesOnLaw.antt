@@ -27,16 +27,19 @@ unfolding records_of_buckets
 none-first m t s stop lawful = record { lawful = lawful; run = refl }
 
 -- a bucket, and the first cycles behind it
-bucket-first : (m : Meaning) (t : Terms) (s : State) (b : Bucket) (later : State) (c : Cycles) → run m t s ≡ after_records b.done (run m t later) → AreFirstOf m t later c
+bucket-first : (m : Meaning) (t : Terms) (s : State) (b : Bucket) (later : State) (c : Cycles) → run m t s ≡ after_records b.done (run m t later)
+    → AreFirstOf m t later c
     → AreFirstOf m t s (after_bucket b c)
 unfolding records_of_buckets
 bucket-first m t s b later c one rest = record {
   lawful = rest.lawful;
   run = one ∙ ap (after_records b.done) rest.run
-      ∙ ap (λ (records : List (Key × Note)). record (run m t c.last) { records = records }) (sym (append_assoc b.done (records_of_buckets c.buckets) (run m t c.last).records));
+      ∙ ap (λ (records : List (Key × Note)). record (run m t c.last) { records = records })
+      (sym (append_assoc b.done (records_of_buckets c.buckets) (run m t c.last).records));
 }
 
-behind-first : (m : Meaning) (t : Terms) (later : State) (more : State → Cycles) (fault : Option (Key × ℕ)) (limited : Bool) → Lawful m t later → AreFirstOf m t later (more later)
+behind-first : (m : Meaning) (t : Terms) (later : State) (more : State → Cycles) (fault : Option (Key × ℕ)) (limited : Bool) → Lawful m t later
+    → AreFirstOf m t later (more later)
     → AreFirstOf m t later (cycles_behind later more fault limited)
 unfolding cycles_behind
 behind-first m t later more (Some f) limited lawful rest = none-first m t later (Fault f.0 f.1) lawful
@@ -65,7 +68,8 @@ module _ (m : Meaning) (t : Terms) (buckets : BucketLaw m t) (whole : CyclesLaw 
   cycles-first (suc n) s lawful = behind-cycle n s lawful (cycles-first n) (next m t s)
 
   -- the text of a run whose first records are these
-  text-first : (records : List (Key × Note)) (r rest : Run) → r ≡ after_records records rest → text_of_run m t r ≡ record_lines m records ++ text_of_run m t rest
+  text-first : (records : List (Key × Note)) (r rest : Run) → r ≡ after_records records rest
+      → text_of_run m t r ≡ record_lines m records ++ text_of_run m t rest
   unfolding text_of_run
   text-first records r rest is =
       ap (text_of_run m t) is

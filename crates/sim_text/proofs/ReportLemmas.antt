@@ -23,12 +23,14 @@ module _ {L : Type 0} (SumsUp : L → List (Key × Note) → Type 0) (telling : 
   known report found is kept = subst (IsReportOf SumsUp telling bs) is kept
 
   -- the records of the next bucket can come, and the tally has summed them up too
-  pub sums-go_on : (m : Meaning) (b : Bucket) (records : List (Key × Note)) → records ≡ b.done → telling ≡ Telling.Totals → CanGoOn m telling bs b → CanAllCome m (records_of_buckets bs) records
+  pub sums-go_on : (m : Meaning) (b : Bucket) (records : List (Key × Note)) → records ≡ b.done → telling ≡ Telling.Totals → CanGoOn m telling bs b
+      → CanAllCome m (records_of_buckets bs) records
   sums-go_on m b records are is can =
       let all : CanAllCome m (records_of_buckets bs) b.done = record { objects = can.objects; in_time = can.in_time is; room = can.room } in
       subst (CanAllCome m (records_of_buckets bs)) (sym are) all
 
-  pub sums-kept : (b : Bucket) (records : List (Key × Note)) (tally : L) → records ≡ b.done → telling ≡ Telling.Totals → SumsUp tally (records_of_buckets bs ++ records)
+  pub sums-kept : (b : Bucket) (records : List (Key × Note)) (tally : L) → records ≡ b.done → telling ≡ Telling.Totals
+      → SumsUp tally (records_of_buckets bs ++ records)
       → IsReportOf SumsUp telling (bs ++ b ∷ []) (Sums tally)
   sums-kept b records tally are is summed =
       (is, subst (SumsUp tally) (ap (λ (more : List (Key × Note)). records_of_buckets bs ++ more) are ∙ sym (records_of_buckets-more bs b)) summed)
@@ -39,7 +41,8 @@ module _ {L : Type 0} (SumsUp : L → List (Key × Note) → Type 0) (telling : 
   counts-go_on n summary is few = omega (arith, ap (λ (s : Summary). s.cycles) is, count_by-le-length is_whole bs)
 
   -- what is told of the counts in the end
-  pub counts-end : (totals : TotalsOf) (summary : Summary) (count : ℕ) (stop : Stop) (before after : List ℕ) → IsReportOf SumsUp telling bs (Counts summary)
+  pub counts-end : (totals : TotalsOf) (summary : Summary) (count : ℕ) (stop : Stop) (before after : List ℕ)
+      → IsReportOf SumsUp telling bs (Counts summary)
       → after ≡ before ++ demo_line summary.n count summary.cycles summary.last → after ≡ before ++ told_in_the_end totals telling bs count stop
   unfolding summary_of
   counts-end totals summary count stop before after kept put =

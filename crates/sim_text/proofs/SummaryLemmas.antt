@@ -10,7 +10,8 @@ use Rattle.sim_spec.specs.Cycles.{records_of_buckets}
 use Rattle.sim_text.specs.Reports.{summary_of}
 use Rattle.sim_text.specs.WholeTexts.{is_whole, whole_cycles, last_stamp}
 
-last_at : (stamp : ℕ) (records : List (Key × Note)) (told : Key × Note) (place : ℕ) → place + 1 ≡ length records → slice_get records place ≡ Some told → last_stamp stamp records ≡ told.0.stamp
+last_at : (stamp : ℕ) (records : List (Key × Note)) (told : Key × Note) (place : ℕ) → place + 1 ≡ length records → slice_get records place ≡ Some told
+    → last_stamp stamp records ≡ told.0.stamp
 unfolding last_stamp
 last_at stamp [] told place long is = absurd (omega arith)
 last_at stamp (first ∷ []) told zero long is = let same : first ≡ told = cc in ap (λ (told : Key × Note). told.0.stamp) same
@@ -19,7 +20,8 @@ last_at stamp (first ∷ []) told (suc place) long is = absurd (omega arith)
 last_at stamp (first ∷ second ∷ rest) told (suc place) long is = last_at first.0.stamp (second ∷ rest) told place (omega arith) is
 
 -- the stamp of the last of some records
-pub last_stamp-last : (stamp : ℕ) (records : List (Key × Note)) (told : Key × Note) → slice_get records (length records - 1) ≡ Some told → last_stamp stamp records ≡ told.0.stamp
+pub last_stamp-last : (stamp : ℕ) (records : List (Key × Note)) (told : Key × Note) → slice_get records (length records - 1) ≡ Some told
+    → last_stamp stamp records ≡ told.0.stamp
 last_stamp-last stamp [] told is = cc
 last_stamp-last stamp (first ∷ rest) told is = last_at stamp (first ∷ rest) told (length (first ∷ rest) - 1) (omega arith) is
 
@@ -36,7 +38,9 @@ last_stamp-append stamp (first ∷ rest) more = last_stamp-append first.0.stamp 
 pub records_of_buckets-append : (bs more : List Bucket) → records_of_buckets (bs ++ more) ≡ records_of_buckets bs ++ records_of_buckets more
 unfolding records_of_buckets
 records_of_buckets-append [] more = refl
-records_of_buckets-append (b ∷ bs) more = ap (λ (records : List (Key × Note)). b.done ++ records) (records_of_buckets-append bs more) ∙ sym (append_assoc b.done (records_of_buckets bs) (records_of_buckets more))
+records_of_buckets-append (b ∷ bs) more =
+    ap (λ (records : List (Key × Note)). b.done ++ records) (records_of_buckets-append bs more)
+    ∙ sym (append_assoc b.done (records_of_buckets bs) (records_of_buckets more))
 
 pub records_of_buckets-first : (b : Bucket) (more : List Bucket) → records_of_buckets (b ∷ more) ≡ b.done ++ records_of_buckets more
 unfolding records_of_buckets
@@ -45,7 +49,8 @@ records_of_buckets-first b more = refl
 -- the records with a bucket more
 pub records_of_buckets-more : (bs : List Bucket) (b : Bucket) → records_of_buckets (bs ++ b ∷ []) ≡ records_of_buckets bs ++ b.done
 unfolding records_of_buckets
-records_of_buckets-more bs b = records_of_buckets-append bs (b ∷ []) ∙ ap (λ (records : List (Key × Note)). records_of_buckets bs ++ records) (append-nil b.done)
+records_of_buckets-more bs b =
+    records_of_buckets-append bs (b ∷ []) ∙ ap (λ (records : List (Key × Note)). records_of_buckets bs ++ records) (append-nil b.done)
 
 whole_cycles-more : (bs : List Bucket) (b : Bucket) → whole_cycles (bs ++ b ∷ []) ≡ whole_cycles bs + from_bool (is_whole b)
 whole_cycles-more bs b = sum_by-append (λ (b : Bucket). cond (is_whole b) 1 0) bs (b ∷ []) ∙ by (is_whole b)

@@ -41,7 +41,8 @@ lines_of_buckets-more : (m : Meaning) (told : Bool) (bs : List Bucket) (b : Buck
 unfolding lines_of_buckets
 lines_of_buckets-more m told bs b number is =
     lines_of_buckets-append m told 1 bs (b ∷ [])
-    ∙ ap (λ lines. lines_of_buckets m told 1 bs ++ lines) (append-nil (bucket_lines m told (1 + length bs) b) ∙ ap (λ n. bucket_lines m told n b) (omega arith))
+    ∙ ap (λ lines. lines_of_buckets m told 1 bs ++ lines)
+    (append-nil (bucket_lines m told (1 + length bs) b) ∙ ap (λ n. bucket_lines m told n b) (omega arith))
 
 -- the lines with a bucket more
 pub lines_so_far-more : (m : Meaning) (telling : Telling) (bs : List Bucket) (b : Bucket) (number : ℕ) → number ≡ length bs + 1
@@ -52,12 +53,14 @@ lines_so_far-more m Telling.Totals bs b number is = refl
 lines_so_far-more m (Telling.Demo n) bs b number is = refl
 
 -- the text begins with what was told of the first buckets
-pub text-begins : (m : Meaning) (t : Terms) (totals : TotalsOf) (from : State) (telling : Telling) (bs more : List Bucket) → (cycles m t from).buckets ≡ bs ++ more
+pub text-begins : (m : Meaning) (t : Terms) (totals : TotalsOf) (from : State) (telling : Telling) (bs more : List Bucket)
+    → (cycles m t from).buckets ≡ bs ++ more
     → (behind : List ℕ) × (text_from m t totals telling from ≡ lines_so_far m telling bs ++ behind)
 unfolding text_from lines_so_far text
 text-begins m t totals from (Telling.Lines told) bs more all = (
   lines_of_buckets m told (1 + length bs) more ++ stop_line m t (run m t from).last.count (run m t from).stop,
-  ap (λ lines. lines ++ stop_line m t (run m t from).last.count (run m t from).stop) (ap (lines_of_buckets m told 1) all ∙ lines_of_buckets-append m told 1 bs more)
+  ap (λ lines. lines ++ stop_line m t (run m t from).last.count (run m t from).stop)
+  (ap (lines_of_buckets m told 1) all ∙ lines_of_buckets-append m told 1 bs more)
       ∙ append_assoc (lines_of_buckets m told 1 bs) _ _,
 )
 text-begins m t totals from Telling.Totals bs more all = (text_from m t totals Telling.Totals from, refl)
@@ -76,7 +79,8 @@ last_line m t from bs count stop ends =
     ap (λ count. stop_line m t count (run m t from).stop) ends.counted ∙ ap (λ (stop : Stop). stop_line m t count stop) ends.stops_at
 
 -- the text is what was told so far, what is told in the end, and the stop line
-pub text-ends : (m : Meaning) (t : Terms) (totals : TotalsOf) (from : State) (telling : Telling) (bs : List Bucket) (count : ℕ) (stop : Stop) → EndsSo m t from bs count stop
+pub text-ends : (m : Meaning) (t : Terms) (totals : TotalsOf) (from : State) (telling : Telling) (bs : List Bucket) (count : ℕ) (stop : Stop)
+    → EndsSo m t from bs count stop
     → text_from m t totals telling from ≡ lines_so_far m telling bs ++ (told_in_the_end totals telling bs count stop ++ stop_line m t count stop)
 unfolding text_from lines_so_far text
 text-ends m t totals from (Telling.Lines told) bs count stop ends =
@@ -102,14 +106,17 @@ module _ (m : Meaning) (t : Terms) (totals : TotalsOf) (from : State) (telling :
       (lines_so_far m telling bs, begins.0, begins.1, told)
 
   -- so it is where a bucket is told in part
-  pub bucket-prefix : (b : Bucket) (number : ℕ) (more : List Bucket) (later : Taken) → number ≡ length bs + 1 → (cycles m t from).buckets ≡ (bs ++ b ∷ []) ++ more
+  pub bucket-prefix : (b : Bucket) (number : ℕ) (more : List Bucket) (later : Taken) → number ≡ length bs + 1
+      → (cycles m t from).buckets ≡ (bs ++ b ∷ []) ++ more
       → AppendsPrefix now later (told_at_once m telling number b) → AppendsPrefix start later (text_from m t totals telling from)
   bucket-prefix b number more later is all part =
       let begins = text-begins m t totals from telling (bs ++ b ∷ []) more all in
       let next : List ℕ = told_at_once m telling number b in
       let whole : text_from m t totals telling from ≡ lines_so_far m telling bs ++ (next ++ begins.0) =
-      begins.1 ∙ ap (λ lines. lines ++ begins.0) (lines_so_far-more m telling bs b number is) ∙ append_assoc (lines_so_far m telling bs) next begins.0 in
-      writes_prefix start now later (text_from m t totals telling from) (next ++ begins.0) next begins.0 (lines_so_far m telling bs, told, whole) refl part
+      begins.1 ∙ ap (λ lines. lines ++ begins.0) (lines_so_far-more m telling bs b number is)
+      ∙ append_assoc (lines_so_far m telling bs) next begins.0 in
+      writes_prefix start now later (text_from m t totals telling from) (next ++ begins.0) next begins.0
+      (lines_so_far m telling bs, told, whole) refl part
 
   pub bucket-told : (b : Bucket) (number : ℕ) (later : Taken) → number ≡ length bs + 1 → Appends now later (told_at_once m telling number b)
       → Appends start later (lines_so_far m telling (bs ++ b ∷ []))
@@ -125,7 +132,8 @@ module _ (m : Meaning) (t : Terms) (totals : TotalsOf) (from : State) (telling :
     pub end-prefix : (later : Taken) → AppendsPrefix now later (told_in_the_end totals telling bs count stop ++ stop_line m t count stop)
         → AppendsPrefix start later (text_from m t totals telling from)
     end-prefix later part =
-        writes_prefix start now later (text_from m t totals telling from) _ (told_in_the_end totals telling bs count stop ++ stop_line m t count stop) [] so_ends (sym (append-nil _)) part
+        writes_prefix start now later (text_from m t totals telling from) _
+        (told_in_the_end totals telling bs count stop ++ stop_line m t count stop) [] so_ends (sym (append-nil _)) part
 
     pub end-told : (later : Taken) → Appends now later (told_in_the_end totals telling bs count stop ++ stop_line m t count stop)
         → Appends start later (text_from m t totals telling from)

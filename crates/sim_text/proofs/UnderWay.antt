@@ -62,7 +62,8 @@ pub record IsUnderWay (m : Meaning) (t : Terms) (from : State) (standing : Stand
   pub few_whole : fault ≡ None → length so_far ≤ state.count
 
 -- a simulation under way has told of its buckets so far what was written of them
-pub told_so_far : (m : Meaning) (t : Terms) (from : State) (telling : Telling) (old now : Taken) (standing : Standing) (so_far : List Bucket) → IsUnderWay m t from standing so_far
+pub told_so_far : (m : Meaning) (t : Terms) (from : State) (telling : Telling) (old now : Taken) (standing : Standing) (so_far : List Bucket)
+    → IsUnderWay m t from standing so_far
     → Appends old now (lines_so_far m telling so_far) → HasToldSoFar m t telling from old now standing
 told_so_far m t from telling old now standing so_far way told = record {
   state = way.state;
@@ -83,7 +84,8 @@ pub record RunsOn (m : Meaning) (t : Terms) {E : Type 0} (StandsIn : E → Stand
   pub way : IsUnderWay m t from at so_far
 
 -- what happens happens at objects of the model
-pub leads-at_objects : (m : Meaning) (t : Terms) → NextLawful m t → (s : State) (records : List (Key × Note)) (last : State) → Lawful m t s → Leads m t s records last → AllAtObjects m records
+pub leads-at_objects : (m : Meaning) (t : Terms) → NextLawful m t → (s : State) (records : List (Key × Note)) (last : State) → Lawful m t s
+    → Leads m t s records last → AllAtObjects m records
 unfolding Leads
 leads-at_objects m t keeps s [] last lawful leads = search rules
 leads-at_objects m t keeps s (told ∷ records) last lawful leads =
@@ -121,7 +123,9 @@ module _ (m : Meaning) (t : Terms) (from : State) (laws : SimulationLaws m t fro
   -- and the buckets so far are all
   pub all-buckets : (stop : Stop) → ended m t standing ≡ Some stop → (cycles m t from).buckets ≡ so_far
   all-buckets stop is_stop =
-      way.buckets ∙ ap (λ (bs : List Bucket). so_far ++ bs) (rest-stops m t laws.buckets laws.ends way.state way.fault stop way.lawful way.failed (ended-here (Some stop) is_stop))
+      way.buckets
+      ∙ ap (λ (bs : List Bucket). so_far ++ bs)
+      (rest-stops m t laws.buckets laws.ends way.state way.fault stop way.lawful way.failed (ended-here (Some stop) is_stop))
       ∙ append-nil so_far
 
   -- so the run has these buckets, and ends so
@@ -170,14 +174,16 @@ module _ (m : Meaning) (t : Terms) (from : State) (laws : SimulationLaws m t fro
       }
 
   -- the records of a bucket are of objects of the model
-  pub bucket-at_objects : (bucket : Bucket) (new : Standing) → ended m t standing ≡ None → IsCycle m t standing bucket new → AllAtObjects m bucket.done
+  pub bucket-at_objects : (bucket : Bucket) (new : Standing) → ended m t standing ≡ None → IsCycle m t standing bucket new
+      → AllAtObjects m bucket.done
   bucket-at_objects bucket new not_ended cycle =
       let here = cycle-here bucket new not_ended cycle in
       let P : Bucket → Type 0 = λ b. AllAtObjects m b.done in
       subst P (sym here.bucket_is) (leads-at_objects m t laws.next way.state _ _ way.lawful (laws.buckets way.state way.lawful).leads)
 
   -- a bucket is to come, and then those after it
-  rest-here : (bucket : Bucket) (new : Standing) → IsCycleHere bucket new → rest m t way.state way.fault ≡ bucket ∷ rest m t (after m t way.state) bucket.fault
+  rest-here : (bucket : Bucket) (new : Standing) → IsCycleHere bucket new
+      → rest m t way.state way.fault ≡ bucket ∷ rest m t (after m t way.state) bucket.fault
   rest-here bucket new here =
       ap (rest m t way.state) here.no_fault
       ∙ rest-bucket m t laws.buckets laws.ends way.state way.lawful here.goes
@@ -186,24 +192,28 @@ module _ (m : Meaning) (t : Terms) (from : State) (laws : SimulationLaws m t fro
   with-bucket : (bucket : Bucket) (new : Standing) → IsCycleHere bucket new
       → (cycles m t from).buckets ≡ (so_far ++ bucket ∷ []) ++ rest m t (after m t way.state) bucket.fault
   with-bucket bucket new here =
-      way.buckets ∙ ap (λ (bs : List Bucket). so_far ++ bs) (rest-here bucket new here) ∙ sym (append_assoc so_far (bucket ∷ []) (rest m t (after m t way.state) bucket.fault))
+      way.buckets ∙ ap (λ (bs : List Bucket). so_far ++ bs) (rest-here bucket new here)
+      ∙ sym (append_assoc so_far (bucket ∷ []) (rest m t (after m t way.state) bucket.fault))
 
   pub all-with_bucket : (bucket : Bucket) (new : Standing) → ended m t standing ≡ None → IsCycle m t standing bucket new
       → (more : List Bucket) × ((cycles m t from).buckets ≡ (so_far ++ bucket ∷ []) ++ more)
-  all-with_bucket bucket new not_ended cycle = (rest m t (after m t way.state) bucket.fault, with-bucket bucket new (cycle-here bucket new not_ended cycle))
+  all-with_bucket bucket new not_ended cycle =
+      (rest m t (after m t way.state) bucket.fault, with-bucket bucket new (cycle-here bucket new not_ended cycle))
 
   count-after : (bucket : Bucket) (new : Standing) → IsCycleHere bucket new → (after m t way.state).count ≡ way.state.count + length bucket.done
   count-after bucket new here = after-count m t way.state ∙ ap (λ (b : Bucket). way.state.count + length b.done) (sym here.bucket_is)
 
   -- a cycle leaves the simulation under way, with its bucket
-  pub goes_on : (bucket : Bucket) (new : Standing) → ended m t standing ≡ None → IsCycle m t standing bucket new → IsUnderWay m t from new (so_far ++ bucket ∷ [])
+  pub goes_on : (bucket : Bucket) (new : Standing) → ended m t standing ≡ None → IsCycle m t standing bucket new
+      → IsUnderWay m t from new (so_far ++ bucket ∷ [])
   goes_on bucket new not_ended cycle =
       let here = cycle-here bucket new not_ended cycle in
       let law = laws.buckets way.state way.lawful in
       let counted = count-after bucket new here in
       let few = way.few_whole here.no_fault in
       let many : length (so_far ++ bucket ∷ []) ≡ length so_far + 1 = length-append so_far (bucket ∷ []) in
-      let some : bucket.fault ≡ None → 0 < length bucket.done = λ whole. let P : Bucket → Type 0 = λ b. 0 < length b.done in subst P (sym here.bucket_is) (here.some_record whole) in
+      let some : bucket.fault ≡ None → 0 < length bucket.done =
+      λ whole. let P : Bucket → Type 0 = λ b. 0 < length b.done in subst P (sym here.bucket_is) (here.some_record whole) in
       record {
         state = after m t way.state;
         fault = bucket.fault;
@@ -230,12 +240,14 @@ module _ (m : Meaning) (t : Terms) (from : State) (laws : SimulationLaws m t fro
       ∙ records_of_buckets-append so_far (bucket ∷ more)
       ∙ ap (λ (records : List (Key × Note)). records_of_buckets so_far ++ records) (records_of_buckets-first bucket more) in
       let P : State → Type 0 = λ s. AllPairs (λ (earlier later : Key × Note). key_lt earlier.0 later.0 ≡ true) (run m t s).records in
-      let whole : IsInTime 0 (run m t from).records = in_time-ascending 0 (run m t from).records (λ told behind is. omega arith) (subst P (sym is_start) laws.ascend) in
+      let whole : IsInTime 0 (run m t from).records =
+      in_time-ascending 0 (run m t from).records (λ told behind is. omega arith) (subst P (sym is_start) laws.ascend) in
       in_time-front (last_time 0 (records_of_buckets so_far)) bucket.done (records_of_buckets more)
       (in_time-behind 0 (records_of_buckets so_far) (bucket.done ++ records_of_buckets more) (subst (IsInTime 0) all whole))
 
   -- and there is room for them
-  pub bucket-has_room : (bucket : Bucket) (new : Standing) → ended m t standing ≡ None → IsCycle m t standing bucket new → length (records_of_buckets so_far) + length bucket.done ≤ 1000000000
+  pub bucket-has_room : (bucket : Bucket) (new : Standing) → ended m t standing ≡ None → IsCycle m t standing bucket new
+      → length (records_of_buckets so_far) + length bucket.done ≤ 1000000000
   bucket-has_room bucket new not_ended cycle =
       let here = cycle-here bucket new not_ended cycle in
       let counted = count-after bucket new here in
@@ -247,7 +259,8 @@ module _ (m : Meaning) (t : Terms) (from : State) (laws : SimulationLaws m t fro
   few_cycles = let many = way.lawful.count in let few = way.few in omega (arith, many, few)
 
   -- so what is kept can go on with it
-  pub can_go_on : (telling : Telling) (bucket : Bucket) (new : Standing) → ended m t standing ≡ None → IsCycle m t standing bucket new → (telling ≡ Telling.Totals → from ≡ initial_state m)
+  pub can_go_on : (telling : Telling) (bucket : Bucket) (new : Standing) → ended m t standing ≡ None → IsCycle m t standing bucket new
+      → (telling ≡ Telling.Totals → from ≡ initial_state m)
       → CanGoOn m telling so_far bucket
   can_go_on telling bucket new not_ended cycle can = record {
     objects = bucket-at_objects bucket new not_ended cycle;
@@ -257,11 +270,13 @@ module _ (m : Meaning) (t : Terms) (from : State) (laws : SimulationLaws m t fro
   }
 
 -- what an engine says by its own meaning and terms, where these are the model's
-pub ended-same : (m m' : Meaning) (t t' : Terms) (standing : Standing) (r : Option Stop) → m' ≡ m → t' ≡ t → r ≡ ended m' t' standing → ended m t standing ≡ r
+pub ended-same : (m m' : Meaning) (t t' : Terms) (standing : Standing) (r : Option Stop) → m' ≡ m → t' ≡ t → r ≡ ended m' t' standing
+    → ended m t standing ≡ r
 ended-same m m' t t' standing r same_meaning same_terms is_ended =
     sym (is_ended ∙ ap (λ x. ended x t' standing) same_meaning ∙ ap (λ x. ended m x standing) same_terms)
 
-pub cycle-same : (m m' : Meaning) (t t' : Terms) (old new : Standing) (bucket : Bucket) → m' ≡ m → t' ≡ t → CycleGives m' t' old (Ok bucket) new → IsCycle m t old bucket new
+pub cycle-same : (m m' : Meaning) (t t' : Terms) (old new : Standing) (bucket : Bucket) → m' ≡ m → t' ≡ t → CycleGives m' t' old (Ok bucket) new
+    → IsCycle m t old bucket new
 unfolding CycleGives
 cycle-same m m' t t' old new bucket same_meaning same_terms cycle =
     let P : Meaning → Type 0 = λ x. IsCycle x t' old bucket new in
@@ -277,8 +292,10 @@ pub record HasDone (m : Meaning) (t : Terms) {E : Type 0} (meaning : E → Meani
   pub meaning_is : meaning new ≡ m
   pub terms_is : terms new ≡ t
 
-pub has_done : (m : Meaning) (t : Terms) {E : Type 0} (meaning : E → Meaning) (terms : E → Terms) (StandsIn : E → Standing → Type 0) (old : E) (at : Standing) (stop : Option Stop) (answer : Result Bucket OutOfMemory)
-    (bucket : Bucket) (new : E) → meaning old ≡ m → terms old ≡ t → StandsIn old at → stop ≡ ended (meaning old) (terms old) at → stop ≡ None → answer ≡ Ok bucket
+pub has_done : (m : Meaning) (t : Terms) {E : Type 0} (meaning : E → Meaning) (terms : E → Terms) (StandsIn : E → Standing → Type 0) (old : E)
+    (at : Standing) (stop : Option Stop) (answer : Result Bucket OutOfMemory)
+    (bucket : Bucket) (new : E) → meaning old ≡ m → terms old ≡ t → StandsIn old at → stop ≡ ended (meaning old) (terms old) at → stop ≡ None
+        → answer ≡ Ok bucket
     → DoesCycles meaning terms StandsIn old answer new → HasDone m t meaning terms StandsIn at bucket new
 has_done m t meaning terms StandsIn old at stop answer bucket new same_meaning same_terms there is_stop none is_ok do_so =
     let own_none : ended (meaning old) (terms old) at ≡ None = sym is_stop ∙ none in
@@ -310,19 +327,23 @@ begins m t from lawful = record {
   few_whole = λ whole. omega arith;
 }
 
-pub counted-here : (m : Meaning) (t : Terms) (from : State) (standing : Standing) (so_far : List Bucket) (way : IsUnderWay m t from standing so_far) (count : ℕ) → IsCountAt standing count → count ≡ way.state.count
+pub counted-here : (m : Meaning) (t : Terms) (from : State) (standing : Standing) (so_far : List Bucket) (way : IsUnderWay m t from standing so_far)
+    (count : ℕ) → IsCountAt standing count → count ≡ way.state.count
 unfolding IsCountAt
 counted-here m t from standing so_far way count counted = let P : Standing → Type 0 = λ s. IsCountAt s count in subst P way.at_state counted
 
 -- an engine that has ended: the whole run has the buckets so far, and ends so
-pub ends_here : (m : Meaning) (t : Terms) (from : State) {E : Type 0} (StandsIn : E → Standing → Type 0) (engine : E) (so_far : List Bucket) (r : RunsOn m t StandsIn engine so_far from) (m' : Meaning) (t' : Terms)
-    (stop : Stop) (count : ℕ) → m' ≡ m → t' ≡ t → Some stop ≡ ended m' t' r.at → IsCountAt r.at count → (ended m t r.at ≡ Some stop) × EndsSo m t from so_far count stop
+pub ends_here : (m : Meaning) (t : Terms) (from : State) {E : Type 0} (StandsIn : E → Standing → Type 0) (engine : E) (so_far : List Bucket)
+    (r : RunsOn m t StandsIn engine so_far from) (m' : Meaning) (t' : Terms)
+    (stop : Stop) (count : ℕ) → m' ≡ m → t' ≡ t → Some stop ≡ ended m' t' r.at → IsCountAt r.at count
+        → (ended m t r.at ≡ Some stop) × EndsSo m t from so_far count stop
 ends_here m t from StandsIn engine so_far r m' t' stop count same_meaning same_terms is_ended counts =
     let here : ended m t r.at ≡ Some stop = ended-same m m' t t' r.at (Some stop) same_meaning same_terms is_ended in
     (here, ends_so m t from r.laws r.at so_far r.way stop count here (counted-here m t from r.at so_far r.way count counts))
 
 -- the laws of a model, and an engine that begins at a state of it
-pub simulation_laws : (m : Meaning) (t : Terms) (from : State) → NextLawful m t → BucketLaw m t → CyclesLaw m t → MovesLaw m t → EndsLaw m t → StatesAreTheRuns m t → RecordsAscend m t → Lawful m t from
+pub simulation_laws : (m : Meaning) (t : Terms) (from : State) → NextLawful m t → BucketLaw m t → CyclesLaw m t → MovesLaw m t → EndsLaw m t
+    → StatesAreTheRuns m t → RecordsAscend m t → Lawful m t from
     → SimulationLaws m t from
 simulation_laws m t from next buckets cycles moves ends states ascend lawful =
     let Ascends : List (Key × Note) → Type 0 = AllPairs (λ (earlier later : Key × Note). key_lt earlier.0 later.0 ≡ true) in
@@ -336,16 +357,20 @@ simulation_laws m t from next buckets cycles moves ends states ascend lawful =
       ascend = subst Ascends states.run.1.records (ascend states.run.0);
     }
 
-pub runs_from : (m : Meaning) (t : Terms) (from : State) {E : Type 0} (StandsIn : E → Standing → Type 0) (engine : E) → SimulationLaws m t from → BeginsAt m t StandsIn engine from → RunsOn m t StandsIn engine [] from
-runs_from m t from StandsIn engine laws starts = record { laws = laws; at = stands from None; stands = starts.stands; way = begins m t from starts.lawful }
+pub runs_from : (m : Meaning) (t : Terms) (from : State) {E : Type 0} (StandsIn : E → Standing → Type 0) (engine : E) → SimulationLaws m t from
+    → BeginsAt m t StandsIn engine from → RunsOn m t StandsIn engine [] from
+runs_from m t from StandsIn engine laws starts =
+    record { laws = laws; at = stands from None; stands = starts.stands; way = begins m t from starts.lawful }
 
 -- what a buffer that was empty holds, once lines were put into it
 pub held : (before after slice lines : List ℕ) → before ≡ [] → after ≡ before ++ lines → slice ≡ after → slice ≡ lines
 held before after slice lines empty put is_slice = is_slice ∙ put ∙ ap (λ xs. xs ++ lines) empty
 
 -- and once more
-pub held_both : (before between after slice first second : List ℕ) → before ≡ [] → between ≡ before ++ first → after ≡ between ++ second → slice ≡ after → slice ≡ first ++ second
-held_both before between after slice first second empty put put_more is_slice = is_slice ∙ put_more ∙ ap (λ xs. xs ++ second) (held before between between first empty put refl)
+pub held_both : (before between after slice first second : List ℕ) → before ≡ [] → between ≡ before ++ first → after ≡ between ++ second
+    → slice ≡ after → slice ≡ first ++ second
+held_both before between after slice first second empty put put_more is_slice =
+    is_slice ∙ put_more ∙ ap (λ xs. xs ++ second) (held before between between first empty put refl)
 
 pub none_of : {A : Type 0} (o : Option A) → ((x : A) → o ≡ Some x → ⊥) → o ≡ None
 none_of None h = refl

@@ -12,10 +12,12 @@ module _ (a b c : Taken) (whole : List ℕ) where
       subst P (sym some.2) (Appends-trans a b c some.0 rest some.1 written)
 
   -- what comes next is written in part
-  pub writes_prefix : (rest next after : List ℕ) → AppendsSome a b whole rest → rest ≡ next ++ after → AppendsPrefix b c next → AppendsPrefix a c whole
+  pub writes_prefix : (rest next after : List ℕ) → AppendsSome a b whole rest → rest ≡ next ++ after → AppendsPrefix b c next
+      → AppendsPrefix a c whole
   writes_prefix rest next after some is_rest part = (
     some.0 ++ part.0,
     part.1 ++ after,
-    some.2 ∙ ap (λ xs. some.0 ++ xs) (is_rest ∙ ap (λ xs. xs ++ after) part.2 ∙ append_assoc part.0 part.1 after) ∙ sym (append_assoc some.0 part.0 (part.1 ++ after)),
+    some.2 ∙ ap (λ xs. some.0 ++ xs) (is_rest ∙ ap (λ xs. xs ++ after) part.2 ∙ append_assoc part.0 part.1 after)
+    ∙ sym (append_assoc some.0 part.0 (part.1 ++ after)),
     Appends-trans a b c some.0 part.0 some.1 part.3,
   )

@@ -1,7 +1,7 @@
 //! What a bucket tells.
 ghost use Rattle.std.specs.Prelude.{◌≡◌, ◌++◌, OnOk, ◌<◌};
 ghost use Rattle.sim_io.specs.Texts.{record_lines};
-ghost use Rattle.sim_io.specs.CycleTexts.{told_cycle, bucket_lines};
+ghost use Rattle.sim_io.specs.CycleTexts.{told_cycle};
 ghost use Rattle.sim_text.specs.Rest.{AllAtObjects};
 ghost use Rattle.sim_text.specs.WholeTexts.{is_whole};
 
@@ -38,7 +38,7 @@ pub fn is_whole(bucket: &Bucket) -> bool
 
 /// Appends the line of a cycle where cycles are told and it is whole.
 #[tactic(auto, unfolding(sim_io::specs::CycleTexts::told_cycle))]
-fn put_told_cycle(
+pub fn put_told_cycle(
     cycles: bool,
     number: u64,
     bucket: &Bucket,
@@ -50,22 +50,4 @@ fn put_told_cycle(
         put_cycle(number, bucket, into)?;
     }
     Ok(())
-}
-
-/// Appends what a bucket tells: its records, and the line of its cycle where cycles are told and it is whole.
-#[tactic(auto, unfolding(sim_io::specs::CycleTexts::bucket_lines))]
-pub fn put_bucket<M: Model>(
-    lines: &mut LineWriter,
-    alloc: Global,
-    model: &M,
-    cycles: bool,
-    number: u64,
-    bucket: &Bucket,
-    into: &mut Vec<u8>,
-) -> Result<(), OutOfMemory>
-    requires { AllAtObjects (M.meaning model.now) bucket.now.done }
-    ensures { OnOk result (into.new.items ≡ into.old.items ++ bucket_lines (M.meaning model.now) cycles number bucket.now) }
-{
-    put_records(lines, alloc, model, bucket.done.as_buffer(), into)?;
-    put_told_cycle(cycles, number, bucket, into)
 }

@@ -6,7 +6,7 @@ ghost use Rattle.sim_text.specs.declared.telling.Telling.{Telling};
 ghost use Rattle.run_tally.specs.Tallies.{AreOfRun};
 ghost use Rattle.sim_text.specs.Reports.{IsReportOf, CanGoOn, told_at_once, told_in_the_end};
 
-use crate::bucket_text::put_bucket;
+use crate::bucket_text::{put_records, put_told_cycle};
 use crate::summary::Summary;
 use crate::telling::Telling;
 use model_core::OutOfMemory;
@@ -47,6 +47,7 @@ impl<L: Drop> Report<L> {
     }
 
     /// Appends what is told at once of a bucket with this number, and keeps of it what is told in the end.
+    #[tactic(auto, unfolding(sim_io::specs::CycleTexts::bucket_lines))]
     pub fn add<M: Model>(
         &mut self,
         lines: &mut LineWriter,
@@ -68,7 +69,8 @@ impl<L: Drop> Report<L> {
     {
         match self {
             Report::Lines { cycles } => {
-                put_bucket(lines, alloc, model, *cycles, number, bucket, into)
+                put_records(lines, alloc, model, bucket.done.as_buffer(), into)?;
+                put_told_cycle(*cycles, number, bucket, into)
             }
             Report::Sums(tally) => {
                 add_all(tally, model, bucket.done.as_buffer());

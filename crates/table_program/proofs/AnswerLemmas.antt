@@ -17,7 +17,8 @@ use Rattle.program_answers.specs.declared.ending.Ending.TheVariants.{Stopped}
 use Rattle.program_answers.specs.declared.status.TheConstants.{END, EVENT_FAULT, EVENT_LIMIT, OUT_OF_MEMORY}
 use Rattle.program_answers.specs.Answer.{answer_to_fault, status_of_stop}
 use Rattle.program_answers.specs.Answered.{EndsModel}
-use Rattle.program_answers.specs.Endings.{status_of_ending, ending_of, IsRefusal}
+use Rattle.sim_io.specs.declared.streams.reading.ReadEnd.{ReadEnd}
+use Rattle.program_answers.specs.Endings.{status_of_ending, ending_of, ending_of_read, IsRefusal}
 use Rattle.program_answers.proofs.EndingLemmas.{no_memory_ends, stop_of_model, whole_ends, write_fault_ends}
 use Rattle.replications.specs.declared.words.Replicate.{Replicate}
 use Rattle.replications.specs.declared.words.TheConstants.{LAST_SEED}
@@ -51,7 +52,12 @@ known_outcome (Ok (Fault key code)) = omega arith
 known_outcome (Err Unfinished.WriteFault) = omega arith
 known_outcome (Err Unfinished.OutOfMemory) = omega arith
 
-pub known_refusal : (status : ℕ) (line : List ℕ) (ending : Ending) → IsRefusal status line ending → status ≤ EVENT_LIMIT → status_of_ending ending ≤ EVENT_LIMIT
+pub known_read : (end : ReadEnd) → status_of_ending (ending_of_read end) ≤ EVENT_LIMIT
+known_read ReadEnd.Failed = omega arith
+known_read ReadEnd.OutOfMemory = omega arith
+
+pub known_refusal : (status : ℕ) (line : List ℕ) (ending : Ending) → IsRefusal status line ending → status ≤ EVENT_LIMIT
+    → status_of_ending ending ≤ EVENT_LIMIT
 known_refusal status line ending (inl spent) low = (let is : status_of_ending ending ≡ OUT_OF_MEMORY = ap status_of_ending spent in omega (arith, is))
 known_refusal status line ending (inr told) low = omega (arith, told.0, low)
 
@@ -64,13 +70,17 @@ module _ {K : Type 0} (sink : Sink K) (old new : K) (s : StudyOf) (count : ℕ) 
   -- how a table that was to be written ends
   pub table_ends : (outcome : Result Stop Unfinished) → OnOk outcome (Appends (sink.told old) (sink.told new) (table_text s count))
       → OnOk outcome (Keeps (sink.told new) (sink.handed new)) → (IsErrOf outcome Unfinished.OutOfMemory → Keeps (sink.told new) (sink.handed new))
-      → IfOk outcome (λ worst. worst ≡ gravest (stops_between s 0 count)) → OnErr outcome (AppendsPrefix (sink.told old) (sink.told new) (table_text s count))
+      → IfOk outcome (λ worst. worst ≡ gravest (stops_between s 0 count))
+      → OnErr outcome (AppendsPrefix (sink.told old) (sink.told new) (table_text s count))
       → (IsErrOf outcome Unfinished.WriteFault → Rose (sink.faults old) (sink.faults new)) → OnOk outcome (sink.faults new ≡ sink.faults old)
-      → (IsErrOf outcome Unfinished.OutOfMemory → sink.faults new ≡ sink.faults old) → EndsModel sink old new (ending_of outcome) (answer_to_study s count)
+      → (IsErrOf outcome Unfinished.OutOfMemory → sink.faults new ≡ sink.faults old)
+      → EndsModel sink old new (ending_of outcome) (answer_to_study s count)
   unfolding answer_to_study
   table_ends (Ok stop) whole handed handed_so_far stops part fault quiet no_memory =
-      whole_ends sink old new (Stopped stop) _ (stop_of_model stop) whole (ap status_of_stop stops ∙ gravest-status (stops_between s 0 count)) refl quiet (λ _. handed)
-  table_ends (Err Unfinished.WriteFault) whole handed handed_so_far stops part fault quiet no_memory = write_fault_ends sink old new _ part (fault refl)
+      whole_ends sink old new (Stopped stop) _ (stop_of_model stop) whole
+      (ap status_of_stop stops ∙ gravest-status (stops_between s 0 count)) refl quiet (λ _. handed)
+  table_ends (Err Unfinished.WriteFault) whole handed handed_so_far stops part fault quiet no_memory =
+      write_fault_ends sink old new _ part (fault refl)
   table_ends (Err Unfinished.OutOfMemory) whole handed handed_so_far stops part fault quiet no_memory =
       no_memory_ends sink old new _ part (no_memory refl) (λ _. handed_so_far refl)
 
@@ -81,19 +91,23 @@ module _ (reading : FamilyReading) where
   slice_answers taken slice asked read is_slice is_read = ap (answer_to_read reading asked) (sym is_read ∙ ap reading.read is_slice)
 
   -- the answer to what was read is the one to the whole input
-  pub family_answers : FamilyLaws reading.read → (old new : Option (List ℕ)) (taken slice : List ℕ) (asked : Replicate) (read : Checked FamilyOf) → TakesUpTo ENOUGH_BYTES old new taken
-      → slice ≡ taken → reading.read slice ≡ read → IfSome old (λ bytes. answer_to_read reading asked read ≡ answer_to_read reading asked (reading.read bytes))
+  pub family_answers : FamilyLaws reading.read → (old new : Option (List ℕ)) (taken slice : List ℕ) (asked : Replicate) (read : Checked FamilyOf)
+      → TakesUpTo ENOUGH_BYTES old new taken
+      → slice ≡ taken → reading.read slice ≡ read
+      → IfSome old (λ bytes. answer_to_read reading asked read ≡ answer_to_read reading asked (reading.read bytes))
   family_answers laws old new taken slice asked read took is_slice is_read = by_left old new took
     where
       by_left : (left rest : Option (List ℕ)) → TakesUpTo ENOUGH_BYTES left rest taken
           → IfSome left (λ bytes. answer_to_read reading asked read ≡ answer_to_read reading asked (reading.read bytes))
       by_left None rest took = tt
       by_left (Some bytes) None took = absurd took
-      by_left (Some bytes) (Some rest) took = ap (answer_to_read reading asked) (sym is_read ∙ ap reading.read (is_slice ∙ took.0) ∙ laws.first_bytes bytes)
+      by_left (Some bytes) (Some rest) took =
+          ap (answer_to_read reading asked) (sym is_read ∙ ap reading.read (is_slice ∙ took.0) ∙ laws.first_bytes bytes)
 
   module _ (said : Result Replicate WordFault) where
     -- what is answered to words that are accepted, and to others
-    pub answer_accepted : (asked : Replicate) → said ≡ Ok asked → (bytes : List ℕ) → answer_to_read reading asked (reading.read bytes) ≡ answer_to_words reading said bytes
+    pub answer_accepted : (asked : Replicate) → said ≡ Ok asked → (bytes : List ℕ)
+        → answer_to_read reading asked (reading.read bytes) ≡ answer_to_words reading said bytes
     unfolding answer_to_words
     answer_accepted asked is bytes = sym (ap (λ r. answer_to_words reading r bytes) is)
 

@@ -14,7 +14,7 @@ use crate::reader::FamilyReader;
 use model_reader::Refusal;
 use program_answers::{Ending, ending_of, refused};
 use replications::{Replicate, Study, read_replicate_words, write_table};
-use sim_io::{ReadEnd, Sink, Source, read_all};
+use sim_io::{Sink, Source, read_all};
 use std::alloc::Global;
 use std::thread::Threads;
 
@@ -64,8 +64,7 @@ fn tabulate_input<T: FamilyReader, R: Threads + Sync, S: Source, K: Sink>(
 {
     let bytes = match read_all(alloc, source) {
         Ok(bytes) => bytes,
-        Err(ReadEnd::Failed) => return Ending::ReadFault,
-        Err(ReadEnd::OutOfMemory) => return Ending::OutOfMemory,
+        Err(end) => return Ending::from(end),
     };
     match reader.read_family(alloc, bytes.as_slice()) {
         Ok(family) => tabulate::<T, R, K>(rt, alloc, reader.head(), family, asked, out),

@@ -6,16 +6,13 @@ use Rattle.model_reader.specs.declared.refusal.Refusal.{Refusal}
 use Rattle.program_answers.specs.declared.status.TheConstants.{MODEL}
 use Rattle.model_program.specs.Answer.{answer_to_model}
 use Rattle.program_answers.proofs.EndingLemmas.{model_status, refusal_ends, same_refusal}
-use Rattle.program_answers.proofs.InputLemmas.{leaves_rest, model_input, no_memory_input, read_fault_input}
+use Rattle.program_answers.proofs.InputLemmas.{leaves_rest, model_input, no_memory_input, unread_input}
 use Rattle.model_program.proofs.ReadingLemmas.{model_answers, slice_answers}
-use Rattle.model_program.proofs.SavedRunsLaw.{none_left, refused_none, whole_input}
+use Rattle.model_program.proofs.SavedRunsLaw.{none_left, refused_none, unread_none, whole_input}
 use Rattle.model_program.proofs.running.model_command.Goals as goal
 
-pub returns-in-Err-Failed-clause-answer : goal.returns-in-Err-Failed-clause-answer
-returns-in-Err-Failed-clause-answer g c = read_fault_input _ _ _ _ _ _ _ (c.in-Err-Failed.ensures.failed (cc c.in-Err-Failed.field-0-is))
-
-pub returns-in-Err-OutOfMemory-clause-answer : goal.returns-in-Err-OutOfMemory-clause-answer
-returns-in-Err-OutOfMemory-clause-answer g c = no_memory_input _ _ _ _ _ _ _ (c.in-Err-OutOfMemory.ensures.no_memory (cc c.in-Err-OutOfMemory.field-0-is))
+pub returns-in-Err-clause-answer : goal.returns-in-Err-clause-answer
+returns-in-Err-clause-answer g c = unread_input _ _ _ _ _ _ _ _ _ c.from.ensures c.in-Err.ensures.failed c.in-Err.ensures.no_memory
 
 pub returns-in-Ok-read-clause-answer : goal.returns-in-Ok-read-clause-answer
 unfolding answer_to_model
@@ -38,11 +35,8 @@ returns-in-Err-At-clause-answer g c =
 pub returns-clause-answer : goal.returns-clause-answer
 returns-clause-answer g c = no_memory_input _ _ _ _ _ _ _ c.in-Ok.ensures.quiet
 
-pub returns-in-Err-Failed-clause-saved : goal.returns-in-Err-Failed-clause-saved
-returns-in-Err-Failed-clause-saved g c = none_left g.T.ModelReader.reading.read _ c.args.settings _ (λ is. cc)
-
-pub returns-in-Err-OutOfMemory-clause-saved : goal.returns-in-Err-OutOfMemory-clause-saved
-returns-in-Err-OutOfMemory-clause-saved g c = none_left g.T.ModelReader.reading.read _ c.args.settings _ (λ is. cc)
+pub returns-in-Err-clause-saved : goal.returns-in-Err-clause-saved
+returns-in-Err-clause-saved g c = none_left g.T.ModelReader.reading.read _ c.args.settings _ (unread_none c.in-Err.end _ c.from.ensures)
 
 pub returns-in-Ok-read-clause-saved : goal.returns-in-Ok-read-clause-saved
 returns-in-Ok-read-clause-saved g c =

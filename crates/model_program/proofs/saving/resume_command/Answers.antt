@@ -10,7 +10,7 @@ use Rattle.model_program.specs.Answer.{answer_to_state, state_line}
 use Rattle.program_answers.specs.Endings.{IsRefusal}
 use Rattle.program_answers.proofs.EndingLemmas.{refusal_ends, state_status}
 use Rattle.model_program.proofs.EndingLemmas.{lines_simulated, run_ends}
-use Rattle.program_answers.proofs.InputLemmas.{leaves_rest, model_input, no_memory_input, read_fault_input}
+use Rattle.program_answers.proofs.InputLemmas.{leaves_rest, model_input, no_memory_input, unread_input}
 use Rattle.model_program.proofs.ReadingLemmas.{slice_state_answers, state_answers}
 use Rattle.model_program.proofs.saving.resume_command.Goals as goal
 
@@ -18,11 +18,8 @@ same_state_refusal : (ending : Ending) (code code' line line' : ℕ) → IsRefus
 same_state_refusal ending code code' line line' refusal same_code same_place =
     subst (λ told. IsRefusal STATE told ending) (ap (λ n. state_line n line) same_code ∙ ap (state_line code') same_place) refusal
 
-pub returns-in-Err-Failed : goal.returns-in-Err-Failed
-returns-in-Err-Failed g c = read_fault_input _ _ _ _ _ _ _ (c.in-Err-Failed.ensures.failed (cc c.in-Err-Failed.field-0-is))
-
-pub returns-in-Err-OutOfMemory : goal.returns-in-Err-OutOfMemory
-returns-in-Err-OutOfMemory g c = no_memory_input _ _ _ _ _ _ _ (c.in-Err-OutOfMemory.ensures.no_memory (cc c.in-Err-OutOfMemory.field-0-is))
+pub returns-in-Err : goal.returns-in-Err
+returns-in-Err g c = unread_input _ _ _ _ _ _ _ _ _ c.from.ensures c.in-Err.ensures.failed c.in-Err.ensures.no_memory
 
 pub returns-in-Ok-read_state : goal.returns-in-Ok-read_state
 unfolding answer_to_state

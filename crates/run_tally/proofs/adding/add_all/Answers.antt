@@ -8,7 +8,8 @@ loop-i-init g c before up can = subst (g.L.Tally.sums_up c.args.model.now c.args
 pub add-requires : goal.add-requires
 add-requires g c =
     let before = c.requires.0 in
-    let comes = read-comes (g.M.Model.meaning c.args.model.now) before c.args.records.now.items c.loop-i.i _ c.at.ensures.told c.at.ensures.few c.requires.2 in
+    let comes =
+    read-comes (g.M.Model.meaning c.args.model.now) before c.args.records.now.items c.loop-i.i _ c.at.ensures.told c.at.ensures.few c.requires.2 in
     (before ++ take c.loop-i.i c.args.records.now.items, c.loop-i.invariant before c.requires.1 c.requires.2, comes)
 
 pub loop-i-preserved : goal.loop-i-preserved

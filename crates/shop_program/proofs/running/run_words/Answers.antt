@@ -15,21 +15,27 @@ pub returns-in-Some-clause-ends : goal.returns-in-Some-clause-ends
 returns-in-Some-clause-ends g c =
     let words = texts_of c.args.words.now.items in
     let said : after_replicate words ≡ Some (texts_of c.in-Some.rest.now) =
-    ap (λ (list : List (String Global)). after_replicate (texts_of list)) (sym c.as_slice.ensures.value) ∙ sym c.after_replicate.ensures ∙ ap (option_map (λ rest. texts_of rest.now)) c.in-Some.is in
-    let Ends : Option (List (List ℕ)) → Type 0 = λ after. EndsAsked g.S.Source g.K.Sink c.args.source.now c.run_words.new.source c.args.out.now c.run_words.new.out c.run_words.result (asked_with words after) in
+    ap (λ (list : List (String Global)). after_replicate (texts_of list)) (sym c.as_slice.ensures.value) ∙ sym c.after_replicate.ensures
+    ∙ ap (option_map (λ rest. texts_of rest.now)) c.in-Some.is in
+    let Ends : Option (List (List ℕ)) → Type 0 =
+    λ after. EndsAsked g.S.Source g.K.Sink c.args.source.now c.run_words.new.source c.args.out.now c.run_words.new.out c.run_words.result
+    (asked_with words after) in
     subst Ends (sym said) c.run_words.ensures.ends
 
 pub returns-in-Some-clause-saved : goal.returns-in-Some-clause-saved
 returns-in-Some-clause-saved g c =
     let words = texts_of c.args.words.now.items in
     let said : after_replicate words ≡ Some (texts_of c.in-Some.rest.now) =
-    ap (λ (list : List (String Global)). after_replicate (texts_of list)) (sym c.as_slice.ensures.value) ∙ sym c.after_replicate.ensures ∙ ap (option_map (λ rest. texts_of rest.now)) c.in-Some.is in
+    ap (λ (list : List (String Global)). after_replicate (texts_of list)) (sym c.as_slice.ensures.value) ∙ sym c.after_replicate.ensures
+    ∙ ap (option_map (λ rest. texts_of rest.now)) c.in-Some.is in
     refused_saves shop_text _ _ _ UnknownCommand (no_model_command words _ said)
 
 pub returns-in-None-clause-ends : goal.returns-in-None-clause-ends
 returns-in-None-clause-ends g c =
     let words = texts_of c.args.words.now.items in
     let said : after_replicate words ≡ None =
-    ap (λ (list : List (String Global)). after_replicate (texts_of list)) (sym c.as_slice.ensures.value) ∙ sym c.after_replicate.ensures ∙ ap (option_map (λ rest. texts_of rest.now)) c.in-None.is in
-    let Ends : Option (List (List ℕ)) → Type 0 = λ after. EndsAsked g.S.Source g.K.Sink c.args.source.now c.run_words-in-None.new.source c.args.out.now c.run_words-in-None.new.out c.run_words-in-None.result (asked_with words after) in
+    ap (λ (list : List (String Global)). after_replicate (texts_of list)) (sym c.as_slice.ensures.value) ∙ sym c.after_replicate.ensures
+    ∙ ap (option_map (λ rest. texts_of rest.now)) c.in-None.is in
+    let Ends : Option (List (List ℕ)) → Type 0 =
+    λ after. EndsAsked g.S.Source g.K.Sink c.args.source.now c.run_words-in-None.new.source c.args.out.now c.run_words-in-None.new.out c.run_words-in-None.result (asked_with words after) in
     subst Ends (sym said) c.run_words-in-None.ensures.ends

@@ -15,7 +15,9 @@ use Rattle.shop_totals.proofs.station_totals.count_visit.Goals as goal
 
 pub returns-in-Ok-clause-within : goal.returns-in-Ok-clause-within
 returns-in-Ok-clause-within c parts within =
-    let found = searched c.args.classes.now (c.args.part.a / JOBS_A_CLASS) (Ok c.in-Ok.place) c.in-Ok.ensures.position (rising-up c.args.classes.now c.requires.rising) in
+    let found =
+    searched c.args.classes.now (c.args.part.a / JOBS_A_CLASS) (Ok c.in-Ok.place) c.in-Ok.ensures.position
+    (rising-up c.args.classes.now c.requires.rising) in
     All-set (IsVisitWithin (parts + 1)) c.args.visits.now.items c.in-Ok.place c.and.result
     (c.and.ensures.within parts
     (subst (IsVisitWithin parts) (sym c.index_mut-visit.ensures.value) (within c.in-Ok.place c.index_mut-visit.result.now (omega (arith, found.0, c.requires.long)))))
@@ -38,5 +40,6 @@ pub returns-in_default-clause-sums : goal.returns-in_default-clause-sums
 returns-in_default-clause-sums c first time told counts are =
     let classes = c.args.classes.now in
     let one : TimedPart = record { time = time; part = c.args.part } in
-    let found = searched classes (c.args.part.a / JOBS_A_CLASS) (Err c.in_default.field-0) c.in_default.ensures.position (rising-up classes c.requires.rising) in
+    let found =
+    searched classes (c.args.part.a / JOBS_A_CLASS) (Err c.in_default.field-0) c.in_default.ensures.position (rising-up classes c.requires.rising) in
     are ∙ visits-nowhere first told one classes (around-apart classes (c.args.part.a / JOBS_A_CLASS) c.in_default.field-0 found.1 found.2)

@@ -68,7 +68,9 @@ returns-then-is_some-clause-state g c = λ from starts.
 pub returns-in_err-bucket-clause-written : goal.returns-in_err-bucket-clause-written
 returns-in_err-bucket-clause-written g c = λ from starts.
     let r = c.loop-done.invariant.first from starts in
-    let part = lines-prefix _ _ _ _ c.loop-done.invariant.so_far r.first _ _ c.args.most (omega (arith, c.loop-done.invariant.numbered, c.loop-done-test.true)) c.loop-done.invariant.told in
+    let part =
+    lines-prefix _ _ _ _ c.loop-done.invariant.so_far r.first _ _ c.args.most
+    (omega (arith, c.loop-done.invariant.numbered, c.loop-done-test.true)) c.loop-done.invariant.told in
     written_before _ _ _ _ _ c.from_residual-in_err-bucket.ensures.1 part c.loop-done.invariant.quiet
 
 pub put_records-requires-after_bounds : goal.put_records-requires-after_bounds
@@ -76,14 +78,17 @@ put_records-requires-after_bounds g c κs within =
     let i = c.loop-done.invariant in
     let r = i.first c.requires.begins.0 c.requires.begins.1 in
     let done = has_done (g.M.Model.meaning c.args.model.now) c.args.terms.now g.E.Engine.meaning g.E.Engine.terms g.E.Engine.stands_at c.loop-done.engine r.at _ c.cycle.result c.in_ok-bucket.bucket c.cycle.new.arg2 i.meaning i.terms r.stands
-    (c.ended.ensures r.at r.stands) (is_none _ (sym c.if-is_some.ensures)) c.in_ok-bucket.was (c.requires.does _ _ c.cycle.result _ c.cycle.ensures) in
+    (c.ended.ensures r.at r.stands) (is_none _ (sym c.if-is_some.ensures)) c.in_ok-bucket.was
+    (c.requires.does _ _ c.cycle.result _ c.cycle.ensures) in
     let P : List (Key × Note) → Type 0 = AllAtObjects (g.M.Model.meaning c.args.model.now) in
     subst P (sym c.as_buffer.ensures) (at_objects _ _ _ _ i.so_far r.first i.buckets c.in_ok-bucket.bucket _ done.not_ended done.cycle i.next)
 
 pub returns-in_err-put_records-clause-written : goal.returns-in_err-put_records-clause-written
 returns-in_err-put_records-clause-written g c = λ from starts.
     let r = c.loop-done.invariant.first from starts in
-    let part = lines-prefix _ _ _ _ c.loop-done.invariant.so_far r.first _ _ c.args.most (omega (arith, c.loop-done.invariant.numbered, c.loop-done-test.true)) c.loop-done.invariant.told in
+    let part =
+    lines-prefix _ _ _ _ c.loop-done.invariant.so_far r.first _ _ c.args.most
+    (omega (arith, c.loop-done.invariant.numbered, c.loop-done-test.true)) c.loop-done.invariant.told in
     written_before _ _ _ _ _ c.from_residual-in_err-put_records.ensures.1 part c.loop-done.invariant.quiet
 
 pub returns-in_err-write_all-clause-written : goal.returns-in_err-write_all-clause-written
@@ -91,9 +96,12 @@ returns-in_err-write_all-clause-written g c = λ from starts.
     let i = c.loop-done.invariant in
     let r = i.first from starts in
     let done = has_done (g.M.Model.meaning c.args.model.now) c.args.terms.now g.E.Engine.meaning g.E.Engine.terms g.E.Engine.stands_at c.loop-done.engine r.at _ c.cycle.result c.in_ok-bucket.bucket c.cycle.new.arg2 i.meaning i.terms r.stands
-    (c.ended.ensures r.at r.stands) (is_none _ (sym c.if-is_some.ensures)) c.in_ok-bucket.was (c.requires.does _ _ c.cycle.result _ c.cycle.ensures) in
+    (c.ended.ensures r.at r.stands) (is_none _ (sym c.if-is_some.ensures)) c.in_ok-bucket.was
+    (c.requires.does _ _ c.cycle.result _ c.cycle.ensures) in
     let m = g.M.Model.meaning c.args.model.now in
-    let goes = lines-go_on _ _ _ _ i.so_far r.first i.buckets c.in_ok-bucket.bucket _ done.not_ended done.cycle c.args.most (omega (arith, i.numbered, c.loop-done-test.true)) in
+    let goes =
+    lines-go_on _ _ _ _ i.so_far r.first i.buckets c.in_ok-bucket.bucket _ done.not_ended done.cycle c.args.most
+    (omega (arith, i.numbered, c.loop-done-test.true)) in
     let P : List ℕ → Type 0 = AppendsPrefix (g.K.Sink.told c.loop-done.sink) (g.K.Sink.told c.write_all.new.sink) in
     let lines = held _ _ _ _ c.clear.ensures.items (put_told m _ _ _ _ c.as_buffer.ensures c.in_ok-put_records.ensures) c.as_slice.ensures.value in
     failed_before _ _ _ _ _ c.from_residual-in_err-write_all.ensures.1
@@ -110,7 +118,8 @@ loop-done-preserved g c =
     let some = i.first c.requires.begins.0 c.requires.begins.1 in
     let done_from : (from : State) (r : StandsAfter m t g.E.Engine.stands_at c.loop-done.engine i.so_far from) → HasDone m t g.E.Engine.meaning g.E.Engine.terms g.E.Engine.stands_at r.at b c.cycle.new.arg2 = λ from r.
     has_done m t g.E.Engine.meaning g.E.Engine.terms g.E.Engine.stands_at c.loop-done.engine r.at _ c.cycle.result b c.cycle.new.arg2 i.meaning i.terms r.stands
-    (c.ended.ensures r.at r.stands) (is_none _ (sym c.if-is_some.ensures)) c.in_ok-bucket.was (c.requires.does _ _ c.cycle.result _ c.cycle.ensures) in
+    (c.ended.ensures r.at r.stands) (is_none _ (sym c.if-is_some.ensures)) c.in_ok-bucket.was
+    (c.requires.does _ _ c.cycle.result _ c.cycle.ensures) in
     let some_done = done_from c.requires.begins.0 some in
     let P : List ℕ → Type 0 = Appends (g.K.Sink.told c.loop-done.sink) (g.K.Sink.told c.write_all.new.sink) in
     let lines = held _ _ _ _ c.clear.ensures.items (put_told m _ _ _ _ c.as_buffer.ensures c.in_ok-put_records.ensures) c.as_slice.ensures.value in
@@ -125,7 +134,9 @@ loop-done-preserved g c =
           let done = done_from from r in
           record { at = done.left; stands = c.give_back.ensures.stands done.left done.stands; first = one_more _ _ _ _ i.so_far r.first i.buckets b _ done.not_ended done.cycle };
       numbered = ap (λ n. n + 1) i.numbered ∙ sym (length-append i.so_far (b ∷ []));
-      told = subst (Appends (g.K.Sink.told c.args.sink.now) (g.K.Sink.told c.write_all.new.sink)) (sym (lines-more _ _ _ _ i.so_far some.first i.buckets b _ some_done.not_ended some_done.cycle))
+      told =
+          subst (Appends (g.K.Sink.told c.args.sink.now) (g.K.Sink.told c.write_all.new.sink))
+          (sym (lines-more _ _ _ _ i.so_far some.first i.buckets b _ some_done.not_ended some_done.cycle))
           (Appends-trans _ _ _ (record_lines m (records_of_buckets i.so_far)) (record_lines m b.done) i.told (subst P lines c.in_ok-write_all.ensures.all));
       later = omega (arith, i.later, c.in_ok-write_all.ensures.cause.later);
       quiet = c.in_ok-write_all.ensures.quiet ∙ i.quiet;

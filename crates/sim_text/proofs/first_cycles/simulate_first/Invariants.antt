@@ -19,7 +19,8 @@ invariant-loop-done g l =
       meaning : g.E.Engine.meaning l.engine ≡ m;
       terms : g.E.Engine.terms l.engine ≡ l.terms;
       so_far : List Bucket;
-      first : (from : State) → BeginsAt m l.terms g.E.Engine.stands_at l.fn.engine from → StandsAfter m l.terms g.E.Engine.stands_at l.engine so_far from;
+      first : (from : State) → BeginsAt m l.terms g.E.Engine.stands_at l.fn.engine from
+          → StandsAfter m l.terms g.E.Engine.stands_at l.engine so_far from;
       numbered : l.done ≡ length so_far;
       told : Appends (g.K.Sink.told l.fn.sink) (g.K.Sink.told l.sink) (record_lines m (records_of_buckets so_far));
       later : g.K.Sink.faults l.fn.sink ≤ g.K.Sink.faults l.sink;

@@ -12,7 +12,8 @@ loop-i-preserved g c =
     let i = c.loop-i.i in
     let part = c.at.result in
     let is = sym (get_or_from_slice_get parts i part part c.at.ensures) in
-    event_lines-put m c.args.key.now parts i part c.loop-i.into.items c.put_line.new.into.items _ (omega arith) is c.in_ok-put_line.ensures.ok c.loop-i.invariant
+    event_lines-put m c.args.key.now parts i part c.loop-i.into.items c.put_line.new.into.items _
+    (omega arith) is c.in_ok-put_line.ensures.ok c.loop-i.invariant
 
 pub returns : goal.returns
 returns g c =

@@ -50,7 +50,9 @@ returns-in_err-write_all g c = λ from totals starts.
     let i = c.loop-stop.invariant in
     let r = i.comes from starts in
     let ended = ended-same _ _ _ _ _ _ i.meaning i.terms (sym c.in-Some.is ∙ c.ended.ensures r.at r.stands) in
-    let whole = text-whole _ _ _ _ i.done _ r.way totals c.law_plain_text.ensures r.lawful c.in-Some.stop c.count-count.result ended (c.count-count.ensures r.at r.stands) in
+    let whole =
+    text-whole _ _ _ _ i.done _ r.way totals c.law_plain_text.ensures r.lawful c.in-Some.stop c.count-count.result ended
+    (c.count-count.ensures r.at r.stands) in
     let P : List ℕ → Type 0 = AppendsPrefix (g.K.Sink.told c.loop-stop.sink) (g.K.Sink.told c.write_all.new.sink) in
     let lines = held _ _ _ _ c.clear.ensures c.in_ok-put_stop.ensures c.as_slice.ensures in
     simulated_failed _ _ _ _ _ _ _ _ _ c.from_residual-in_err-write_all.ensures.1
@@ -62,7 +64,9 @@ returns-in-Some g c = λ from totals starts.
     let i = c.loop-stop.invariant in
     let r = i.comes from starts in
     let ended = ended-same _ _ _ _ _ _ i.meaning i.terms (sym c.in-Some.is ∙ c.ended.ensures r.at r.stands) in
-    let whole = text-whole _ _ _ _ i.done _ r.way totals c.law_plain_text.ensures r.lawful c.in-Some.stop c.count-count.result ended (c.count-count.ensures r.at r.stands) in
+    let whole =
+    text-whole _ _ _ _ i.done _ r.way totals c.law_plain_text.ensures r.lawful c.in-Some.stop c.count-count.result ended
+    (c.count-count.ensures r.at r.stands) in
     let P : List ℕ → Type 0 = Appends (g.K.Sink.told c.loop-stop.sink) (g.K.Sink.told c.write_all.new.sink) in
     let lines = held _ _ _ _ c.clear.ensures c.in_ok-put_stop.ensures c.as_slice.ensures in
     record {
@@ -91,7 +95,8 @@ returns-in_err-write_all-2 g c = λ from totals starts.
     let i = c.loop-stop.invariant in
     let m = g.M.Model.meaning c.args.model.now in
     let t = c.args.terms.now in
-    let Q : Result (Unit {0}) OutOfMemory → Type 0 = λ a. OnOk a (HasWrittenStretch g.E.Engine.meaning g.E.Engine.terms g.E.Engine.stands_at c.loop-stop.engine c.stretch.new.arg2 c.stretch.new.arg5) in
+    let Q : Result (Unit {0}) OutOfMemory → Type 0 =
+    λ a. OnOk a (HasWrittenStretch g.E.Engine.meaning g.E.Engine.terms g.E.Engine.stands_at c.loop-stop.engine c.stretch.new.arg2 c.stretch.new.arg5) in
     let written : Q (Ok tt) = subst Q c.in_ok-stretch.was (c.requires.does _ _ _ c.stretch.result _ _ c.stretch.ensures c.clear.ensures) in
     let r = i.comes from starts in
     let on = has_come_on m t g.E.Engine.meaning g.E.Engine.terms g.E.Engine.stands_at c.loop-stop.engine c.stretch.new.arg2 i.done c.loop-stop.number from _ _ c.keeps_laws.ensures i.meaning i.terms r
@@ -114,7 +119,8 @@ loop-stop-preserved g c =
     let i = c.loop-stop.invariant in
     let m = g.M.Model.meaning c.args.model.now in
     let t = c.args.terms.now in
-    let Q : Result (Unit {0}) OutOfMemory → Type 0 = λ a. OnOk a (HasWrittenStretch g.E.Engine.meaning g.E.Engine.terms g.E.Engine.stands_at c.loop-stop.engine c.stretch.new.arg2 c.stretch.new.arg5) in
+    let Q : Result (Unit {0}) OutOfMemory → Type 0 =
+    λ a. OnOk a (HasWrittenStretch g.E.Engine.meaning g.E.Engine.terms g.E.Engine.stands_at c.loop-stop.engine c.stretch.new.arg2 c.stretch.new.arg5) in
     let written : Q (Ok tt) = subst Q c.in_ok-stretch.was (c.requires.does _ _ _ c.stretch.result _ _ c.stretch.ensures c.clear.ensures) in
     let on = λ (from : State) (starts : _).
     (let r = i.comes from starts in

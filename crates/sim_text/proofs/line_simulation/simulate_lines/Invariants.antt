@@ -15,7 +15,8 @@ invariant-loop-stop g l =
       meaning : g.E.Engine.meaning l.engine ≡ m;
       terms : g.E.Engine.terms l.engine ≡ l.terms;
       done : List (Key × Note);
-      comes : (from : State) → BeginsAt m l.terms g.E.Engine.stands_at l.fn.engine from → ComesOn m l.terms g.E.Engine.stands_at l.engine done l.number from;
+      comes : (from : State) → BeginsAt m l.terms g.E.Engine.stands_at l.fn.engine from
+          → ComesOn m l.terms g.E.Engine.stands_at l.engine done l.number from;
       told : Appends (g.K.Sink.told l.fn.sink) (g.K.Sink.told l.sink) (record_lines m done);
       later : g.K.Sink.faults l.fn.sink ≤ g.K.Sink.faults l.sink;
       quiet : g.K.Sink.faults l.sink ≡ g.K.Sink.faults l.fn.sink;

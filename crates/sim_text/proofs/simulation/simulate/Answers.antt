@@ -41,7 +41,8 @@ put-requires-after_bounds g c κs within =
 
 pub returns-in_err-put : goal.returns-in_err-put
 returns-in_err-put g c = λ from starts can.
-    simulated_early _ _ _ _ _ _ _ _ _ _ _ _ (c.loop-stop.invariant.runs from starts can) c.from_residual-in_err-put.ensures.1 c.loop-stop.invariant.told c.loop-stop.invariant.quiet
+    simulated_early _ _ _ _ _ _ _ _ _ _ _ _
+    (c.loop-stop.invariant.runs from starts can) c.from_residual-in_err-put.ensures.1 c.loop-stop.invariant.told c.loop-stop.invariant.quiet
 
 pub put_stop-requires-after_bounds : goal.put_stop-requires-after_bounds
 put_stop-requires-after_bounds g c κs within =
@@ -52,14 +53,18 @@ put_stop-requires-after_bounds g c κs within =
 
 pub returns-in_err-put_stop : goal.returns-in_err-put_stop
 returns-in_err-put_stop g c = λ from starts can.
-    simulated_early _ _ _ _ _ _ _ _ _ _ _ _ (c.loop-stop.invariant.runs from starts can) c.from_residual-in_err-put_stop.ensures.1 c.loop-stop.invariant.told c.loop-stop.invariant.quiet
+    simulated_early _ _ _ _ _ _ _ _ _ _ _ _
+    (c.loop-stop.invariant.runs from starts can) c.from_residual-in_err-put_stop.ensures.1 c.loop-stop.invariant.told c.loop-stop.invariant.quiet
 
 pub returns-in_err-write_all : goal.returns-in_err-write_all
 returns-in_err-write_all g c = λ from starts can.
     let i = c.loop-stop.invariant in
     let r = i.runs from starts can in
-    let ends = ends_here _ _ _ _ _ i.so_far r _ _ c.in-Some.stop c.count-count.result i.meaning i.terms (sym c.in-Some.is ∙ c.ended.ensures r.at r.stands) (c.count-count.ensures r.at r.stands) in
-    let put = c.in_ok-put.ensures c.args.telling i.so_far i.kept (λ totals. all-of_run _ _ _ r.laws _ i.so_far r.way c.in-Some.stop ends.0 (can totals)) in
+    let ends =
+    ends_here _ _ _ _ _ i.so_far r _ _ c.in-Some.stop c.count-count.result i.meaning i.terms (sym c.in-Some.is ∙ c.ended.ensures r.at r.stands)
+    (c.count-count.ensures r.at r.stands) in
+    let put =
+    c.in_ok-put.ensures c.args.telling i.so_far i.kept (λ totals. all-of_run _ _ _ r.laws _ i.so_far r.way c.in-Some.stop ends.0 (can totals)) in
     let P : List ℕ → Type 0 = AppendsPrefix (g.K.Sink.told c.loop-stop.sink) (g.K.Sink.told c.write_all.new.sink) in
     let lines = held_both _ _ _ _ _ _ c.clear.ensures.items put c.in_ok-put_stop.ensures.ok c.as_slice.ensures.value in
     simulated_failed _ _ _ _ _ _ _ _ _ c.from_residual-in_err-write_all.ensures.1
@@ -70,8 +75,11 @@ pub returns-in-Some : goal.returns-in-Some
 returns-in-Some g c = λ from starts can.
     let i = c.loop-stop.invariant in
     let r = i.runs from starts can in
-    let ends = ends_here _ _ _ _ _ i.so_far r _ _ c.in-Some.stop c.count-count.result i.meaning i.terms (sym c.in-Some.is ∙ c.ended.ensures r.at r.stands) (c.count-count.ensures r.at r.stands) in
-    let put = c.in_ok-put.ensures c.args.telling i.so_far i.kept (λ totals. all-of_run _ _ _ r.laws _ i.so_far r.way c.in-Some.stop ends.0 (can totals)) in
+    let ends =
+    ends_here _ _ _ _ _ i.so_far r _ _ c.in-Some.stop c.count-count.result i.meaning i.terms (sym c.in-Some.is ∙ c.ended.ensures r.at r.stands)
+    (c.count-count.ensures r.at r.stands) in
+    let put =
+    c.in_ok-put.ensures c.args.telling i.so_far i.kept (λ totals. all-of_run _ _ _ r.laws _ i.so_far r.way c.in-Some.stop ends.0 (can totals)) in
     let P : List ℕ → Type 0 = Appends (g.K.Sink.told c.loop-stop.sink) (g.K.Sink.told c.write_all.new.sink) in
     let lines = held_both _ _ _ _ _ _ c.clear.ensures.items put c.in_ok-put_stop.ensures.ok c.as_slice.ensures.value in
     record {
@@ -90,7 +98,8 @@ cycle-requires g c =
 
 pub returns-in_err-bucket : goal.returns-in_err-bucket
 returns-in_err-bucket g c = λ from starts can.
-    simulated_early _ _ _ _ _ _ _ _ _ _ _ _ (c.loop-stop.invariant.runs from starts can) c.from_residual-in_err-bucket.ensures.1 c.loop-stop.invariant.told c.loop-stop.invariant.quiet
+    simulated_early _ _ _ _ _ _ _ _ _ _ _ _
+    (c.loop-stop.invariant.runs from starts can) c.from_residual-in_err-bucket.ensures.1 c.loop-stop.invariant.told c.loop-stop.invariant.quiet
 
 pub add-requires-after_bounds : goal.add-requires-after_bounds
 add-requires-after_bounds g c κs within =
@@ -102,7 +111,8 @@ add-requires-after_bounds g c κs within =
 
 pub returns-in_err-add : goal.returns-in_err-add
 returns-in_err-add g c = λ from starts can.
-    simulated_early _ _ _ _ _ _ _ _ _ _ _ _ (c.loop-stop.invariant.runs from starts can) c.from_residual-in_err-add.ensures.1 c.loop-stop.invariant.told c.loop-stop.invariant.quiet
+    simulated_early _ _ _ _ _ _ _ _ _ _ _ _
+    (c.loop-stop.invariant.runs from starts can) c.from_residual-in_err-add.ensures.1 c.loop-stop.invariant.told c.loop-stop.invariant.quiet
 
 pub returns-in_err-write_all-2 : goal.returns-in_err-write_all-2
 returns-in_err-write_all-2 g c = λ from starts can.

@@ -15,7 +15,8 @@ invariant-loop-stop g l =
       meaning : g.E.Engine.meaning l.engine ≡ m;
       terms : g.E.Engine.terms l.engine ≡ l.terms;
       so_far : List Bucket;
-      runs : (from : State) → BeginsAt m l.terms g.E.Engine.stands_at l.fn.engine from → CanBeTold m l.fn.telling from → RunsOn m l.terms g.E.Engine.stands_at l.engine so_far from;
+      runs : (from : State) → BeginsAt m l.terms g.E.Engine.stands_at l.fn.engine from → CanBeTold m l.fn.telling from
+          → RunsOn m l.terms g.E.Engine.stands_at l.engine so_far from;
       numbered : l.number ≡ length so_far + 1;
       kept : IsReportOf (g.L.Tally.sums_up l.model) l.fn.telling so_far l.report;
       told : Appends (g.K.Sink.told l.fn.sink) (g.K.Sink.told l.sink) (lines_so_far m l.fn.telling so_far);

@@ -11,10 +11,12 @@ pub returns-in-Ok-clause-ends : goal.returns-in-Ok-clause-ends
 returns-in-Ok-clause-ends g c =
     let texts = texts_of c.args.words.now in
     let said = ap (λ start. replicate_settings start texts) (sym c.window_start.ensures) ∙ sym c.read_replicate_words.ensures.settings ∙ c.in-Ok.is in
-    input_ends _ _ _ (ap (λ r. is_err r) said) _ _ _ _ _ _ _ c.tabulate_input.ensures.ends (ap (λ r. is_ok r) said) refl (answer_accepted _ _ c.in-Ok.asked said)
+    input_ends _ _ _ (ap (λ r. is_err r) said) _ _ _ _ _ _ _ c.tabulate_input.ensures.ends (ap (λ r. is_ok r) said) refl
+    (answer_accepted _ _ c.in-Ok.asked said)
 
 pub returns-in-Err-clause-ends : goal.returns-in-Err-clause-ends
 returns-in-Err-clause-ends g c =
     let texts = texts_of c.args.words.now in
-    let said = ap (λ start. replicate_settings start texts) (sym c.window_start.ensures) ∙ sym c.read_replicate_words.ensures.settings ∙ c.in-Err.is in
+    let said =
+    ap (λ start. replicate_settings start texts) (sym c.window_start.ensures) ∙ sym c.read_replicate_words.ensures.settings ∙ c.in-Err.is in
     refused_ends _ _ _ _ _ c.in-Err.fault (ap (λ r. is_err r) said) (ap (λ r. is_ok r) said) (answer_refused _ _ c.in-Err.fault said)

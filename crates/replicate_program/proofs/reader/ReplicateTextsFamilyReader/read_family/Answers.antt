@@ -10,5 +10,6 @@ pub returns-clause-read : goal.returns-clause-read
 unfolding windows_of_text
 returns-clause-read c =
     let read = c.in_ok-read.read in
-    let of : AnyModel → FamilyOf = λ model. record { under = λ seed. meaning_under seed model; rows = λ seed. window_rows (meaning_under seed model); seed = read.seed; terms = read.terms } in
+    let of : AnyModel → FamilyOf =
+    λ model. record { under = λ seed. meaning_under seed model; rows = λ seed. window_rows (meaning_under seed model); seed = read.seed; terms = read.terms } in
     ap windows_read c.in_ok-read.ensures.read ∙ ap (λ (model : AnyModel). Ok (of model)) (sym c.in_ok-model.ensures.ok)

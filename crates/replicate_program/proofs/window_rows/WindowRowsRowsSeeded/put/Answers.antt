@@ -4,7 +4,8 @@ use Rattle.replications.proofs.TableLemmas.{windows_of-length}
 use Rattle.replicate_program.proofs.window_rows.WindowRowsRowsSeeded.put.Goals as goal
 
 pub put_rows-requires-after_bounds : goal.put_rows-requires-after_bounds
-put_rows-requires-after_bounds c within = ap (λ (w : WindowsView). length w.objects) c.requires.summed ∙ windows_of-length c.requires.first_tick _ c.requires.records
+put_rows-requires-after_bounds c within =
+    ap (λ (w : WindowsView). length w.objects) c.requires.summed ∙ windows_of-length c.requires.first_tick _ c.requires.records
 
 pub returns : goal.returns
 returns c first_tick records is all = c.in_ok-put_rows.ensures first_tick _ records is

@@ -1,10 +1,9 @@
 use Rattle.std.proofs.Common.{[], subst}
 use Rattle.shop_model.specs.declared.shop.Shop.{Shop}
-use Rattle.shop_model.specs.Views.{parts_of, counted_from}
-use Rattle.shop_totals.specs.Summed.{SumsUpShop}
+use Rattle.shop_totals.specs.Summed.{SumsUp}
 use Rattle.shop_program.proofs.shop_rows.ShopRowsRowsSeededShop.new.Goals as goal
 
 pub returns : goal.returns
 returns c =
-    let Up : Shop → Type 0 = λ shop. SumsUpShop (parts_of shop) (counted_from shop) c.in_ok-totals.totals [] in
+    let Up : Shop → Type 0 = λ shop. SumsUp shop c.in_ok-totals.totals [] in
     subst Up c.shop.ensures c.in_ok-totals.ensures

@@ -18,7 +18,9 @@ returns-clause-sums c told are is =
     let dropped = ap (λ (s : ClassSums). s.dropped) counted in
     let late = ap (λ (s : ClassSums). s.late) counted in
     let ages = ap (λ (s : ClassSums). s.ages) counted in
-    let inside = kept_more after_inside 0 sums.first told one sums.inside c.after_inside.result (ap (λ (s : ClassSums). s.inside) is) c.after_inside.ensures.number in
+    let inside =
+    kept_more after_inside 0 sums.first told one sums.inside c.after_inside.result
+    (ap (λ (s : ClassSums). s.inside) is) c.after_inside.ensures.number in
     cc (first, clock, made, left, dropped, late, ages, inside)
 
 pub returns-clause-within : goal.returns-clause-within

@@ -30,7 +30,8 @@ loop-part-preserved c =
       clock = c.and-sums.ensures.clock ∙ c.loop-part.invariant.clock;
       within = λ most within. class-within (most + i + 1) (most + (i + 1)) c.and-sums.result (omega arith) (c.and-sums.ensures.within (most + i) (c.loop-part.invariant.within most within));
       sums = λ first told most is.
-          class_sums_up-within first (told ++ parts_at c.args.time (take (i + 1) note)) (most + i + 1) (most + (i + 1)) c.and-sums.result (omega arith)
+          class_sums_up-within first (told ++ parts_at c.args.time (take (i + 1) note)) (most + i + 1) (most + (i + 1)) c.and-sums.result
+          (omega arith)
           (class_sums_up-told first _ (told ++ parts_at c.args.time (take (i + 1) note)) (most + i + 1) c.and-sums.result
           (parts_at-more told c.args.time note i _ c.loop-part-test.true)
           (class_sums_up-part first (told ++ seen) (most + i) c.args.time _ c.loop-part.sums c.and-sums.result (c.loop-part.invariant.sums first told most is)

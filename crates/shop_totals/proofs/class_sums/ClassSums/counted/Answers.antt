@@ -23,7 +23,8 @@ returns-then-self-clause-sums c told is =
       ages = sum_by (λ (one : TimedPart). age_told one.part) counted;
       inside = sums.inside;
     } in all in
-    ap (λ (s : ClassSums). let all : ClassSums = record s { first = sums.first; clock = sums.clock; inside = sums.inside } in all) is ∙ ap with_told (sym same)
+    ap (λ (s : ClassSums). let all : ClassSums = record s { first = sums.first; clock = sums.clock; inside = sums.inside } in all) is
+    ∙ ap with_told (sym same)
 
 pub returns-clause-sums : goal.returns-clause-sums
 unfolding class_sums_of
@@ -37,7 +38,9 @@ returns-clause-sums c told is =
     let left = count (λ word. word == LEFT_WORD) in
     let dropped = count (λ word. word == DROPPED_WORD) in
     let late = count (λ word. word == OVERDUE_WORD) in
-    let ages = ap (λ (counted : List TimedPart). sum_by (λ (one : TimedPart). age_told one.part) counted) more ∙ sum_by_push (λ (one : TimedPart). age_told one.part) seen one in
+    let ages =
+    ap (λ (counted : List TimedPart). sum_by (λ (one : TimedPart). age_told one.part) counted) more
+    ∙ sum_by_push (λ (one : TimedPart). age_told one.part) seen one in
     let was_made = ap (λ (s : ClassSums). s.made) is in
     let was_left = ap (λ (s : ClassSums). s.left) is in
     let was_dropped = ap (λ (s : ClassSums). s.dropped) is in

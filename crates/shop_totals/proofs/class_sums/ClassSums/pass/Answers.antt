@@ -14,7 +14,9 @@ returns-clause-sums c told are is =
     let dropped = ap (λ (s : ClassSums). s.dropped) is in
     let late = ap (λ (s : ClassSums). s.late) is in
     let ages = ap (λ (s : ClassSums). s.ages) is in
-    let inside = kept_pass after_inside 0 sums.first told sums.clock c.args.time c.ticks_between-ticks.result sums.inside c.pass.result are c.requires.time (ap (λ (s : ClassSums). s.inside) is) c.ticks_between-ticks.ensures c.pass.ensures in
+    let inside =
+    kept_pass after_inside 0 sums.first told sums.clock c.args.time c.ticks_between-ticks.result sums.inside c.pass.result are c.requires.time
+    (ap (λ (s : ClassSums). s.inside) is) c.ticks_between-ticks.ensures c.pass.ensures in
     cc (made, left, dropped, late, ages, inside)
 
 pub returns-clause-within : goal.returns-clause-within

@@ -5,11 +5,14 @@ use Rattle.model_core.specs.declared.note.Note.{Note}
 use Rattle.shop_model.specs.Views.{parts_of, counted_from}
 use Rattle.shop_totals.specs.Records.{told_at}
 use Rattle.shop_totals.specs.ShopLines.{station_lines}
-use Rattle.shop_totals.specs.Summed.{SumsUpShop}
+use Rattle.shop_totals.specs.Summed.{SumsUp}
 use Rattle.shop_totals.proofs.shop_totals.ShopTotals.put_stations.Given as goal
 
 abbrev pub invariant-loop-number : goal.invariant-loop-number
 invariant-loop-number g l =
-    (records : List (Key × Note)) → SumsUpShop (parts_of l.shop) (counted_from l.shop) l.self records
+    let form = g.F.LineForm.form l.listing.form.now in
+    let p = parts_of l.listing.shop.now in
+    let from = counted_from l.listing.shop.now in
+    (records : List (Key × Note)) → SumsUp l.listing.shop.now l.self records
     → l.into.items ≡ l.fn.into.items
-    ++ flat_map (λ station. station_lines (g.F.LineForm.form l.form) (parts_of l.shop) (counted_from l.shop) l.clock (told_at station records) station) (range_with_len 0 l.number)
+    ++ flat_map (λ station. station_lines form p from l.listing.clock (told_at station records) station) (range_with_len 0 l.number)

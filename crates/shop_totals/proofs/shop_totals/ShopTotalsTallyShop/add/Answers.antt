@@ -25,7 +25,8 @@ returns-then-object-stations c records is can =
     let old = c.index_mut-totals.result.now in
     let At : StationTotals → Type 0 = SumsUpAtStation p first records c.args.self.now.last k in
     let before : At old = subst At (sym c.index_mut-totals.ensures.value) (is.stations k old exists) in
-    let Sums : ℕ → Type 0 = λ time. SumsUpShopStation p first k (told_at k records ++ parts_at time c.args.parts.now) (4 * length records + 4) c.add.new.self in
+    let Sums : ℕ → Type 0 =
+    λ time. SumsUpShopStation p first k (told_at k records ++ parts_at time c.args.parts.now) (4 * length records + 4) c.add.new.self in
     shop-station p first records told c.args.self.now _ c.add.new.self is can.room exists can.in_time refl refl c.time_of-time.ensures
     (subst Sums c.time_of-time.ensures
     (c.add.ensures.sums first (station_at p.stations k).servers (classes_at p k) (told_at k records) (4 * length records) before.0))
@@ -69,9 +70,12 @@ returns c records is can =
     let dest : k ≡ length p.stations + class = omega (arith, c.if-object-stations.false, c.len-stations.ensures, is.station_count) in
     let exists : class < length p.classes = omega (arith, dest, object) in
     let old = c.index_mut-sums.result.now in
-    let before = class-before p first records c.args.self.now k c.len-stations.result old is object (omega (arith, c.len-stations.ensures, is.station_count)) c.if-object-stations.false c.index_mut-sums.ensures.value in
+    let before =
+    class-before p first records c.args.self.now k c.len-stations.result old is object
+    (omega (arith, c.len-stations.ensures, is.station_count)) c.if-object-stations.false c.index_mut-sums.ensures.value in
     let Own : ℕ → Type 0 = λ object. SumsUpClass first (told_at object records) (4 * length records) old in
-    let Sums : ℕ → Type 0 = λ time. SumsUpClass first (told_at k records ++ parts_at time c.args.parts.now) (4 * length records + 4) c.and_all.result in
+    let Sums : ℕ → Type 0 =
+    λ time. SumsUpClass first (told_at k records ++ parts_at time c.args.parts.now) (4 * length records + 4) c.and_all.result in
     shop-class p first records told class c.args.self.now _ c.and_all.result is can.room dest exists can.in_time refl refl c.time_of-time.ensures
     (subst Sums c.time_of-time.ensures (c.and_all.ensures.sums first (told_at k records) (4 * length records) (subst Own (sym dest) before.0)))
     (c.and_all.ensures.clock ∙ c.time_of-time.ensures)

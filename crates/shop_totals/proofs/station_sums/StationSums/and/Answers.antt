@@ -11,9 +11,13 @@ returns-clause-sums c servers told are is =
     let sums = c.args.self in
     let one : TimedPart = record { time = sums.clock; part = c.args.part } in
     let flow = c.flow_after.ensures.flow told (ap (λ (s : StationSums). s.flow) is) in
-    let busy = kept_more after_busy 0 sums.first told one sums.busy c.after_busy.result (ap (λ (s : StationSums). s.busy) is) c.after_busy.ensures.number in
-    let waiting = kept_more after_waiting 0 sums.first told one sums.waiting c.after_waiting.result (ap (λ (s : StationSums). s.waiting) is) c.after_waiting.ensures.number in
-    let opened = kept_more after_open servers sums.first told one sums.opened c.after_open.result (ap (λ (s : StationSums). s.opened) is) c.after_open.ensures in
+    let busy =
+    kept_more after_busy 0 sums.first told one sums.busy c.after_busy.result (ap (λ (s : StationSums). s.busy) is) c.after_busy.ensures.number in
+    let waiting =
+    kept_more after_waiting 0 sums.first told one sums.waiting c.after_waiting.result
+    (ap (λ (s : StationSums). s.waiting) is) c.after_waiting.ensures.number in
+    let opened =
+    kept_more after_open servers sums.first told one sums.opened c.after_open.result (ap (λ (s : StationSums). s.opened) is) c.after_open.ensures in
     let down = kept_more after_down 0 sums.first told one sums.down c.after_down.result (ap (λ (s : StationSums). s.down) is) c.after_down.ensures in
     cc (flow, busy, waiting, opened, down)
 

@@ -11,10 +11,18 @@ returns-clause-sums c servers told are is =
     let sums = c.args.self in
     let ticks = c.ticks_between-ticks.ensures in
     let flow = ap (λ (s : StationSums). s.flow) is in
-    let busy = kept_pass after_busy 0 sums.first told sums.clock c.args.time c.ticks_between-ticks.result sums.busy c.pass.result are c.requires.time (ap (λ (s : StationSums). s.busy) is) ticks c.pass.ensures in
-    let waiting = kept_pass after_waiting 0 sums.first told sums.clock c.args.time c.ticks_between-ticks.result sums.waiting c.pass-2.result are c.requires.time (ap (λ (s : StationSums). s.waiting) is) ticks c.pass-2.ensures in
-    let opened = kept_pass after_open servers sums.first told sums.clock c.args.time c.ticks_between-ticks.result sums.opened c.pass-3.result are c.requires.time (ap (λ (s : StationSums). s.opened) is) ticks c.pass-3.ensures in
-    let down = kept_pass after_down 0 sums.first told sums.clock c.args.time c.ticks_between-ticks.result sums.down c.pass-4.result are c.requires.time (ap (λ (s : StationSums). s.down) is) ticks c.pass-4.ensures in
+    let busy =
+    kept_pass after_busy 0 sums.first told sums.clock c.args.time c.ticks_between-ticks.result sums.busy c.pass.result are c.requires.time
+    (ap (λ (s : StationSums). s.busy) is) ticks c.pass.ensures in
+    let waiting =
+    kept_pass after_waiting 0 sums.first told sums.clock c.args.time c.ticks_between-ticks.result sums.waiting c.pass-2.result are c.requires.time
+    (ap (λ (s : StationSums). s.waiting) is) ticks c.pass-2.ensures in
+    let opened =
+    kept_pass after_open servers sums.first told sums.clock c.args.time c.ticks_between-ticks.result sums.opened c.pass-3.result are c.requires.time
+    (ap (λ (s : StationSums). s.opened) is) ticks c.pass-3.ensures in
+    let down =
+    kept_pass after_down 0 sums.first told sums.clock c.args.time c.ticks_between-ticks.result sums.down c.pass-4.result are c.requires.time
+    (ap (λ (s : StationSums). s.down) is) ticks c.pass-4.ensures in
     cc (flow, busy, waiting, opened, down)
 
 pub returns-clause-within : goal.returns-clause-within

@@ -29,7 +29,8 @@ add_part-requires c =
       room.1,
       room.2,
       room.3 ++ parts_at c.args.time (take i c.args.parts.now),
-      sums_up-within room.0 room.1 room.2 (room.3 ++ parts_at c.args.time (take i c.args.parts.now)) (2 ^ 61 + i) (2 ^ 62) c.loop-part.self (omega arith)
+      sums_up-within room.0 room.1 room.2 (room.3 ++ parts_at c.args.time (take i c.args.parts.now)) (2 ^ 61 + i) (2 ^ 62) c.loop-part.self
+      (omega arith)
           (c.loop-part.invariant.sums room.0 room.1 room.2 room.3 (2 ^ 61) room.4),
     )
 
@@ -41,7 +42,8 @@ loop-part-preserved c =
     record {
       clock = c.add_part.ensures.clock ∙ c.loop-part.invariant.clock;
       sums = λ first servers classes told most is.
-          sums_up-within first servers classes (told ++ parts_at c.args.time (take (i + 1) note)) (most + i + 1) (most + (i + 1)) c.add_part.new.self (omega arith)
+          sums_up-within first servers classes (told ++ parts_at c.args.time (take (i + 1) note)) (most + i + 1) (most + (i + 1)) c.add_part.new.self
+          (omega arith)
           (sums_up-told first servers classes _ (told ++ parts_at c.args.time (take (i + 1) note)) (most + i + 1) c.add_part.new.self
           (parts_at-more told c.args.time note i _ c.loop-part-test.true)
           (c.add_part.ensures.sums first servers c.args.time classes (told ++ seen) (most + i) c.loop-part.invariant.clock (c.loop-part.invariant.sums first servers classes told most is)));

@@ -24,7 +24,8 @@ returns-then-self-clause-sums c first servers time classes told parts at is =
     (c.count_visit.ensures.sums first clock told counts (is.visits ∙ ap (λ classes. map (visit_of first told) classes) (sym visitors))))
     (c.count_visit.ensures.within parts is.visits_within))
   where
-    at_time : (new : StationTotals) → SumsUpStation first servers classes (told ++ record { time = c.args.self.now.sums.clock; part = c.args.part } ∷ []) (parts + 1) new
+    at_time : (new : StationTotals)
+        → SumsUpStation first servers classes (told ++ record { time = c.args.self.now.sums.clock; part = c.args.part } ∷ []) (parts + 1) new
         → SumsUpStation first servers classes (told ++ record { time = time; part = c.args.part } ∷ []) (parts + 1) new
     at_time new is = sums_up-told first servers classes _ (told ++ record { time = time; part = c.args.part } ∷ []) (parts + 1) new
         (ap (λ time. (let one : TimedPart = record { time = time; part = c.args.part } in told ++ one ∷ [])) at) is
@@ -39,7 +40,8 @@ returns-else-self-clause-sums c first servers time classes told parts at is =
     (is.visits ∙ visits-early first told one classes (omega (arith, c.if-self.false, c.and-self.ensures.first, c.and-self.ensures.clock, is.since)))
     (visits-within parts (parts + 1) c.args.self.now.visits.items (omega arith) is.visits_within))
   where
-    at_time : (new : StationTotals) → SumsUpStation first servers classes (told ++ record { time = c.args.self.now.sums.clock; part = c.args.part } ∷ []) (parts + 1) new
+    at_time : (new : StationTotals)
+        → SumsUpStation first servers classes (told ++ record { time = c.args.self.now.sums.clock; part = c.args.part } ∷ []) (parts + 1) new
         → SumsUpStation first servers classes (told ++ record { time = time; part = c.args.part } ∷ []) (parts + 1) new
     at_time new is = sums_up-told first servers classes _ (told ++ record { time = time; part = c.args.part } ∷ []) (parts + 1) new
         (ap (λ time. (let one : TimedPart = record { time = time; part = c.args.part } in told ++ one ∷ [])) at) is

@@ -12,7 +12,8 @@ pub returns-clause-sums : goal.returns-clause-sums
 unfolding visit_sums_of
 returns-clause-sums c told time is =
     let one : TimedPart = record { time = time; part = c.args.part } in
-    let flow = c.and.ensures.flow ∙ ap (λ (f : Flow). flow_more f c.args.part.word) (ap (λ (s : VisitSums). s.flow) is) ∙ sym (flow_of-more told one) in
+    let flow =
+    c.and.ensures.flow ∙ ap (λ (f : Flow). flow_more f c.args.part.word) (ap (λ (s : VisitSums). s.flow) is) ∙ sym (flow_of-more told one) in
     let waits = sum_by_push (λ (one : TimedPart). ticks_waited one.part) told one in
     let waited = ap (λ (s : VisitSums). s.waited) is in
     cc (flow, waits, waited, c.from.ensures, c.ticks_waited.ensures)

@@ -10,7 +10,8 @@ abbrev timed_at : ℕ → Part → TimedWord
 timed_at time part = record { time = time; word = part.word }
 
 pub add_word-requires-clause-room : goal.add_word-requires-clause-room
-add_word-requires-clause-room c = IsWithin-more (2 ^ 32 + c.loop-part.part-index) (2 ^ 33) c.loop-part.self (omega arith) (c.loop-part.invariant.within (2 ^ 32) c.requires.room)
+add_word-requires-clause-room c =
+    IsWithin-more (2 ^ 32 + c.loop-part.part-index) (2 ^ 33) c.loop-part.self (omega arith) (c.loop-part.invariant.within (2 ^ 32) c.requires.room)
 
 pub loop-part-preserved : goal.loop-part-preserved
 loop-part-preserved c =
@@ -24,4 +25,5 @@ loop-part-preserved c =
     }
 
 pub returns-clause-within : goal.returns-clause-within
-returns-clause-within c words within = IsWithin-more (words + c.loop-part.part-index) (words + 4) c.loop-part.self (omega arith) (c.loop-part.invariant.within words within)
+returns-clause-within c words within =
+    IsWithin-more (words + c.loop-part.part-index) (words + 4) c.loop-part.self (omega arith) (c.loop-part.invariant.within words within)

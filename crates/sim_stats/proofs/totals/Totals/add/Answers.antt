@@ -16,7 +16,11 @@ returns-clause-totals c objects records summed =
     let whole = c.self.view_is ∙ summed in
     let many = ap (λ (s : Summed). length s.objects) summed ∙ totals_of-length objects records in
     let object : c.index_mut-sums.result.now ≡ sums_of (words_told dest records) =
-    c.index_mut-sums.ensures.value ∙ ap (λ (s : Summed). get_or s.objects dest c.index_mut-sums.result.now) whole ∙ totals_of-at objects records dest c.index_mut-sums.result.now (omega (arith, many)) in
-    let added = c.add.ensures.sums (words_told dest records) object ∙ ap (λ time. sums_of (words_told dest records ++ words_at time c.args.parts.now)) c.time_of-time.ensures in
+    c.index_mut-sums.ensures.value ∙ ap (λ (s : Summed). get_or s.objects dest c.index_mut-sums.result.now) whole
+    ∙ totals_of-at objects records dest c.index_mut-sums.result.now (omega (arith, many)) in
+    let added =
+    c.add.ensures.sums (words_told dest records) object
+    ∙ ap (λ time. sums_of (words_told dest records ++ words_at time c.args.parts.now)) c.time_of-time.ensures in
     let with_new : ℕ → Summed → Summed = λ time s. record { objects = set s.objects dest new; records = s.records + 1; last = time } in
-    ap (with_new c.time_of-time.result) whole ∙ ap (λ time. with_new time (totals_of objects records)) c.time_of-time.ensures ∙ totals_of-more objects records told new added
+    ap (with_new c.time_of-time.result) whole ∙ ap (λ time. with_new time (totals_of objects records)) c.time_of-time.ensures
+    ∙ totals_of-more objects records told new added

@@ -14,5 +14,8 @@ pub returns-in-Sums-clause-kept : goal.returns-in-Sums-clause-kept
 returns-in-Sums-clause-kept g c telling bs kept can =
     let sums_up = g.L.Tally.sums_up c.args.model.now in
     let summed = known sums_up telling bs c.args.self.now _ c.in-Sums.is kept in
-    let added = c.add_all.ensures (records_of_buckets bs) summed.1 (sums-go_on sums_up telling bs (g.M.Model.meaning c.args.model.now) c.args.bucket.now c.as_buffer.result.now.items c.as_buffer.ensures summed.0 can) in
-    sums-kept sums_up telling bs c.args.bucket.now c.as_buffer.result.now.items c.add_all.new.tally c.as_buffer.ensures summed.0 added
+    let records = c.as_buffer-in-Sums.result.now.items in
+    let same = c.as_buffer-in-Sums.ensures in
+    let can_come = sums-go_on sums_up telling bs (g.M.Model.meaning c.args.model.now) c.args.bucket.now records same summed.0 can in
+    let added = c.add_all.ensures (records_of_buckets bs) summed.1 can_come in
+    sums-kept sums_up telling bs c.args.bucket.now records c.add_all.new.tally same summed.0 added

@@ -7,6 +7,7 @@ returns-in-Counts g c =
     let sums_up = g.L.Tally.sums_up c.args.model.now in
     on_ok_weaker c.put_demo.result
     (λ put telling bs kept all.
-    counts-end sums_up telling bs (g.L.Tally.lines c.args.model.now c.args.terms.now) c.in-Counts.summary c.args.count c.args.stop.now c.args.into.now.items c.put_demo.new.into.items
+    counts-end sums_up telling bs
+    (g.L.Tally.lines c.args.model.now c.args.terms.now) c.in-Counts.summary c.args.count c.args.stop.now c.args.into.now.items c.put_demo.new.into.items
     (known sums_up telling bs c.args.self.now _ c.in-Counts.is kept) put)
     c.put_demo.ensures.ok
