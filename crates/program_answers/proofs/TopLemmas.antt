@@ -62,13 +62,13 @@ module _ {N : Type 0} (notes : Sink N) (old new : N) (ending : Ending) where
       → NotesNoWords notes old new status kind
   notes_no_words kind noted_so refusal no_memory no_text =
       subst (λ status. NotesNoWords notes old new status kind) (sym noted_so.same_status) (record {
-    known = few refusal;
-    no_memory = λ is. ap status_of_ending (no_memory is);
-    no_text = λ other. ap status_of_ending (no_text other);
-    line_prefix = (notes_line answer noted_so (refused refusal)).notes_prefix;
-    line_whole = (notes_line answer noted_so (refused refusal)).notes_whole;
-    noted_on = noted_so.noted_on;
-  })
+        known = few refusal;
+        no_memory = λ is. ap status_of_ending (no_memory is);
+        no_text = λ other. ap status_of_ending (no_text other);
+        line_prefix = (notes_line answer noted_so (refused refusal)).notes_prefix;
+        line_whole = (notes_line answer noted_so (refused refusal)).notes_whole;
+        noted_on = noted_so.noted_on;
+      })
     where
       answer : Answer
       answer = record { output = []; notes = words_line BadValue; status = WORDS }
@@ -108,25 +108,25 @@ module _ {S K N : Type 0} (notes : Sink N) (ending : Ending) (old new : Streams 
       → Answers source sink notes status old new asked
   answers_asked source sink asked noted_so ends in_order =
       subst (λ status. Answers source sink notes status old new asked) (sym noted_so.same_status) (record {
-    known = known_status ending;
-    answer = λ bytes given. (ends.answer bytes given).given;
-    handed = λ bytes given. hands_on sink old.out new.out ends.writing in_order (asked.answer bytes) (ends.answer bytes given);
-    given = λ takes. elim (ends.given takes) [
-      | inl so ↦ inl (record {
-        bytes = so.bytes;
-        given = so.given;
-        answer = so.answer.given;
-        handed = hands_on sink old.out new.out ends.writing in_order (asked.answer so.bytes) so.answer;
-        noted = notes_line notes old.notes new.notes ending (asked.answer so.bytes) noted_so so.answer.line;
+        known = known_status ending;
+        answer = λ bytes given. (ends.answer bytes given).given;
+        handed = λ bytes given. hands_on sink old.out new.out ends.writing in_order (asked.answer bytes) (ends.answer bytes given);
+        given = λ takes. elim (ends.given takes) [
+          | inl so ↦ inl (record {
+            bytes = so.bytes;
+            given = so.given;
+            answer = so.answer.given;
+            handed = hands_on sink old.out new.out ends.writing in_order (asked.answer so.bytes) so.answer;
+            noted = notes_line notes old.notes new.notes ending (asked.answer so.bytes) noted_so so.answer.line;
+          })
+          | inr spent ↦ inr spent
+        ];
+        input = ends.input;
+        reading = ends.reading;
+        writing = ends.writing;
+        unwritten = ends.unwritten;
+        noted = λ bytes given. notes_line notes old.notes new.notes ending (asked.answer bytes) noted_so (ends.answer bytes given).line;
+        noted_fault = λ fault a. notes_line notes old.notes new.notes ending a noted_so (λ done. absurd (tells_none _ fault done));
+        noted_on = noted_so.noted_on;
+        complete = λ bytes given _. completes ending _ _ _ (ends.answer bytes given).given.same_status ends.reading.read_fault ends.writing.write_fault;
       })
-      | inr spent ↦ inr spent
-    ];
-    input = ends.input;
-    reading = ends.reading;
-    writing = ends.writing;
-    unwritten = ends.unwritten;
-    noted = λ bytes given. notes_line notes old.notes new.notes ending (asked.answer bytes) noted_so (ends.answer bytes given).line;
-    noted_fault = λ fault a. notes_line notes old.notes new.notes ending a noted_so (λ done. absurd (tells_none _ fault done));
-    noted_on = noted_so.noted_on;
-    complete = λ bytes given _. completes ending _ _ _ (ends.answer bytes given).given.same_status ends.reading.read_fault ends.writing.write_fault;
-  })

@@ -145,7 +145,7 @@ pub record HasComeOn (m : Meaning) (t : Terms) {E : Type 0} (meaning : E → Mea
 pub has_come_on : (m : Meaning) (t : Terms) {E : Type 0} (meaning : E → Meaning) (terms : E → Terms) (StandsIn : E → Standing → Type 0) (old new : E)
     (done : List (Key × Note)) (number : ℕ) (from : State) (stop : Option Stop)
     (lines : List ℕ) → MeaningLaws m → meaning old ≡ m → terms old ≡ t → (r : ComesOn m t StandsIn old done number from)
-        → stop ≡ ended (meaning old) (terms old) r.at → stop ≡ None
+    → stop ≡ ended (meaning old) (terms old) r.at → stop ≡ None
     → (written : HasWrittenStretch meaning terms StandsIn old new lines)
     → HasComeOn m t meaning terms StandsIn new (done ++ written.done) (number + 1) from
 has_come_on m t meaning terms StandsIn old new done number from stop lines laws same_meaning same_terms r is_stop none written =

@@ -60,7 +60,7 @@ unfolding text_from lines_so_far text
 text-begins m t totals from (Telling.Lines told) bs more all = (
   lines_of_buckets m told (1 + length bs) more ++ stop_line m t (run m t from).last.count (run m t from).stop,
   ap (λ lines. lines ++ stop_line m t (run m t from).last.count (run m t from).stop)
-  (ap (lines_of_buckets m told 1) all ∙ lines_of_buckets-append m told 1 bs more)
+      (ap (lines_of_buckets m told 1) all ∙ lines_of_buckets-append m told 1 bs more)
       ∙ append_assoc (lines_of_buckets m told 1 bs) _ _,
 )
 text-begins m t totals from Telling.Totals bs more all = (text_from m t totals Telling.Totals from, refl)

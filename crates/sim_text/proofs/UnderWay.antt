@@ -295,7 +295,7 @@ pub record HasDone (m : Meaning) (t : Terms) {E : Type 0} (meaning : E → Meani
 pub has_done : (m : Meaning) (t : Terms) {E : Type 0} (meaning : E → Meaning) (terms : E → Terms) (StandsIn : E → Standing → Type 0) (old : E)
     (at : Standing) (stop : Option Stop) (answer : Result Bucket OutOfMemory)
     (bucket : Bucket) (new : E) → meaning old ≡ m → terms old ≡ t → StandsIn old at → stop ≡ ended (meaning old) (terms old) at → stop ≡ None
-        → answer ≡ Ok bucket
+    → answer ≡ Ok bucket
     → DoesCycles meaning terms StandsIn old answer new → HasDone m t meaning terms StandsIn at bucket new
 has_done m t meaning terms StandsIn old at stop answer bucket new same_meaning same_terms there is_stop none is_ok do_so =
     let own_none : ended (meaning old) (terms old) at ≡ None = sym is_stop ∙ none in
@@ -336,7 +336,7 @@ counted-here m t from standing so_far way count counted = let P : Standing → T
 pub ends_here : (m : Meaning) (t : Terms) (from : State) {E : Type 0} (StandsIn : E → Standing → Type 0) (engine : E) (so_far : List Bucket)
     (r : RunsOn m t StandsIn engine so_far from) (m' : Meaning) (t' : Terms)
     (stop : Stop) (count : ℕ) → m' ≡ m → t' ≡ t → Some stop ≡ ended m' t' r.at → IsCountAt r.at count
-        → (ended m t r.at ≡ Some stop) × EndsSo m t from so_far count stop
+    → (ended m t r.at ≡ Some stop) × EndsSo m t from so_far count stop
 ends_here m t from StandsIn engine so_far r m' t' stop count same_meaning same_terms is_ended counts =
     let here : ended m t r.at ≡ Some stop = ended-same m m' t t' r.at (Some stop) same_meaning same_terms is_ended in
     (here, ends_so m t from r.laws r.at so_far r.way stop count here (counted-here m t from r.at so_far r.way count counts))

@@ -18,6 +18,6 @@ module _ (a b c : Taken) (whole : List ℕ) where
     some.0 ++ part.0,
     part.1 ++ after,
     some.2 ∙ ap (λ xs. some.0 ++ xs) (is_rest ∙ ap (λ xs. xs ++ after) part.2 ∙ append_assoc part.0 part.1 after)
-    ∙ sym (append_assoc some.0 part.0 (part.1 ++ after)),
+        ∙ sym (append_assoc some.0 part.0 (part.1 ++ after)),
     Appends-trans a b c some.0 part.0 some.1 part.3,
   )

@@ -30,7 +30,7 @@ add_part-requires c =
       room.2,
       room.3 ++ parts_at c.args.time (take i c.args.parts.now),
       sums_up-within room.0 room.1 room.2 (room.3 ++ parts_at c.args.time (take i c.args.parts.now)) (2 ^ 61 + i) (2 ^ 62) c.loop-part.self
-      (omega arith)
+          (omega arith)
           (c.loop-part.invariant.sums room.0 room.1 room.2 room.3 (2 ^ 61) room.4),
     )
 
