@@ -12,7 +12,7 @@ use Rattle.model_program.proofs.SavedRunsLaw.{none_left, refused_none, unread_no
 use Rattle.model_program.proofs.running.model_command.Goals as goal
 
 pub returns-in-Err-clause-answer : goal.returns-in-Err-clause-answer
-returns-in-Err-clause-answer g c = unread_input _ _ _ _ _ _ _ _ _ c.from.ensures c.in-Err.ensures.failed c.in-Err.ensures.no_memory
+returns-in-Err-clause-answer g c = unread_input _ _ _ _ _ _ _ _ _ c.from.ensures (λ is. c.in-Err.ensures.failed (ap Err is)) (λ is. c.in-Err.ensures.no_memory (ap Err is))
 
 pub returns-in-Ok-read-clause-answer : goal.returns-in-Ok-read-clause-answer
 unfolding answer_to_model

@@ -19,7 +19,7 @@ same_state_refusal ending code code' line line' refusal same_code same_place =
     subst (λ told. IsRefusal STATE told ending) (ap (λ n. state_line n line) same_code ∙ ap (state_line code') same_place) refusal
 
 pub returns-in-Err : goal.returns-in-Err
-returns-in-Err g c = unread_input _ _ _ _ _ _ _ _ _ c.from.ensures c.in-Err.ensures.failed c.in-Err.ensures.no_memory
+returns-in-Err g c = unread_input _ _ _ _ _ _ _ _ _ c.from.ensures (λ is. c.in-Err.ensures.failed (ap Err is)) (λ is. c.in-Err.ensures.no_memory (ap Err is))
 
 pub returns-in-Ok-read_state : goal.returns-in-Ok-read_state
 unfolding answer_to_state

@@ -14,7 +14,7 @@ use Rattle.table_program.proofs.AnswerLemmas.{family_answers, known_read, known_
 use Rattle.table_program.proofs.running.tabulate_input.Goals as goal
 
 pub returns-in-Err-clause-ends : goal.returns-in-Err-clause-ends
-returns-in-Err-clause-ends g c = unread_input _ _ _ _ _ _ _ _ _ c.from.ensures c.in-Err.ensures.failed c.in-Err.ensures.no_memory
+returns-in-Err-clause-ends g c = unread_input _ _ _ _ _ _ _ _ _ c.from.ensures (λ is. c.in-Err.ensures.failed (ap Err is)) (λ is. c.in-Err.ensures.no_memory (ap Err is))
 
 pub returns-in-Err-clause-known : goal.returns-in-Err-clause-known
 returns-in-Err-clause-known g c = subst (λ ending. status_of_ending ending ≤ EVENT_LIMIT) (sym c.from.ensures) (known_read c.in-Err.end)
