@@ -17,13 +17,13 @@ put_by-requires c =
     (seeded_laws c.args.model.now) c.requires.of_run in
     (c.requires.records, subst Up (sym c.shop-shop.ensures) c.requires.summed, omega (arith, stands.0, c.clock-clock.ensures (parts_of shop) (counted_from shop) c.requires.records c.requires.summed))
 
-pub soon-listing : goal.soon-listing
-soon-listing c =
+pub invariant_of-listing : goal.invariant_of-listing
+invariant_of-listing c =
     let shop = shop_seeded c.args.model.now in
     let stands =
     clock-stands (seeded_meaning c.args.model.now) c.args.terms.now c.requires.records c.args.end.now.stop
     (seeded_laws c.args.model.now) c.requires.of_run in
-    omega (arith, stands.1, c.clock-clock.ensures (parts_of shop) (counted_from shop) c.requires.records c.requires.summed, c.args.terms.now.end_in_range)
+    record { soon = omega (arith, stands.1, c.clock-clock.ensures (parts_of shop) (counted_from shop) c.requires.records c.requires.summed, c.args.terms.now.end_in_range) }
 
 pub returns : goal.returns
 returns c first_tick records is all =
